@@ -1,0 +1,51 @@
+-- What some lines are.
+use Rattle.std.proofs.Common.{◌≡◌, ℕ, List, [], ◌∷◌, Result, Ok, Err, map, refl}
+use Rattle.std.specs.Prelude.{codes}
+use Rattle.rv_bench.specs.Words.{is_text, words_of}
+use Rattle.rv_bench.specs.Numbers.{number_of, decimal_of, hexadecimal_of}
+use Rattle.rv_bench.specs.declared.command.Command.{Command}
+use Rattle.rv_bench.specs.declared.command.Command.TheVariants.{Blank, Step, Reg, Mem}
+use Rattle.rv_bench.specs.declared.command.CommandFault.{CommandFault}
+use Rattle.rv_bench.specs.declared.command.CommandFault.TheVariants.{BadLine, UnknownCommand, BadOperand}
+use Rattle.rv_bench.specs.Command.{keyword_of, meaning_of, parse_of}
+
+abbrev examples : List (List ℕ × Result Command CommandFault)
+examples =
+    (codes "", Ok Blank)
+    ∷ (codes "\t", Ok Blank)
+    ∷ (codes "# x", Ok Blank)
+    ∷ (codes "#step 1", Ok Blank)
+    ∷ (codes "step 1", Ok (Step 1))
+    ∷ (codes " step\t 1000000 ", Ok (Step 1000000))
+    ∷ (codes "step 0000001", Ok (Step 1))
+    ∷ (codes "reg 1", Ok (Reg 1))
+    ∷ (codes "reg 31", Ok (Reg 31))
+    ∷ (codes "mem 8000000e 4", Ok (Mem 0x8000000e 4))
+    ∷ (codes "mem 0x8000000E 64", Ok (Mem 0x8000000e 64))
+    ∷ (codes "mem 0 1", Ok (Mem 0 1))
+    ∷ (codes "fly", Err UnknownCommand)
+    ∷ (codes "Step 1", Err UnknownCommand)
+    ∷ (codes "--", Err UnknownCommand)
+    ∷ (codes "step 0", Err BadOperand)
+    ∷ (codes "step 1000001", Err BadOperand)
+    ∷ (codes "step 00000001", Err BadOperand)
+    ∷ (codes "step +1", Err BadOperand)
+    ∷ (codes "step 1 # x", Err BadOperand)
+    ∷ (codes "reg", Err BadOperand)
+    ∷ (codes "reg 32", Err BadOperand)
+    ∷ (codes "mem 80000000 0", Err BadOperand)
+    ∷ (codes "mem 80000000 65", Err BadOperand)
+    ∷ (codes "mem 0x 4", Err BadOperand)
+    ∷ (codes "mem 0X80000000 4", Err BadOperand)
+    ∷ (codes "mem 080000000 4", Err BadOperand)
+    ∷ (codes "step 1\r", Err BadLine)
+    ∷ (0 ∷ [], Err BadLine)
+    ∷ []
+
+pub examples_hold : map (λ e. parse_of e.0) examples ≡ map (λ e. e.1) examples
+unfolding parse_of meaning_of keyword_of words_of is_text number_of decimal_of hexadecimal_of
+examples_hold = refl
+
+pub words_of-example : words_of (codes " mem\t0  64 ") ≡ codes "mem" ∷ codes "0" ∷ codes "64" ∷ []
+unfolding words_of
+words_of-example = refl

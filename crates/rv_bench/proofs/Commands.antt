@@ -1,0 +1,48 @@
+-- What of a line matters to the command that it is: its first six words, and its first 121 bytes.
+use Rattle.std.proofs.Common.{◌≡◌, ℕ, ◌≤◌, nat_eq, List, [], ◌∷◌, length, take, Option, Some, None, Ok, refl, ap, inl, inr, lit≤}
+use Rattle.std.proofs.lemmas.Bool.{cases_lt}
+use Rattle.std.specs.Prelude.{codes, if◌then◌else◌}
+use Rattle.std.specs.List.{starts_with}
+use Rattle.rv_bench.specs.declared.command.Command.{Command}
+use Rattle.rv_bench.specs.declared.command.Command.TheVariants.{Blank}
+use Rattle.rv_bench.specs.declared.keyword.Keyword.{Keyword}
+use Rattle.rv_bench.specs.declared.keyword.Keyword.TheVariants.{Step, Reg, Mem}
+use Rattle.rv_bench.specs.Command.{one, two, operands_of, keyword_of, named, meaning_of, parse_of}
+use Rattle.rv_bench.proofs.GoodLines.{is_good_line-long, take-long, take-short}
+
+one-take : {A : Type 0} (read : List ℕ → Option A) (command : A → Command) (operands : List (List ℕ)) → one read command (take 5 operands) ≡ one read command operands
+one-take read command [] = refl
+one-take read command (u ∷ []) = refl
+one-take read command (u ∷ v ∷ more) = refl
+
+two-take : {A B : Type 0} (read : List ℕ → Option A) (read_next : List ℕ → Option B) (command : A → B → Command) (operands : List (List ℕ)) → two read read_next command (take 5 operands) ≡ two read read_next command operands
+two-take read read_next command [] = refl
+two-take read read_next command (u ∷ []) = refl
+two-take read read_next command (u ∷ v ∷ []) = refl
+two-take read read_next command (u ∷ v ∷ w ∷ more) = refl
+
+operands_of-take : (k : Keyword) (operands : List (List ℕ)) → operands_of k (take 5 operands) ≡ operands_of k operands
+operands_of-take Step operands = search one-take
+operands_of-take Reg operands = search one-take
+operands_of-take Mem operands = search two-take
+
+named-take : (k : Option Keyword) (operands : List (List ℕ)) → named k (take 5 operands) ≡ named k operands
+named-take None operands = refl
+named-take (Some k) operands = rw (operands_of-take k operands)
+
+pub meaning_of-take : (words : List (List ℕ)) → meaning_of (take 6 words) ≡ meaning_of words
+unfolding meaning_of
+meaning_of-take [] = refl
+meaning_of-take (name ∷ operands) =
+    ap (λ r. if starts_with nat_eq name (codes "#") then Ok Blank else r) (named-take (keyword_of name) operands)
+
+pub parse_of-take : (most : ℕ) (line : List ℕ) → 121 ≤ most → parse_of (take most line) ≡ parse_of line
+unfolding parse_of
+parse_of-take most line enough =
+    elim (cases_lt 120 (length line)) [
+      | inl long ↦ rw (is_good_line-long line long, is_good_line-long (take most line) (take-long most line enough long)) refl
+      | inr short ↦ ap parse_of (take-short most line enough short)
+    ]
+
+pub parse_of-cut : (line : List ℕ) → parse_of (take 121 line) ≡ parse_of line
+parse_of-cut line = parse_of-take 121 line (lit≤ tt)

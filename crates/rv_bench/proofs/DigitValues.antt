@@ -1,0 +1,38 @@
+-- A test of every digit against `AllDigits`, and how large a number with so many digits can be.
+use Rattle.std.proofs.Common.{◌≡◌, ℕ, suc, ◌+◌, ◌*◌, ◌^◌, ◌<◌, ◌≤◌, true, List, [], ◌∷◌, length, take, get_or, length-take-le, subst, arith}
+use Rattle.std.specs.List.{list_all}
+use Rattle.std.specs.Char.{is_digit, digit_value}
+use Rattle.std.specs.Str.Parse.{AllDigits, digits_value}
+use Rattle.std.proofs.lemmas.Bool.Decides.{nat_tests}
+use Rattle.std.proofs.lemmas.Int.Digits.{digits_value-lt}
+use Rattle.std.proofs.lemmas.List.Folds.{list_all_more}
+use Rattle.std.proofs.Math.Nat.{pow-le-pow_right, mul-le-mul_right, pow-suc}
+
+digit_from_both : (base c : ℕ) (text : List ℕ) → list_all (λ d. is_digit d base) (c ∷ text) ≡ true → (digit_value c < base) × (list_all (λ d. is_digit d base) text ≡ true)
+digit_from_both base c text h = grind (arith, nat_tests)
+
+pub AllDigits-from_list_all : (base : ℕ) (text : List ℕ) → list_all (λ c. is_digit c base) text ≡ true → AllDigits base text
+AllDigits-from_list_all base [] h = tt
+AllDigits-from_list_all base (c ∷ text) h =
+    let both = digit_from_both base c text h in
+    (both.0, AllDigits-from_list_all base text both.1)
+
+-- one more digit after so few fits
+pub value_step-lt : (base most i value digit : ℕ) → 2 ≤ base → base ^ most ≤ 2 ^ 32 → i < most → value < base ^ i → digit < base → value * base + digit < 2 ^ 32
+value_step-lt base most i value digit low fits within small below =
+    let step : base ^ suc i ≤ base ^ most = pow-le-pow_right (omega arith) (omega arith) in
+    let room : suc value * base ≤ base ^ i * base = mul-le-mul_right base (omega arith) in
+    omega (arith, pow-suc base i, step, room)
+
+pub number_step-lt : (base most i value digit : ℕ) (text : List ℕ) → 2 ≤ base → base ^ most ≤ 2 ^ 32 → i < length text → length text ≤ most → list_all (λ c. is_digit c base) (take i text) ≡ true → value ≡ digits_value base (take i text) → digit < base → value * base + digit < 2 ^ 32
+number_step-lt base most i value digit text low fits within short digits is below =
+    let size : length (take i text) ≡ i = length-take-le i text (omega arith) in
+    let small : digits_value base (take i text) < base ^ length (take i text) = digits_value-lt base (take i text) (AllDigits-from_list_all base (take i text) digits) in
+    let P : ℕ → Type 0 = λ k. digits_value base (take i text) < base ^ k in
+    let narrow : digits_value base (take i text) < base ^ i = subst P size small in
+    value_step-lt base most i value digit low fits (omega arith) (omega (arith, is, narrow)) below
+
+pub all_digits_more : (base i : ℕ) (text : List ℕ) → i < length text → list_all (λ c. is_digit c base) (take i text) ≡ true → digit_value (get_or text i 0) < base → list_all (λ c. is_digit c base) (take (i + 1) text) ≡ true
+all_digits_more base i text within digits below =
+    let more = list_all_more (λ c. is_digit c base) text i 0 within in
+    grind (arith, nat_tests, more)

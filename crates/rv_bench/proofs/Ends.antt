@@ -1,0 +1,44 @@
+-- How lines come to their end.
+use Rattle.std.proofs.Common.{◌≡◌, ℕ, Bool, true, false, ◌⊎◌, inl, inr, refl, sym, ◌∙◌, ap, subst, arith, min, ◌≤◌, ◌+◌}
+use Rattle.rv_bench.specs.declared.device.Source.{Ghosts}
+use Rattle.rv_bench.specs.declared.lines.Lines.{Lines}
+use Rattle.rv_bench.specs.Device.{one_more, HasRisen}
+use Rattle.rv_bench.specs.Unread.{HasEnded, TellsEnd}
+
+-- nothing has changed
+pub TellsEnd-none : {S : Type 0} {g : Ghosts S} (lines : Lines S g) → TellsEnd lines lines
+TellsEnd-none lines = record {
+  stays = λ e. (e, refl);
+  going = λ _. refl;
+  ended = λ e. inl e;
+}
+
+-- the source has just answered its end
+pub TellsEnd-ends : {S : Type 0} {g : Ghosts S} (old new : Lines S g) → old.is_at_end ≡ false → new.is_at_end ≡ true → g.ends new.source ≡ one_more (g.ends old.source) → TellsEnd old new
+TellsEnd-ends {S} {g} old new before after count =
+    let risen : HasRisen (g.ends old.source) (g.ends new.source) = omega (arith, count) in record {
+      stays = λ e. cc;
+      going = λ e. cc;
+      ended = λ _. inr risen;
+    }
+
+-- one call and another
+pub TellsEnd-more : {S : Type 0} {g : Ghosts S} (old mid new : Lines S g) → TellsEnd old mid → TellsEnd mid new → TellsEnd old new
+TellsEnd-more {S} {g} old mid new first next = record {
+  stays = λ e. let was = first.stays e in let is = next.stays was.0 in (is.0, is.1 ∙ was.1);
+  going = λ e. go_on mid.is_at_end refl e;
+  ended = λ e. go_to mid.is_at_end refl e;
+} where
+  go_on : (b : Bool) → mid.is_at_end ≡ b → new.is_at_end ≡ false → g.ends new.source ≡ g.ends old.source
+  go_on true was e = let is = (next.stays was).0 in cc
+  go_on false was e = next.going e ∙ first.going was
+
+  go_to : (b : Bool) → mid.is_at_end ≡ b → new.is_at_end ≡ true → HasEnded old new
+  go_to true was e = elim (first.ended was) [
+    | inl at_end ↦ inl at_end
+    | inr risen ↦ let same = (next.stays was).1 in let r : HasRisen (g.ends old.source) (g.ends new.source) = omega (arith, risen, same) in inr r
+  ]
+  go_to false was e = elim (next.ended e) [
+    | inl at_end ↦ cc
+    | inr risen ↦ let same = first.going was in let r : HasRisen (g.ends old.source) (g.ends new.source) = omega (arith, risen, same) in inr r
+  ]

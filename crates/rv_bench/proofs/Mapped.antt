@@ -1,0 +1,24 @@
+-- What a call whose error is mapped gave.
+use Rattle.std.proofs.Common.{◌≡◌, Result, Ok, Err, refl, sym, ap, ◌∙◌}
+use Rattle.std.specs.Result.{MatchResult, IsErrAnd, OnOk, OnErr}
+use Rattle.std.proofs.lemmas.Result.{err_from_is_err_and}
+
+-- an `Ok` was one
+pub ok_mapped : {A E F : Type 0} (Q : E → F → Type 0) (r : Result A E) (s : Result A F) (x : A) → MatchResult r (λ y. s ≡ Ok y) (λ e. IsErrAnd s (Q e)) → s ≡ Ok x → r ≡ Ok x
+ok_mapped Q (Ok y) s x cases is = let same : y ≡ x = cc in ap Ok same
+ok_mapped Q (Err e) s x cases is = let bad = err_from_is_err_and s cases in let e : s ≡ Err bad.0 = bad.1 in cc
+
+-- an `Err` was one
+pub err_mapped : {A E F : Type 0} (Q : E → F → Type 0) (r : Result A E) (s : Result A F) (f : F) → MatchResult r (λ y. s ≡ Ok y) (λ e. IsErrAnd s (Q e)) → s ≡ Err f → (e : E) × (r ≡ Err e)
+err_mapped Q (Ok y) s f cases is = let e : s ≡ Ok y = cases in cc
+err_mapped Q (Err e) s f cases is = (e, refl)
+
+-- what holds anyway holds at an `Ok`
+pub OnOk-always : {A E P : Type 0} (r : Result A E) → P → OnOk r P
+OnOk-always (Ok x) p = p
+OnOk-always (Err e) p = tt
+
+-- and at an `Err`
+pub OnErr-always : {A E P : Type 0} (r : Result A E) → P → OnErr r P
+OnErr-always (Ok x) p = tt
+OnErr-always (Err e) p = p

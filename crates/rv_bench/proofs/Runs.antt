@@ -1,0 +1,133 @@
+-- A run, line by line.
+use Rattle.std.proofs.Common.{◌≡◌, ℕ, Bool, true, false, List, [], ◌∷◌, ◌++◌, take, refl, sym, ◌∙◌, ap, subst, append_assoc, append-nil}
+use Rattle.rv_bench.specs.Answer.{Answered, line_answer, replies, state_after}
+use Rattle.rv_bench.specs.Lines.{lines_of, finished}
+use Rattle.rv_bench.specs.LineText.{ReadsText, TakesLine, ReadsLines}
+use Rattle.rv_bench.specs.Run.{StopsAtRead, StopsAtWrite}
+use Rattle.rv_bench.specs.Step.{State}
+use Rattle.rv_bench.specs.Transfer.{WritesFront}
+use Rattle.rv_bench.proofs.Answers.{replies-append, state_after-append, replies-more, line_answer-cut}
+use Rattle.rv_bench.proofs.TextLemmas.{ReadsLines-none, ReadsLines-more}
+
+-- The lines that were taken have their replies.
+pub record AnswersLines (start : State) (unread old : List ℕ) (now : State) (left : List ℕ) (is_at_end : Bool) (new : List ℕ) : Type 0 where
+  pub lines : List (List ℕ)
+  pub reads : ReadsLines unread left is_at_end lines
+  pub state : now ≡ state_after start lines
+  pub written : new ≡ old ++ replies start lines
+
+pub AnswersLines-none : (start : State) (unread old : List ℕ) (is_at_end : Bool) → AnswersLines start unread old start unread is_at_end old
+AnswersLines-none start unread old is_at_end = record {
+  lines = [];
+  reads = ReadsLines-none unread is_at_end;
+  state = refl;
+  written = sym (append-nil old);
+}
+
+-- what the machine answers to the shown front of a line is the answer to the line
+shown-answer : (now : State) (shown line : List ℕ) (answered : Answered) → shown ≡ take 121 line → line_answer now shown ≡ answered → line_answer now line ≡ answered
+shown-answer now shown line answered front is = sym (line_answer-cut now line) ∙ (ap (line_answer now) (sym front) ∙ is)
+
+-- the machine after the lines so far answers the next line
+next-answer : (start : State) (unread old : List ℕ) (now : State) (left mid rest : List ℕ) (ends : Bool) (shown : List ℕ) (answered : Answered)
+    → (so_far : AnswersLines start unread old now left false mid) → (takes : TakesLine left rest ends shown) → line_answer now shown ≡ answered
+    → line_answer (state_after start so_far.lines) takes.line ≡ answered
+next-answer start unread old now left mid rest ends shown answered so_far takes is =
+    ap (λ s. line_answer s takes.line) (sym so_far.state) ∙ shown-answer now shown takes.line answered takes.front is
+
+-- one more line is answered
+pub AnswersLines-more : (start : State) (unread old : List ℕ) (now : State) (left mid : List ℕ) (after : State) (rest : List ℕ) (ends : Bool) (new shown reply : List ℕ)
+    → AnswersLines start unread old now left false mid → TakesLine left rest ends shown
+    → line_answer now shown ≡ record { state = after; reply = reply } → new ≡ mid ++ reply → AnswersLines start unread old after rest ends new
+AnswersLines-more start unread old now left mid after rest ends new shown reply so_far takes is wrote =
+    let lines = so_far.lines in
+    let line = takes.line in
+    let here = next-answer start unread old now left mid rest ends shown _ so_far takes is in record {
+      lines = lines ++ line ∷ [];
+      reads = ReadsLines-more unread left rest ends shown lines so_far.reads takes;
+      state = sym (state_after-append start lines (line ∷ []) ∙ ap (λ (a : Answered). a.state) here);
+      written =
+          wrote
+          ∙ (ap (λ t. t ++ reply) so_far.written
+          ∙ (append_assoc old (replies start lines) reply
+          ∙ ap (λ t. old ++ t) (sym (replies-more start lines line ∙ ap (λ (a : Answered). replies start lines ++ a.reply) here))));
+    }
+
+-- the source fails within a line
+pub AnswersLines-read : (start : State) (unread old : List ℕ) (now : State) (left new rest kept : List ℕ)
+    → AnswersLines start unread old now left false new → ReadsText left rest kept → StopsAtRead start unread rest kept old new
+AnswersLines-read start unread old now left new rest kept so_far begun = record {
+  text = so_far.reads.text;
+  begun = begun.text;
+  split = so_far.reads.split ∙ ap (λ t. so_far.reads.text ++ t) begun.split;
+  whole = so_far.reads.whole refl;
+  unfinished = begun.unfinished;
+  front = begun.front;
+  written = so_far.written ∙ ap (λ lines. old ++ replies start lines) (sym so_far.reads.are_lines);
+}
+
+-- a beginning of the replies to lines is written
+pub AnswersLines-written : (start : State) (unread old : List ℕ) (now : State) (left : List ℕ) (is_at_end : Bool) (new : List ℕ)
+    → AnswersLines start unread old now left is_at_end new → StopsAtWrite start unread left old new
+AnswersLines-written start unread old now left is_at_end new so_far = record {
+  text = so_far.reads.text;
+  split = so_far.reads.split;
+  lines = so_far.reads.all ∙ ap (λ lines. lines ++ lines_of left) (sym so_far.reads.are_lines);
+  written = (
+    [],
+    (
+      replies start so_far.lines,
+      so_far.written,
+      ap (replies start) so_far.reads.are_lines ∙ sym (append-nil (replies start so_far.lines)),
+    ),
+  );
+}
+
+-- the sink stops within the reply to one more line
+pub AnswersLines-stopped : (start : State) (unread old : List ℕ) (now : State) (left mid : List ℕ) (after : State) (rest : List ℕ) (ends : Bool) (new shown reply : List ℕ)
+    → AnswersLines start unread old now left false mid → TakesLine left rest ends shown
+    → line_answer now shown ≡ record { state = after; reply = reply } → WritesFront mid new reply → StopsAtWrite start unread rest old new
+unfolding AnswersLines-more
+AnswersLines-stopped start unread old now left mid after rest ends new shown reply so_far takes is (more, (front, wrote, said)) =
+    let all = AnswersLines-more start unread old now left mid after rest ends (mid ++ reply) shown reply so_far takes is refl in
+    let here = next-answer start unread old now left mid rest ends shown _ so_far takes is in
+    let before = replies start so_far.lines in record {
+      text = all.reads.text;
+      split = all.reads.split;
+      lines = all.reads.all ∙ ap (λ lines. lines ++ lines_of rest) (sym all.reads.are_lines);
+      written = (
+        more,
+        (
+          before ++ front,
+          wrote ∙ (ap (λ t. t ++ front) so_far.written ∙ append_assoc old before front),
+          ap (replies start) all.reads.are_lines
+              ∙ (replies-more start so_far.lines takes.line
+              ∙ (ap (λ (a : Answered). before ++ a.reply) here ∙ (ap (λ t. before ++ t) said ∙ sym (append_assoc before front more)))),
+        ),
+      );
+    }
+
+-- at the end every line has its reply
+pub AnswersLines-all : (start : State) (unread old : List ℕ) (now : State) (left : List ℕ) (is_at_end : Bool) (new : List ℕ)
+    → AnswersLines start unread old now left is_at_end new → left ≡ [] → new ≡ old ++ replies start (lines_of unread)
+AnswersLines-all start unread old now left is_at_end new so_far none =
+    let every : lines_of unread ≡ so_far.lines = so_far.reads.all ∙ (ap (λ t. so_far.lines ++ lines_of t) none ∙ append-nil so_far.lines) in
+    so_far.written ∙ ap (λ lines. old ++ replies start lines) (sym every)
+
+-- what is written of the replies to the lines so far is a beginning of all replies
+pub StopsAtWrite-front : (start : State) (unread left old new : List ℕ) → StopsAtWrite start unread left old new → WritesFront old new (replies start (lines_of unread))
+StopsAtWrite-front start unread left old new stops =
+    let part = stops.written in
+    let others = replies (state_after start (lines_of stops.text)) (lines_of left) in (
+      part.0 ++ others,
+      (
+        part.1.0,
+        part.1.1,
+        ap (replies start) stops.lines
+            ∙ (replies-append start (lines_of stops.text) (lines_of left) ∙ (ap (λ t. t ++ others) part.1.2 ∙ append_assoc part.1.0 part.0 others)),
+      ),
+    )
+
+-- lines that go on are not at their end
+pub going_on : {start : State} {unread old : List ℕ} {now : State} {left : List ℕ} {is_at_end : Bool} {new : List ℕ} → is_at_end ≡ false → AnswersLines start unread old now left is_at_end new → AnswersLines start unread old now left false new
+going_on {start} {unread} {old} {now} {left} {is_at_end} {new} going so_far = subst (λ b. AnswersLines start unread old now left b new) going so_far

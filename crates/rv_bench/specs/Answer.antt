@@ -1,0 +1,47 @@
+-- The answers to commands: the machine that one leaves, and the text of its reply.
+use Rattle.std.specs.Prelude.{ℕ, List, [], ◌∷◌, ◌++◌, Result, Ok, Err}
+use Rattle.rv_bench.specs.Cases.{option_case}
+use Rattle.rv_bench.specs.Command.{parse_of}
+use Rattle.rv_bench.specs.Ram.{read}
+use Rattle.rv_bench.specs.Registers.{register}
+use Rattle.rv_bench.specs.ReplyText.{ran_text, register_text, memory_text, fault_text, outside_text}
+use Rattle.rv_bench.specs.Step.{State, Stepped, stepped}
+use Rattle.rv_bench.specs.declared.command.Command.{Command}
+use Rattle.rv_bench.specs.declared.command.Command.TheVariants.{Blank, Step, Reg, Mem}
+use Rattle.rv_bench.specs.declared.command.CommandFault.{CommandFault}
+
+-- a state, and the text of a reply
+pub record Answered : Type 0 where
+  pub state : State
+  pub reply : List ℕ
+
+-- steps are told by their number, the pc after them, and the last trap in them
+abbrev pub ran : ℕ → Stepped → Answered
+ran steps after = record { state = after.state; reply = ran_text steps after.state.hart.pc after.trap }
+
+-- one command
+unfoldable pub answer : State → Command → Answered
+answer state Blank = record { state = state; reply = [] }
+answer state (Step steps) = ran steps (stepped steps state)
+answer state (Reg number) = record { state = state; reply = register_text number (register state.hart.regs number) }
+answer state (Mem address count) =
+    record { state = state; reply = option_case (read state.memory address count) outside_text (memory_text address) }
+
+-- one line: a faulty one is told its fault, and changes nothing
+abbrev pub answer_or_fault : State → Result Command CommandFault → Answered
+answer_or_fault state (Ok command) = answer state command
+answer_or_fault state (Err fault) = record { state = state; reply = fault_text fault }
+
+unfoldable pub line_answer : State → List ℕ → Answered
+line_answer state line = answer_or_fault state (parse_of line)
+
+-- the replies to the lines of a script, one after another
+abbrev pub replies : State → List (List ℕ) → List ℕ
+replies state [] = []
+replies state (line ∷ script) =
+    let first = line_answer state line in first.reply ++ replies first.state script
+
+-- the machine after them
+abbrev pub state_after : State → List (List ℕ) → State
+state_after state [] = state
+state_after state (line ∷ script) = state_after (line_answer state line).state script

@@ -1,0 +1,73 @@
+-- The commands of this bench: how each is written, and what a line asks for.
+use Rattle.std.specs.Prelude.{ℕ, List, [], ◌∷◌, codes, find, Option, Some, None, Result, Ok, Err, option_and_then, option_map, nat_eq, if◌then◌else◌}
+use Rattle.std.specs.Option.{ok_or}
+use Rattle.std.specs.List.{starts_with}
+use Rattle.std.specs.Str.{bytes_eq}
+use Rattle.rv_bench.specs.Words.{words_of, is_good_line}
+use Rattle.rv_bench.specs.Numbers.{hexadecimal_of, decimal_of}
+use Rattle.rv_bench.specs.Within.{within}
+use Rattle.rv_bench.specs.declared.keyword.Keyword.{Keyword}
+use Rattle.rv_bench.specs.declared.keyword.Keyword.TheVariants as keyword
+use Rattle.rv_bench.specs.declared.command.Command.{Command}
+use Rattle.rv_bench.specs.declared.command.Command.TheVariants as command
+use Rattle.rv_bench.specs.declared.command.CommandFault.{CommandFault}
+use Rattle.rv_bench.specs.declared.command.CommandFault.TheVariants.{BadLine, UnknownCommand, BadOperand}
+
+-- a decimal number in a range
+abbrev pub decimal_within : ℕ → ℕ → List ℕ → Option ℕ
+decimal_within low high operand = option_and_then (within low high) (decimal_of operand)
+
+-- the number of a register, x0 to x31
+abbrev pub register_of : List ℕ → Option ℕ
+register_of operand = decimal_within 0 31 operand
+
+-- the command of just one operand, and of just two
+abbrev pub one : {A : Type 0} → (List ℕ → Option A) → (A → Command) → List (List ℕ) → Option Command
+one read make (operand ∷ []) = option_map make (read operand)
+one read make _ = None
+
+abbrev pub two : {A B : Type 0} → (List ℕ → Option A) → (List ℕ → Option B) → (A → B → Command) → List (List ℕ) → Option Command
+two read read_next make (operand ∷ next ∷ []) = option_and_then (λ a. option_map (make a) (read_next next)) (read operand)
+two read read_next make _ = None
+
+-- a row of the table of commands: the first word, and the command that the words after it make
+pub record Row : Type 0 where
+  pub spelling : List ℕ
+  pub operands : List (List ℕ) → Option Command
+
+abbrev pub row_of : Keyword → Row
+row_of keyword.Step = record { spelling = codes "step"; operands = one (decimal_within 1 1000000) command.Step }
+row_of keyword.Reg = record { spelling = codes "reg"; operands = one register_of command.Reg }
+row_of keyword.Mem = record { spelling = codes "mem"; operands = two hexadecimal_of (decimal_within 1 64) command.Mem }
+
+abbrev pub keywords : List Keyword
+keywords = keyword.Step ∷ keyword.Reg ∷ keyword.Mem ∷ []
+
+abbrev pub spelling_of : Keyword → List ℕ
+spelling_of k = (row_of k).spelling
+
+abbrev pub operands_of : Keyword → List (List ℕ) → Option Command
+operands_of k = (row_of k).operands
+
+-- the keyword that a word spells
+unfoldable pub keyword_of : List ℕ → Option Keyword
+keyword_of word = find (λ k. bytes_eq word (spelling_of k)) keywords
+
+abbrev pub named : Option Keyword → List (List ℕ) → Result Command CommandFault
+named None operands = Err UnknownCommand
+named (Some k) operands = ok_or (operands_of k operands) BadOperand
+
+-- no words ask for nothing, and neither does a comment
+unfoldable pub meaning_of : List (List ℕ) → Result Command CommandFault
+meaning_of [] = Ok command.Blank
+meaning_of (name ∷ operands) = if starts_with nat_eq name (codes "#") then Ok command.Blank else named (keyword_of name) operands
+
+-- the command that a line is, or the first of its faults
+unfoldable pub parse_of : List ℕ → Result Command CommandFault
+parse_of line = if is_good_line line then meaning_of (words_of line) else Err BadLine
+
+-- the numbers of the faults, in the order in which they are asked
+abbrev pub number_of_fault : CommandFault → ℕ
+number_of_fault BadLine = 1
+number_of_fault UnknownCommand = 2
+number_of_fault BadOperand = 3

@@ -1,0 +1,15 @@
+-- Numbers in hexadecimal with leading zeros, in ASCII.
+use Rattle.std.specs.Prelude.{ℕ, zero, suc, ◌/◌, ◌%◌, List, [], ◌∷◌, ◌++◌}
+use Rattle.std.specs.Char.{digit_char}
+
+-- the last hexadecimal digits of a number, as many as there are places, in lower case
+unfoldable pub hex_digits : ℕ → ℕ → List ℕ
+hex_digits zero n = []
+hex_digits (suc places) n = hex_digits places (n / 16) ++ digit_char (n % 16) ∷ []
+
+-- a word, and a byte
+abbrev pub hex8 : ℕ → List ℕ
+hex8 n = hex_digits 8 n
+
+abbrev pub hex2 : ℕ → List ℕ
+hex2 n = hex_digits 2 n

@@ -1,0 +1,82 @@
+-- The image in a text of hexadecimal lines. (This project's own format; the text is ASCII, ISO/IEC 646.)
+use Rattle.std.specs.Prelude.{◌≡◌, ℕ, ◌+◌, nat_lt, Bool, true, false, not, List, [], ◌∷◌, ◌++◌, length, codes, flat_map, take_while, is_some, unwrap_or, option_and_then, Option, Some, None, Result, Ok, Err, if◌then◌else◌}
+use Rattle.std.specs.List.{list_all}
+use Rattle.std.specs.Result.{result_ok}
+use Rattle.std.specs.Str.{bytes_eq}
+use Rattle.hex.specs.Hex.{decode_of}
+use Rattle.rv_bench.specs.declared.fault.BenchFault.{BenchFault}
+use Rattle.rv_bench.specs.declared.fault.BenchFault.TheVariants.{Image, Ram, Read, Write, Hex, TooLong, NoMemory}
+use Rattle.rv_bench.specs.Lines.{lines_of, after_lines}
+use Rattle.rv_bench.specs.LineText.{ReadsText, ReadsLines}
+use Rattle.rv_bench.specs.Words.{is_good_line, words_of}
+
+-- one word, or none, which is a word of no bytes
+abbrev pub only_word : List (List ℕ) → Option (List ℕ)
+only_word [] = Some []
+only_word (word ∷ []) = Some word
+only_word (first ∷ second ∷ words) = None
+
+-- the only word of a good line; a line that is not good is faulty, and so is one with more words
+unfoldable pub line_word : List ℕ → Option (List ℕ)
+line_word line = if is_good_line line then only_word (words_of line) else None
+
+abbrev pub is_dashes : Option (List ℕ) → Bool
+is_dashes None = false
+is_dashes (Some word) = bytes_eq word (codes "--")
+
+-- the line whose only word is `--` ends the image
+abbrev pub is_marker : List ℕ → Bool
+is_marker line = is_dashes (line_word line)
+
+-- the bytes of an image line: its word is an even number of hexadecimal digits, of either case
+abbrev pub line_bytes : List ℕ → Option (List ℕ)
+line_bytes line = option_and_then (λ word. result_ok (decode_of word)) (line_word line)
+
+abbrev pub is_image_line : List ℕ → Bool
+is_image_line line = is_some (line_bytes line)
+
+-- the bytes of lines, one after another
+abbrev pub bytes_of_lines : List (List ℕ) → List ℕ
+bytes_of_lines lines = flat_map (λ line. unwrap_or (line_bytes line) []) lines
+
+-- The image of lines. They have too many bytes before the first faulty line, or there is a faulty line, or these are all bytes.
+abbrev pub image_of : List (List ℕ) → Result (List ℕ) BenchFault
+image_of lines =
+    if nat_lt 33554432 (length (bytes_of_lines (take_while is_image_line lines))) then Err TooLong
+    else (if list_all is_image_line lines then Ok (bytes_of_lines lines) else Err Hex)
+
+-- the lines before the line `--`, or all
+abbrev pub image_lines : List (List ℕ) → List (List ℕ)
+image_lines lines = take_while (λ line. not (is_marker line)) lines
+
+-- the image at the front of an input
+abbrev pub image_in : List ℕ → Result (List ℕ) BenchFault
+image_in input = image_of (image_lines (lines_of input))
+
+-- what follows the line `--`
+abbrev pub after_image : List ℕ → List ℕ
+after_image input = after_lines (length (image_lines (lines_of input)) + 1) input
+
+-- the faults that reading an image can have
+abbrev pub is_image_fault : BenchFault → Bool
+is_image_fault (Image fault) = false
+is_image_fault (Ram fault) = false
+is_image_fault Read = true
+is_image_fault Write = false
+is_image_fault Hex = true
+is_image_fault TooLong = true
+is_image_fault NoMemory = true
+
+-- whole lines were read, up to the bytes that are left
+pub record LeavesLines (unread left : List ℕ) : Type 0 where
+  pub count : ℕ
+  pub rest : left ≡ after_lines count unread
+
+-- Lines of the image were read, none of them `--`, none faulty and not too many, and then the front of a line, which is kept.
+pub record ReadsInImage (unread left kept : List ℕ) : Type 0 where
+  pub lines : List (List ℕ)
+  pub others : List ℕ
+  pub reads : ReadsLines unread others false lines
+  pub unmarked : image_lines lines ≡ lines
+  pub image : image_of lines ≡ Ok (bytes_of_lines lines)
+  pub begun : ReadsText others left kept

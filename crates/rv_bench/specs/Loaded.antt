@@ -1,0 +1,34 @@
+-- What an image denotes: the memory and the entry that it gives, or its fault. Every image is raw: its bytes stand at the
+-- first address of RAM, where execution begins, and every other byte is 0.
+-- (System V gABI, program loading: a raw image is one segment; one of no bytes is none.)
+use Rattle.std.specs.Prelude.{ℕ, ◌-◌, ◌++◌, nat_lt, not, List, length, replicate, Option, Some, None, Result, Ok, Err, if◌then◌else◌}
+use Rattle.rv_bench.specs.Cases.{option_case}
+use Rattle.rv_bench.specs.Hart.{at_reset}
+use Rattle.rv_bench.specs.Ram.{ram_base, is_ram_size}
+use Rattle.rv_bench.specs.Step.{State, over}
+use Rattle.rv_bench.specs.declared.elf_fault.ElfFault.{ElfFault}
+use Rattle.rv_bench.specs.declared.elf_fault.ElfFault.TheVariants.{SegmentOutside, BadEntry}
+use Rattle.rv_bench.specs.declared.fault.BenchFault.{BenchFault}
+use Rattle.rv_bench.specs.declared.fault.BenchFault.TheVariants.{Image, Ram}
+use Rattle.rv_bench.specs.declared.ram_fault.RamFault.TheVariants.{BadSize}
+
+-- the fault of a raw image of so many bytes in a RAM of this size: the segment is not inside, or the entry's four bytes are not
+abbrev pub raw_fault : ℕ → ℕ → Option ElfFault
+raw_fault len ram_size =
+    if nat_lt ram_size len then Some SegmentOutside
+    else (if nat_lt ram_size 4 then Some BadEntry else None)
+
+-- the memory that a raw image gives
+abbrev pub loaded : List ℕ → ℕ → List ℕ
+loaded image ram_size = image ++ replicate (ram_size - length image) 0
+
+-- the machine at reset over that memory
+abbrev pub reset_over : List ℕ → ℕ → State
+reset_over image ram_size = over (loaded image ram_size) (at_reset ram_base)
+
+-- the machine at reset, or the first fault: of the RAM's size, then of the image
+unfoldable pub started : List ℕ → ℕ → Result State BenchFault
+started image ram_size =
+    if is_ram_size ram_size
+    then option_case (raw_fault (length image) ram_size) (Ok (reset_over image ram_size)) (λ fault. Err (Image fault))
+    else Err (Ram BadSize)

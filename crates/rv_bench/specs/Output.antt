@@ -1,0 +1,58 @@
+-- What the bench writes for an input: an image, the line `--`, and a script.
+use Rattle.std.specs.Prelude.{ℕ, Bool, true, false, List, Result, Ok, Err}
+use Rattle.rv_bench.specs.Answer.{replies}
+use Rattle.rv_bench.specs.Cases.{result_case}
+use Rattle.rv_bench.specs.Image.{image_in, after_image}
+use Rattle.rv_bench.specs.Lines.{lines_of}
+use Rattle.rv_bench.specs.Loaded.{started}
+use Rattle.rv_bench.specs.Step.{State}
+use Rattle.rv_bench.specs.declared.fault.BenchFault.{BenchFault}
+use Rattle.rv_bench.specs.declared.fault.BenchFault.TheVariants.{Image, Ram, Read, Write, Hex, TooLong, NoMemory}
+use Rattle.rv_bench.specs.declared.ram_fault.RamFault.TheVariants.{BadSize, NoMemory as NoRamMemory}
+
+-- the replies of a machine that has started, or the fault
+abbrev pub replies_of : Result State BenchFault → List (List ℕ) → Result (List ℕ) BenchFault
+replies_of machine script = result_case machine (λ state. Ok (replies state script)) Err
+
+-- the replies to a script over an image, or the fault of the setup or the image
+abbrev pub bench_output : ℕ → List ℕ → List (List ℕ) → Result (List ℕ) BenchFault
+bench_output ram_size image script = replies_of (started image ram_size) script
+
+-- the machine that the front of an input starts, or the first fault: of the image's text, the RAM's size or the image
+abbrev pub machine_in : ℕ → List ℕ → Result State BenchFault
+machine_in ram_size input = result_case (image_in input) (λ image. started image ram_size) Err
+
+-- the replies to the script in an input, or the fault
+abbrev pub output : ℕ → List ℕ → Result (List ℕ) BenchFault
+output ram_size input = replies_of (machine_in ram_size input) (lines_of (after_image input))
+
+-- the faults of a setup and an image: no reply is written then
+abbrev pub is_start_fault : BenchFault → Bool
+is_start_fault (Image fault) = true
+is_start_fault (Ram fault) = true
+is_start_fault Read = false
+is_start_fault Write = false
+is_start_fault Hex = false
+is_start_fault TooLong = false
+is_start_fault NoMemory = false
+
+-- the faults that an input has by itself, whatever the devices and the memory do
+abbrev pub is_input_fault : BenchFault → Bool
+is_input_fault (Image fault) = true
+is_input_fault (Ram BadSize) = true
+is_input_fault (Ram NoRamMemory) = false
+is_input_fault Read = false
+is_input_fault Write = false
+is_input_fault Hex = true
+is_input_fault TooLong = true
+is_input_fault NoMemory = false
+
+-- the faults of the devices
+abbrev pub is_device_fault : BenchFault → Bool
+is_device_fault (Image fault) = false
+is_device_fault (Ram fault) = false
+is_device_fault Read = true
+is_device_fault Write = true
+is_device_fault Hex = false
+is_device_fault TooLong = false
+is_device_fault NoMemory = false

@@ -1,0 +1,10 @@
+-- The 32 integer registers as a list of words, of which the first is 0: RISC-V Unprivileged ISA 20191213, section 2.1.
+use Rattle.std.specs.Prelude.{ℕ, ◌==◌, List, slice_index, slice_set, if◌then◌else◌}
+
+-- what register number n reads
+abbrev pub register : List ℕ → ℕ → ℕ
+register regs n = slice_index regs n
+
+-- the registers after a write to number n; x0 stays 0
+abbrev pub with_register : List ℕ → ℕ → ℕ → List ℕ
+with_register regs n value = if n == 0 then regs else slice_set regs n value

@@ -1,0 +1,34 @@
+-- The lines that answer commands: ASCII, each ended by a line feed; hexadecimal in lower case, with leading zeros.
+use Rattle.std.specs.Prelude.{ℕ, List, ◌++◌, Option, Some, None, codes, decimal}
+use Rattle.std.specs.List.{flat_map}
+use Rattle.rv_bench.specs.Digits.{hex2, hex8}
+use Rattle.rv_bench.specs.declared.trap.Trap.{Trap}
+use Rattle.rv_bench.specs.declared.command.CommandFault.{CommandFault}
+use Rattle.rv_bench.specs.declared.command.CommandFault.TheVariants.{BadLine, UnknownCommand, BadOperand}
+
+-- `-`, or `cause:tval`
+unfoldable pub trap_text : Option Trap → List ℕ
+trap_text None = codes "-"
+trap_text (Some trap) = hex8 trap.cause ++ codes ":" ++ hex8 trap.tval
+
+-- `ran S pc=hhhhhhhh mode=M world=bare why=done trap=t`
+unfoldable pub ran_text : ℕ → ℕ → Option Trap → List ℕ
+ran_text steps pc trap = codes "ran " ++ decimal steps ++ codes " pc=" ++ hex8 pc ++ codes " mode=M world=bare why=done trap=" ++ trap_text trap ++ codes "\n"
+
+-- `xN=hhhhhhhh`
+unfoldable pub register_text : ℕ → ℕ → List ℕ
+register_text number value = codes "x" ++ decimal number ++ codes "=" ++ hex8 value ++ codes "\n"
+
+-- `hhhhhhhh:`, and for each byte a space and two digits
+unfoldable pub memory_text : ℕ → List ℕ → List ℕ
+memory_text address bytes = hex8 address ++ codes ":" ++ flat_map (λ byte. codes " " ++ hex2 byte) bytes ++ codes "\n"
+
+-- the fault of a line
+abbrev pub fault_text : CommandFault → List ℕ
+fault_text BadLine = codes "error line\n"
+fault_text UnknownCommand = codes "error command\n"
+fault_text BadOperand = codes "error operand\n"
+
+-- a byte that was asked for is outside RAM
+unfoldable pub outside_text : List ℕ
+outside_text = codes "error outside\n"

@@ -1,0 +1,22 @@
+-- What reading a byte and writing a text do to a source and a sink. (This project's own streams.)
+use Rattle.std.specs.Prelude.{◌≡◌, ℕ, Bool, true, false, List, [], ◌++◌, Result, Ok, Err, Option, Some, None}
+use Rattle.std.specs.Option.{option_to_list}
+
+-- the byte that a call gave, if it gave one
+abbrev pub byte_given : {E : Type 0} → Result (Option ℕ) E → List ℕ
+byte_given (Ok byte) = option_to_list byte
+byte_given (Err e) = []
+
+-- the call was answered with the end
+abbrev pub answers_end : {E : Type 0} → Result (Option ℕ) E → Bool
+answers_end (Ok None) = true
+answers_end (Ok (Some byte)) = false
+answers_end (Err e) = false
+
+-- the text was written up to this rest of it
+abbrev pub WritesUpTo : List ℕ → List ℕ → List ℕ → List ℕ → Type 0
+WritesUpTo old new text rest = (front : List ℕ) × (new ≡ old ++ front) × (text ≡ front ++ rest)
+
+-- what was written is a beginning of the text
+abbrev pub WritesFront : List ℕ → List ℕ → List ℕ → Type 0
+WritesFront old new text = (rest : List ℕ) × WritesUpTo old new text rest

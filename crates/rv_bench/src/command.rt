@@ -1,0 +1,145 @@
+//! The commands, and how a line is read as one.
+
+ghost use Rattle.std.specs.Prelude.{◌≡◌, map};
+ghost use Rattle.rv_bench.specs.Command.{register_of, operands_of, meaning_of, parse_of, number_of_fault};
+
+use crate::keyword::Keyword;
+use crate::numbers::{decimal, hexadecimal};
+use crate::within::Within;
+use crate::words::{first_words, is_good_line};
+use rv_word::Reg;
+
+/// How many steps one command makes: 1 to 1000000.
+pub type StepCount = Within<1, 1_000_000>;
+
+/// How many bytes one command shows: 1 to 64.
+pub type ByteCount = Within<1, 64>;
+
+/// What a line asks of the bench.
+#[derive(Clone, Copy, Debug, PartialEq, Eq)]
+pub enum Command {
+    /// Nothing: the line has no words, or its first word begins with `#`.
+    Blank,
+    /// `step N`: so many steps.
+    Step(StepCount),
+    /// `reg N`: show the register.
+    Reg(Reg),
+    /// `mem A N`: show so many bytes of memory from an address on.
+    Mem(u32, ByteCount),
+}
+
+/// What is wrong with a line: the first of these faults that it has.
+#[derive(Clone, Copy, Debug, PartialEq, Eq)]
+pub enum CommandFault {
+    /// 1: the line has more than 120 bytes, or one that is neither a tab nor from 20 to 7E.
+    BadLine,
+    /// 2: the first word is no command.
+    UnknownCommand,
+    /// 3: the number, the form or the range of the operands is not the command's.
+    BadOperand,
+}
+
+impl CommandFault {
+    /// The fault's number, 1 to 3.
+    pub fn number(self) -> u8
+        ensures { result ≡ number_of_fault self }
+    {
+        match self {
+            CommandFault::BadLine => 1,
+            CommandFault::UnknownCommand => 2,
+            CommandFault::BadOperand => 3,
+        }
+    }
+}
+
+/// The register that an operand names: a decimal number, 0 to 31.
+#[tactic(auto, unfolding(crate::specs::Command::register_of))]
+fn register(operand: &[u8]) -> Option<Reg>
+    ensures { result ≡ register_of operand.now }
+{
+    let number = decimal(operand)?;
+    if number > 31 {
+        return None;
+    }
+    Some(Reg::new(number as u8))
+}
+
+/// The command that a keyword makes of its operands.
+fn with_operands(keyword: Keyword, operands: &[&[u8]]) -> Option<Command>
+    ensures { result ≡ operands_of keyword (map (λ operand. operand.now) operands.now) }
+{
+    match (keyword, operands) {
+        (Keyword::Step, [count]) => {
+            let steps = StepCount::new(decimal(count)?)?;
+            Some(Command::Step(steps))
+        }
+        (Keyword::Reg, [number]) => Some(Command::Reg(register(number)?)),
+        (Keyword::Mem, [address, count]) => {
+            let address = hexadecimal(address)?;
+            let count = ByteCount::new(decimal(count)?)?;
+            Some(Command::Mem(address, count))
+        }
+        _ => None,
+    }
+}
+
+/// The command that the words of a good line make, or their first fault.
+#[tactic(auto, unfolding(crate::specs::Command::meaning_of))]
+fn meaning(words: &[&[u8]]) -> Result<Command, CommandFault>
+    ensures { result ≡ meaning_of (map (λ word. word.now) words.now) }
+{
+    let Some((name, operands)) = words.split_first() else {
+        return Ok(Command::Blank);
+    };
+    if name.starts_with(b"#") {
+        return Ok(Command::Blank);
+    }
+    let keyword = Keyword::find(name).ok_or(CommandFault::UnknownCommand)?;
+    with_operands(keyword, operands).ok_or(CommandFault::BadOperand)
+}
+
+/// The command that a line is, given without its ending, or the first fault that it has.
+///
+/// A bad line is `BadLine`. A good one without words, or whose first word begins with `#`, is
+/// `Command::Blank`. Otherwise an unknown first word is `UnknownCommand`, and operands that are not the
+/// command's are `BadOperand`. Only the first 121 bytes of the line matter.
+#[tactic(auto, unfolding(crate::specs::Command::parse_of))]
+pub fn parse(line: &[u8]) -> Result<Command, CommandFault>
+    ensures { result ≡ parse_of line.now }
+{
+    if !is_good_line(line) {
+        return Err(CommandFault::BadLine);
+    }
+    meaning(first_words(line).as_slice())
+}
+
+#[cfg(test)]
+mod tests {
+    use super::*;
+    use std::test::Fail;
+
+    #[test]
+    fn reads_commands(rt: HostRuntime) -> Result<(), Fail> {
+        let one = StepCount::new(1).ok_or("one step")?;
+        let four = ByteCount::new(4).ok_or("four bytes")?;
+        assert_eq!(rt; parse(b"step 1"), Ok(Command::Step(one)));
+        assert_eq!(rt; parse(b"reg 1"), Ok(Command::Reg(Reg::new(1))));
+        assert_eq!(rt;
+            parse(b"mem 8000000e 4"),
+            Ok(Command::Mem(0x8000_000e, four))
+        );
+        assert_eq!(rt; parse(b" \t"), Ok(Command::Blank));
+        assert_eq!(rt; parse(b"# x"), Ok(Command::Blank));
+        Ok(())
+    }
+
+    #[test]
+    fn finds_the_first_fault(rt: HostRuntime) {
+        assert_eq!(rt; parse(b"step 0"), Err(CommandFault::BadOperand));
+        assert_eq!(rt; parse(b"fly"), Err(CommandFault::UnknownCommand));
+        assert_eq!(rt; parse(b"reg 32"), Err(CommandFault::BadOperand));
+        assert_eq!(rt; parse(&[b'#'; 120]), Ok(Command::Blank));
+        assert_eq!(rt; parse(&[b'#'; 121]), Err(CommandFault::BadLine));
+        assert_eq!(rt; CommandFault::BadLine.number(), 1);
+    }
+}

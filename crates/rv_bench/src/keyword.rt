@@ -1,0 +1,32 @@
+//! The first words of the commands.
+
+ghost use Rattle.std.specs.Prelude.{◌≡◌, ◌≢◌, MatchOption};
+ghost use Rattle.rv_bench.specs.Command.{spelling_of, keyword_of};
+
+/// A command's first word.
+#[derive(Clone, Copy, Debug, PartialEq, Eq)]
+pub(crate) enum Keyword {
+    Step,
+    Reg,
+    Mem,
+}
+
+impl Keyword {
+    /// The keyword that a word spells, if there is one. Upper and lower case differ.
+    pub(crate) fn find(word: &[u8]) -> Option<Keyword>
+        ensures { result ≡ keyword_of word.now }
+    {
+        Self::matching(word)
+    }
+
+    fn matching(word: &[u8]) -> Option<Keyword>
+        ensures { MatchOption result ((k : Keyword) → word.now ≢ spelling_of k) (λ k. word.now ≡ spelling_of k) }
+    {
+        match word {
+            b"step" => Some(Keyword::Step),
+            b"reg" => Some(Keyword::Reg),
+            b"mem" => Some(Keyword::Mem),
+            _ => None,
+        }
+    }
+}

@@ -1,0 +1,39 @@
+//! Numbers that the operands of a command write.
+
+ghost use Rattle.std.specs.Prelude.{◌≡◌, ℕ, ◌^◌, ◌≤◌};
+ghost use Rattle.rv_bench.specs.Numbers.{number_of, hexadecimal_of, decimal_of};
+
+/// The number that digits in the base write, where there are one to `most` of them and nothing else.
+#[tactic(auto, unfolding(crate::specs::Numbers::number_of))]
+fn number(text: &[u8], base: u32, most: usize) -> Option<u32>
+    requires low { 2 ≤ base }
+    requires high { base ≤ 36 }
+    requires fits { base ^ most ≤ 2 ^ 32 }
+    ensures { result ≡ number_of base most text.now }
+{
+    if text.is_empty() || text.len() > most {
+        return None;
+    }
+    let mut value = 0;
+    for byte in text {
+        let digit = char::from(*byte).to_digit(base)?;
+        value = value * base + digit;
+    }
+    Some(value)
+}
+
+/// The number that a hexadecimal operand writes: one to eight digits of either case, perhaps after `0x`.
+#[tactic(auto, unfolding(crate::specs::Numbers::hexadecimal_of))]
+pub(crate) fn hexadecimal(text: &[u8]) -> Option<u32>
+    ensures { result ≡ hexadecimal_of text.now }
+{
+    number(text.strip_prefix(b"0x").unwrap_or(text), 16, 8)
+}
+
+/// The number that a decimal operand writes: one to seven digits.
+#[tactic(auto, unfolding(crate::specs::Numbers::decimal_of))]
+pub(crate) fn decimal(text: &[u8]) -> Option<u32>
+    ensures { result ≡ decimal_of text.now }
+{
+    number(text, 10, 7)
+}

@@ -1,0 +1,49 @@
+//! The integer registers.
+
+ghost use Rattle.std.specs.Prelude.{◌≡◌, ℕ, List, replicate};
+ghost use Rattle.rv_bench.specs.Registers.{register, with_register};
+
+use rv_word::Reg;
+use std::marker::Model;
+
+/// The 32 integer registers, of which x0 is always 0 (Unprivileged ISA, section 2.1).
+#[derive(Drop, Debug)]
+pub(crate) struct Regs {
+    words: [u32; 32],
+}
+
+impl Model for Regs {
+    ghost use Rattle.std.specs.Prelude.{◌≡◌, ℕ, List, slice_index};
+
+    ghost Value = { List ℕ };
+
+    ghost view = { λ regs. regs.words };
+
+    ghost invariant = { λ regs. slice_index regs.words 0 ≡ 0 };
+}
+
+impl Regs {
+    /// The registers at reset: all 0.
+    pub(crate) fn new() -> Self
+        ensures { result ≡ replicate 32 0 }
+    {
+        Regs { words: [0; 32] }
+    }
+
+    /// The word in a register.
+    pub(crate) fn get(&self, reg: Reg) -> u32
+        ensures { result ≡ register self.now reg }
+    {
+        self.words[reg.number() as usize]
+    }
+
+    /// Puts a word into a register. A write to x0 changes nothing.
+    pub(crate) fn set(&mut self, reg: Reg, value: u32)
+        ensures { self.new ≡ with_register self.old reg value }
+    {
+        let number = reg.number();
+        if number != 0 {
+            self.words[number as usize] = value;
+        }
+    }
+}

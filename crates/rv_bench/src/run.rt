@@ -1,0 +1,151 @@
+//! From lines read to replies written.
+
+ghost use Rattle.std.specs.Prelude.{◌≡◌, ◌++◌, ◌⊎◌, ◌↔◌, [], true, false, IsTrue, OnOk, IfErr, IsOkAnd};
+ghost use Rattle.rv_bench.specs.Answer.{replies};
+ghost use Rattle.rv_bench.specs.Device.{HasRisen};
+ghost use Rattle.rv_bench.specs.Image.{after_image, LeavesLines, ReadsInImage};
+ghost use Rattle.rv_bench.specs.Lines.{lines_of};
+ghost use Rattle.rv_bench.specs.Loaded.{started};
+ghost use Rattle.rv_bench.specs.Output.{bench_output, machine_in, output, is_start_fault, is_input_fault, is_device_fault};
+ghost use Rattle.rv_bench.specs.Ram.{is_ram_size};
+ghost use Rattle.rv_bench.specs.Run.{StopsAtRead, StopsAtWrite};
+ghost use Rattle.rv_bench.specs.Step.{over};
+ghost use Rattle.rv_bench.specs.Unread.{held, unread, HasEnded, TellsEnd};
+
+use crate::answer::answer_line;
+use crate::device::{Sink, Source};
+use crate::fault::BenchFault;
+use crate::image::read_image;
+use crate::lines::Lines;
+use crate::machine::Machine;
+use crate::ram_fault::RamFault;
+use crate::reply::Reply;
+use crate::setup::Setup;
+use crate::start::start;
+use crate::transfer::write_all;
+use std::alloc::Global;
+
+/// Writes the reply to each line, until the source answers its end. It takes no memory.
+fn run_lines<S: Source, W: Sink>(
+    machine: &mut Machine,
+    lines: &mut Lines<S>,
+    sink: &mut W,
+) -> Result<(), BenchFault>
+    ensures read_to_end { OnOk result (lines.new.is_at_end ≡ true) }
+    ensures end { TellsEnd lines.old lines.new }
+    ensures written { IsTrue S.tells → IsTrue W.tells → OnOk result
+        (W.taken sink.new ≡ W.taken sink.old ++ replies (over machine.old.ram machine.old.hart) (lines_of (unread lines.old))) }
+    ensures used_up { IsTrue S.tells → OnOk result (unread lines.new ≡ []) }
+
+    ensures faults { IfErr result (λ fault. IsTrue (is_device_fault fault)) }
+    ensures read { result ≡ Err BenchFault.Read → HasRisen (S.failures lines.old.source) (S.failures lines.new.source) }
+    ensures write { result ≡ Err BenchFault.Write →
+        HasRisen (W.failures sink.old) (W.failures sink.new) ⊎ HasRisen (W.refusals sink.old) (W.refusals sink.new) }
+
+    ensures after_read { result ≡ Err BenchFault.Read → IsTrue S.tells → IsTrue W.tells →
+        StopsAtRead (over machine.old.ram machine.old.hart) (unread lines.old) (S.remaining lines.new.source) (held lines.new) (W.taken sink.old) (W.taken sink.new) }
+    ensures after_write { result ≡ Err BenchFault.Write → IsTrue S.tells → IsTrue W.tells →
+        StopsAtWrite (over machine.old.ram machine.old.hart) (unread lines.old) (unread lines.new) (W.taken sink.old) (W.taken sink.new) }
+{
+    let mut reply = Reply::new();
+    while let Some(line) = lines.next_line().map_err(|_| BenchFault::Read)? {
+        answer_line(machine, line.as_slice(), &mut reply);
+        write_all(sink, reply.as_slice()).map_err(|_| BenchFault::Write)?;
+    }
+    sink.flush().map_err(|_| BenchFault::Write)
+}
+
+/// Loads an image into the RAM of a new machine, and writes the reply to each line, until the source answers its end. Once
+/// the RAM is made, no memory is taken.
+///
+/// # Errors
+///
+/// In this order, and nothing is read or written at the first three:
+/// - `Ram(BadSize)` exactly where the RAM's size is not a multiple of 65536, from 65536 to 16777216;
+/// - `Ram(NoMemory)` where memory for the RAM was refused;
+/// - `Image` where the image does not fit;
+/// - `Read` where the source failed in this call: the lines that were complete have their replies, and the line that was
+///   begun is kept in `lines`;
+/// - `Write` where the sink failed in this call, or took no byte of a part that was not empty: a beginning of the replies
+///   is written.
+pub fn run_bench<S: Source, W: Sink>(
+    alloc: Global,
+    image: &[u8],
+    setup: &Setup,
+    lines: &mut Lines<S>,
+    sink: &mut W,
+) -> Result<(), BenchFault>
+    // At the end all was read, and just the replies were written.
+    ensures read_to_end { OnOk result (HasEnded lines.old lines.new) }
+    ensures written { IsTrue S.tells → IsTrue W.tells → OnOk result
+        (IsOkAnd (bench_output setup.now.ram image.now (lines_of (unread lines.old))) (λ text. W.taken sink.new ≡ W.taken sink.old ++ text)) }
+    ensures used_up { IsTrue S.tells → OnOk result (unread lines.new ≡ []) }
+
+    // A fault of the setup or the image is the one that they have, and then nothing was read or written.
+    ensures ram_size { (result ≡ Err (BenchFault.Ram RamFault.BadSize)) ↔ (is_ram_size setup.now.ram ≡ false) }
+    ensures image { IfErr result (λ fault. IsTrue (is_input_fault fault) → started image.now setup.now.ram ≡ Err fault) }
+    ensures faults { IfErr result (λ fault. IsTrue (is_start_fault fault) ⊎ IsTrue (is_device_fault fault)) }
+    ensures unchanged { IfErr result (λ fault. IsTrue (is_start_fault fault) → (lines.new ≡ lines.old) × (sink.new ≡ sink.old)) }
+
+    // Each fault of a device comes only where that device failed in this call.
+    ensures read { result ≡ Err BenchFault.Read → HasRisen (S.failures lines.old.source) (S.failures lines.new.source) }
+    ensures write { result ≡ Err BenchFault.Write →
+        HasRisen (W.failures sink.old) (W.failures sink.new) ⊎ HasRisen (W.refusals sink.old) (W.refusals sink.new) }
+
+    // What was written then, and what a later call goes on from.
+    ensures after_read { result ≡ Err BenchFault.Read → IsTrue S.tells → IsTrue W.tells →
+        IsOkAnd (started image.now setup.now.ram) (λ state. StopsAtRead state (unread lines.old) (S.remaining lines.new.source) (held lines.new) (W.taken sink.old) (W.taken sink.new)) }
+    ensures after_write { result ≡ Err BenchFault.Write → IsTrue S.tells → IsTrue W.tells →
+        IsOkAnd (started image.now setup.now.ram) (λ state. StopsAtWrite state (unread lines.old) (unread lines.new) (W.taken sink.old) (W.taken sink.new)) }
+    ensures end { TellsEnd lines.old lines.new }
+{
+    let mut machine = start(alloc, image, setup)?;
+    run_lines(&mut machine, lines, sink)
+}
+
+/// Reads an image, and then runs the lines after it as `run_bench` does.
+///
+/// # Errors
+///
+/// The first of these that is met; nothing is written at any but the last two:
+/// - while the image is read, in the order of its lines: `Read`, `Hex`, `TooLong` and `NoMemory`, as `read_image` has them;
+/// - `Ram`, then `Image`, as `run_bench` has them;
+/// - `Read` where the source failed in this call: the lines that were complete have their replies, and the line that was
+///   begun is kept in `lines`;
+/// - `Write` where the sink failed in this call, or took no byte of a part that was not empty: a beginning of the replies
+///   is written.
+pub fn run_stream<S: Source, W: Sink>(
+    alloc: Global,
+    setup: &Setup,
+    lines: &mut Lines<S>,
+    sink: &mut W,
+) -> Result<(), BenchFault>
+    // At the end all was read, and just the output was written.
+    ensures read_to_end { OnOk result (HasEnded lines.old lines.new) }
+    ensures written { IsTrue S.tells → IsTrue W.tells → OnOk result
+        (IsOkAnd (output setup.now.ram (unread lines.old)) (λ text. W.taken sink.new ≡ W.taken sink.old ++ text)) }
+    ensures used_up { IsTrue S.tells → OnOk result (unread lines.new ≡ []) }
+
+    // A fault of the input is the one that it has; before the first reply nothing is written, whatever the refusal.
+    ensures input { IsTrue S.tells → IfErr result (λ fault. IsTrue (is_input_fault fault) → output setup.now.ram (unread lines.old) ≡ Err fault) }
+    ensures unwritten { IfErr result (λ fault. is_device_fault fault ≡ false → sink.new ≡ sink.old) }
+    ensures ram_size { result ≡ Err (BenchFault.Ram RamFault.BadSize) → is_ram_size setup.now.ram ≡ false }
+    ensures after_fault { IsTrue S.tells → IfErr result (λ fault. is_device_fault fault ≡ false → LeavesLines (unread lines.old) (unread lines.new)) }
+
+    // Each fault of a device comes only where that device failed in this call.
+    ensures read { result ≡ Err BenchFault.Read → HasRisen (S.failures lines.old.source) (S.failures lines.new.source) }
+    ensures write { result ≡ Err BenchFault.Write →
+        HasRisen (W.failures sink.old) (W.failures sink.new) ⊎ HasRisen (W.refusals sink.old) (W.refusals sink.new) }
+
+    // What was written then, and what a later call goes on from.
+    ensures after_read { result ≡ Err BenchFault.Read → IsTrue S.tells → IsTrue W.tells →
+        (ReadsInImage (unread lines.old) (S.remaining lines.new.source) (held lines.new) × (sink.new ≡ sink.old))
+        ⊎ IsOkAnd (machine_in setup.now.ram (unread lines.old)) (λ state.
+        StopsAtRead state (after_image (unread lines.old)) (S.remaining lines.new.source) (held lines.new) (W.taken sink.old) (W.taken sink.new)) }
+    ensures after_write { result ≡ Err BenchFault.Write → IsTrue S.tells → IsTrue W.tells →
+        IsOkAnd (machine_in setup.now.ram (unread lines.old)) (λ state.
+        StopsAtWrite state (after_image (unread lines.old)) (unread lines.new) (W.taken sink.old) (W.taken sink.new)) }
+{
+    let image = read_image(alloc, lines)?;
+    run_bench(alloc, image.as_slice(), setup, lines, sink)
+}

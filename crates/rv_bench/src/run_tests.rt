@@ -1,0 +1,174 @@
+//! Whole runs over memory, and over devices that move few bytes a call and fail at each call in turn.
+use crate::elf_fault::ElfFault;
+use crate::fault::BenchFault;
+use crate::faulty::{AtSetCall, FaultySink, FaultySource};
+use crate::lines::Lines;
+use crate::memory::{MemorySink, MemorySource};
+use crate::plan::plan_raw;
+use crate::ram::Ram;
+use crate::ram_fault::RamFault;
+use crate::run::{run_bench, run_stream};
+use crate::setup::Setup;
+
+const INPUT: &[u8] = b"9300f0ff\n--\nstep 1\nreg 1\n";
+
+const STEPPED: &[u8] = b"ran 1 pc=80000004 mode=M world=bare why=done trap=-\n";
+
+const OUTPUT: &[u8] = b"ran 1 pc=80000004 mode=M world=bare why=done trap=-\nx1=ffffffff\n";
+
+/// The replies to the lines that are complete in the first bytes of the input.
+fn replies_within(read: usize) -> &'static [u8] {
+    match read {
+        0..19 => b"",
+        19..25 => STEPPED,
+        _ => OUTPUT,
+    }
+}
+
+#[test]
+fn answers_a_stream(rt: HostRuntime) {
+    let mut buffer = [0u8; 128];
+    let mut lines = Lines::new(MemorySource::new(INPUT));
+    let mut sink = MemorySink::new(&mut buffer);
+    let outcome = run_stream(rt.alloc(), &Setup::default(), &mut lines, &mut sink);
+    assert_eq!(rt; outcome, Ok(()));
+    assert_eq!(rt; sink.bytes(), OUTPUT);
+    assert!(rt; lines.is_at_end());
+}
+
+#[test]
+fn answers_a_script(rt: HostRuntime) {
+    let mut buffer = [0u8; 128];
+    let mut lines = Lines::new(MemorySource::new(b"step 1\nreg 1"));
+    let mut sink = MemorySink::new(&mut buffer);
+    let image = b"\x93\x00\xf0\xff";
+    let outcome = run_bench(rt.alloc(), image, &Setup::default(), &mut lines, &mut sink);
+    assert_eq!(rt; outcome, Ok(()));
+    assert_eq!(rt; sink.bytes(), OUTPUT);
+}
+
+#[test]
+fn flushes_once(rt: HostRuntime) {
+    let mut buffer = [0u8; 128];
+    let mut lines = Lines::new(FaultySource::new(INPUT, 1, 0));
+    let mut sink = FaultySink::new(&mut buffer, 1, 0, AtSetCall::Fail);
+    let outcome = run_stream(rt.alloc(), &Setup::default(), &mut lines, &mut sink);
+    assert_eq!(rt; outcome, Ok(()));
+    assert_eq!(rt; sink.bytes(), OUTPUT);
+    assert_eq!(rt; sink.calls(), OUTPUT.len() as u64 + 1);
+}
+
+#[test]
+fn stops_at_a_failed_read(rt: HostRuntime) {
+    for set_call in 1..=INPUT.len() + 1 {
+        let mut buffer = [0u8; 128];
+        let mut lines = Lines::new(FaultySource::new(INPUT, 1, set_call as u64));
+        let mut sink = MemorySink::new(&mut buffer);
+        let outcome = run_stream(rt.alloc(), &Setup::default(), &mut lines, &mut sink);
+        assert_eq!(rt; outcome, Err(BenchFault::Read), "at {set_call}");
+        assert_eq!(rt; sink.bytes(), replies_within(set_call - 1), "at {set_call}");
+    }
+}
+
+#[test]
+fn stops_at_a_failed_write(rt: HostRuntime) {
+    for at_set_call in [AtSetCall::Fail, AtSetCall::TakeNothing] {
+        for set_call in 1..=OUTPUT.len() {
+            let mut buffer = [0u8; 128];
+            let mut lines = Lines::new(MemorySource::new(INPUT));
+            let mut sink = FaultySink::new(&mut buffer, 1, set_call as u64, at_set_call);
+            let outcome = run_stream(rt.alloc(), &Setup::default(), &mut lines, &mut sink);
+            assert_eq!(rt; outcome, Err(BenchFault::Write), "at {set_call}");
+            assert_eq!(rt; sink.bytes(), &OUTPUT[..set_call - 1], "at {set_call}");
+        }
+    }
+}
+
+#[test]
+fn stops_at_a_failed_flush(rt: HostRuntime) {
+    let mut buffer = [0u8; 128];
+    let mut lines = Lines::new(MemorySource::new(INPUT));
+    let mut sink = FaultySink::new(&mut buffer, 1000, 3, AtSetCall::Fail);
+    let outcome = run_stream(rt.alloc(), &Setup::default(), &mut lines, &mut sink);
+    assert_eq!(rt; outcome, Err(BenchFault::Write));
+    assert_eq!(rt; sink.bytes(), OUTPUT);
+}
+
+#[test]
+fn stops_at_a_full_sink(rt: HostRuntime) {
+    let mut buffer = [0u8; 60];
+    let mut lines = Lines::new(MemorySource::new(INPUT));
+    let mut sink = MemorySink::new(&mut buffer);
+    let outcome = run_stream(rt.alloc(), &Setup::default(), &mut lines, &mut sink);
+    assert_eq!(rt; outcome, Err(BenchFault::Write));
+    assert_eq!(rt; sink.bytes(), &OUTPUT[..60]);
+}
+
+#[test]
+fn refuses_in_order(rt: HostRuntime) {
+    let lawful = Setup { ram: 65536 };
+    let unlawful = Setup { ram: 1000 };
+    let cases: [(&[u8], Setup, BenchFault); 4] = [
+        (b"abc\n--\nreg 0\n", unlawful, BenchFault::Hex),
+        (
+            b"00\n--\nreg 0\n",
+            unlawful,
+            BenchFault::Ram(RamFault::BadSize),
+        ),
+        (b"0\n--\nreg 0\n", lawful, BenchFault::Hex),
+        (b"00 00\n", lawful, BenchFault::Hex),
+    ];
+    for (input, setup, want) in cases {
+        let mut buffer = [0u8; 128];
+        let mut lines = Lines::new(MemorySource::new(input));
+        let mut sink = MemorySink::new(&mut buffer);
+        assert_eq!(rt;
+            run_stream(rt.alloc(), &setup, &mut lines, &mut sink),
+            Err(want)
+        );
+        assert!(rt; sink.bytes().is_empty());
+    }
+}
+
+#[test]
+fn refuses_an_image_past_the_ram(rt: HostRuntime) {
+    let setup = Setup { ram: 65536 };
+    let image = [0x11u8; 65537];
+    for (len, want) in [
+        (65536usize, Ok(())),
+        (65537, Err(BenchFault::Image(ElfFault::SegmentOutside))),
+    ] {
+        let mut buffer = [0u8; 128];
+        let mut lines = Lines::new(MemorySource::new(b"mem 8000ffff 1\n"));
+        let mut sink = MemorySink::new(&mut buffer);
+        let outcome = run_bench(rt.alloc(), &image[..len], &setup, &mut lines, &mut sink);
+        assert_eq!(rt; outcome, want);
+        let written: &[u8] = if want.is_ok() { b"8000ffff: 11\n" } else { b"" };
+        assert_eq!(rt; sink.bytes(), written);
+    }
+}
+
+#[test]
+fn plans_raw_images(rt: HostRuntime) {
+    assert_eq!(rt;
+        plan_raw(4, 65536).map(|plan| plan.entry()),
+        Ok(0x8000_0000)
+    );
+    assert_eq!(rt; plan_raw(0, 4).map(|plan| plan.entry()), Ok(0x8000_0000));
+    assert_eq!(rt; plan_raw(65537, 65536), Err(ElfFault::SegmentOutside));
+    assert_eq!(rt; plan_raw(0, 3), Err(ElfFault::BadEntry));
+    assert_eq!(rt; plan_raw(4, 3), Err(ElfFault::SegmentOutside));
+}
+
+#[test]
+fn makes_memories_of_lawful_sizes(rt: HostRuntime) {
+    for size in [65536u32, 131_072, 16_777_216] {
+        assert_eq!(rt; Ram::new(rt.alloc(), size).map(|ram| ram.size()), Ok(size));
+    }
+    for size in [0u32, 1, 65535, 65537, 16_777_217, 16_842_752, u32::MAX] {
+        assert_eq!(rt;
+            Ram::new(rt.alloc(), size).map(|ram| ram.size()),
+            Err(RamFault::BadSize)
+        );
+    }
+}

@@ -1,0 +1,65 @@
+-- Each kind is found by its code, and the codes fit their bits.
+use Rattle.std.proofs.Common.{◌≡◌, ℕ, ◌<◌, Some, None, arith}
+use Rattle.rv_encoding.specs.Codes.{branch_funct3, load_funct3, store_funct3, op_imm_funct3, shift_codes, op_codes, csr_funct3, csr_imm_funct3, branch_kind, load_kind, store_kind, op_imm_kind, shift_kind, op_kind, csr_kind, csr_imm_kind}
+use Rattle.rv_encoding.specs.declared.kind.BranchKind.{BranchKind}
+use Rattle.rv_encoding.specs.declared.kind.LoadKind.{LoadKind}
+use Rattle.rv_encoding.specs.declared.kind.StoreKind.{StoreKind}
+use Rattle.rv_encoding.specs.declared.kind.OpImmKind.{OpImmKind}
+use Rattle.rv_encoding.specs.declared.kind.ShiftKind.{ShiftKind}
+use Rattle.rv_encoding.specs.declared.kind.OpKind.{OpKind}
+use Rattle.rv_encoding.specs.declared.kind.CsrKind.{CsrKind}
+
+pub branch_kind_found : (kind : BranchKind) → branch_kind (branch_funct3 kind) ≡ Some kind
+branch_kind_found kind = grind arith
+
+pub branch_funct3-lt : (kind : BranchKind) → branch_funct3 kind < 8
+branch_funct3-lt kind = grind arith
+
+pub load_kind_found : (kind : LoadKind) → load_kind (load_funct3 kind) ≡ Some kind
+load_kind_found kind = grind arith
+
+pub load_funct3-lt : (kind : LoadKind) → load_funct3 kind < 8
+load_funct3-lt kind = grind arith
+
+pub store_kind_found : (kind : StoreKind) → store_kind (store_funct3 kind) ≡ Some kind
+store_kind_found kind = grind arith
+
+pub store_funct3-lt : (kind : StoreKind) → store_funct3 kind < 8
+store_funct3-lt kind = grind arith
+
+pub op_imm_kind_found : (kind : OpImmKind) → op_imm_kind (op_imm_funct3 kind) ≡ Some kind
+op_imm_kind_found kind = grind arith
+
+pub op_imm_funct3-lt : (kind : OpImmKind) → op_imm_funct3 kind < 8
+op_imm_funct3-lt kind = grind arith
+
+pub csr_kind_found : (kind : CsrKind) → csr_kind (csr_funct3 kind) ≡ Some kind
+csr_kind_found kind = grind arith
+
+pub csr_funct3-lt : (kind : CsrKind) → csr_funct3 kind < 8
+csr_funct3-lt kind = grind arith
+
+pub csr_imm_kind_found : (kind : CsrKind) → csr_imm_kind (csr_imm_funct3 kind) ≡ Some kind
+csr_imm_kind_found kind = grind arith
+
+pub csr_imm_funct3-lt : (kind : CsrKind) → csr_imm_funct3 kind < 8
+csr_imm_funct3-lt kind = grind arith
+
+pub shift_kind_found : (kind : ShiftKind) → shift_kind (shift_codes kind).0 (shift_codes kind).1 ≡ Some kind
+shift_kind_found kind = grind arith
+
+pub shift_codes-lt : (kind : ShiftKind) → ((shift_codes kind).0 < 8) × ((shift_codes kind).1 < 128)
+shift_codes-lt kind = grind arith
+
+pub op_kind_found : (kind : OpKind) → op_kind (op_codes kind).0 (op_codes kind).1 ≡ Some kind
+op_kind_found kind = grind arith
+
+pub op_codes-lt : (kind : OpKind) → ((op_codes kind).0 < 8) × ((op_codes kind).1 < 128)
+op_codes-lt kind = grind arith
+
+-- no shift has the code of another operation with an immediate, and no change by an immediate that of one by a register
+pub no_shift : (kind : OpImmKind) (funct7 : ℕ) → shift_kind (op_imm_funct3 kind) funct7 ≡ None
+no_shift kind funct7 = grind arith
+
+pub no_csr : (kind : CsrKind) → csr_kind (csr_imm_funct3 kind) ≡ None
+no_csr kind = grind arith

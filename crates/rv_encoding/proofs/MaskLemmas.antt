@@ -1,0 +1,148 @@
+-- A word is spelled by a row exactly where it equals the row's match under the row's mask.
+use Rattle.std.proofs.Common.{◌≡◌, ℕ, ◌+◌, ◌*◌, ◌/◌, ◌%◌, ◌^◌, ◌<◌, sym, ap, ◌∙◌, arith, refl, bit_and}
+use Rattle.std.proofs.lemmas.Nat.{and_mask, and_block, div-add-mod'}
+use Rattle.rv_encoding.specs.Codes.{branch_funct3, load_funct3, store_funct3, op_imm_funct3, shift_codes, op_codes, csr_funct3, csr_imm_funct3}
+use Rattle.rv_encoding.specs.Rows.{row_of, IsInstr, word_of, Spells}
+use Rattle.rv_encoding.specs.Decoding.{with_fields_of}
+use Rattle.rv_encoding.proofs.CodeLemmas.{branch_funct3-lt, load_funct3-lt, store_funct3-lt, op_imm_funct3-lt, shift_codes-lt, op_codes-lt, csr_funct3-lt, csr_imm_funct3-lt}
+use Rattle.rv_encoding.specs.declared.instr.Instr.{Instr}
+use Rattle.rv_encoding.specs.declared.instr.Instr.TheVariants.{Lui, Auipc, Jal, Jalr, Branch, Load, Store, OpImm, ShiftImm, Op, Fence, Csr, CsrImm, Ecall, Ebreak, Sret, Mret, Wfi, SfenceVma}
+
+-- ---- what each mask leaves of a word
+
+mask_i : (word : ℕ) → bit_and word 0x0000707F ≡ word % 2 ^ 7 + word / 2 ^ 12 % 2 ^ 3 * 2 ^ 12
+mask_i word =
+    ap (λ n. bit_and n 0x0000707F) (sym (div-add-mod' word (2 ^ 12)))
+    ∙ and_block 12 (word / 2 ^ 12) 0b111 (word % 2 ^ 12) 0x7F (omega arith) (omega arith)
+    ∙ ap (λ n. n * 2 ^ 12 + bit_and (word % 2 ^ 12) 0x7F) (and_mask (word / 2 ^ 12) 3)
+    ∙ ap (λ n. word / 2 ^ 12 % 2 ^ 3 * 2 ^ 12 + n) (and_mask (word % 2 ^ 12) 7)
+    ∙ omega arith
+
+-- a mask with all of bits 31 to 25
+mask_top : (word low : ℕ) → word < 2 ^ 32 → low < 2 ^ 25 → bit_and word (0b1111111 * 2 ^ 25 + low) ≡ word / 2 ^ 25 * 2 ^ 25 + bit_and (word % 2 ^ 25) low
+mask_top word low fits below =
+    ap (λ n. bit_and n (0b1111111 * 2 ^ 25 + low)) (sym (div-add-mod' word (2 ^ 25)))
+    ∙ and_block 25 (word / 2 ^ 25) 0b1111111 (word % 2 ^ 25) low (omega arith) below
+    ∙ ap (λ n. n * 2 ^ 25 + bit_and (word % 2 ^ 25) low) (and_mask (word / 2 ^ 25) 7)
+    ∙ omega arith
+
+mask_r : (word : ℕ) → word < 2 ^ 32 → bit_and word 0xFE00707F ≡ word / 2 ^ 25 * 2 ^ 25 + (word % 2 ^ 7 + word / 2 ^ 12 % 2 ^ 3 * 2 ^ 12)
+mask_r word fits =
+    mask_top word 0x0000707F fits (omega arith)
+    ∙ ap (λ n. word / 2 ^ 25 * 2 ^ 25 + n) (mask_i (word % 2 ^ 25))
+    ∙ omega arith
+
+mask_sfence_vma : (word : ℕ) → word < 2 ^ 32 → bit_and word 0xFE007FFF ≡ word / 2 ^ 25 * 2 ^ 25 + word % 2 ^ 15
+mask_sfence_vma word fits =
+    mask_top word 0x00007FFF fits (omega arith)
+    ∙ ap (λ n. word / 2 ^ 25 * 2 ^ 25 + n) (and_mask (word % 2 ^ 25) 15)
+    ∙ omega arith
+
+mask_word : (word : ℕ) → word < 2 ^ 32 → bit_and word 0xFFFFFFFF ≡ word
+mask_word word fits = and_mask word 32 ∙ omega arith
+
+-- ---- a word that equals the match under the mask is spelled, with the fields that it has
+
+pub spelled_by_mask : (i : Instr) (word : ℕ) → word < 2 ^ 32 → bit_and word (row_of i).mask ≡ (row_of i).match → Spells word (with_fields_of word i)
+unfolding word_of
+spelled_by_mask (Lui rd imm) word fits masked =
+    let code = sym (and_mask word 7) ∙ masked in
+    (grind arith, omega (arith, code))
+spelled_by_mask (Auipc rd imm) word fits masked =
+    let code = sym (and_mask word 7) ∙ masked in
+    (grind arith, omega (arith, code))
+spelled_by_mask (Jal rd offset) word fits masked =
+    let code = sym (and_mask word 7) ∙ masked in
+    (grind arith, omega (arith, code))
+spelled_by_mask (Jalr rd rs1 offset) word fits masked =
+    let code = sym (mask_i word) ∙ masked in
+    (grind arith, omega (arith, code))
+spelled_by_mask (Branch kind rs1 rs2 offset) word fits masked =
+    let funct3 : branch_funct3 kind < 8 = branch_funct3-lt kind in
+    let code = sym (mask_i word) ∙ masked in
+    (grind arith, omega (arith, code))
+spelled_by_mask (Load kind rd rs1 offset) word fits masked =
+    let funct3 : load_funct3 kind < 8 = load_funct3-lt kind in
+    let code = sym (mask_i word) ∙ masked in
+    (grind arith, omega (arith, code))
+spelled_by_mask (Store kind rs1 rs2 offset) word fits masked =
+    let funct3 : store_funct3 kind < 8 = store_funct3-lt kind in
+    let code = sym (mask_i word) ∙ masked in
+    (grind arith, omega (arith, code))
+spelled_by_mask (OpImm kind rd rs1 imm) word fits masked =
+    let funct3 : op_imm_funct3 kind < 8 = op_imm_funct3-lt kind in
+    let code = sym (mask_i word) ∙ masked in
+    (grind arith, omega (arith, code))
+spelled_by_mask (ShiftImm kind rd rs1 shamt) word fits masked =
+    let codes : ((shift_codes kind).0 < 8) × ((shift_codes kind).1 < 128) = shift_codes-lt kind in
+    let code = sym (mask_r word fits) ∙ masked in
+    (grind arith, omega (arith, code))
+spelled_by_mask (Op kind rd rs1 rs2) word fits masked =
+    let codes : ((op_codes kind).0 < 8) × ((op_codes kind).1 < 128) = op_codes-lt kind in
+    let code = sym (mask_r word fits) ∙ masked in
+    (grind arith, omega (arith, code))
+spelled_by_mask (Fence fm pred succ rd rs1) word fits masked =
+    let code = sym (mask_i word) ∙ masked in
+    (grind arith, omega (arith, code))
+spelled_by_mask (Csr kind rd rs1 csr) word fits masked =
+    let funct3 : csr_funct3 kind < 8 = csr_funct3-lt kind in
+    let code = sym (mask_i word) ∙ masked in
+    (grind arith, omega (arith, code))
+spelled_by_mask (CsrImm kind rd uimm csr) word fits masked =
+    let funct3 : csr_imm_funct3 kind < 8 = csr_imm_funct3-lt kind in
+    let code = sym (mask_i word) ∙ masked in
+    (grind arith, omega (arith, code))
+spelled_by_mask Ecall word fits masked = (tt, sym (sym (mask_word word fits) ∙ masked))
+spelled_by_mask Ebreak word fits masked = (tt, sym (sym (mask_word word fits) ∙ masked))
+spelled_by_mask Sret word fits masked = (tt, sym (sym (mask_word word fits) ∙ masked))
+spelled_by_mask Mret word fits masked = (tt, sym (sym (mask_word word fits) ∙ masked))
+spelled_by_mask Wfi word fits masked = (tt, sym (sym (mask_word word fits) ∙ masked))
+spelled_by_mask (SfenceVma rs1 rs2) word fits masked =
+    let code = sym (mask_sfence_vma word fits) ∙ masked in
+    (grind arith, omega (arith, code))
+
+-- ---- the word of an instruction equals the match under the mask
+
+pub masked_word_of : (i : Instr) → IsInstr i → word_of i < 2 ^ 32 → bit_and (word_of i) (row_of i).mask ≡ (row_of i).match
+unfolding word_of
+masked_word_of (Lui rd imm) valid fits =
+    and_mask (word_of (Lui rd imm)) 7 ∙ omega arith
+masked_word_of (Auipc rd imm) valid fits =
+    and_mask (word_of (Auipc rd imm)) 7 ∙ omega arith
+masked_word_of (Jal rd offset) valid fits =
+    and_mask (word_of (Jal rd offset)) 7 ∙ omega arith
+masked_word_of (Jalr rd rs1 offset) valid fits =
+    mask_i (word_of (Jalr rd rs1 offset)) ∙ omega arith
+masked_word_of (Branch kind rs1 rs2 offset) valid fits =
+    let funct3 : branch_funct3 kind < 8 = branch_funct3-lt kind in
+    mask_i (word_of (Branch kind rs1 rs2 offset)) ∙ omega arith
+masked_word_of (Load kind rd rs1 offset) valid fits =
+    let funct3 : load_funct3 kind < 8 = load_funct3-lt kind in
+    mask_i (word_of (Load kind rd rs1 offset)) ∙ omega arith
+masked_word_of (Store kind rs1 rs2 offset) valid fits =
+    let funct3 : store_funct3 kind < 8 = store_funct3-lt kind in
+    mask_i (word_of (Store kind rs1 rs2 offset)) ∙ omega arith
+masked_word_of (OpImm kind rd rs1 imm) valid fits =
+    let funct3 : op_imm_funct3 kind < 8 = op_imm_funct3-lt kind in
+    mask_i (word_of (OpImm kind rd rs1 imm)) ∙ omega arith
+masked_word_of (ShiftImm kind rd rs1 shamt) valid fits =
+    let codes : ((shift_codes kind).0 < 8) × ((shift_codes kind).1 < 128) = shift_codes-lt kind in
+    mask_r (word_of (ShiftImm kind rd rs1 shamt)) fits ∙ omega arith
+masked_word_of (Op kind rd rs1 rs2) valid fits =
+    let codes : ((op_codes kind).0 < 8) × ((op_codes kind).1 < 128) = op_codes-lt kind in
+    mask_r (word_of (Op kind rd rs1 rs2)) fits ∙ omega arith
+masked_word_of (Fence fm pred succ rd rs1) valid fits =
+    mask_i (word_of (Fence fm pred succ rd rs1)) ∙ omega arith
+masked_word_of (Csr kind rd rs1 csr) valid fits =
+    let funct3 : csr_funct3 kind < 8 = csr_funct3-lt kind in
+    mask_i (word_of (Csr kind rd rs1 csr)) ∙ omega arith
+masked_word_of (CsrImm kind rd uimm csr) valid fits =
+    let funct3 : csr_imm_funct3 kind < 8 = csr_imm_funct3-lt kind in
+    mask_i (word_of (CsrImm kind rd uimm csr)) ∙ omega arith
+masked_word_of Ecall valid fits = refl
+masked_word_of Ebreak valid fits = refl
+masked_word_of Sret valid fits = refl
+masked_word_of Mret valid fits = refl
+masked_word_of Wfi valid fits = refl
+masked_word_of (SfenceVma rs1 rs2) valid fits =
+    mask_sfence_vma (word_of (SfenceVma rs1 rs2)) fits ∙ omega arith

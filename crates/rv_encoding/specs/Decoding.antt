@@ -1,0 +1,58 @@
+-- The instruction that a word spells, read off the listing: RISC-V Unprivileged ISA 20191213, section 2.2 and chapter 24.
+use Rattle.std.specs.Prelude.{ℕ, ◌*◌, ◌^◌, ◌==◌, List, [], ◌∷◌, find, Option, bit_and}
+use Rattle.std.specs.Option.{option_map}
+use Rattle.rv_encoding.specs.Places.{rd_at, rs1_at, rs2_at, i_immediate_at, s_immediate_at, b_immediate_at, j_immediate_at, u_immediate_at, shamt_at, fm_at, pred_at, succ_at, csr_at, uimm_at, taken}
+use Rattle.rv_encoding.specs.Rows.{row_of}
+use Rattle.rv_encoding.specs.declared.kind.BranchKind.TheVariants.{Beq, Bne, Blt, Bge, Bltu, Bgeu}
+use Rattle.rv_encoding.specs.declared.kind.LoadKind.TheVariants.{Lb, Lh, Lw, Lbu, Lhu}
+use Rattle.rv_encoding.specs.declared.kind.StoreKind.TheVariants.{Sb, Sh, Sw}
+use Rattle.rv_encoding.specs.declared.kind.OpImmKind.TheVariants.{Addi, Slti, Sltiu, Xori, Ori, Andi}
+use Rattle.rv_encoding.specs.declared.kind.ShiftKind.TheVariants.{Slli, Srli, Srai}
+use Rattle.rv_encoding.specs.declared.kind.OpKind.TheVariants.{Add, Sub, Sll, Slt, Sltu, Xor, Srl, Sra, Or, And, Mul, Mulh, Mulhsu, Mulhu, Div, Divu, Rem, Remu}
+use Rattle.rv_encoding.specs.declared.kind.CsrKind.TheVariants.{Write, Set, Clear}
+use Rattle.rv_encoding.specs.declared.instr.Instr.{Instr}
+use Rattle.rv_encoding.specs.declared.instr.Instr.TheVariants.{Lui, Auipc, Jal, Jalr, Branch, Load, Store, OpImm, ShiftImm, Op, Fence, Csr, CsrImm, Ecall, Ebreak, Sret, Mret, Wfi, SfenceVma}
+
+-- An instruction of each row, its fields 0, in the order of the listing.
+abbrev pub samples : List Instr
+samples =
+    Lui 0 0 ∷ Auipc 0 0 ∷ Jal 0 0 ∷ Jalr 0 0 0
+    ∷ Branch Beq 0 0 0 ∷ Branch Bne 0 0 0 ∷ Branch Blt 0 0 0 ∷ Branch Bge 0 0 0 ∷ Branch Bltu 0 0 0 ∷ Branch Bgeu 0 0 0
+    ∷ Load Lb 0 0 0 ∷ Load Lh 0 0 0 ∷ Load Lw 0 0 0 ∷ Load Lbu 0 0 0 ∷ Load Lhu 0 0 0
+    ∷ Store Sb 0 0 0 ∷ Store Sh 0 0 0 ∷ Store Sw 0 0 0
+    ∷ OpImm Addi 0 0 0 ∷ OpImm Slti 0 0 0 ∷ OpImm Sltiu 0 0 0 ∷ OpImm Xori 0 0 0 ∷ OpImm Ori 0 0 0 ∷ OpImm Andi 0 0 0
+    ∷ ShiftImm Slli 0 0 0 ∷ ShiftImm Srli 0 0 0 ∷ ShiftImm Srai 0 0 0
+    ∷ Op Add 0 0 0 ∷ Op Sub 0 0 0 ∷ Op Sll 0 0 0 ∷ Op Slt 0 0 0 ∷ Op Sltu 0 0 0
+    ∷ Op Xor 0 0 0 ∷ Op Srl 0 0 0 ∷ Op Sra 0 0 0 ∷ Op Or 0 0 0 ∷ Op And 0 0 0
+    ∷ Fence 0 0 0 0 0 ∷ Ecall ∷ Ebreak
+    ∷ Csr Write 0 0 0 ∷ Csr Set 0 0 0 ∷ Csr Clear 0 0 0
+    ∷ CsrImm Write 0 0 0 ∷ CsrImm Set 0 0 0 ∷ CsrImm Clear 0 0 0
+    ∷ Op Mul 0 0 0 ∷ Op Mulh 0 0 0 ∷ Op Mulhsu 0 0 0 ∷ Op Mulhu 0 0 0 ∷ Op Div 0 0 0 ∷ Op Divu 0 0 0 ∷ Op Rem 0 0 0 ∷ Op Remu 0 0 0
+    ∷ Sret ∷ Mret ∷ Wfi ∷ SfenceVma 0 0
+    ∷ []
+
+-- The instruction of the same row whose fields are those of a word.
+abbrev pub with_fields_of : ℕ → Instr → Instr
+with_fields_of word (Lui rd imm) = Lui (taken rd_at word) (taken u_immediate_at word * 2 ^ 12)
+with_fields_of word (Auipc rd imm) = Auipc (taken rd_at word) (taken u_immediate_at word * 2 ^ 12)
+with_fields_of word (Jal rd offset) = Jal (taken rd_at word) (taken j_immediate_at word * 2)
+with_fields_of word (Jalr rd rs1 offset) = Jalr (taken rd_at word) (taken rs1_at word) (taken i_immediate_at word)
+with_fields_of word (Branch kind rs1 rs2 offset) = Branch kind (taken rs1_at word) (taken rs2_at word) (taken b_immediate_at word * 2)
+with_fields_of word (Load kind rd rs1 offset) = Load kind (taken rd_at word) (taken rs1_at word) (taken i_immediate_at word)
+with_fields_of word (Store kind rs1 rs2 offset) = Store kind (taken rs1_at word) (taken rs2_at word) (taken s_immediate_at word)
+with_fields_of word (OpImm kind rd rs1 imm) = OpImm kind (taken rd_at word) (taken rs1_at word) (taken i_immediate_at word)
+with_fields_of word (ShiftImm kind rd rs1 shamt) = ShiftImm kind (taken rd_at word) (taken rs1_at word) (taken shamt_at word)
+with_fields_of word (Op kind rd rs1 rs2) = Op kind (taken rd_at word) (taken rs1_at word) (taken rs2_at word)
+with_fields_of word (Fence fm pred succ rd rs1) = Fence (taken fm_at word) (taken pred_at word) (taken succ_at word) (taken rd_at word) (taken rs1_at word)
+with_fields_of word (Csr kind rd rs1 csr) = Csr kind (taken rd_at word) (taken rs1_at word) (taken csr_at word)
+with_fields_of word (CsrImm kind rd uimm csr) = CsrImm kind (taken rd_at word) (taken uimm_at word) (taken csr_at word)
+with_fields_of word Ecall = Ecall
+with_fields_of word Ebreak = Ebreak
+with_fields_of word Sret = Sret
+with_fields_of word Mret = Mret
+with_fields_of word Wfi = Wfi
+with_fields_of word (SfenceVma rs1 rs2) = SfenceVma (taken rs1_at word) (taken rs2_at word)
+
+-- The first row whose match is the word under its mask (the only one: no word is spelled by two), with the word's fields.
+unfoldable pub decoded : ℕ → Option Instr
+decoded word = option_map (with_fields_of word) (find (λ sample. bit_and word (row_of sample).mask == (row_of sample).match) samples)

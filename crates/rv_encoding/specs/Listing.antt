@@ -1,0 +1,190 @@
+-- The 58 instructions by name, mask and match, in the order of RISC-V Unprivileged ISA 20191213, chapter 24 (RV32I,
+-- Zicsr, RV32M), and of the instruction set listings of Privileged Architecture 20211203. This is the table to hold
+-- beside the manuals; it is proved to be the rows of `Rows`, no more and no fewer.
+use Rattle.std.specs.Prelude.{◌≡◌, ℕ, List, [], ◌∷◌, codes, slice_get, Some}
+use Rattle.rv_encoding.specs.Rows.{row_of}
+use Rattle.rv_encoding.specs.declared.kind.BranchKind.{BranchKind}
+use Rattle.rv_encoding.specs.declared.kind.BranchKind.TheVariants.{Beq, Bne, Blt, Bge, Bltu, Bgeu}
+use Rattle.rv_encoding.specs.declared.kind.LoadKind.{LoadKind}
+use Rattle.rv_encoding.specs.declared.kind.LoadKind.TheVariants.{Lb, Lh, Lw, Lbu, Lhu}
+use Rattle.rv_encoding.specs.declared.kind.StoreKind.{StoreKind}
+use Rattle.rv_encoding.specs.declared.kind.StoreKind.TheVariants.{Sb, Sh, Sw}
+use Rattle.rv_encoding.specs.declared.kind.OpImmKind.{OpImmKind}
+use Rattle.rv_encoding.specs.declared.kind.OpImmKind.TheVariants.{Addi, Slti, Sltiu, Xori, Ori, Andi}
+use Rattle.rv_encoding.specs.declared.kind.ShiftKind.{ShiftKind}
+use Rattle.rv_encoding.specs.declared.kind.ShiftKind.TheVariants.{Slli, Srli, Srai}
+use Rattle.rv_encoding.specs.declared.kind.OpKind.{OpKind}
+use Rattle.rv_encoding.specs.declared.kind.OpKind.TheVariants.{Add, Sub, Sll, Slt, Sltu, Xor, Srl, Sra, Or, And, Mul, Mulh, Mulhsu, Mulhu, Div, Divu, Rem, Remu}
+use Rattle.rv_encoding.specs.declared.kind.CsrKind.{CsrKind}
+use Rattle.rv_encoding.specs.declared.kind.CsrKind.TheVariants.{Write, Set, Clear}
+use Rattle.rv_encoding.specs.declared.instr.Instr.{Instr}
+use Rattle.rv_encoding.specs.declared.instr.Instr.TheVariants.{Lui, Auipc, Jal, Jalr, Branch, Load, Store, OpImm, ShiftImm, Op, Fence, Csr, CsrImm, Ecall, Ebreak, Sret, Mret, Wfi, SfenceVma}
+
+pub record Listed : Type 0 where
+  pub name : List ℕ
+  pub mask : ℕ
+  pub match : ℕ
+
+abbrev pub listed : List ℕ → ℕ → ℕ → Listed
+listed name mask match = record { name = name; mask = mask; match = match }
+
+unfoldable pub listing : List Listed
+listing =
+    -- RV32I
+    listed (codes "lui") 0x0000007F 0x00000037
+    ∷ listed (codes "auipc") 0x0000007F 0x00000017
+    ∷ listed (codes "jal") 0x0000007F 0x0000006F
+    ∷ listed (codes "jalr") 0x0000707F 0x00000067
+    ∷ listed (codes "beq") 0x0000707F 0x00000063
+    ∷ listed (codes "bne") 0x0000707F 0x00001063
+    ∷ listed (codes "blt") 0x0000707F 0x00004063
+    ∷ listed (codes "bge") 0x0000707F 0x00005063
+    ∷ listed (codes "bltu") 0x0000707F 0x00006063
+    ∷ listed (codes "bgeu") 0x0000707F 0x00007063
+    ∷ listed (codes "lb") 0x0000707F 0x00000003
+    ∷ listed (codes "lh") 0x0000707F 0x00001003
+    ∷ listed (codes "lw") 0x0000707F 0x00002003
+    ∷ listed (codes "lbu") 0x0000707F 0x00004003
+    ∷ listed (codes "lhu") 0x0000707F 0x00005003
+    ∷ listed (codes "sb") 0x0000707F 0x00000023
+    ∷ listed (codes "sh") 0x0000707F 0x00001023
+    ∷ listed (codes "sw") 0x0000707F 0x00002023
+    ∷ listed (codes "addi") 0x0000707F 0x00000013
+    ∷ listed (codes "slti") 0x0000707F 0x00002013
+    ∷ listed (codes "sltiu") 0x0000707F 0x00003013
+    ∷ listed (codes "xori") 0x0000707F 0x00004013
+    ∷ listed (codes "ori") 0x0000707F 0x00006013
+    ∷ listed (codes "andi") 0x0000707F 0x00007013
+    ∷ listed (codes "slli") 0xFE00707F 0x00001013
+    ∷ listed (codes "srli") 0xFE00707F 0x00005013
+    ∷ listed (codes "srai") 0xFE00707F 0x40005013
+    ∷ listed (codes "add") 0xFE00707F 0x00000033
+    ∷ listed (codes "sub") 0xFE00707F 0x40000033
+    ∷ listed (codes "sll") 0xFE00707F 0x00001033
+    ∷ listed (codes "slt") 0xFE00707F 0x00002033
+    ∷ listed (codes "sltu") 0xFE00707F 0x00003033
+    ∷ listed (codes "xor") 0xFE00707F 0x00004033
+    ∷ listed (codes "srl") 0xFE00707F 0x00005033
+    ∷ listed (codes "sra") 0xFE00707F 0x40005033
+    ∷ listed (codes "or") 0xFE00707F 0x00006033
+    ∷ listed (codes "and") 0xFE00707F 0x00007033
+    ∷ listed (codes "fence") 0x0000707F 0x0000000F
+    ∷ listed (codes "ecall") 0xFFFFFFFF 0x00000073
+    ∷ listed (codes "ebreak") 0xFFFFFFFF 0x00100073
+    -- Zicsr
+    ∷ listed (codes "csrrw") 0x0000707F 0x00001073
+    ∷ listed (codes "csrrs") 0x0000707F 0x00002073
+    ∷ listed (codes "csrrc") 0x0000707F 0x00003073
+    ∷ listed (codes "csrrwi") 0x0000707F 0x00005073
+    ∷ listed (codes "csrrsi") 0x0000707F 0x00006073
+    ∷ listed (codes "csrrci") 0x0000707F 0x00007073
+    -- RV32M
+    ∷ listed (codes "mul") 0xFE00707F 0x02000033
+    ∷ listed (codes "mulh") 0xFE00707F 0x02001033
+    ∷ listed (codes "mulhsu") 0xFE00707F 0x02002033
+    ∷ listed (codes "mulhu") 0xFE00707F 0x02003033
+    ∷ listed (codes "div") 0xFE00707F 0x02004033
+    ∷ listed (codes "divu") 0xFE00707F 0x02005033
+    ∷ listed (codes "rem") 0xFE00707F 0x02006033
+    ∷ listed (codes "remu") 0xFE00707F 0x02007033
+    -- privileged
+    ∷ listed (codes "sret") 0xFFFFFFFF 0x10200073
+    ∷ listed (codes "mret") 0xFFFFFFFF 0x30200073
+    ∷ listed (codes "wfi") 0xFFFFFFFF 0x10500073
+    ∷ listed (codes "sfence.vma") 0xFE007FFF 0x12000073
+    ∷ []
+
+-- ---- the names of the kinds
+
+abbrev pub branch_name : BranchKind → List ℕ
+branch_name Beq = codes "beq"
+branch_name Bne = codes "bne"
+branch_name Blt = codes "blt"
+branch_name Bge = codes "bge"
+branch_name Bltu = codes "bltu"
+branch_name Bgeu = codes "bgeu"
+
+abbrev pub load_name : LoadKind → List ℕ
+load_name Lb = codes "lb"
+load_name Lh = codes "lh"
+load_name Lw = codes "lw"
+load_name Lbu = codes "lbu"
+load_name Lhu = codes "lhu"
+
+abbrev pub store_name : StoreKind → List ℕ
+store_name Sb = codes "sb"
+store_name Sh = codes "sh"
+store_name Sw = codes "sw"
+
+abbrev pub op_imm_name : OpImmKind → List ℕ
+op_imm_name Addi = codes "addi"
+op_imm_name Slti = codes "slti"
+op_imm_name Sltiu = codes "sltiu"
+op_imm_name Xori = codes "xori"
+op_imm_name Ori = codes "ori"
+op_imm_name Andi = codes "andi"
+
+abbrev pub shift_name : ShiftKind → List ℕ
+shift_name Slli = codes "slli"
+shift_name Srli = codes "srli"
+shift_name Srai = codes "srai"
+
+abbrev pub op_name : OpKind → List ℕ
+op_name Add = codes "add"
+op_name Sub = codes "sub"
+op_name Sll = codes "sll"
+op_name Slt = codes "slt"
+op_name Sltu = codes "sltu"
+op_name Xor = codes "xor"
+op_name Srl = codes "srl"
+op_name Sra = codes "sra"
+op_name Or = codes "or"
+op_name And = codes "and"
+op_name Mul = codes "mul"
+op_name Mulh = codes "mulh"
+op_name Mulhsu = codes "mulhsu"
+op_name Mulhu = codes "mulhu"
+op_name Div = codes "div"
+op_name Divu = codes "divu"
+op_name Rem = codes "rem"
+op_name Remu = codes "remu"
+
+abbrev pub csr_name : CsrKind → List ℕ
+csr_name Write = codes "csrrw"
+csr_name Set = codes "csrrs"
+csr_name Clear = codes "csrrc"
+
+abbrev pub csr_imm_name : CsrKind → List ℕ
+csr_imm_name Write = codes "csrrwi"
+csr_imm_name Set = codes "csrrsi"
+csr_imm_name Clear = codes "csrrci"
+
+-- The name of an instruction.
+abbrev pub name_of : Instr → List ℕ
+name_of (Lui rd imm) = codes "lui"
+name_of (Auipc rd imm) = codes "auipc"
+name_of (Jal rd offset) = codes "jal"
+name_of (Jalr rd rs1 offset) = codes "jalr"
+name_of (Branch kind rs1 rs2 offset) = branch_name kind
+name_of (Load kind rd rs1 offset) = load_name kind
+name_of (Store kind rs1 rs2 offset) = store_name kind
+name_of (OpImm kind rd rs1 imm) = op_imm_name kind
+name_of (ShiftImm kind rd rs1 shamt) = shift_name kind
+name_of (Op kind rd rs1 rs2) = op_name kind
+name_of (Fence fm pred succ rd rs1) = codes "fence"
+name_of (Csr kind rd rs1 csr) = csr_name kind
+name_of (CsrImm kind rd uimm csr) = csr_imm_name kind
+name_of Ecall = codes "ecall"
+name_of Ebreak = codes "ebreak"
+name_of Sret = codes "sret"
+name_of Mret = codes "mret"
+name_of Wfi = codes "wfi"
+name_of (SfenceVma rs1 rs2) = codes "sfence.vma"
+
+-- What the listing has of an instruction.
+abbrev pub listed_of : Instr → Listed
+listed_of instr = listed (name_of instr) (row_of instr).mask (row_of instr).match
+
+-- That line stands in the listing.
+abbrev pub IsListed : Instr → Type 0
+IsListed instr = (place : ℕ) × (slice_get listing place ≡ Some (listed_of instr))

@@ -1,0 +1,11 @@
+-- The ranges of the fields that are followed by 0s: RISC-V Unprivileged ISA 20191213, section 2.3.
+use Rattle.std.specs.Prelude.{◌≡◌, ℕ, ◌%◌, ◌^◌, ◌<◌}
+
+abbrev pub IsUpperImmediate : ℕ → Type 0
+IsUpperImmediate word = (word < 2 ^ 32) × (word % 2 ^ 12 ≡ 0)
+
+abbrev pub IsBranchOffset : ℕ → Type 0
+IsBranchOffset bits = (bits < 2 ^ 13) × (bits % 2 ≡ 0)
+
+abbrev pub IsJumpOffset : ℕ → Type 0
+IsJumpOffset bits = (bits < 2 ^ 21) × (bits % 2 ≡ 0)

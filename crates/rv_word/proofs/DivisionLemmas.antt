@@ -1,0 +1,114 @@
+-- std's division meets the equations of a division, and nothing else does.
+use Rattle.std.proofs.Common.{◌≡◌, ℕ, zero, suc, ◌+◌, ◌*◌, ◌/◌, ◌%◌, ◌^◌, ◌<◌, ℤ, pos, negsuc, sym, ap, ◌∙◌, arith}
+use Rattle.std.specs.Prelude.{unsigned_abs, int_div, int_rem, ◌≤ℤ◌, ◌≢◌}
+use Rattle.std.proofs.lemmas.Nat.{div-add-mod', div-mul-add, mod-mul-add, mod_below}
+use Rattle.std.proofs.lemmas.Int.{ints, quot-rem, rem_below}
+use Rattle.rv_word.specs.Word.{signed, low_word}
+use Rattle.rv_word.specs.Division.{IsDivision, IsQuotient, IsRemainder, quotient, remainder, IsUnsignedQuotient, IsUnsignedRemainder}
+
+-- ---- std's quotient and remainder are those of a division
+
+remainder-not_negative : (a d : ℤ) → pos 0 ≤ℤ a → pos 0 ≤ℤ int_rem a d
+remainder-not_negative (pos n) d h = grind (arith, ints)
+remainder-not_negative (negsuc n) d h = absurd (omega (arith, ints))
+
+remainder-not_positive : (a d : ℤ) → a ≤ℤ pos 0 → int_rem a d ≤ℤ pos 0
+remainder-not_positive (pos n) d h = grind (arith, ints)
+remainder-not_positive (negsuc n) d h = grind (arith, ints)
+
+division : (a d : ℤ) → 0 < unsigned_abs d → IsDivision a d (int_div a d) (int_rem a d)
+division a d nonzero = record {
+  whole = quot-rem a d;
+  smaller = rem_below a d nonzero;
+  not_negative = remainder-not_negative a d;
+  not_positive = remainder-not_positive a d;
+}
+
+signed-nonzero : (n : ℕ) → n < 2 ^ 32 → n ≢ 0 → 0 < unsigned_abs (signed n)
+signed-nonzero n fits nonzero = grind (arith, ints)
+
+pub quotient-equation : (dividend divisor word : ℕ) → divisor < 2 ^ 32 → word ≡ quotient dividend divisor → divisor ≢ 0 → IsQuotient (signed dividend) (signed divisor) word
+quotient-equation dividend divisor word fits is nonzero = (
+  int_div (signed dividend) (signed divisor),
+  int_rem (signed dividend) (signed divisor),
+  division (signed dividend) (signed divisor) (signed-nonzero divisor fits nonzero),
+  grind arith,
+)
+
+pub remainder-equation : (dividend divisor word : ℕ) → divisor < 2 ^ 32 → word ≡ remainder dividend divisor → divisor ≢ 0 → IsRemainder (signed dividend) (signed divisor) word
+remainder-equation dividend divisor word fits is nonzero = (
+  int_div (signed dividend) (signed divisor),
+  int_rem (signed dividend) (signed divisor),
+  division (signed dividend) (signed divisor) (signed-nonzero divisor fits nonzero),
+  grind arith,
+)
+
+-- ---- no other numbers are
+
+record Divides (n k q r : ℕ) : Type 0 where
+  quotient_is : n / k ≡ q
+  remainder_is : n % k ≡ r
+
+divides : (n k q r : ℕ) → q * k + r ≡ n → r < k → Divides n k q r
+divides n k q r whole below = record {
+  quotient_is = ap (λ x. x / k) (sym whole) ∙ div-mul-add q k r below;
+  remainder_is = ap (λ x. x % k) (sym whole) ∙ mod-mul-add q k r below;
+}
+
+record IsThe (a d q r : ℤ) : Type 0 where
+  quotient_is : q ≡ int_div a d
+  remainder_is : r ≡ int_rem a d
+
+division-unique : (a d q r : ℤ) → IsDivision a d q r → IsThe a d q r
+division-unique (pos n) d q (negsuc r) is = absurd (omega (arith, ints))
+division-unique (pos n) (pos k) (pos q) (pos r) is =
+    let parts = divides n k q r (omega (arith, ints, is.whole)) is.smaller in
+    record { quotient_is = ap pos (sym parts.quotient_is); remainder_is = ap pos (sym parts.remainder_is) }
+division-unique (pos n) (pos k) (negsuc q) (pos r) is = absurd (omega (arith, ints, is.whole, is.smaller))
+division-unique (pos n) (negsuc k) (pos zero) (pos r) is =
+    let parts = divides n (suc k) 0 r (omega (arith, ints, is.whole)) is.smaller in
+    record { quotient_is = grind (arith, ints, parts.quotient_is); remainder_is = ap pos (sym parts.remainder_is) }
+division-unique (pos n) (negsuc k) (pos (suc q)) (pos r) is = absurd (omega (arith, ints, is.whole, is.smaller))
+division-unique (pos n) (negsuc k) (negsuc q) (pos r) is =
+    let parts = divides n (suc k) (suc q) r (omega (arith, ints, is.whole)) is.smaller in
+    record { quotient_is = grind (arith, ints, parts.quotient_is); remainder_is = ap pos (sym parts.remainder_is) }
+division-unique (negsuc n) d q (pos (suc r)) is = absurd (omega (arith, ints))
+division-unique (negsuc n) (pos k) (pos q) (pos zero) is = absurd (omega (arith, ints, is.whole))
+division-unique (negsuc n) (pos k) (pos zero) (negsuc r) is =
+    let parts = divides (suc n) k 0 (suc r) (omega (arith, ints, is.whole)) is.smaller in
+    record { quotient_is = grind (arith, ints, parts.quotient_is); remainder_is = grind (arith, ints, parts.remainder_is) }
+division-unique (negsuc n) (pos k) (pos (suc q)) (negsuc r) is = absurd (omega (arith, ints, is.whole, is.smaller))
+division-unique (negsuc n) (pos k) (negsuc q) (pos zero) is =
+    let parts = divides (suc n) k (suc q) 0 (omega (arith, ints, is.whole)) is.smaller in
+    record { quotient_is = grind (arith, ints, parts.quotient_is); remainder_is = grind (arith, ints, parts.remainder_is) }
+division-unique (negsuc n) (pos k) (negsuc q) (negsuc r) is =
+    let parts = divides (suc n) k (suc q) (suc r) (omega (arith, ints, is.whole)) is.smaller in
+    record { quotient_is = grind (arith, ints, parts.quotient_is); remainder_is = grind (arith, ints, parts.remainder_is) }
+division-unique (negsuc n) (negsuc k) (pos q) (pos zero) is =
+    let parts = divides (suc n) (suc k) q 0 (omega (arith, ints, is.whole)) is.smaller in
+    record { quotient_is = grind (arith, ints, parts.quotient_is); remainder_is = grind (arith, ints, parts.remainder_is) }
+division-unique (negsuc n) (negsuc k) (pos q) (negsuc r) is =
+    let parts = divides (suc n) (suc k) q (suc r) (omega (arith, ints, is.whole)) is.smaller in
+    record { quotient_is = grind (arith, ints, parts.quotient_is); remainder_is = grind (arith, ints, parts.remainder_is) }
+division-unique (negsuc n) (negsuc k) (negsuc q) (pos zero) is = absurd (omega (arith, ints, is.whole, is.smaller))
+division-unique (negsuc n) (negsuc k) (negsuc q) (negsuc r) is = absurd (omega (arith, ints, is.whole, is.smaller))
+
+pub quotient-unique : (dividend divisor word : ℕ) → word ≡ quotient dividend divisor → divisor ≢ 0 → (other : ℕ) → IsQuotient (signed dividend) (signed divisor) other → other ≡ word
+quotient-unique dividend divisor word is nonzero other solves =
+    let unique = division-unique (signed dividend) (signed divisor) solves.0 solves.1 solves.2 in
+    let whole : quotient dividend divisor ≡ low_word (int_div (signed dividend) (signed divisor)) = grind arith in
+    solves.3 ∙ ap low_word unique.quotient_is ∙ sym whole ∙ sym is
+
+pub remainder-unique : (dividend divisor word : ℕ) → word ≡ remainder dividend divisor → divisor ≢ 0 → (other : ℕ) → IsRemainder (signed dividend) (signed divisor) other → other ≡ word
+remainder-unique dividend divisor word is nonzero other solves =
+    let unique = division-unique (signed dividend) (signed divisor) solves.0 solves.1 solves.2 in
+    let whole : remainder dividend divisor ≡ low_word (int_rem (signed dividend) (signed divisor)) = grind arith in
+    solves.3 ∙ ap low_word unique.remainder_is ∙ sym whole ∙ sym is
+
+-- ---- unsigned words
+
+pub unsigned-quotient : (dividend divisor : ℕ) → divisor ≢ 0 → IsUnsignedQuotient dividend divisor (dividend / divisor)
+unsigned-quotient dividend divisor nonzero = (dividend % divisor, mod_below dividend divisor (omega arith), div-add-mod' dividend divisor)
+
+pub unsigned-remainder : (dividend divisor : ℕ) → divisor ≢ 0 → IsUnsignedRemainder dividend divisor (dividend % divisor)
+unsigned-remainder dividend divisor nonzero = (dividend / divisor, mod_below dividend divisor (omega arith), div-add-mod' dividend divisor)

@@ -1,0 +1,38 @@
+-- Quotients and remainders: RISC-V Unprivileged ISA 20191213, section 7.2 and its table 7.1.
+use Rattle.std.specs.Prelude.{◌≡◌, ℕ, ◌+◌, ◌-◌, ◌*◌, ◌/◌, ◌%◌, ◌^◌, ◌<◌, ℤ, pos, ◌+ℤ◌, ◌*ℤ◌, ◌≤ℤ◌, unsigned_abs, int_div, int_rem, ◌==◌, if◌then◌else◌}
+use Rattle.rv_word.specs.Word.{signed, low_word}
+
+-- Signed division: dividend = quotient * divisor + remainder, where the remainder is nearer to 0 than the divisor, and
+-- has the dividend's sign. So the quotient is rounded towards zero.
+pub record IsDivision (dividend divisor quotient remainder : ℤ) : Type 0 where
+  pub whole : (quotient *ℤ divisor) +ℤ remainder ≡ dividend
+  pub smaller : unsigned_abs remainder < unsigned_abs divisor
+  pub not_negative : pos 0 ≤ℤ dividend → pos 0 ≤ℤ remainder
+  pub not_positive : dividend ≤ℤ pos 0 → remainder ≤ℤ pos 0
+
+-- A word is the quotient, or the remainder, of such a division modulo 2 ^ 32.
+abbrev pub IsQuotient : ℤ → ℤ → ℕ → Type 0
+IsQuotient dividend divisor word = (q : ℤ) × (r : ℤ) × IsDivision dividend divisor q r × (word ≡ low_word q)
+
+abbrev pub IsRemainder : ℤ → ℤ → ℕ → Type 0
+IsRemainder dividend divisor word = (q : ℤ) × (r : ℤ) × IsDivision dividend divisor q r × (word ≡ low_word r)
+
+-- Those words, and what stands for them where the divisor is 0: all ones, and the dividend.
+abbrev pub quotient : ℕ → ℕ → ℕ
+quotient dividend divisor = if divisor == 0 then 2 ^ 32 - 1 else low_word (int_div (signed dividend) (signed divisor))
+
+abbrev pub remainder : ℕ → ℕ → ℕ
+remainder dividend divisor = if divisor == 0 then dividend else low_word (int_rem (signed dividend) (signed divisor))
+
+-- Unsigned division: dividend = quotient * divisor + remainder, where the remainder is below the divisor.
+abbrev pub IsUnsignedQuotient : ℕ → ℕ → ℕ → Type 0
+IsUnsignedQuotient dividend divisor word = (r : ℕ) × (r < divisor) × (word * divisor + r ≡ dividend)
+
+abbrev pub IsUnsignedRemainder : ℕ → ℕ → ℕ → Type 0
+IsUnsignedRemainder dividend divisor word = (q : ℕ) × (word < divisor) × (q * divisor + word ≡ dividend)
+
+abbrev pub unsigned_quotient : ℕ → ℕ → ℕ
+unsigned_quotient dividend divisor = if divisor == 0 then 2 ^ 32 - 1 else dividend / divisor
+
+abbrev pub unsigned_remainder : ℕ → ℕ → ℕ
+unsigned_remainder dividend divisor = if divisor == 0 then dividend else dividend % divisor

@@ -1,0 +1,42 @@
+-- Logic on words by their lists of bits: RISC-V Unprivileged ISA 20191213, section 2.4.
+use Rattle.std.specs.Prelude.{ℕ, zero, suc, ◌+◌, ◌*◌, ◌/◌, ◌%◌, ◌==◌, Bool, true, false, ◌&&◌, ◌||◌, not, List, [], ◌∷◌}
+
+-- The lowest bits of a number, so many of them, the lowest first.
+abbrev pub bit_list : ℕ → ℕ → List Bool
+bit_list zero number = []
+bit_list (suc count) number = (number % 2 == 1) ∷ bit_list count (number / 2)
+
+abbrev pub digit : Bool → ℕ
+digit true = 1
+digit false = 0
+
+-- The number of these bits, the lowest first.
+abbrev pub number_of : List Bool → ℕ
+number_of [] = 0
+number_of (bit ∷ bits) = digit bit + 2 * number_of bits
+
+-- An operation on each bit of one list and the bit at its place in the other.
+abbrev pub bitwise : (Bool → Bool → Bool) → List Bool → List Bool → List Bool
+bitwise f [] ys = []
+bitwise f (x ∷ xs) [] = []
+bitwise f (x ∷ xs) (y ∷ ys) = f x y ∷ bitwise f xs ys
+
+-- An operation on the lowest bits of two numbers, so many of them.
+unfoldable pub by_bits : (Bool → Bool → Bool) → ℕ → ℕ → ℕ → ℕ
+by_bits f count left right = number_of (bitwise f (bit_list count left) (bit_list count right))
+
+abbrev pub exclusive_or : Bool → Bool → Bool
+exclusive_or true b = not b
+exclusive_or false b = b
+
+abbrev pub and_by_bits : ℕ → ℕ → ℕ
+and_by_bits left right = by_bits (λ x y. x && y) 32 left right
+
+abbrev pub or_by_bits : ℕ → ℕ → ℕ
+or_by_bits left right = by_bits (λ x y. x || y) 32 left right
+
+abbrev pub xor_by_bits : ℕ → ℕ → ℕ
+xor_by_bits left right = by_bits exclusive_or 32 left right
+
+abbrev pub and_not_by_bits : ℕ → ℕ → ℕ
+and_not_by_bits left right = by_bits (λ x y. x && not y) 32 left right

@@ -1,0 +1,29 @@
+//! Words of 32 bits as the RISC-V Unprivileged ISA 20191213 uses them (chapters 2 and 7): register
+//! numbers, fields of bits and their signs, the bytes of a word, high words of products, divisions,
+//! and logic bit by bit.
+//!
+//! A word is a `u32`, and its signed value is that of two's complement. No call refuses anything:
+//! what a call needs of its arguments stands in its `requires`.
+//!
+//! ```text
+//! let immediate = bits(0xfff0_8093, 31, 20); // 0xfff
+//! let word = sext(immediate, 12); // 0xffff_ffff, the word of -1
+//! ```
+#![tactic(auto)]
+
+mod bit_field;
+mod byte_order;
+mod division;
+mod logic;
+mod product;
+mod reg;
+
+pub use bit_field::{bits, sext};
+pub use byte_order::{le_bytes, le_word};
+pub use division::{div, divu, rem, remu};
+pub use logic::{and, and_not, or, xor};
+pub use product::{mulh, mulhsu, mulhu};
+pub use reg::Reg;
+
+#[cfg(test)]
+mod tests;

@@ -1,0 +1,44 @@
+# Inputs that are too long to be kept as files.
+
+# A script of 200000 lines is answered in well under a second, in the RAM of the machine and a few kilobytes more.
+{
+  printf '6f000000\n--\n'
+  yes 'step 1' | head -200000
+} > "$scratch/in"
+yes 'ran 1 pc=80000000 mode=M world=bare why=done trap=-' | head -200000 > "$scratch/wanted"
+begin=$(date +%s%N)
+# the limit on the address space is 8 MiB, of which the RAM takes one
+(ulimit -v 8192 && exec "$program") < "$scratch/in" > "$scratch/out"
+expect "200000 lines of step 1" 0 $? "$scratch/wanted" "$scratch/out"
+took=$((($(date +%s%N) - begin) / 1000000))
+if [ "$took" -lt 1000 ]; then pass; else fail "200000 lines of step 1" "took $took ms"; fi
+
+# A line of a million letters is one bad line.
+{
+  printf -- '--\n'
+  head -c 1000000 /dev/zero | tr '\0' a
+  printf '\nreg 0\n'
+} > "$scratch/in"
+printf 'error line\nx0=00000000\n' > "$scratch/wanted"
+"$program" < "$scratch/in" > "$scratch/out"
+expect "a line of a million letters" 0 $? "$scratch/wanted" "$scratch/out"
+
+# image COUNT: the text of an image of so many bytes, each of them 11, and a script that shows the last byte of RAM.
+image() {
+  yes "$(printf '11%.0s' $(seq 60))" | head -$((($1 - 1) / 60))
+  printf '11%.0s' $(seq $((($1 - 1) % 60 + 1)))
+  printf '\n--\nmem 800fffff 1\n'
+}
+
+# The image fills the RAM, or has a byte more than it; it has the most bytes that an image may have, or one more.
+printf '800fffff: 11\n' > "$scratch/wanted"
+image 1048576 | "$program" > "$scratch/out"
+expect "an image that fills the RAM" 0 $? "$scratch/wanted" "$scratch/out"
+printf 'rvbench: image 9\n' > "$scratch/wanted"
+image 1048577 | "$program" > "$scratch/out"
+expect "an image of a byte more than the RAM" 1 $? "$scratch/wanted" "$scratch/out"
+image 33554432 | "$program" > "$scratch/out"
+expect "an image of the most bytes" 1 $? "$scratch/wanted" "$scratch/out"
+printf 'rvbench: too long\n' > "$scratch/wanted"
+image 33554433 | "$program" > "$scratch/out"
+expect "an image of a byte more than the most" 1 $? "$scratch/wanted" "$scratch/out"
