@@ -1,6 +1,5 @@
 -- What of a line matters to the command that it is: its first six words, and its first 121 bytes.
-use Rattle.std.proofs.Common.{◌≡◌, ℕ, ◌≤◌, nat_eq, List, [], ◌∷◌, length, take, Option, Some, None, Ok, refl, ap, inl, inr, lit≤}
-use Rattle.std.proofs.lemmas.Bool.{cases_lt}
+use Rattle.std.proofs.Common.{◌≡◌, ℕ, nat_eq, List, [], ◌∷◌, take, Option, Some, None, Ok, Err, refl, ap}
 use Rattle.std.specs.Prelude.{codes, if◌then◌else◌}
 use Rattle.std.specs.List.{starts_with}
 use Rattle.rv_bench.specs.declared.command.Command.{Command}
@@ -8,7 +7,9 @@ use Rattle.rv_bench.specs.declared.command.Command.TheVariants.{Blank}
 use Rattle.rv_bench.specs.declared.keyword.Keyword.{Keyword}
 use Rattle.rv_bench.specs.declared.keyword.Keyword.TheVariants.{Step, Reg, Mem}
 use Rattle.rv_bench.specs.Command.{one, two, operands_of, keyword_of, named, meaning_of, parse_of}
-use Rattle.rv_bench.proofs.GoodLines.{is_good_line-long, take-long, take-short}
+use Rattle.rv_bench.specs.Words.{words_of}
+use Rattle.rv_bench.specs.declared.command.CommandFault.TheVariants.{BadLine}
+use Rattle.rv_bench.proofs.CutLines.{if_good-take}
 
 one-take : {A : Type 0} (read : List ℕ → Option A) (command : A → Command) (operands : List (List ℕ)) → one read command (take 5 operands) ≡ one read command operands
 one-take read command [] = refl
@@ -36,13 +37,7 @@ meaning_of-take [] = refl
 meaning_of-take (name ∷ operands) =
     ap (λ r. if starts_with nat_eq name (codes "#") then Ok Blank else r) (named-take (keyword_of name) operands)
 
-pub parse_of-take : (most : ℕ) (line : List ℕ) → 121 ≤ most → parse_of (take most line) ≡ parse_of line
-unfolding parse_of
-parse_of-take most line enough =
-    elim (cases_lt 120 (length line)) [
-      | inl long ↦ rw (is_good_line-long line long, is_good_line-long (take most line) (take-long most line enough long)) refl
-      | inr short ↦ ap parse_of (take-short most line enough short)
-    ]
-
+-- the first 121 bytes of a line say what the line says
 pub parse_of-cut : (line : List ℕ) → parse_of (take 121 line) ≡ parse_of line
-parse_of-cut line = parse_of-take 121 line (lit≤ tt)
+unfolding parse_of
+parse_of-cut line = if_good-take (λ good. meaning_of (words_of good)) (Err BadLine) line

@@ -1,5 +1,5 @@
 -- How lines come to their end.
-use Rattle.std.proofs.Common.{◌≡◌, ℕ, Bool, true, false, ◌⊎◌, inl, inr, refl, sym, ◌∙◌, ap, subst, arith, min, ◌≤◌, ◌+◌}
+use Rattle.std.proofs.Common.{◌≡◌, Bool, true, false, inl, inr, refl, ◌∙◌, arith}
 use Rattle.rv_bench.specs.declared.device.Source.{Ghosts}
 use Rattle.rv_bench.specs.declared.lines.Lines.{Lines}
 use Rattle.rv_bench.specs.Device.{one_more, HasRisen}

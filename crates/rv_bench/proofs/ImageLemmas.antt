@@ -1,37 +1,28 @@
 -- The image of lines that are read one by one.
-use Rattle.std.proofs.Common.{◌≡◌, ◌≢◌, ℕ, suc, ◌+◌, ◌<◌, ◌≤◌, leb, ltb, Bool, true, false, not, cond, ◌&&◌, List, [], ◌∷◌, ◌++◌, length, take, Result, Ok, Err, Option, Some, None, codes, refl, sym, ◌∙◌, ap, subst, arith, inl, inr, append_assoc, append-nil, add-one}
-use Rattle.std.proofs.lemmas.Grind.{common_steps, flat_map-append}
-use Rattle.std.proofs.lemmas.Bool.{cases_lt}
+use Rattle.std.proofs.Common.{◌≡◌, ℕ, ◌+◌, ◌<◌, ◌≤◌, ltb, Bool, true, false, not, cond, ◌&&◌, List, [], ◌∷◌, ◌++◌, length, take, Ok, Err, Option, Some, None, codes, refl, sym, ◌∙◌, ap, subst, arith, append-nil, add-one}
+use Rattle.std.proofs.lemmas.Grind.{flat_map-append}
 use Rattle.std.proofs.lemmas.Bool.Decides.{nat_tests}
-use Rattle.std.proofs.lemmas.List.{take_all, length-take, length-append}
+use Rattle.std.proofs.lemmas.List.{length-append}
 use Rattle.std.proofs.lemmas.List.Folds.{list_all-append}
 use Rattle.std.proofs.lemmas.List.Sums.{take_while-cons}
-use Rattle.std.specs.List.{list_all, flat_map, take_while}
+use Rattle.std.specs.List.{list_all, take_while}
 use Rattle.std.specs.Option.{IsSomeAnd, is_some, unwrap_or, option_and_then}
 use Rattle.std.specs.Str.{bytes_eq}
 use Rattle.std.specs.Result.{result_ok}
 use Rattle.hex.specs.Hex.{decode_of}
-use Rattle.rv_bench.specs.declared.fault.BenchFault.{BenchFault}
 use Rattle.rv_bench.specs.declared.fault.BenchFault.TheVariants.{Hex, TooLong}
-use Rattle.rv_bench.specs.Words.{is_text, is_good_line, words_of}
 use Rattle.rv_bench.specs.Lines.{lines_of, after_line, after_lines}
 use Rattle.rv_bench.specs.LineText.{ReadsText, TakesLine, ReadsLines}
+use Rattle.rv_bench.specs.Words.{words_of}
 use Rattle.rv_bench.specs.Image.{only_word, line_word, is_dashes, is_marker, line_bytes, is_image_line, bytes_of_lines, image_of, image_lines, image_in, after_image, LeavesLines, ReadsInImage}
+use Rattle.rv_bench.proofs.CutLines.{if_good-take}
 use Rattle.rv_bench.proofs.LineLemmas.{after_lines-more}
-use Rattle.rv_bench.proofs.TextLemmas.{ReadsLines-none, ReadsLines-more}
+use Rattle.rv_bench.proofs.LineTextLemmas.{ReadsLines-none, ReadsLines-more}
 
 -- a line of which 121 bytes are shown has the word of those
-long_has_none : (line : List ℕ) → 120 < length line → line_word line ≡ None
-unfolding line_word
-long_has_none line long = let e : leb (length line) 120 ≡ false = grind arith in rw e refl
-
 pub line_word-take : (line : List ℕ) → line_word (take 121 line) ≡ line_word line
-line_word-take line = elim (cases_lt 120 (length line)) [
-  | inl long ↦
-      let cut : 120 < length (take 121 line) = rw (length-take 121 line) (omega arith) in
-      long_has_none (take 121 line) cut ∙ sym (long_has_none line long)
-  | inr short ↦ rw (take_all 121 line (omega arith)) refl
-]
+unfolding line_word
+line_word-take line = if_good-take (λ l. only_word (words_of l)) None line
 
 -- lines that all pass, and others
 take_while-append : (p : List ℕ → Bool) (xs ys : List (List ℕ)) → list_all p xs ≡ true → take_while p (xs ++ ys) ≡ xs ++ take_while p ys

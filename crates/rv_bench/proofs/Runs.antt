@@ -1,13 +1,13 @@
 -- A run, line by line.
-use Rattle.std.proofs.Common.{◌≡◌, ℕ, Bool, true, false, List, [], ◌∷◌, ◌++◌, take, refl, sym, ◌∙◌, ap, subst, append_assoc, append-nil}
+use Rattle.std.proofs.Common.{◌≡◌, ℕ, Bool, false, List, [], ◌∷◌, ◌++◌, take, refl, sym, ◌∙◌, ap, subst, append_assoc, append-nil}
 use Rattle.rv_bench.specs.Answer.{Answered, line_answer, replies, state_after}
-use Rattle.rv_bench.specs.Lines.{lines_of, finished}
+use Rattle.rv_bench.specs.Lines.{lines_of}
 use Rattle.rv_bench.specs.LineText.{ReadsText, TakesLine, ReadsLines}
 use Rattle.rv_bench.specs.Run.{StopsAtRead, StopsAtWrite}
 use Rattle.rv_bench.specs.Step.{State}
 use Rattle.rv_bench.specs.Transfer.{WritesFront}
 use Rattle.rv_bench.proofs.Answers.{replies-append, state_after-append, replies-more, line_answer-cut}
-use Rattle.rv_bench.proofs.TextLemmas.{ReadsLines-none, ReadsLines-more}
+use Rattle.rv_bench.proofs.LineTextLemmas.{ReadsLines-none, ReadsLines-more}
 
 -- The lines that were taken have their replies.
 pub record AnswersLines (start : State) (unread old : List ℕ) (now : State) (left : List ℕ) (is_at_end : Bool) (new : List ℕ) : Type 0 where

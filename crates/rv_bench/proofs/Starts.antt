@@ -1,5 +1,5 @@
 -- The machine that an image starts.
-use Rattle.std.proofs.Common.{◌≡◌, ℕ, true, List, length, replicate, None, Ok, refl, sym, ap, ◌∙◌, zero-add}
+use Rattle.std.proofs.Common.{◌≡◌, ℕ, true, List, length, replicate, None, Ok, refl, ap, ◌∙◌, zero-add}
 use Rattle.std.proofs.lemmas.List.{drop-replicate}
 use Rattle.rv_bench.specs.Hart.{at_reset}
 use Rattle.rv_bench.specs.HartState.{Hart}

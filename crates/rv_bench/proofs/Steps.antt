@@ -1,7 +1,7 @@
 -- Steps one after another.
-use Rattle.std.proofs.Common.{◌≡◌, ℕ, ◌+◌, refl, Option, Some, None, add-one}
+use Rattle.std.proofs.Common.{◌≡◌, ℕ, ◌+◌, refl, Option, None, add-one}
 use Rattle.std.specs.Option.{option_or}
-use Rattle.rv_bench.specs.Step.{State, Stepped, step, stepped}
+use Rattle.rv_bench.specs.Step.{State, step, stepped}
 use Rattle.rv_bench.specs.declared.trap.Trap.{Trap}
 
 pub stepped-none : (state : State) → stepped 0 state ≡ record { state = state; trap = None }

@@ -1,6 +1,6 @@
 -- What one call of a device moved, and how calls of one kind are counted: those that failed, the ends that a source
 -- answered, and the parts of which a sink took nothing. (This project's own streams: no standard states them.)
-use Rattle.std.specs.Prelude.{ℕ, ◌+◌, ◌-◌, ◌^◌, ◌≤◌, ◌==◌, nat_lt, min, Bool, false, ◌&&◌, is_err, Result, Ok, Err, if◌then◌else◌}
+use Rattle.std.specs.Prelude.{ℕ, ◌+◌, ◌-◌, ◌^◌, ◌≤◌, ◌==◌, nat_lt, min, Bool, false, ◌&&◌, Result, Ok, Err, if◌then◌else◌}
 
 -- how many bytes a call gave or took: none where it failed
 abbrev pub moved_count : {E : Type 0} → Result ℕ E → ℕ

@@ -1,5 +1,5 @@
 -- The numbers of the faults, as this project's surface gives them. (No public standard numbers them.)
-use Rattle.std.specs.Prelude.{ℕ, Bool, true, false}
+use Rattle.std.specs.Prelude.{ℕ}
 use Rattle.rv_bench.specs.declared.elf_fault.ElfFault.{ElfFault}
 use Rattle.rv_bench.specs.declared.elf_fault.ElfFault.TheVariants.{Truncated, NotElf, WrongClass, WrongType, WrongMachine, BadHeader, SegmentTruncated, SegmentSizes, SegmentOutside, SegmentOverlap, BadEntry}
 use Rattle.rv_bench.specs.declared.ram_fault.RamFault.{RamFault}

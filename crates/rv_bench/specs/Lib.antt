@@ -11,7 +11,7 @@ pub mod Instructions
 pub mod LineText
 pub mod Lines
 pub mod Loaded
-pub mod Memory
+pub mod MemoryStreams
 pub mod Numbers
 pub mod Output
 pub mod Plans

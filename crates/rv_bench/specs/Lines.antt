@@ -1,5 +1,5 @@
 -- The lines of a text (this project's own rule; the line feed is byte 10 and the carriage return byte 13 of ASCII, ISO/IEC 646).
-use Rattle.std.specs.Prelude.{ℕ, suc, zero, ◌==◌, Bool, true, false, ◌&&◌, ◌||◌, List, [], ◌∷◌, if◌then◌else◌}
+use Rattle.std.specs.Prelude.{ℕ, suc, zero, ◌==◌, Bool, false, ◌&&◌, ◌||◌, List, [], ◌∷◌, if◌then◌else◌}
 
 -- a line feed stands in the text
 abbrev pub has_feed : List ℕ → Bool

@@ -1,7 +1,7 @@
 -- What an image denotes: the memory and the entry that it gives, or its fault. Every image is raw: its bytes stand at the
 -- first address of RAM, where execution begins, and every other byte is 0.
 -- (System V gABI, program loading: a raw image is one segment; one of no bytes is none.)
-use Rattle.std.specs.Prelude.{ℕ, ◌-◌, ◌++◌, nat_lt, not, List, length, replicate, Option, Some, None, Result, Ok, Err, if◌then◌else◌}
+use Rattle.std.specs.Prelude.{ℕ, ◌-◌, ◌++◌, nat_lt, List, length, replicate, Option, Some, None, Result, Ok, Err, if◌then◌else◌}
 use Rattle.rv_bench.specs.Cases.{option_case}
 use Rattle.rv_bench.specs.Hart.{at_reset}
 use Rattle.rv_bench.specs.Ram.{ram_base, is_ram_size}

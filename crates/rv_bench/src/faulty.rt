@@ -1,6 +1,6 @@
 //! A source and a sink over memory for tests: they move few bytes a call, and fail at a set call.
 ghost use Rattle.std.specs.Prelude.{◌≡◌, ◌<◌, [], true, length};
-ghost use Rattle.rv_bench.specs.Memory.{rest_of, bytes_of};
+ghost use Rattle.rv_bench.specs.MemoryStreams.{rest_of, bytes_of};
 
 use crate::device::{DeviceFault, Sink, Source};
 use crate::memory::{MemorySink, MemorySource};

@@ -1,7 +1,7 @@
 //! A source and a sink over memory that is lent to them. They take no memory of their own, and never fail.
 ghost use Rattle.std.specs.Prelude.{◌≡◌, ◌==◌, ◌&&◌, ◌++◌, ◌+◌, [], true, nat_lt, min, length, take};
 ghost use Rattle.rv_bench.specs.Device.{counted};
-ghost use Rattle.rv_bench.specs.Memory.{rest_of, bytes_of, room_of};
+ghost use Rattle.rv_bench.specs.MemoryStreams.{rest_of, bytes_of, room_of};
 
 use crate::device::{DeviceFault, Sink, Source};
 

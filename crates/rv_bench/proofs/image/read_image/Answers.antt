@@ -1,6 +1,5 @@
-use Rattle.std.proofs.Common.{rules, ◌≡◌, ◌∙◌, ◌≤◌, ◌++◌, ◌⊎◌, inl, inr, length, Result, Ok, Err, Some, None, Option, List, ℕ, false, true, codes, sym, ap, arith}
+use Rattle.std.proofs.Common.{rules, ◌≡◌, ◌∙◌, ◌≤◌, inr, length, Ok, Err, sym, ap, arith}
 use Rattle.std.proofs.lemmas.Result.{IfOk-at_ok, IfErr-at_err, err_from_is_err_and}
-use Rattle.std.specs.Str.{bytes_eq}
 use Rattle.rv_bench.specs.declared.fault.BenchFault.TheVariants.{Hex, TooLong}
 use Rattle.rv_bench.specs.Image.{line_word}
 use Rattle.rv_bench.proofs.Ends.{TellsEnd-more}

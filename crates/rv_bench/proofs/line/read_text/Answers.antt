@@ -1,5 +1,5 @@
-use Rattle.std.proofs.Common.{rules, ◌≡◌, ◌<◌, ◌≤◌, ◌==◌, ℕ, Bool, true, false, ◌++◌, ◌∷◌, [], arith}
-use Rattle.rv_bench.proofs.TextLemmas.{ReadsText-none, ReadsText-push, ReadsText-skip, has_feed-push}
+use Rattle.std.proofs.Common.{rules, ◌≡◌, ◌<◌, ◌≤◌, ◌==◌, ℕ, Bool, true, false, arith}
+use Rattle.rv_bench.proofs.LineTextLemmas.{ReadsText-none, ReadsText-push, ReadsText-skip, has_feed-push}
 use Rattle.rv_bench.proofs.line.read_text.Goals as goal
 
 is_below : (n : ℕ) (full : Bool) → full ≡ (n == 122) → full ≡ false → n ≤ 122 → n < 122

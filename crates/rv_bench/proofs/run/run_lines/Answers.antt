@@ -1,14 +1,11 @@
-use Rattle.std.proofs.Common.{rules, ◌≡◌, ◌++◌, ◌∙◌, refl, sym, ap, subst, IsTrue, Ok, List, ℕ, false}
+use Rattle.std.proofs.Common.{rules, ◌++◌, ◌∙◌, refl, sym, ap, subst, Ok}
 use Rattle.std.proofs.lemmas.Result.{IfOk-at_ok, IfErr-at_err}
-use Rattle.rv_bench.specs.Answer.{Answered, line_answer, replies}
-use Rattle.rv_bench.specs.Lines.{lines_of}
-use Rattle.rv_bench.specs.Run.{StopsAtRead, StopsAtWrite}
+use Rattle.rv_bench.specs.Answer.{line_answer}
 use Rattle.rv_bench.specs.Step.{over}
 use Rattle.rv_bench.specs.Transfer.{WritesFront}
-use Rattle.rv_bench.specs.Unread.{unread}
 use Rattle.rv_bench.proofs.Ends.{TellsEnd-none, TellsEnd-more}
-use Rattle.rv_bench.proofs.Mapped.{ok_mapped, err_mapped, OnOk-always}
-use Rattle.rv_bench.proofs.Runs.{AnswersLines, AnswersLines-none, AnswersLines-more, AnswersLines-read, AnswersLines-stopped, AnswersLines-written, AnswersLines-all, going_on}
+use Rattle.rv_bench.proofs.Mapped.{ok_mapped, err_mapped}
+use Rattle.rv_bench.proofs.Runs.{AnswersLines-none, AnswersLines-more, AnswersLines-read, AnswersLines-stopped, going_on}
 use Rattle.rv_bench.proofs.run.run_lines.Goals as goal
 
 pub loop-line-init : goal.loop-line-init

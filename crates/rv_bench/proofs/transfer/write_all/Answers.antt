@@ -1,4 +1,4 @@
-use Rattle.std.proofs.Common.{rules, ◌≡◌, take, drop, length, arith}
+use Rattle.std.proofs.Common.{rules, arith}
 use Rattle.std.proofs.lemmas.Grind.{common_steps}
 use Rattle.rv_bench.proofs.Writing.{WritesUpTo-more}
 use Rattle.rv_bench.proofs.transfer.write_all.Goals as goal

@@ -1,7 +1,6 @@
 use Rattle.rv_bench.proofs.Ends.{TellsEnd-ends}
-use Rattle.std.proofs.Common.{rules, refl, ◌≡◌, ◌<◌, ◌∙◌, ap, take, arith, ℕ, Bool, false, ◌==◌, Ok}
-use Rattle.rv_bench.specs.LineText.{without_return}
-use Rattle.rv_bench.proofs.TextLemmas.{TakesLine-feed, TakesLine-end}
+use Rattle.std.proofs.Common.{refl, ◌≡◌, ◌<◌, ◌∙◌, ap, arith, ℕ, Bool, false, ◌==◌, Ok}
+use Rattle.rv_bench.proofs.LineTextLemmas.{TakesLine-feed, TakesLine-end}
 use Rattle.rv_bench.proofs.lines.Lines.next_line.Goals as goal
 
 is_some : (n : ℕ) (empty : Bool) → empty ≡ (n == 0) → empty ≡ false → 0 < n

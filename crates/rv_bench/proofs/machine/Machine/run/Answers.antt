@@ -1,4 +1,3 @@
-use Rattle.std.proofs.Common.{ap, ◌∙◌, arith}
 use Rattle.rv_bench.proofs.Steps.{stepped-none, stepped-more}
 use Rattle.rv_bench.proofs.machine.Machine.run.Goals as goal
 
