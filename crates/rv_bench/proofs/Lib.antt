@@ -11,9 +11,11 @@ mod Keywords
 mod LineLemmas
 mod LineTextLemmas
 mod Mapped
+mod RamLaws
 mod ReplyExamples
 mod Runs
 mod Starts
+mod StepExamples
 mod Steps
 mod Stores
 mod WordLengths

@@ -3,6 +3,7 @@ use Rattle.std.proofs.Common.{◌≡◌, ◌∷◌, [], Some, None, refl, lit<}
 use Rattle.std.specs.Prelude.{codes, decimal}
 use Rattle.std.proofs.lemmas.Fmt.{decimal-digits_of}
 use Rattle.rv_bench.specs.Digits.{hex_digits}
+use Rattle.rv_bench.specs.declared.cause.Cause.TheVariants.{IllegalInstruction}
 use Rattle.rv_bench.specs.ReplyText.{trap_text, ran_text, register_text, memory_text}
 
 decimal-four : decimal 4 ≡ codes "4"
@@ -15,7 +16,7 @@ pub ran_text-example : ran_text 4 0x80000010 None ≡ codes "ran 4 pc=80000010 m
 unfolding ran_text trap_text hex_digits
 ran_text-example = rw decimal-four
 
-pub ran_text-trap-example : ran_text 30 0 (Some (record { cause = 2; tval = 0xffffffff })) ≡ codes "ran 30 pc=00000000 mode=M world=bare why=done trap=00000002:ffffffff\n"
+pub ran_text-trap-example : ran_text 30 0 (Some (record { cause = IllegalInstruction; tval = 0xffffffff })) ≡ codes "ran 30 pc=00000000 mode=M world=bare why=done trap=00000002:ffffffff\n"
 unfolding ran_text trap_text hex_digits
 ran_text-trap-example = rw decimal-thirty
 

@@ -3,6 +3,8 @@
 use Rattle.std.specs.Prelude.{ℕ, ◌+◌, ◌%◌, ◌^◌, ◌==◌, Bool, replicate, Result, Ok, Err, if◌then◌else◌}
 use Rattle.rv_bench.specs.HartState.{Hart}
 use Rattle.rv_bench.specs.Registers.{with_register}
+use Rattle.rv_bench.specs.declared.cause.Cause.{Cause}
+use Rattle.rv_bench.specs.declared.cause.Cause.TheVariants.{InstructionAddressMisaligned, IllegalInstruction, EnvironmentCallFromM}
 use Rattle.rv_bench.specs.declared.trap.Trap.{Trap}
 
 -- every register 0, and the entry next
@@ -23,21 +25,21 @@ with_result hart rd value = record hart { regs = with_register hart.regs rd valu
 
 -- ---- exceptions, each with its value for mtval
 
--- cause 0: the target of a jump or a taken branch is not a multiple of 4
+-- the target of a jump or a taken branch is not a multiple of 4
 abbrev pub misaligned : ℕ → Trap
-misaligned target = record { cause = 0; tval = target }
+misaligned target = record { cause = InstructionAddressMisaligned; tval = target }
 
--- causes 1, 5 and 7: a fetch, a load or a store has a byte that is not there
-abbrev pub access_fault : ℕ → ℕ → Trap
+-- a fetch, a load or a store has a byte that is not there
+abbrev pub access_fault : Cause → ℕ → Trap
 access_fault cause address = record { cause = cause; tval = address }
 
--- cause 2: no row spells the word
+-- the word is no instruction of the machine
 abbrev pub illegal : ℕ → Trap
-illegal word = record { cause = 2; tval = word }
+illegal word = record { cause = IllegalInstruction; tval = word }
 
--- cause 11: ecall from M
+-- ecall in mode M
 abbrev pub machine_call : Trap
-machine_call = record { cause = 11; tval = 0 }
+machine_call = record { cause = EnvironmentCallFromM; tval = 0 }
 
 -- ---- jumps
 

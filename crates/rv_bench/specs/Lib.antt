@@ -1,5 +1,6 @@
 pub mod Answer
 pub mod Cases
+pub mod Causes
 pub mod Command
 pub mod Device
 pub mod Digits

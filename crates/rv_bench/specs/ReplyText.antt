@@ -1,6 +1,7 @@
 -- The lines that answer commands: ASCII, each ended by a line feed; hexadecimal in lower case, with leading zeros.
 use Rattle.std.specs.Prelude.{ℕ, List, ◌++◌, Option, Some, None, codes, decimal}
 use Rattle.std.specs.List.{flat_map}
+use Rattle.rv_bench.specs.Causes.{cause_code}
 use Rattle.rv_bench.specs.Digits.{hex2, hex8}
 use Rattle.rv_bench.specs.declared.trap.Trap.{Trap}
 use Rattle.rv_bench.specs.declared.command.CommandFault.{CommandFault}
@@ -9,7 +10,7 @@ use Rattle.rv_bench.specs.declared.command.CommandFault.TheVariants.{BadLine, Un
 -- `-`, or `cause:tval`
 unfoldable pub trap_text : Option Trap → List ℕ
 trap_text None = codes "-"
-trap_text (Some trap) = hex8 trap.cause ++ codes ":" ++ hex8 trap.tval
+trap_text (Some trap) = hex8 (cause_code trap.cause) ++ codes ":" ++ hex8 trap.tval
 
 -- `ran S pc=hhhhhhhh mode=M world=bare why=done trap=t`
 unfoldable pub ran_text : ℕ → ℕ → Option Trap → List ℕ

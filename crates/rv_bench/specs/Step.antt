@@ -9,6 +9,7 @@ use Rattle.rv_bench.specs.HartState.{Hart}
 use Rattle.rv_bench.specs.Hart.{access_fault, illegal, trapped}
 use Rattle.rv_bench.specs.Instructions.{request, finished}
 use Rattle.rv_bench.specs.Ram.{read_word, write_word}
+use Rattle.rv_bench.specs.declared.cause.Cause.TheVariants.{InstructionAccessFault, LoadAccessFault, StoreAccessFault}
 use Rattle.rv_bench.specs.declared.request.Request.{Request}
 use Rattle.rv_bench.specs.declared.request.Request.TheVariants.{Nothing, Load, Store}
 use Rattle.rv_bench.specs.declared.trap.Trap.{Trap}
@@ -35,10 +36,10 @@ ended_over memory (Err trap) = Err trap
 unfoldable pub accessed : Instr → Hart → List ℕ → ℕ → Request → Result State Trap
 accessed instr hart memory word Nothing = ended_over memory (finished instr hart word 0)
 accessed instr hart memory word (Load address) =
-    option_case (read_word memory address) (Err (access_fault 5 address))
+    option_case (read_word memory address) (Err (access_fault LoadAccessFault address))
     (λ loaded. ended_over memory (finished instr hart word loaded))
 accessed instr hart memory word (Store address value) =
-    option_case (write_word memory address value) (Err (access_fault 7 address))
+    option_case (write_word memory address value) (Err (access_fault StoreAccessFault address))
     (λ written. ended_over written (finished instr hart word 0))
 
 -- the word is decoded
@@ -49,7 +50,7 @@ executed hart memory word =
 -- the word at pc is fetched
 unfoldable pub attempted : Hart → List ℕ → Result State Trap
 attempted hart memory =
-    option_case (read_word memory hart.pc) (Err (access_fault 1 hart.pc)) (executed hart memory)
+    option_case (read_word memory hart.pc) (Err (access_fault InstructionAccessFault hart.pc)) (executed hart memory)
 
 -- one step: the instruction at pc is done, or its exception is taken and nothing else changes
 unfoldable pub step : State → Stepped

@@ -2,8 +2,9 @@
 
 ghost use Rattle.std.specs.Prelude.{◌≡◌, ℕ, ◌%◌, Ok, Err, MatchResult, OnErr, Bool};
 ghost use Rattle.rv_encoding.specs.declared.instr.Instr.{Instr};
-ghost use Rattle.rv_bench.specs.Hart.{illegal as illegal_of, misaligned as misaligned_of};
+ghost use Rattle.rv_bench.specs.Hart.{illegal as illegal_of, misaligned as misaligned_of, machine_call as machine_call_of};
 
+use crate::cause::Cause;
 use crate::regs::Regs;
 use crate::request::Request;
 use crate::trap::Trap;
@@ -14,23 +15,33 @@ use std::marker::Model;
 /// Where a trap goes: the reset value of mtvec.
 const TRAP_VECTOR: u32 = 0;
 
-/// Cause 0: the target of a jump or a taken branch is not a multiple of 4.
+/// A jump or a taken branch to this target, which is not a multiple of 4.
 const fn misaligned(target: u32) -> Trap
     ensures { result ≡ misaligned_of target }
 {
     Trap {
-        cause: 0,
+        cause: Cause::InstructionAddressMisaligned,
         tval: target,
     }
 }
 
-/// Cause 2: the word is no instruction that the hart does.
+/// A word that is no instruction of the hart.
 pub(crate) const fn illegal(word: u32) -> Trap
     ensures { result ≡ illegal_of word }
 {
     Trap {
-        cause: 2,
+        cause: Cause::IllegalInstruction,
         tval: word,
+    }
+}
+
+/// An ecall in mode M.
+const fn machine_call() -> Trap
+    ensures { result ≡ machine_call_of }
+{
+    Trap {
+        cause: Cause::EnvironmentCallFromM,
+        tval: 0,
     }
 }
 
@@ -56,6 +67,7 @@ impl Hart {
     ghost use Rattle.rv_bench.specs.HartState.{Hart as HartState};
     ghost use Rattle.rv_bench.specs.Hart.{at_reset, advanced, with_result, jumped, branched, trapped, sum_of};
     ghost use Rattle.rv_bench.specs.Instructions.{request, finished};
+    ghost use Rattle.rv_bench.specs.Registers.{register};
 
     /// The hart at reset, with the entry next.
     pub(crate) fn new(entry: u32) -> Self
@@ -143,20 +155,17 @@ impl Hart {
                 rd,
                 rs1,
                 imm,
-            } => {
-                let sum = self.regs.get(rs1).wrapping_add(imm.word());
-                self.write_rd(rd, sum)
-            }
+            } => self.write_sum(rd, rs1, imm.word()),
             Instr::Op {
                 kind: OpKind::Add,
                 rd,
                 rs1,
                 rs2,
             } => {
-                let sum = self.regs.get(rs1).wrapping_add(self.regs.get(rs2));
-                self.write_rd(rd, sum)
+                let addend = self.regs.get(rs2);
+                self.write_sum(rd, rs1, addend)
             }
-            Instr::Ecall => Err(Trap { cause: 11, tval: 0 }),
+            Instr::Ecall => Err(machine_call()),
             _ => Err(illegal(word)),
         }
     }
@@ -185,6 +194,15 @@ impl Hart {
         self.regs.set(rd, value);
         self.pc = self.pc.wrapping_add(4);
         Ok(())
+    }
+
+    /// Writes the sum of a register and an addend, and goes to the next instruction.
+    fn write_sum(&mut self, rd: Reg, rs1: Reg, addend: u32) -> Result<(), Trap>
+        ensures done { result ≡ Ok record {} }
+        ensures state { self.new ≡ with_result self.old rd (sum_of (register self.old.regs rs1) addend) }
+    {
+        let sum = self.regs.get(rs1).wrapping_add(addend);
+        self.write_rd(rd, sum)
     }
 
     /// Jumps, and leaves the address of the next instruction in a register.

@@ -15,6 +15,7 @@
 #![tactic(auto)]
 
 mod answer;
+mod cause;
 mod command;
 mod device;
 mod digits;

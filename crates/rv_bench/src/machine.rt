@@ -3,6 +3,7 @@
 ghost use Rattle.std.specs.Prelude.{◌≡◌, ◌%◌, ◌+◌, ◌≤◌, Ok, Err, Some, None, MatchResult, OnErr, MatchOption};
 ghost use Rattle.rv_bench.specs.Step.{attempted, executed, accessed, step, stepped, over};
 
+use crate::cause::Cause;
 use crate::hart::{Hart, illegal};
 use crate::ram::Ram;
 use crate::request::Request;
@@ -69,7 +70,10 @@ impl Machine {
         let pc = self.hart.pc();
         match self.ram.load(pc) {
             Some(word) => self.execute(word),
-            None => Err(Trap { cause: 1, tval: pc }),
+            None => Err(Trap {
+                cause: Cause::InstructionAccessFault,
+                tval: pc,
+            }),
         }
     }
 
@@ -98,14 +102,14 @@ impl Machine {
             Request::Load { address } => match self.ram.load(address) {
                 Some(loaded) => self.hart.finish(instr, word, loaded),
                 None => Err(Trap {
-                    cause: 5,
+                    cause: Cause::LoadAccessFault,
                     tval: address,
                 }),
             },
             Request::Store { address, value } => {
                 if !self.ram.store(address, value) {
                     return Err(Trap {
-                        cause: 7,
+                        cause: Cause::StoreAccessFault,
                         tval: address,
                     });
                 }

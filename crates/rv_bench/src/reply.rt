@@ -23,7 +23,7 @@ fn push_trap(out: &mut Reply, trap: Option<Trap>)
     match trap {
         None => push_text(out, "-"),
         Some(Trap { cause, tval }) => {
-            push_hex(out, cause, 8);
+            push_hex(out, cause.code(), 8);
             push_text(out, ":");
             push_hex(out, tval, 8);
         }
@@ -102,6 +102,7 @@ pub(crate) fn push_outside(out: &mut Reply)
 #[cfg(test)]
 mod tests {
     use super::*;
+    use crate::cause::Cause;
 
     #[test]
     fn prints_what_steps_did(rt: HostRuntime) {
@@ -112,7 +113,7 @@ mod tests {
             1,
             0,
             Some(Trap {
-                cause: 2,
+                cause: Cause::IllegalInstruction,
                 tval: 0xffff_ffff,
             }),
         );

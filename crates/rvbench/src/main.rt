@@ -5,9 +5,8 @@
 #![tactic(auto)]
 
 use rv_bench::{BenchFault, Lines, Setup, StandardSink, StandardSource, run_stream};
-use std::env;
-use std::io;
 use std::process::ExitCode;
+use std::{env, io};
 
 /// The status of a command line that is refused.
 const REFUSED: u8 = 2;
