@@ -2,7 +2,7 @@
 use Rattle.std.proofs.Common.{◌≡◌, ◌≢◌, ℕ, suc, zero, inl, inr, ◌<◌, ◌≤◌, nat_eq, Bool, true, false, ◌&&◌, ◌||◌, cond, List, [], ◌∷◌, ◌++◌, length, take, drop, min, refl, sym, ◌∙◌, ap, arith, append-nil}
 use Rattle.std.proofs.lemmas.List.{take-append-le, take_all, take-take, length-take, length-append}
 use Rattle.std.proofs.lemmas.Bool.{cases_lt}
-use Rattle.rv_bench.specs.Lines.{has_feed, starts_with_feed, onto_first, lines_of, finished, after_line, after_lines}
+use Rattle.rv_bench.specs.Lines.{has_feed, starts_with_feed, onto_first, lines_of, through_last_feed, after_line, after_lines}
 use Rattle.rv_bench.specs.LineText.{without_return}
 
 or_assoc : (a b c : Bool) → a || (b || c) ≡ (a || b) || c
@@ -14,9 +14,9 @@ has_feed-append [] ys = refl
 has_feed-append (x ∷ xs) ys = rw (has_feed-append xs ys) (or_assoc (nat_eq x 10) (has_feed xs) (has_feed ys))
 
 -- a text with no line feed has no finished line
-pub finished-open : (xs : List ℕ) → has_feed xs ≡ false → finished xs ≡ []
-finished-open [] h = refl
-finished-open (x ∷ xs) h = rw h refl
+pub through_last_feed-open : (xs : List ℕ) → has_feed xs ≡ false → through_last_feed xs ≡ []
+through_last_feed-open [] h = refl
+through_last_feed-open (x ∷ xs) h = rw h refl
 
 or_false : (a b : Bool) → b ≡ false → a || b ≡ a
 or_false true b h = refl
@@ -27,20 +27,20 @@ or_true true b h = refl
 or_true false b h = h
 
 -- what follows with no line feed finishes no line
-pub finished-append_open : (xs ys : List ℕ) → has_feed ys ≡ false → finished (xs ++ ys) ≡ finished xs
-finished-append_open [] ys h = finished-open ys h
-finished-append_open (x ∷ xs) ys h =
-    rw (has_feed-append xs ys, or_false (has_feed xs) (has_feed ys) h, finished-append_open xs ys h) refl
+pub through_last_feed-append_open : (xs ys : List ℕ) → has_feed ys ≡ false → through_last_feed (xs ++ ys) ≡ through_last_feed xs
+through_last_feed-append_open [] ys h = through_last_feed-open ys h
+through_last_feed-append_open (x ∷ xs) ys h =
+    rw (has_feed-append xs ys, or_false (has_feed xs) (has_feed ys) h, through_last_feed-append_open xs ys h) refl
 
 -- what follows with a line feed finishes all before it
-pub finished-append_feed : (xs ys : List ℕ) → has_feed ys ≡ true → finished (xs ++ ys) ≡ xs ++ finished ys
-finished-append_feed [] ys h = refl
-finished-append_feed (x ∷ xs) ys h =
-    rw (has_feed-append xs ys, or_true (has_feed xs) (has_feed ys) h, or_true (nat_eq x 10) true refl, finished-append_feed xs ys h) refl
+pub through_last_feed-append_feed : (xs ys : List ℕ) → has_feed ys ≡ true → through_last_feed (xs ++ ys) ≡ xs ++ through_last_feed ys
+through_last_feed-append_feed [] ys h = refl
+through_last_feed-append_feed (x ∷ xs) ys h =
+    rw (has_feed-append xs ys, or_true (has_feed xs) (has_feed ys) h, or_true (nat_eq x 10) true refl, through_last_feed-append_feed xs ys h) refl
 
-finished-cons : (x : ℕ) (xs : List ℕ) → finished (x ∷ xs) ≡ x ∷ xs → (nat_eq x 10 || has_feed xs ≡ true) × (finished xs ≡ xs)
-finished-cons x xs = go (nat_eq x 10 || has_feed xs) where
-  go : (b : Bool) → cond b (x ∷ finished xs) [] ≡ x ∷ xs → (b ≡ true) × (finished xs ≡ xs)
+through_last_feed-cons : (x : ℕ) (xs : List ℕ) → through_last_feed (x ∷ xs) ≡ x ∷ xs → (nat_eq x 10 || has_feed xs ≡ true) × (through_last_feed xs ≡ xs)
+through_last_feed-cons x xs = go (nat_eq x 10 || has_feed xs) where
+  go : (b : Bool) → cond b (x ∷ through_last_feed xs) [] ≡ x ∷ xs → (b ≡ true) × (through_last_feed xs ≡ xs)
   go true e = (refl, cc)
   go false e = cc
 
@@ -73,10 +73,10 @@ starts_with_feed-append [] ys h = cc
 starts_with_feed-append (x ∷ xs) ys h = refl
 
 -- the lines of a text of finished lines, and those of what follows
-pub lines_of-append : (xs ys : List ℕ) → finished xs ≡ xs → lines_of (xs ++ ys) ≡ lines_of xs ++ lines_of ys
+pub lines_of-append : (xs ys : List ℕ) → through_last_feed xs ≡ xs → lines_of (xs ++ ys) ≡ lines_of xs ++ lines_of ys
 lines_of-append [] ys h = refl
 lines_of-append (x ∷ xs) ys h =
-    let parts = finished-cons x xs h in
+    let parts = through_last_feed-cons x xs h in
     go (nat_eq x 10) (lines_of-append xs ys parts.1) parts.0 where
       go : (b : Bool) → lines_of (xs ++ ys) ≡ lines_of xs ++ lines_of ys → b || has_feed xs ≡ true
           → cond b ([] ∷ lines_of (xs ++ ys)) (cond (nat_eq x 13 && starts_with_feed (xs ++ ys)) (lines_of (xs ++ ys)) (onto_first x (lines_of (xs ++ ys)))) ≡ cond b ([] ∷ lines_of xs) (cond (nat_eq x 13 && starts_with_feed xs) (lines_of xs) (onto_first x (lines_of xs))) ++ lines_of ys
@@ -92,9 +92,9 @@ and_false true = refl
 and_false false = refl
 
 -- finished texts make a finished text
-pub finished-append : (xs ys : List ℕ) → finished xs ≡ xs → finished ys ≡ ys → finished (xs ++ ys) ≡ xs ++ ys
-finished-append xs [] h e = finished-append_open xs [] refl ∙ (h ∙ sym (append-nil xs))
-finished-append xs (y ∷ ys) h e = finished-append_feed xs (y ∷ ys) ((finished-cons y ys e).0) ∙ ap (λ t. xs ++ t) e
+pub through_last_feed-append : (xs ys : List ℕ) → through_last_feed xs ≡ xs → through_last_feed ys ≡ ys → through_last_feed (xs ++ ys) ≡ xs ++ ys
+through_last_feed-append xs [] h e = through_last_feed-append_open xs [] refl ∙ (h ∙ sym (append-nil xs))
+through_last_feed-append xs (y ∷ ys) h e = through_last_feed-append_feed xs (y ∷ ys) ((through_last_feed-cons y ys e).0) ∙ ap (λ t. xs ++ t) e
 
 without_return-cons : (x y : ℕ) (ys : List ℕ) → without_return (x ∷ y ∷ ys) ≡ x ∷ without_return (y ∷ ys)
 without_return-cons x y ys = rw (and_false (nat_eq x 13)) refl

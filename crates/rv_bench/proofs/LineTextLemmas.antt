@@ -1,9 +1,9 @@
 -- The bytes of a line, read one by one, and the line that they are.
 use Rattle.std.proofs.Common.{◌≡◌, ◌≢◌, ℕ, ◌+◌, ◌<◌, ◌≤◌, Bool, true, false, List, [], ◌∷◌, ◌++◌, length, take, min, refl, sym, ◌∙◌, ap, arith, append_assoc, append-nil, add-one}
 use Rattle.std.proofs.lemmas.List.{take-append-le, take_all, take-take, length-take, length-append}
-use Rattle.rv_bench.specs.Lines.{has_feed, lines_of, finished, after_line, after_lines}
+use Rattle.rv_bench.specs.Lines.{has_feed, lines_of, through_last_feed, after_line, after_lines}
 use Rattle.rv_bench.specs.LineText.{ReadsText, TakesLine, ReadsLines, without_return}
-use Rattle.rv_bench.proofs.LineLemmas.{has_feed-append, eq_false, finished-append_feed, lines_of-line, lines_of-last, cut-kept, lines_of-append, after_line-feed, after_line-open, after_lines-more, finished-append, finished-append_open}
+use Rattle.rv_bench.proofs.LineLemmas.{has_feed-append, eq_false, through_last_feed-append_feed, lines_of-line, lines_of-last, cut-kept, lines_of-append, after_line-feed, after_line-open, after_lines-more, through_last_feed-append, through_last_feed-append_open}
 
 -- what is held is read already
 pub ReadsText-none : (held left : List ℕ) → length held ≤ 122 → has_feed held ≡ false → ReadsText (held ++ left) left held
@@ -38,7 +38,7 @@ TakesLine-feed unread left kept shown is_at_end reads front =
     let text = reads.text in
     let split : unread ≡ (text ++ 10 ∷ []) ++ left = reads.split ∙ sym (append_assoc text (10 ∷ []) left) in
     let is_line = lines_of-line text reads.unfinished in
-    let whole = finished-append_feed text (10 ∷ []) refl in record {
+    let whole = through_last_feed-append_feed text (10 ∷ []) refl in record {
       text = text ++ 10 ∷ [];
       line = without_return text;
       split = split;
@@ -90,17 +90,17 @@ ReadsLines-more unread left rest ends shown lines reads takes =
       text = reads.text ++ takes.text;
       split = reads.split ∙ (ap (λ t. reads.text ++ t) takes.split ∙ sym (append_assoc reads.text takes.text rest));
       are_lines = lines_of-append reads.text takes.text (reads.whole refl) ∙ (ap (λ t. t ++ lines_of takes.text) reads.are_lines ∙ ap (λ t. lines ++ t) takes.is_line);
-      whole = λ e. finished-append reads.text takes.text (reads.whole refl) (takes.whole e);
+      whole = λ e. through_last_feed-append reads.text takes.text (reads.whole refl) (takes.whole e);
       all = reads.all ∙ (ap (λ t. lines ++ t) takes.lines ∙ sym (append_assoc lines (line ∷ []) (lines_of rest)));
       rest = takes.rest ∙ (sym one ∙ ap (λ n. after_lines n unread) (sym (length-append lines (line ∷ []))));
     }
 
 -- the lines that were taken before an unfinished one are those of the finished text
-pub ReadsLines-finished : (unread left rest kept : List ℕ) (lines : List (List ℕ)) → ReadsLines unread left false lines → ReadsText left rest kept
-    → (text : List ℕ) × (unread ≡ text ++ rest) × (lines_of (finished text) ≡ lines)
-ReadsLines-finished unread left rest kept lines reads begun =
+pub ReadsLines-through_last_feed : (unread left rest kept : List ℕ) (lines : List (List ℕ)) → ReadsLines unread left false lines → ReadsText left rest kept
+    → (text : List ℕ) × (unread ≡ text ++ rest) × (lines_of (through_last_feed text) ≡ lines)
+ReadsLines-through_last_feed unread left rest kept lines reads begun =
     let text = reads.text ++ begun.text in
-    let done : finished text ≡ reads.text = finished-append_open reads.text begun.text begun.unfinished ∙ reads.whole refl in (
+    let done : through_last_feed text ≡ reads.text = through_last_feed-append_open reads.text begun.text begun.unfinished ∙ reads.whole refl in (
       text,
       reads.split ∙ (ap (λ t. reads.text ++ t) begun.split ∙ sym (append_assoc reads.text begun.text rest)),
       ap lines_of done ∙ reads.are_lines,

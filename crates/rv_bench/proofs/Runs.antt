@@ -1,5 +1,5 @@
 -- A run, line by line.
-use Rattle.std.proofs.Common.{◌≡◌, ℕ, Bool, false, List, [], ◌∷◌, ◌++◌, take, refl, sym, ◌∙◌, ap, subst, append_assoc, append-nil}
+use Rattle.std.proofs.Common.{◌≡◌, ℕ, Bool, false, List, [], ◌∷◌, ◌++◌, take, refl, sym, ◌∙◌, ap, subst, append_assoc, append-nil, lit≤}
 use Rattle.rv_bench.specs.Answer.{Answered, line_answer, replies, state_after}
 use Rattle.rv_bench.specs.Lines.{lines_of}
 use Rattle.rv_bench.specs.LineText.{ReadsText, TakesLine, ReadsLines}
@@ -66,21 +66,18 @@ AnswersLines-read start unread old now left new rest kept so_far begun = record 
   written = so_far.written ∙ ap (λ lines. old ++ replies start lines) (sym so_far.reads.are_lines);
 }
 
--- a beginning of the replies to lines is written
+-- the sink fails once the lines have their replies
 pub AnswersLines-written : (start : State) (unread old : List ℕ) (now : State) (left : List ℕ) (is_at_end : Bool) (new : List ℕ)
     → AnswersLines start unread old now left is_at_end new → StopsAtWrite start unread left old new
 AnswersLines-written start unread old now left is_at_end new so_far = record {
   text = so_far.reads.text;
+  answered = so_far.lines;
+  next = [];
+  one = lit≤ tt;
   split = so_far.reads.split;
-  lines = so_far.reads.all ∙ ap (λ lines. lines ++ lines_of left) (sym so_far.reads.are_lines);
-  written = (
-    [],
-    (
-      replies start so_far.lines,
-      so_far.written,
-      ap (replies start) so_far.reads.are_lines ∙ sym (append-nil (replies start so_far.lines)),
-    ),
-  );
+  are_lines = so_far.reads.are_lines ∙ sym (append-nil so_far.lines);
+  all = so_far.reads.all ∙ ap (λ lines. lines ++ lines_of left) (sym so_far.reads.are_lines);
+  written = ([], ([], so_far.written ∙ sym (append-nil (old ++ replies start so_far.lines)), refl));
 }
 
 -- the sink stops within the reply to one more line
@@ -91,20 +88,15 @@ unfolding AnswersLines-more
 AnswersLines-stopped start unread old now left mid after rest ends new shown reply so_far takes is (more, (front, wrote, said)) =
     let all = AnswersLines-more start unread old now left mid after rest ends (mid ++ reply) shown reply so_far takes is refl in
     let here = next-answer start unread old now left mid rest ends shown _ so_far takes is in
-    let before = replies start so_far.lines in record {
+    let said_next = append-nil (line_answer (state_after start so_far.lines) takes.line).reply ∙ (ap (λ (a : Answered). a.reply) here ∙ said) in record {
       text = all.reads.text;
+      answered = so_far.lines;
+      next = takes.line ∷ [];
+      one = lit≤ tt;
       split = all.reads.split;
-      lines = all.reads.all ∙ ap (λ lines. lines ++ lines_of rest) (sym all.reads.are_lines);
-      written = (
-        more,
-        (
-          before ++ front,
-          wrote ∙ (ap (λ t. t ++ front) so_far.written ∙ append_assoc old before front),
-          ap (replies start) all.reads.are_lines
-              ∙ (replies-more start so_far.lines takes.line
-              ∙ (ap (λ (a : Answered). before ++ a.reply) here ∙ (ap (λ t. before ++ t) said ∙ sym (append_assoc before front more)))),
-        ),
-      );
+      are_lines = all.reads.are_lines;
+      all = all.reads.all ∙ ap (λ lines. lines ++ lines_of rest) (sym all.reads.are_lines);
+      written = (more, (front, wrote ∙ ap (λ t. t ++ front) so_far.written, said_next));
     }
 
 -- at the end every line has its reply
@@ -114,17 +106,22 @@ AnswersLines-all start unread old now left is_at_end new so_far none =
     let every : lines_of unread ≡ so_far.lines = so_far.reads.all ∙ (ap (λ t. so_far.lines ++ lines_of t) none ∙ append-nil so_far.lines) in
     so_far.written ∙ ap (λ lines. old ++ replies start lines) (sym every)
 
--- what is written of the replies to the lines so far is a beginning of all replies
+-- what is written then is a beginning of all replies
 pub StopsAtWrite-front : (start : State) (unread left old new : List ℕ) → StopsAtWrite start unread left old new → WritesFront old new (replies start (lines_of unread))
 StopsAtWrite-front start unread left old new stops =
-    let part = stops.written in
-    let others = replies (state_after start (lines_of stops.text)) (lines_of left) in (
-      part.0 ++ others,
+    let more = stops.written.0 in
+    let front = stops.written.1.0 in
+    let before = replies start stops.answered in
+    let others = replies (state_after start (lines_of stops.text)) (lines_of left) in
+    let first : replies start (lines_of stops.text) ≡ before ++ (front ++ more) =
+    ap (replies start) stops.are_lines ∙ (replies-append start stops.answered stops.next ∙ ap (λ t. before ++ t) stops.written.1.2) in (
+      more ++ others,
       (
-        part.1.0,
-        part.1.1,
-        ap (replies start) stops.lines
-            ∙ (replies-append start (lines_of stops.text) (lines_of left) ∙ (ap (λ t. t ++ others) part.1.2 ∙ append_assoc part.1.0 part.0 others)),
+        before ++ front,
+        stops.written.1.1 ∙ append_assoc old before front,
+        ap (replies start) stops.all
+            ∙ (replies-append start (lines_of stops.text) (lines_of left)
+            ∙ (ap (λ t. t ++ others) (first ∙ sym (append_assoc before front more)) ∙ append_assoc (before ++ front) more others)),
       ),
     )
 

@@ -1,4 +1,4 @@
--- The answers to commands: the machine that one leaves, and the text of its reply.
+-- The answers to commands: the machine that one leaves, and the text of its reply. (This project's own commands.)
 use Rattle.std.specs.Prelude.{ℕ, List, [], ◌∷◌, ◌++◌, Result, Ok, Err}
 use Rattle.rv_bench.specs.Cases.{option_case}
 use Rattle.rv_bench.specs.Command.{parse_of}

@@ -1,4 +1,4 @@
--- The commands of this bench: how each is written, and what a line asks for.
+-- The commands of this bench: how each is written, and what a line asks for. (This project's own commands.)
 use Rattle.std.specs.Prelude.{ℕ, List, [], ◌∷◌, codes, find, Option, Some, None, Result, Ok, Err, option_and_then, option_map, nat_eq, if◌then◌else◌}
 use Rattle.std.specs.Option.{ok_or}
 use Rattle.std.specs.List.{starts_with}

@@ -1,4 +1,4 @@
--- Numbers in hexadecimal with leading zeros, in ASCII.
+-- Numbers in hexadecimal with leading zeros, in the digits of ASCII, ISO/IEC 646.
 use Rattle.std.specs.Prelude.{ℕ, zero, suc, ◌/◌, ◌%◌, List, [], ◌∷◌, ◌++◌}
 use Rattle.std.specs.Char.{digit_char}
 

@@ -1,5 +1,6 @@
 -- The hart at reset, and the small changes of its state.
--- RISC-V Unprivileged ISA 20191213, sections 2.1, 2.4 and 2.5; Privileged Architecture 20211203, sections 3.1.7, 3.1.15 and 3.1.16.
+-- RISC-V Unprivileged ISA 20191213, sections 2.1, 2.4 and 2.5; Privileged Architecture 20211203, sections 3.1.7 (mtvec),
+-- 3.1.15 (mcause), 3.1.16 (mtval) and 3.4 (reset; that all registers are 0 then is this project's choice).
 use Rattle.std.specs.Prelude.{ℕ, ◌+◌, ◌%◌, ◌^◌, ◌==◌, Bool, replicate, Result, Ok, Err, if◌then◌else◌}
 use Rattle.rv_bench.specs.HartState.{Hart}
 use Rattle.rv_bench.specs.Registers.{with_register}
@@ -29,7 +30,7 @@ with_result hart rd value = record hart { regs = with_register hart.regs rd valu
 abbrev pub misaligned : ℕ → Trap
 misaligned target = record { cause = InstructionAddressMisaligned; tval = target }
 
--- a fetch, a load or a store has a byte that is not there
+-- a fetch, a load or a store has a byte outside RAM
 abbrev pub access_fault : Cause → ℕ → Trap
 access_fault cause address = record { cause = cause; tval = address }
 

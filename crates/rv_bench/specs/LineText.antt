@@ -1,8 +1,8 @@
--- What reading the bytes of one line does.
+-- What reading the bytes of one line does. (This project's own streams.)
 use Rattle.std.specs.Prelude.{◌≡◌, ℕ, Bool, true, false, ◌&&◌, ◌==◌, List, [], ◌∷◌, ◌++◌, take, length, Result, Ok, Err, if◌then◌else◌}
 use Rattle.rv_bench.specs.declared.line.Stop.{Stop}
 use Rattle.rv_bench.specs.declared.line.Stop.TheVariants.{LineFeed, End}
-use Rattle.rv_bench.specs.Lines.{has_feed, lines_of, finished, after_line, after_lines}
+use Rattle.rv_bench.specs.Lines.{has_feed, lines_of, through_last_feed, after_line, after_lines}
 
 -- of the unread bytes a text with no line feed was read, up to those that are left, and its first 122 bytes are kept
 pub record ReadsText (unread left kept : List ℕ) : Type 0 where
@@ -18,7 +18,7 @@ pub record TakesLine (unread left : List ℕ) (is_at_end : Bool) (shown : List �
   pub line : List ℕ
   pub split : unread ≡ text ++ left
   pub is_line : lines_of text ≡ line ∷ []
-  pub whole : is_at_end ≡ false → finished text ≡ text
+  pub whole : is_at_end ≡ false → through_last_feed text ≡ text
   pub lines : lines_of unread ≡ line ∷ lines_of left
   pub rest : left ≡ after_line unread
   pub front : shown ≡ take 121 line
@@ -28,7 +28,7 @@ pub record ReadsLines (unread left : List ℕ) (is_at_end : Bool) (lines : List 
   pub text : List ℕ
   pub split : unread ≡ text ++ left
   pub are_lines : lines_of text ≡ lines
-  pub whole : is_at_end ≡ false → finished text ≡ text
+  pub whole : is_at_end ≡ false → through_last_feed text ≡ text
   pub all : lines_of unread ≡ lines ++ lines_of left
   pub rest : left ≡ after_lines (length lines) unread
 
@@ -43,6 +43,8 @@ abbrev pub stops_at_end : {E : Type 0} → Result Stop E → Bool
 stops_at_end (Ok LineFeed) = false
 stops_at_end (Ok End) = true
 stops_at_end (Err e) = false
+
+-- The rest is an aid of the proofs: a line is read byte by byte, and its carriage return is known once it has ended.
 
 abbrev pub is_empty : List ℕ → Bool
 is_empty [] = true

@@ -24,9 +24,9 @@ lines_of (b ∷ bs) =
     else (if (b == 13) && starts_with_feed bs then lines_of bs else onto_first b (lines_of bs))
 
 -- the front of the text up to its last line feed
-abbrev pub finished : List ℕ → List ℕ
-finished [] = []
-finished (b ∷ bs) = if (b == 10) || has_feed bs then b ∷ finished bs else []
+abbrev pub through_last_feed : List ℕ → List ℕ
+through_last_feed [] = []
+through_last_feed (b ∷ bs) = if (b == 10) || has_feed bs then b ∷ through_last_feed bs else []
 
 -- what follows the first line
 abbrev pub after_line : List ℕ → List ℕ

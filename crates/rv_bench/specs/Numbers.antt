@@ -1,4 +1,4 @@
--- Numbers that the operands of a command write, in ASCII digits.
+-- Numbers that the operands of a command write, in the digits of ASCII, ISO/IEC 646.
 use Rattle.std.specs.Prelude.{ℕ, Bool, ◌&&◌, List, length, drop, Option, Some, None, nat_lt, nat_le, codes, nat_eq, if◌then◌else◌}
 use Rattle.std.specs.List.{starts_with, list_all}
 use Rattle.std.specs.Char.{is_digit}

@@ -1,4 +1,4 @@
--- What the bench writes for an input: an image, the line `--`, and a script.
+-- What the bench writes for an input: an image, the line `--`, and a script. (This project's own format.)
 use Rattle.std.specs.Prelude.{ℕ, Bool, true, false, List, Result, Ok, Err}
 use Rattle.rv_bench.specs.Answer.{replies}
 use Rattle.rv_bench.specs.Cases.{result_case}

@@ -1,4 +1,4 @@
--- What a plan of an image says.
+-- What a plan of an image says: System V gABI, program loading, cut to one segment.
 use Rattle.std.specs.Prelude.{ℕ}
 
 -- the image's bytes, the RAM's bytes, and the address of the first instruction

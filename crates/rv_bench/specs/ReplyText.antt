@@ -1,4 +1,5 @@
--- The lines that answer commands: ASCII, each ended by a line feed; hexadecimal in lower case, with leading zeros.
+-- The lines that answer commands: ASCII, ISO/IEC 646, each ended by a line feed; hexadecimal in lower case, with leading
+-- zeros. (This project's own replies.)
 use Rattle.std.specs.Prelude.{ℕ, List, ◌++◌, Option, Some, None, codes, decimal}
 use Rattle.std.specs.List.{flat_map}
 use Rattle.rv_bench.specs.Causes.{cause_code}

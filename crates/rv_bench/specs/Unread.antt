@@ -1,4 +1,4 @@
--- What the lines of a source have still to give, and what they tell of its end.
+-- What the lines of a source have still to give, and what they tell of its end. (This project's own streams.)
 use Rattle.std.specs.Prelude.{◌≡◌, ℕ, true, false, List, ◌++◌, ◌+◌, ◌⊎◌, length}
 use Rattle.rv_bench.specs.declared.device.Source.{Ghosts}
 use Rattle.rv_bench.specs.declared.lines.Lines.{Lines}

@@ -1,4 +1,4 @@
--- Numbers in a range.
+-- Numbers in a range. (No standard's: a way of writing.)
 use Rattle.std.specs.Prelude.{ℕ, ◌&&◌, Option, Some, None, nat_le, if◌then◌else◌}
 
 -- the number, where it is in the range

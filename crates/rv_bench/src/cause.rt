@@ -5,7 +5,7 @@ ghost use Rattle.rv_bench.specs.Causes.{cause_code};
 
 /// Why an instruction traps (RISC-V Privileged Architecture 20211203, section 3.1.15).
 #[derive(Clone, Copy, Debug, PartialEq, Eq)]
-pub enum Cause {
+pub(crate) enum Cause {
     /// 0: the target of a jump or a taken branch is not a multiple of 4.
     InstructionAddressMisaligned = 0,
     /// 1: a byte of the instruction is outside RAM.
@@ -22,7 +22,7 @@ pub enum Cause {
 
 impl Cause {
     /// The code of the cause, as mcause has it.
-    pub fn code(self) -> u32
+    pub(crate) fn code(self) -> u32
         ensures { result ≡ cause_code self }
     {
         self as u32

@@ -10,14 +10,14 @@ use crate::words::{first_words, is_good_line};
 use rv_word::Reg;
 
 /// How many steps one command makes: 1 to 1000000.
-pub type StepCount = Within<1, 1_000_000>;
+pub(crate) type StepCount = Within<1, 1_000_000>;
 
 /// How many bytes one command shows: 1 to 64.
-pub type ByteCount = Within<1, 64>;
+pub(crate) type ByteCount = Within<1, 64>;
 
 /// What a line asks of the bench.
 #[derive(Clone, Copy, Debug, PartialEq, Eq)]
-pub enum Command {
+pub(crate) enum Command {
     /// Nothing: the line has no words, or its first word begins with `#`.
     Blank,
     /// `step N`: so many steps.
@@ -30,7 +30,7 @@ pub enum Command {
 
 /// What is wrong with a line: the first of these faults that it has.
 #[derive(Clone, Copy, Debug, PartialEq, Eq)]
-pub enum CommandFault {
+pub(crate) enum CommandFault {
     /// 1: the line has more than 120 bytes, or one that is neither a tab nor from 20 to 7E.
     BadLine,
     /// 2: the first word is no command.
@@ -41,7 +41,7 @@ pub enum CommandFault {
 
 impl CommandFault {
     /// The fault's number, 1 to 3.
-    pub fn number(self) -> u8
+    pub(crate) fn number(self) -> u8
         ensures { result ≡ number_of_fault self }
     {
         match self {
@@ -104,7 +104,7 @@ fn meaning(words: &[&[u8]]) -> Result<Command, CommandFault>
 /// `Command::Blank`. Otherwise an unknown first word is `UnknownCommand`, and operands that are not the
 /// command's are `BadOperand`. Only the first 121 bytes of the line matter.
 #[tactic(auto, unfolding(crate::specs::Command::parse_of))]
-pub fn parse(line: &[u8]) -> Result<Command, CommandFault>
+pub(crate) fn parse(line: &[u8]) -> Result<Command, CommandFault>
     ensures { result ≡ parse_of line.now }
 {
     if !is_good_line(line) {

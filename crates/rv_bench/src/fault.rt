@@ -6,7 +6,7 @@ use crate::elf_fault::ElfFault;
 use crate::ram_fault::RamFault;
 use thiserror::Error;
 
-/// Why a run ended early. What it displays is the line that the program prints for it.
+/// Why a run ended early. What it displays is the line that the program prints for it; for `Write` it prints nothing.
 #[derive(Clone, Copy, Debug, PartialEq, Eq, Error)]
 pub enum BenchFault {
     /// The image can not be loaded.

@@ -1,8 +1,8 @@
 //! One hart, in mode M and without control and status registers.
 
-ghost use Rattle.std.specs.Prelude.{◌≡◌, ℕ, ◌%◌, Ok, Err, MatchResult, OnErr, Bool};
+ghost use Rattle.std.specs.Prelude.{◌≡◌, ℕ, ◌%◌, Ok, Err, MatchResult, OnErr, Bool, ◌==◌};
 ghost use Rattle.rv_encoding.specs.declared.instr.Instr.{Instr};
-ghost use Rattle.rv_bench.specs.Hart.{illegal as illegal_of, misaligned as misaligned_of, machine_call as machine_call_of};
+ghost use Rattle.rv_bench.specs.Hart.{illegal as illegal_of, misaligned as misaligned_of, machine_call as machine_call_of, access_fault as access_fault_of};
 
 use crate::cause::Cause;
 use crate::regs::Regs;
@@ -32,6 +32,16 @@ pub(crate) const fn illegal(word: u32) -> Trap
     Trap {
         cause: Cause::IllegalInstruction,
         tval: word,
+    }
+}
+
+/// An access with a byte outside RAM, which shows its first address.
+pub(crate) const fn access_fault(cause: Cause, address: u32) -> Trap
+    ensures { result ≡ access_fault_of cause address }
+{
+    Trap {
+        cause,
+        tval: address,
     }
 }
 
@@ -137,10 +147,7 @@ impl Hart {
                 rs1,
                 rs2,
                 offset,
-            } => {
-                let taken = self.regs.get(rs1) == self.regs.get(rs2);
-                self.branch(taken, self.pc.wrapping_add(offset.word()))
-            }
+            } => self.branch_if_equal(rs1, rs2, offset.word()),
             Instr::Load {
                 kind: LoadKind::Lw,
                 rd,
@@ -220,15 +227,17 @@ impl Hart {
         Ok(())
     }
 
-    /// Branches where the branch is taken.
-    fn branch(&mut self, taken: bool, target: u32) -> Result<(), Trap>
-        ensures done { let gives = branched self.old taken target in
+    /// Branches by an offset from pc where two registers are equal.
+    fn branch_if_equal(&mut self, rs1: Reg, rs2: Reg, offset: u32) -> Result<(), Trap>
+        ensures done { let gives = branched self.old (register self.old.regs rs1 == register self.old.regs rs2) (sum_of self.old.pc offset) in
             MatchResult result (λ _. gives ≡ Ok self.new) (λ trap. gives ≡ Err trap) }
         ensures refused { OnErr result (self.new ≡ self.old) }
     {
+        let taken = self.regs.get(rs1) == self.regs.get(rs2);
         if !taken {
             return self.advance_pc();
         }
+        let target = self.pc.wrapping_add(offset);
         if target % 4 != 0 {
             return Err(misaligned(target));
         }

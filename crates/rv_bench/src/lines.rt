@@ -10,7 +10,7 @@ use arrayvec::ArrayVec;
 ///
 /// A line ends before a line feed; a carriage return right before that is dropped. What stands after the last line feed is a
 /// line if it is not empty.
-#[derive(Drop)]
+#[derive(Drop, Debug)]
 pub struct Lines<S: Source> {
     source: S,
     line: ArrayVec<u8, KEPT_MAX>,

@@ -4,7 +4,7 @@ ghost use Rattle.std.specs.Prelude.{◌≡◌, ◌%◌, ◌+◌, ◌≤◌, Ok, 
 ghost use Rattle.rv_bench.specs.Step.{attempted, executed, accessed, step, stepped, over};
 
 use crate::cause::Cause;
-use crate::hart::{Hart, illegal};
+use crate::hart::{Hart, access_fault, illegal};
 use crate::ram::Ram;
 use crate::request::Request;
 use crate::trap::Trap;
@@ -70,10 +70,7 @@ impl Machine {
         let pc = self.hart.pc();
         match self.ram.load(pc) {
             Some(word) => self.execute(word),
-            None => Err(Trap {
-                cause: Cause::InstructionAccessFault,
-                tval: pc,
-            }),
+            None => Err(access_fault(Cause::InstructionAccessFault, pc)),
         }
     }
 
@@ -101,17 +98,11 @@ impl Machine {
             Request::Nothing => self.hart.finish(instr, word, 0),
             Request::Load { address } => match self.ram.load(address) {
                 Some(loaded) => self.hart.finish(instr, word, loaded),
-                None => Err(Trap {
-                    cause: Cause::LoadAccessFault,
-                    tval: address,
-                }),
+                None => Err(access_fault(Cause::LoadAccessFault, address)),
             },
             Request::Store { address, value } => {
                 if !self.ram.store(address, value) {
-                    return Err(Trap {
-                        cause: Cause::StoreAccessFault,
-                        tval: address,
-                    });
+                    return Err(access_fault(Cause::StoreAccessFault, address));
                 }
                 self.hart.finish(instr, word, 0)
             }

@@ -1,12 +1,12 @@
 //! A source and a sink over memory that is lent to them. They take no memory of their own, and never fail.
-ghost use Rattle.std.specs.Prelude.{◌≡◌, ◌==◌, ◌&&◌, ◌++◌, ◌+◌, [], true, nat_lt, min, length, take};
-ghost use Rattle.rv_bench.specs.Device.{counted};
+ghost use Rattle.std.specs.Prelude.{◌≡◌, ◌==◌, ◌&&◌, ◌++◌, ◌+◌, ◌-◌, ◌^◌, ◌≤◌, [], true, nat_lt, min, length, take, is_err};
+ghost use Rattle.rv_bench.specs.Device.{moved_count, answers_none, counted};
 ghost use Rattle.rv_bench.specs.MemoryStreams.{rest_of, bytes_of, room_of};
 
 use crate::device::{DeviceFault, Sink, Source};
 
 /// A source that gives the bytes of a slice.
-#[derive(Drop)]
+#[derive(Drop, Debug)]
 pub struct MemorySource<'a> {
     rest: &'a [u8],
     end_count: u64,
@@ -56,7 +56,7 @@ impl<'a> Source for MemorySource<'a> {
 }
 
 /// A sink that fills a buffer from the front, and takes no byte once that is full.
-#[derive(Drop)]
+#[derive(Drop, Debug)]
 pub struct MemorySink<'a> {
     buffer: &'a mut [u8],
     taken_len: usize,
@@ -86,7 +86,7 @@ impl<'a> MemorySink<'a> {
     }
 
     /// Takes as much of the part as fits, and answers how many bytes: none of a part that has some is a refusal.
-    pub fn fill(&mut self, part: &[u8]) -> usize
+    pub(crate) fn fill(&mut self, part: &[u8]) -> usize
         ensures count { result ≡ min (length part.now) (room_of self.old) }
         ensures bytes { bytes_of self.new ≡ bytes_of self.old ++ take result part.now }
         ensures room { room_of self.new + result ≡ room_of self.old }
@@ -115,7 +115,14 @@ impl<'a> Sink for MemorySink<'a> {
 
     ghost failures = { λ _. 0 };
 
-    fn write_some(&mut self, part: &[u8]) -> Result<usize, DeviceFault> {
+    fn write_some(&mut self, part: &[u8]) -> Result<usize, DeviceFault>
+        ensures count { result ≡ Ok (min (length part.now) (room_of self.old)) }
+        ensures bound { moved_count result ≤ length part.now }
+        ensures bytes { bytes_of self.new ≡ bytes_of self.old ++ take (moved_count result) part.now }
+        ensures refusals { self.new.refused_parts ≡ counted (answers_none result (length part.now)) self.old.refused_parts }
+        ensures failures { 0 ≡ counted (is_err result) 0 }
+        ensures failing { 0 ≡ 2 ^ 64 - 1 → result ≡ Err record {} }
+    {
         Ok(self.fill(part))
     }
 

@@ -47,6 +47,7 @@ impl Plan {
         requires of_ram { length ram.old ≡ self.now.ram_size }
         ensures { ram.new ≡ write_bytes ram.old 0 image.now }
     {
+        // brings in that the image is no longer than the RAM
         let _ = &self.len;
         ram.put_image(image);
     }

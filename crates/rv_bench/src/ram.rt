@@ -13,7 +13,7 @@ pub(crate) const RAM_BASE: u32 = 0x8000_0000;
 
 /// The memory of the machine: its bytes from address 80000000 on. There are a multiple of 65536 of them,
 /// from 65536 to 16777216.
-#[derive(Drop)]
+#[derive(Drop, Debug)]
 pub struct Ram {
     bytes: Vec<u8>,
 }

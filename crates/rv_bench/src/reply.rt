@@ -11,7 +11,7 @@ use arrayvec::ArrayVec;
 use rv_word::Reg;
 
 /// The bytes that answer one command.
-pub type Reply = ArrayVec<u8, 2048>;
+pub(crate) type Reply = ArrayVec<u8, 2048>;
 
 /// Writes the trap of a run: its cause and value, or `-` where there was none.
 #[tactic(auto, unfolding(crate::specs::ReplyText::trap_text))]

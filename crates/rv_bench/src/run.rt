@@ -1,15 +1,16 @@
 //! From lines read to replies written.
 
-ghost use Rattle.std.specs.Prelude.{◌≡◌, ◌++◌, ◌⊎◌, ◌↔◌, [], true, false, IsTrue, OnOk, IfErr, IsOkAnd};
+ghost use Rattle.std.specs.Prelude.{◌≡◌, ◌++◌, ◌⊎◌, ◌↔◌, [], true, false, IsTrue, OnOk, IfErr, IsOk, IsOkAnd};
 ghost use Rattle.rv_bench.specs.Answer.{replies};
 ghost use Rattle.rv_bench.specs.Device.{HasRisen};
-ghost use Rattle.rv_bench.specs.Image.{after_image, LeavesLines, ReadsInImage};
+ghost use Rattle.rv_bench.specs.Image.{image_in, after_image, LeavesLines, ReadsInImage};
 ghost use Rattle.rv_bench.specs.Lines.{lines_of};
 ghost use Rattle.rv_bench.specs.Loaded.{started};
 ghost use Rattle.rv_bench.specs.Output.{bench_output, machine_in, output, is_start_fault, is_input_fault, is_device_fault};
 ghost use Rattle.rv_bench.specs.Ram.{is_ram_size};
 ghost use Rattle.rv_bench.specs.Run.{StopsAtRead, StopsAtWrite};
 ghost use Rattle.rv_bench.specs.Step.{over};
+ghost use Rattle.rv_bench.specs.Transfer.{WritesFront};
 ghost use Rattle.rv_bench.specs.Unread.{held, unread, HasEnded, TellsEnd};
 
 use crate::answer::answer_line;
@@ -36,6 +37,8 @@ fn run_lines<S: Source, W: Sink>(
     ensures written { IsTrue S.tells → IsTrue W.tells → OnOk result
         (W.taken sink.new ≡ W.taken sink.old ++ replies (over machine.old.ram machine.old.hart) (lines_of (unread lines.old))) }
     ensures used_up { IsTrue S.tells → OnOk result (unread lines.new ≡ []) }
+    ensures sound { OnOk result ((S.failures lines.new.source ≡ S.failures lines.old.source)
+        × (W.failures sink.new ≡ W.failures sink.old) × (W.refusals sink.new ≡ W.refusals sink.old)) }
 
     ensures faults { IfErr result (λ fault. IsTrue (is_device_fault fault)) }
     ensures read { result ≡ Err BenchFault.Read → HasRisen (S.failures lines.old.source) (S.failures lines.new.source) }
@@ -46,6 +49,8 @@ fn run_lines<S: Source, W: Sink>(
         StopsAtRead (over machine.old.ram machine.old.hart) (unread lines.old) (S.remaining lines.new.source) (held lines.new) (W.taken sink.old) (W.taken sink.new) }
     ensures after_write { result ≡ Err BenchFault.Write → IsTrue S.tells → IsTrue W.tells →
         StopsAtWrite (over machine.old.ram machine.old.hart) (unread lines.old) (unread lines.new) (W.taken sink.old) (W.taken sink.new) }
+    ensures front { result ≡ Err BenchFault.Write → IsTrue S.tells → IsTrue W.tells →
+        WritesFront (W.taken sink.old) (W.taken sink.new) (replies (over machine.old.ram machine.old.hart) (lines_of (unread lines.old))) }
 {
     let mut reply = Reply::new();
     while let Some(line) = lines.next_line().map_err(|_| BenchFault::Read)? {
@@ -80,6 +85,9 @@ pub fn run_bench<S: Source, W: Sink>(
     ensures written { IsTrue S.tells → IsTrue W.tells → OnOk result
         (IsOkAnd (bench_output setup.now.ram image.now (lines_of (unread lines.old))) (λ text. W.taken sink.new ≡ W.taken sink.old ++ text)) }
     ensures used_up { IsTrue S.tells → OnOk result (unread lines.new ≡ []) }
+    ensures at_end { OnOk result (lines.new.is_at_end ≡ true) }
+    ensures sound { OnOk result ((S.failures lines.new.source ≡ S.failures lines.old.source)
+        × (W.failures sink.new ≡ W.failures sink.old) × (W.refusals sink.new ≡ W.refusals sink.old)) }
 
     // A fault of the setup or the image is the one that they have, and then nothing was read or written.
     ensures ram_size { (result ≡ Err (BenchFault.Ram RamFault.BadSize)) ↔ (is_ram_size setup.now.ram ≡ false) }
@@ -97,6 +105,8 @@ pub fn run_bench<S: Source, W: Sink>(
         IsOkAnd (started image.now setup.now.ram) (λ state. StopsAtRead state (unread lines.old) (S.remaining lines.new.source) (held lines.new) (W.taken sink.old) (W.taken sink.new)) }
     ensures after_write { result ≡ Err BenchFault.Write → IsTrue S.tells → IsTrue W.tells →
         IsOkAnd (started image.now setup.now.ram) (λ state. StopsAtWrite state (unread lines.old) (unread lines.new) (W.taken sink.old) (W.taken sink.new)) }
+    ensures front { result ≡ Err BenchFault.Write → IsTrue S.tells → IsTrue W.tells →
+        IsOkAnd (bench_output setup.now.ram image.now (lines_of (unread lines.old))) (WritesFront (W.taken sink.old) (W.taken sink.new)) }
     ensures end { TellsEnd lines.old lines.new }
 {
     let mut machine = start(alloc, image, setup)?;
@@ -125,11 +135,17 @@ pub fn run_stream<S: Source, W: Sink>(
     ensures written { IsTrue S.tells → IsTrue W.tells → OnOk result
         (IsOkAnd (output setup.now.ram (unread lines.old)) (λ text. W.taken sink.new ≡ W.taken sink.old ++ text)) }
     ensures used_up { IsTrue S.tells → OnOk result (unread lines.new ≡ []) }
+    ensures at_end { OnOk result (lines.new.is_at_end ≡ true) }
+    ensures sound { OnOk result ((S.failures lines.new.source ≡ S.failures lines.old.source)
+        × (W.failures sink.new ≡ W.failures sink.old) × (W.refusals sink.new ≡ W.refusals sink.old)) }
 
     // A fault of the input is the one that it has; before the first reply nothing is written, whatever the refusal.
     ensures input { IsTrue S.tells → IfErr result (λ fault. IsTrue (is_input_fault fault) → output setup.now.ram (unread lines.old) ≡ Err fault) }
     ensures unwritten { IfErr result (λ fault. is_device_fault fault ≡ false → sink.new ≡ sink.old) }
     ensures ram_size { result ≡ Err (BenchFault.Ram RamFault.BadSize) → is_ram_size setup.now.ram ≡ false }
+    ensures ram_memory { result ≡ Err (BenchFault.Ram RamFault.NoMemory) →
+        (is_ram_size setup.now.ram ≡ true) × (IsTrue S.tells → IsOk (image_in (unread lines.old))) }
+    ensures after_image { IsTrue S.tells → IfErr result (λ fault. IsTrue (is_start_fault fault) → unread lines.new ≡ after_image (unread lines.old)) }
     ensures after_fault { IsTrue S.tells → IfErr result (λ fault. is_device_fault fault ≡ false → LeavesLines (unread lines.old) (unread lines.new)) }
 
     // Each fault of a device comes only where that device failed in this call.
@@ -138,13 +154,15 @@ pub fn run_stream<S: Source, W: Sink>(
         HasRisen (W.failures sink.old) (W.failures sink.new) ⊎ HasRisen (W.refusals sink.old) (W.refusals sink.new) }
 
     // What was written then, and what a later call goes on from.
-    ensures after_read { result ≡ Err BenchFault.Read → IsTrue S.tells → IsTrue W.tells →
+    ensures after_read { result ≡ Err BenchFault.Read → IsTrue S.tells →
         (ReadsInImage (unread lines.old) (S.remaining lines.new.source) (held lines.new) × (sink.new ≡ sink.old))
-        ⊎ IsOkAnd (machine_in setup.now.ram (unread lines.old)) (λ state.
-        StopsAtRead state (after_image (unread lines.old)) (S.remaining lines.new.source) (held lines.new) (W.taken sink.old) (W.taken sink.new)) }
+        ⊎ (IsTrue W.tells → IsOkAnd (machine_in setup.now.ram (unread lines.old)) (λ state.
+        StopsAtRead state (after_image (unread lines.old)) (S.remaining lines.new.source) (held lines.new) (W.taken sink.old) (W.taken sink.new))) }
     ensures after_write { result ≡ Err BenchFault.Write → IsTrue S.tells → IsTrue W.tells →
         IsOkAnd (machine_in setup.now.ram (unread lines.old)) (λ state.
         StopsAtWrite state (after_image (unread lines.old)) (unread lines.new) (W.taken sink.old) (W.taken sink.new)) }
+    ensures front { result ≡ Err BenchFault.Write → IsTrue S.tells → IsTrue W.tells →
+        IsOkAnd (output setup.now.ram (unread lines.old)) (WritesFront (W.taken sink.old) (W.taken sink.new)) }
 {
     let image = read_image(alloc, lines)?;
     run_bench(alloc, image.as_slice(), setup, lines, sink)

@@ -9,7 +9,7 @@ use std::io::{Read, Write};
 const READ_LEN: usize = 4096;
 
 /// A source that reads ahead from a reader. After 2^64 - 1 calls that gave a byte it ends.
-#[derive(Drop)]
+#[derive(Drop, Debug)]
 pub struct StandardSource<R: Read> {
     reader: R,
     buffer: [u8; READ_LEN],
@@ -88,7 +88,7 @@ impl<R: Read> Source for StandardSource<R> {
 }
 
 /// A sink that passes each part on to a writer at once, so that a reply is seen as soon as it is made. It holds nothing.
-#[derive(Drop)]
+#[derive(Drop, Debug)]
 pub struct StandardSink<W: Write> {
     writer: W,
     failed_calls: u64,

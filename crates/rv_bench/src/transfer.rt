@@ -10,7 +10,7 @@ use crate::device::{DeviceFault, Sink, Source};
 /// # Errors
 ///
 /// Where the source failed in this call.
-pub fn read_byte<S: Source>(source: &mut S) -> Result<Option<u8>, DeviceFault>
+pub(crate) fn read_byte<S: Source>(source: &mut S) -> Result<Option<u8>, DeviceFault>
     ensures bytes { IsTrue S.tells → S.remaining source.old ≡ byte_given result ++ S.remaining source.new }
     ensures end { IsTrue S.tells → IfOk result (λ byte. IfNone byte (S.remaining source.new ≡ [])) }
     ensures ends { S.ends source.new ≡ counted (answers_end result) (S.ends source.old) }
@@ -31,7 +31,7 @@ pub fn read_byte<S: Source>(source: &mut S) -> Result<Option<u8>, DeviceFault>
 ///
 /// Only where the sink failed in this call, or took no byte of a part that was not empty. A beginning of the text is
 /// written then.
-pub fn write_all<W: Sink>(sink: &mut W, text: &[u8]) -> Result<(), DeviceFault>
+pub(crate) fn write_all<W: Sink>(sink: &mut W, text: &[u8]) -> Result<(), DeviceFault>
     ensures written { OnOk result (IsTrue W.tells → W.taken sink.new ≡ W.taken sink.old ++ text.now) }
     ensures front { IsTrue W.tells → WritesFront (W.taken sink.old) (W.taken sink.new) text.now }
     ensures ok { OnOk result ((W.failures sink.new ≡ W.failures sink.old) × (W.refusals sink.new ≡ W.refusals sink.old)) }

@@ -7,7 +7,7 @@ use std::marker::Model;
 
 /// A number from `LOW` to `HIGH`.
 #[derive(Clone, Copy, Debug, PartialEq, Eq)]
-pub struct Within<const LOW: u32, const HIGH: u32> {
+pub(crate) struct Within<const LOW: u32, const HIGH: u32> {
     value: u32,
 }
 
@@ -23,7 +23,7 @@ impl<const LOW: u32, const HIGH: u32> Model for Within<LOW, HIGH> {
 
 impl<const LOW: u32, const HIGH: u32> Within<LOW, HIGH> {
     /// The number, where it is in the range.
-    pub fn new(value: u32) -> Option<Self>
+    pub(crate) fn new(value: u32) -> Option<Self>
         ensures { result ≡ within LOW HIGH value }
     {
         if LOW <= value && value <= HIGH {
@@ -34,7 +34,7 @@ impl<const LOW: u32, const HIGH: u32> Within<LOW, HIGH> {
     }
 
     /// The number.
-    pub fn get(self) -> u32
+    pub(crate) fn get(self) -> u32
         ensures value { result ≡ self.entry }
         ensures low { LOW ≤ result }
         ensures high { result ≤ HIGH }

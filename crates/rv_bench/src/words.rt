@@ -8,7 +8,7 @@ use arrayvec::ArrayVec;
 /// How many bytes a line may have, without its ending.
 pub(crate) const MAX_LINE: usize = 120;
 
-/// How many words are read of a line: one more than any command has.
+/// How many words are read of a line: more than any command has.
 pub(crate) const MOST_WORDS: usize = 6;
 
 /// Whether a byte separates words: a space or a tab.

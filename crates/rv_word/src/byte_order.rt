@@ -5,7 +5,6 @@ ghost use Rattle.std.specs.Int.{w32, to_le_bytes, from_le_bytes};
 ghost use Rattle.rv_word.specs.ByteOrder.{word_of_bytes, byte_of};
 
 /// The word that four bytes spell, the lowest first.
-
 pub const fn le_word(bytes: &[u8; 4]) -> u32
     ensures value { result ≡ word_of_bytes bytes.now }
     ensures as_bytes { (k : ℕ) → k < 4 → slice_index bytes.now k ≡ byte_of result k }

@@ -5,15 +5,15 @@
 #![tactic(auto)]
 
 use rv_bench::{BenchFault, Lines, Setup, StandardSink, StandardSource, run_stream};
+use std::env::{Env, FillError};
 use std::process::ExitCode;
-use std::{env, io};
 
 /// The status of a command line that is refused.
 const REFUSED: u8 = 2;
 
-/// Whether the program was given a word besides its name.
-fn is_given_words(rt: &HostRuntime) -> io::Result<bool> {
-    Ok(env::args(rt)?.nth(1).is_some())
+/// Whether the program was given a word besides its name, whatever its bytes.
+fn is_given_words(rt: &HostRuntime) -> bool {
+    !matches!(rt.arg(1, &mut [0]), Err(FillError::NotPresent))
 }
 
 /// Runs the bench over the standard streams.
@@ -24,20 +24,17 @@ fn run(rt: &HostRuntime) -> Result<(), BenchFault> {
 }
 
 fn main(rt: HostRuntime) -> ExitCode {
-    let fault = match is_given_words(&rt) {
-        Ok(false) => match run(&rt) {
-            Ok(()) => return ExitCode::SUCCESS,
-            Err(fault) => fault,
-        },
-        Ok(true) => {
-            // a line that cannot be written changes nothing about the status
-            let _ = println!(rt; "rvbench: command line");
-            return ExitCode::from(REFUSED);
-        }
-        Err(_) => BenchFault::NoMemory,
-    };
-    if fault != BenchFault::Write {
-        let _ = println!(rt; "{fault}");
+    if is_given_words(&rt) {
+        // a line that cannot be written changes nothing about the status
+        let _ = println!(rt; "rvbench: command line");
+        return ExitCode::from(REFUSED);
     }
-    ExitCode::FAILURE
+    match run(&rt) {
+        Ok(()) => ExitCode::SUCCESS,
+        Err(BenchFault::Write) => ExitCode::FAILURE,
+        Err(fault) => {
+            let _ = println!(rt; "{fault}");
+            ExitCode::FAILURE
+        }
+    }
 }

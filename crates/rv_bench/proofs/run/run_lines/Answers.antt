@@ -5,7 +5,7 @@ use Rattle.rv_bench.specs.Step.{over}
 use Rattle.rv_bench.specs.Transfer.{WritesFront}
 use Rattle.rv_bench.proofs.Ends.{TellsEnd-none, TellsEnd-more}
 use Rattle.rv_bench.proofs.Mapped.{ok_mapped, err_mapped}
-use Rattle.rv_bench.proofs.Runs.{AnswersLines-none, AnswersLines-more, AnswersLines-read, AnswersLines-stopped, going_on}
+use Rattle.rv_bench.proofs.Runs.{AnswersLines-none, AnswersLines-more, AnswersLines-read, AnswersLines-stopped, StopsAtWrite-front, going_on}
 use Rattle.rv_bench.proofs.run.run_lines.Goals as goal
 
 pub loop-line-init : goal.loop-line-init
@@ -49,3 +49,7 @@ returns-in_err-map_err-clause-after_write g c = λ _ source_tells sink_tells.
     (IfOk-at_ok _ found (c.next_line.ensures.line source_tells))
     (ap (line_answer (over c.loop-line.machine.ram c.loop-line.machine.hart)) (sym c.as_slice.ensures.value) ∙ c.answer_line.ensures)
     (subst (λ t. WritesFront (g.W.Sink.taken c.loop-line.sink) (g.W.Sink.taken c.write_all.new.sink) t) c.as_slice-in-Some.ensures.value (c.write_all.ensures.front sink_tells))
+
+pub returns-in_err-map_err-clause-front : goal.returns-in_err-map_err-clause-front
+returns-in_err-map_err-clause-front g c = λ is source_tells sink_tells.
+    StopsAtWrite-front _ _ _ _ _ (returns-in_err-map_err-clause-after_write g c is source_tells sink_tells)
