@@ -18,5 +18,6 @@ mod Starts
 mod StepExamples
 mod Steps
 mod Stores
+mod WordLaws
 mod WordLengths
 mod Writing
