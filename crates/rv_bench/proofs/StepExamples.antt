@@ -2,6 +2,7 @@
 use Rattle.std.proofs.Common.{◌≡◌, [], ◌∷◌, Some, None, refl, lit<}
 use Rattle.std.specs.Prelude.{codes, replicate}
 use Rattle.rv_encoding.specs.Decoding.{decoded}
+use Rattle.rv_word.specs.Logic.{by_bits}
 use Rattle.rv_bench.specs.Hart.{at_reset}
 use Rattle.rv_bench.specs.Instructions.{request, finished}
 use Rattle.rv_bench.specs.Ram.{ram_base, read}
@@ -13,7 +14,7 @@ step-addi : step (over (0x93 ∷ 0x00 ∷ 0xf0 ∷ 0xff ∷ []) (at_reset ram_ba
   state = over (0x93 ∷ 0x00 ∷ 0xf0 ∷ 0xff ∷ []) (record { regs = 0 ∷ 0xffffffff ∷ replicate 30 0; pc = 0x80000004 });
   trap = None;
 }
-unfolding step attempted executed accessed request finished decoded read
+unfolding step attempted executed accessed request finished decoded by_bits read
 step-addi = refl
 
 -- jal x1, 2: rd is not written
@@ -21,7 +22,7 @@ step-jal_misaligned : step (over (0xef ∷ 0x00 ∷ 0x20 ∷ 0x00 ∷ []) (at_re
   state = over (0xef ∷ 0x00 ∷ 0x20 ∷ 0x00 ∷ []) (record { regs = replicate 32 0; pc = 0 });
   trap = Some (record { cause = InstructionAddressMisaligned; tval = 0x80000002 });
 }
-unfolding step attempted executed accessed request finished decoded read
+unfolding step attempted executed accessed request finished decoded by_bits read
 step-jal_misaligned = refl
 
 -- no row spells the word 0
@@ -29,5 +30,5 @@ step-illegal : step (over (0 ∷ 0 ∷ 0 ∷ 0 ∷ []) (at_reset ram_base)) ≡ 
   state = over (0 ∷ 0 ∷ 0 ∷ 0 ∷ []) (record { regs = replicate 32 0; pc = 0 });
   trap = Some (record { cause = IllegalInstruction; tval = 0 });
 }
-unfolding step attempted executed accessed request finished decoded read
+unfolding step attempted executed accessed request finished decoded by_bits read
 step-illegal = refl

@@ -1,19 +1,20 @@
 -- What is found by the listing is the one instruction that a word spells.
-use Rattle.std.proofs.Common.{◌≡◌, ◌≢◌, ℕ, zero, suc, ◌+◌, ◌<◌, ◌^◌, Bool, true, false, cond, List, [], ◌∷◌, Some, None, refl, sym, ap, subst, ◌∙◌, arith, bit_and}
+use Rattle.std.proofs.Common.{◌≡◌, ◌≢◌, ℕ, zero, suc, ◌+◌, ◌<◌, ◌^◌, Bool, true, false, cond, List, [], ◌∷◌, Some, None, refl, sym, ap, subst, ◌∙◌, arith}
 use Rattle.std.specs.Prelude.{◌==◌, map, find, slice_get, Option, IfSome, All}
 use Rattle.std.specs.Option.{option_map}
 use Rattle.std.proofs.lemmas.Option.{slice_get-get_or}
+use Rattle.rv_word.specs.Logic.{and_by_bits}
 use Rattle.rv_encoding.specs.Rows.{row_of, word_of, fields_at, Spells}
 use Rattle.rv_encoding.specs.Listing.{Listed, listing, listed_of}
 use Rattle.rv_encoding.specs.Decoding.{samples, with_fields_of, decoded}
 use Rattle.rv_encoding.proofs.ReadingLemmas.{only_read}
 use Rattle.rv_encoding.proofs.MaskLemmas.{spelled_by_mask, masked_word_of}
-use Rattle.rv_encoding.proofs.ListingLemmas.{listing-samples, is_listed}
+use Rattle.rv_encoding.proofs.ListingLemmas.{listing_of_samples, is_listed}
 use Rattle.rv_encoding.specs.declared.instr.Instr.{Instr}
 
 -- a word fits the row of an instruction
 abbrev fits_row : ℕ → Instr → Bool
-fits_row word sample = bit_and word (row_of sample).mask == (row_of sample).match
+fits_row word sample = and_by_bits word (row_of sample).mask == (row_of sample).match
 
 test-true : (a b : ℕ) → a ≡ b → (a == b) ≡ true
 test-true a b same = grind arith
@@ -23,13 +24,13 @@ true-test a b is = grind arith
 
 -- ---- a row that is found fits, and where none is found none fits
 
-found_first : (word : ℕ) (x s : Instr) (rest : Option Instr) (b : Bool) → b ≡ fits_row word x → cond b (Some x) rest ≡ Some s → (rest ≡ Some s → bit_and word (row_of s).mask ≡ (row_of s).match) → bit_and word (row_of s).mask ≡ (row_of s).match
+found_first : (word : ℕ) (x s : Instr) (rest : Option Instr) (b : Bool) → b ≡ fits_row word x → cond b (Some x) rest ≡ Some s → (rest ≡ Some s → and_by_bits word (row_of s).mask ≡ (row_of s).match) → and_by_bits word (row_of s).mask ≡ (row_of s).match
 found_first word x s rest true is found later =
     let same : x ≡ s = cc in
-    subst (λ (i : Instr). bit_and word (row_of i).mask ≡ (row_of i).match) same (true-test (bit_and word (row_of x).mask) (row_of x).match (sym is))
+    subst (λ (i : Instr). and_by_bits word (row_of i).mask ≡ (row_of i).match) same (true-test (and_by_bits word (row_of x).mask) (row_of x).match (sym is))
 found_first word x s rest false is found later = later found
 
-found_fits : (word : ℕ) (xs : List Instr) (s : Instr) → find (fits_row word) xs ≡ Some s → bit_and word (row_of s).mask ≡ (row_of s).match
+found_fits : (word : ℕ) (xs : List Instr) (s : Instr) → find (fits_row word) xs ≡ Some s → and_by_bits word (row_of s).mask ≡ (row_of s).match
 found_fits word [] s found = cc
 found_fits word (x ∷ xs) s found = found_first word x s (find (fits_row word) xs) (fits_row word x) refl found (found_fits word xs s)
 
@@ -37,12 +38,12 @@ not_found : (b : Bool) (x : Instr) (rest : Option Instr) → cond b (Some x) res
 not_found true x rest none = cc
 not_found false x rest none = (refl, none)
 
-none_fit : (word : ℕ) (xs : List Instr) → find (fits_row word) xs ≡ None → (place : ℕ) (row : Listed) → slice_get (map listed_of xs) place ≡ Some row → bit_and word row.mask ≢ row.match
+none_fit : (word : ℕ) (xs : List Instr) → find (fits_row word) xs ≡ None → (place : ℕ) (row : Listed) → slice_get (map listed_of xs) place ≡ Some row → and_by_bits word row.mask ≢ row.match
 none_fit word [] none place row is same = cc
 none_fit word (x ∷ xs) none zero row is same =
     let row_is : row ≡ listed_of x = cc in
-    let fits = subst (λ (r : Listed). bit_and word r.mask ≡ r.match) row_is same in
-    let tested = test-true (bit_and word (row_of x).mask) (row_of x).match fits in
+    let fits = subst (λ (r : Listed). and_by_bits word r.mask ≡ r.match) row_is same in
+    let tested = test-true (and_by_bits word (row_of x).mask) (row_of x).match fits in
     let missed = (not_found (fits_row word x) x (find (fits_row word) xs) none).0 in
     cc
 none_fit word (x ∷ xs) none (suc place) row is same =
@@ -55,15 +56,15 @@ unfolding word_of
 word_of_parts i match fields match_is fields_are = sym (ap (λ n. n + fields) match_is ∙ ap (λ n. (row_of i).match + n) fields_are)
 
 -- no row of the listing fits where none of the samples does
-unlisted : (word : ℕ) → find (fits_row word) samples ≡ None → (place : ℕ) (row : Listed) → slice_get listing place ≡ Some row → bit_and word row.mask ≢ row.match
+unlisted : (word : ℕ) → find (fits_row word) samples ≡ None → (place : ℕ) (row : Listed) → slice_get listing place ≡ Some row → and_by_bits word row.mask ≢ row.match
 unlisted word none place row is =
-    none_fit word samples none place row (ap (λ (rows : List Listed). slice_get rows place) (sym listing-samples) ∙ is)
+    none_fit word samples none place row (ap (λ (rows : List Listed). slice_get rows place) (sym listing_of_samples) ∙ is)
 
 unfound : (word : ℕ) (result : Option Instr) → word < 2 ^ 32 → IfSome result (Spells word) → find (fits_row word) samples ≡ None → result ≡ None
 unfound word None fits found none = refl
 unfound word (Some i) fits found none =
     let below : word_of i < 2 ^ 32 = omega (arith, found.1) in
-    let masked = subst (λ (w : ℕ). bit_and w (row_of i).mask ≡ (row_of i).match) found.1 (masked_word_of i found.0 below) in
+    let masked = subst (λ (w : ℕ). and_by_bits w (row_of i).mask ≡ (row_of i).match) found.1 (masked_word_of i found.0 below) in
     absurd (unlisted word none (is_listed i).0 (listed_of i) (is_listed i).1 masked)
 
 -- what is spelled by the word, and alone is, is what the listing gives
@@ -86,7 +87,7 @@ decoded_spelled word i fits spells =
     sym (decoded_is word (Some i) fits spells (λ other spells_other. ap Some (sym (only_spelled word i other spells spells_other))))
 
 -- where nothing is decoded, no row of the listing fits
-pub none_listed : (word : ℕ) → decoded word ≡ None → All (λ row. bit_and word row.mask ≢ row.match) listing
+pub none_listed : (word : ℕ) → decoded word ≡ None → All (λ row. and_by_bits word row.mask ≢ row.match) listing
 unfolding decoded
 none_listed word none place d inside =
     unlisted word (no_row (find (fits_row word) samples) none) place _ (slice_get-get_or listing place d inside)

@@ -4,3 +4,4 @@ pub mod ReadingLemmas
 pub mod MaskLemmas
 pub mod ListingLemmas
 pub mod DecodingLemmas
+mod DecodedExamples

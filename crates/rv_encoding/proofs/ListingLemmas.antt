@@ -13,9 +13,9 @@ use Rattle.rv_encoding.specs.declared.kind.CsrKind.TheVariants.{Write, Set, Clea
 use Rattle.rv_encoding.specs.declared.instr.Instr.{Instr}
 use Rattle.rv_encoding.specs.declared.instr.Instr.TheVariants.{Lui, Auipc, Jal, Jalr, Branch, Load, Store, OpImm, ShiftImm, Op, Fence, Csr, CsrImm, Ecall, Ebreak, Sret, Mret, Wfi, SfenceVma}
 
-pub listing-samples : listing ≡ map listed_of samples
+pub listing_of_samples : listing ≡ map listed_of samples
 unfolding listing
-listing-samples = refl
+listing_of_samples = refl
 
 pub is_listed : (i : Instr) → IsListed i
 unfolding listing

@@ -1,6 +1,8 @@
 -- A word is spelled by a row exactly where it equals the row's match under the row's mask.
 use Rattle.std.proofs.Common.{◌≡◌, ℕ, ◌+◌, ◌*◌, ◌/◌, ◌%◌, ◌^◌, ◌<◌, sym, ap, ◌∙◌, arith, refl, bit_and}
 use Rattle.std.proofs.lemmas.Nat.{and_mask, and_block, div-add-mod'}
+use Rattle.rv_word.specs.Logic.{and_by_bits}
+use Rattle.rv_word.proofs.LogicLemmas.{bit_and_is}
 use Rattle.rv_encoding.specs.Codes.{branch_funct3, load_funct3, store_funct3, op_imm_funct3, shift_codes, op_codes, csr_funct3, csr_imm_funct3}
 use Rattle.rv_encoding.specs.Rows.{row_of, IsInstr, word_of, Spells}
 use Rattle.rv_encoding.specs.Decoding.{with_fields_of}
@@ -43,106 +45,120 @@ mask_word word fits = and_mask word 32 ∙ omega arith
 
 -- ---- a word that equals the match under the mask is spelled, with the fields that it has
 
-pub spelled_by_mask : (i : Instr) (word : ℕ) → word < 2 ^ 32 → bit_and word (row_of i).mask ≡ (row_of i).match → Spells word (with_fields_of word i)
+spelled_by_and : (i : Instr) (word : ℕ) → word < 2 ^ 32 → bit_and word (row_of i).mask ≡ (row_of i).match → Spells word (with_fields_of word i)
 unfolding word_of
-spelled_by_mask (Lui rd imm) word fits masked =
+spelled_by_and (Lui rd imm) word fits masked =
     let code = sym (and_mask word 7) ∙ masked in
     (grind arith, omega (arith, code))
-spelled_by_mask (Auipc rd imm) word fits masked =
+spelled_by_and (Auipc rd imm) word fits masked =
     let code = sym (and_mask word 7) ∙ masked in
     (grind arith, omega (arith, code))
-spelled_by_mask (Jal rd offset) word fits masked =
+spelled_by_and (Jal rd offset) word fits masked =
     let code = sym (and_mask word 7) ∙ masked in
     (grind arith, omega (arith, code))
-spelled_by_mask (Jalr rd rs1 offset) word fits masked =
+spelled_by_and (Jalr rd rs1 offset) word fits masked =
     let code = sym (mask_i word) ∙ masked in
     (grind arith, omega (arith, code))
-spelled_by_mask (Branch kind rs1 rs2 offset) word fits masked =
+spelled_by_and (Branch kind rs1 rs2 offset) word fits masked =
     let funct3 : branch_funct3 kind < 8 = branch_funct3-lt kind in
     let code = sym (mask_i word) ∙ masked in
     (grind arith, omega (arith, code))
-spelled_by_mask (Load kind rd rs1 offset) word fits masked =
+spelled_by_and (Load kind rd rs1 offset) word fits masked =
     let funct3 : load_funct3 kind < 8 = load_funct3-lt kind in
     let code = sym (mask_i word) ∙ masked in
     (grind arith, omega (arith, code))
-spelled_by_mask (Store kind rs1 rs2 offset) word fits masked =
+spelled_by_and (Store kind rs1 rs2 offset) word fits masked =
     let funct3 : store_funct3 kind < 8 = store_funct3-lt kind in
     let code = sym (mask_i word) ∙ masked in
     (grind arith, omega (arith, code))
-spelled_by_mask (OpImm kind rd rs1 imm) word fits masked =
+spelled_by_and (OpImm kind rd rs1 imm) word fits masked =
     let funct3 : op_imm_funct3 kind < 8 = op_imm_funct3-lt kind in
     let code = sym (mask_i word) ∙ masked in
     (grind arith, omega (arith, code))
-spelled_by_mask (ShiftImm kind rd rs1 shamt) word fits masked =
+spelled_by_and (ShiftImm kind rd rs1 shamt) word fits masked =
     let codes : ((shift_codes kind).0 < 8) × ((shift_codes kind).1 < 128) = shift_codes-lt kind in
     let code = sym (mask_r word fits) ∙ masked in
     (grind arith, omega (arith, code))
-spelled_by_mask (Op kind rd rs1 rs2) word fits masked =
+spelled_by_and (Op kind rd rs1 rs2) word fits masked =
     let codes : ((op_codes kind).0 < 8) × ((op_codes kind).1 < 128) = op_codes-lt kind in
     let code = sym (mask_r word fits) ∙ masked in
     (grind arith, omega (arith, code))
-spelled_by_mask (Fence fm pred succ rd rs1) word fits masked =
+spelled_by_and (Fence fm pred succ rd rs1) word fits masked =
     let code = sym (mask_i word) ∙ masked in
     (grind arith, omega (arith, code))
-spelled_by_mask (Csr kind rd rs1 csr) word fits masked =
+spelled_by_and (Csr kind rd rs1 csr) word fits masked =
     let funct3 : csr_funct3 kind < 8 = csr_funct3-lt kind in
     let code = sym (mask_i word) ∙ masked in
     (grind arith, omega (arith, code))
-spelled_by_mask (CsrImm kind rd uimm csr) word fits masked =
+spelled_by_and (CsrImm kind rd uimm csr) word fits masked =
     let funct3 : csr_imm_funct3 kind < 8 = csr_imm_funct3-lt kind in
     let code = sym (mask_i word) ∙ masked in
     (grind arith, omega (arith, code))
-spelled_by_mask Ecall word fits masked = (tt, sym (sym (mask_word word fits) ∙ masked))
-spelled_by_mask Ebreak word fits masked = (tt, sym (sym (mask_word word fits) ∙ masked))
-spelled_by_mask Sret word fits masked = (tt, sym (sym (mask_word word fits) ∙ masked))
-spelled_by_mask Mret word fits masked = (tt, sym (sym (mask_word word fits) ∙ masked))
-spelled_by_mask Wfi word fits masked = (tt, sym (sym (mask_word word fits) ∙ masked))
-spelled_by_mask (SfenceVma rs1 rs2) word fits masked =
+spelled_by_and Ecall word fits masked = (tt, sym (sym (mask_word word fits) ∙ masked))
+spelled_by_and Ebreak word fits masked = (tt, sym (sym (mask_word word fits) ∙ masked))
+spelled_by_and Sret word fits masked = (tt, sym (sym (mask_word word fits) ∙ masked))
+spelled_by_and Mret word fits masked = (tt, sym (sym (mask_word word fits) ∙ masked))
+spelled_by_and Wfi word fits masked = (tt, sym (sym (mask_word word fits) ∙ masked))
+spelled_by_and (SfenceVma rs1 rs2) word fits masked =
     let code = sym (mask_sfence_vma word fits) ∙ masked in
     (grind arith, omega (arith, code))
 
 -- ---- the word of an instruction equals the match under the mask
 
-pub masked_word_of : (i : Instr) → IsInstr i → word_of i < 2 ^ 32 → bit_and (word_of i) (row_of i).mask ≡ (row_of i).match
+word_of_and : (i : Instr) → IsInstr i → word_of i < 2 ^ 32 → bit_and (word_of i) (row_of i).mask ≡ (row_of i).match
 unfolding word_of
-masked_word_of (Lui rd imm) valid fits =
+word_of_and (Lui rd imm) valid fits =
     and_mask (word_of (Lui rd imm)) 7 ∙ omega arith
-masked_word_of (Auipc rd imm) valid fits =
+word_of_and (Auipc rd imm) valid fits =
     and_mask (word_of (Auipc rd imm)) 7 ∙ omega arith
-masked_word_of (Jal rd offset) valid fits =
+word_of_and (Jal rd offset) valid fits =
     and_mask (word_of (Jal rd offset)) 7 ∙ omega arith
-masked_word_of (Jalr rd rs1 offset) valid fits =
+word_of_and (Jalr rd rs1 offset) valid fits =
     mask_i (word_of (Jalr rd rs1 offset)) ∙ omega arith
-masked_word_of (Branch kind rs1 rs2 offset) valid fits =
+word_of_and (Branch kind rs1 rs2 offset) valid fits =
     let funct3 : branch_funct3 kind < 8 = branch_funct3-lt kind in
     mask_i (word_of (Branch kind rs1 rs2 offset)) ∙ omega arith
-masked_word_of (Load kind rd rs1 offset) valid fits =
+word_of_and (Load kind rd rs1 offset) valid fits =
     let funct3 : load_funct3 kind < 8 = load_funct3-lt kind in
     mask_i (word_of (Load kind rd rs1 offset)) ∙ omega arith
-masked_word_of (Store kind rs1 rs2 offset) valid fits =
+word_of_and (Store kind rs1 rs2 offset) valid fits =
     let funct3 : store_funct3 kind < 8 = store_funct3-lt kind in
     mask_i (word_of (Store kind rs1 rs2 offset)) ∙ omega arith
-masked_word_of (OpImm kind rd rs1 imm) valid fits =
+word_of_and (OpImm kind rd rs1 imm) valid fits =
     let funct3 : op_imm_funct3 kind < 8 = op_imm_funct3-lt kind in
     mask_i (word_of (OpImm kind rd rs1 imm)) ∙ omega arith
-masked_word_of (ShiftImm kind rd rs1 shamt) valid fits =
+word_of_and (ShiftImm kind rd rs1 shamt) valid fits =
     let codes : ((shift_codes kind).0 < 8) × ((shift_codes kind).1 < 128) = shift_codes-lt kind in
     mask_r (word_of (ShiftImm kind rd rs1 shamt)) fits ∙ omega arith
-masked_word_of (Op kind rd rs1 rs2) valid fits =
+word_of_and (Op kind rd rs1 rs2) valid fits =
     let codes : ((op_codes kind).0 < 8) × ((op_codes kind).1 < 128) = op_codes-lt kind in
     mask_r (word_of (Op kind rd rs1 rs2)) fits ∙ omega arith
-masked_word_of (Fence fm pred succ rd rs1) valid fits =
+word_of_and (Fence fm pred succ rd rs1) valid fits =
     mask_i (word_of (Fence fm pred succ rd rs1)) ∙ omega arith
-masked_word_of (Csr kind rd rs1 csr) valid fits =
+word_of_and (Csr kind rd rs1 csr) valid fits =
     let funct3 : csr_funct3 kind < 8 = csr_funct3-lt kind in
     mask_i (word_of (Csr kind rd rs1 csr)) ∙ omega arith
-masked_word_of (CsrImm kind rd uimm csr) valid fits =
+word_of_and (CsrImm kind rd uimm csr) valid fits =
     let funct3 : csr_imm_funct3 kind < 8 = csr_imm_funct3-lt kind in
     mask_i (word_of (CsrImm kind rd uimm csr)) ∙ omega arith
-masked_word_of Ecall valid fits = refl
-masked_word_of Ebreak valid fits = refl
-masked_word_of Sret valid fits = refl
-masked_word_of Mret valid fits = refl
-masked_word_of Wfi valid fits = refl
-masked_word_of (SfenceVma rs1 rs2) valid fits =
+word_of_and Ecall valid fits = refl
+word_of_and Ebreak valid fits = refl
+word_of_and Sret valid fits = refl
+word_of_and Mret valid fits = refl
+word_of_and Wfi valid fits = refl
+word_of_and (SfenceVma rs1 rs2) valid fits =
     mask_sfence_vma (word_of (SfenceVma rs1 rs2)) fits ∙ omega arith
+
+-- ---- the same of the mask bit by bit
+
+mask-lt : (i : Instr) → (row_of i).mask < 2 ^ 32
+mask-lt i = grind arith
+
+and_mask_is : (i : Instr) (word : ℕ) → word < 2 ^ 32 → bit_and word (row_of i).mask ≡ and_by_bits word (row_of i).mask
+and_mask_is i word fits = bit_and_is word (row_of i).mask fits (mask-lt i)
+
+pub spelled_by_mask : (i : Instr) (word : ℕ) → word < 2 ^ 32 → and_by_bits word (row_of i).mask ≡ (row_of i).match → Spells word (with_fields_of word i)
+spelled_by_mask i word fits masked = spelled_by_and i word fits (and_mask_is i word fits ∙ masked)
+
+pub masked_word_of : (i : Instr) → IsInstr i → word_of i < 2 ^ 32 → and_by_bits (word_of i) (row_of i).mask ≡ (row_of i).match
+masked_word_of i valid fits = sym (and_mask_is i (word_of i) fits) ∙ word_of_and i valid fits

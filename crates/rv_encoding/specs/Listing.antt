@@ -1,6 +1,6 @@
 -- The 58 instructions by name, mask and match, in the order of RISC-V Unprivileged ISA 20191213, chapter 24 (RV32I,
--- Zicsr, RV32M), and of the instruction set listings of Privileged Architecture 20211203. This is the table to hold
--- beside the manuals; it is proved to be the rows of `Rows`, no more and no fewer.
+-- Zicsr, RV32M), and of Privileged Architecture 20211203, chapter "RISC-V Privileged Instruction Set Listings". This is
+-- the table to hold beside the manuals; `decode` ensures that it is the rows of `Rows`, no more and no fewer.
 use Rattle.std.specs.Prelude.{◌≡◌, ℕ, List, [], ◌∷◌, codes, slice_get, Some}
 use Rattle.rv_encoding.specs.Rows.{row_of}
 use Rattle.rv_encoding.specs.declared.kind.BranchKind.{BranchKind}

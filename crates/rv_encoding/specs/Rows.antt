@@ -1,6 +1,6 @@
 -- The rows of the instruction listings: RISC-V Unprivileged ISA 20191213, sections 2.2 and 2.3 and chapter 24, and
--- Privileged Architecture 20211203, its instruction set listings. What the words of each row share, the fields of
--- each at their places, and so the word that spells an instruction.
+-- Privileged Architecture 20211203, chapter "RISC-V Privileged Instruction Set Listings". What the words of each row
+-- share, the fields of each at their places, and so the word that spells an instruction.
 use Rattle.std.specs.Prelude.{◌≡◌, ℕ, ◌+◌, ◌*◌, ◌/◌, ◌^◌, ◌<◌, List, [], ◌∷◌, sum_by}
 use Rattle.rv_encoding.specs.Places.{Places, rd_at, rs1_at, rs2_at, i_immediate_at, s_immediate_at, b_immediate_at, j_immediate_at, u_immediate_at, shamt_at, fm_at, pred_at, succ_at, csr_at, uimm_at, placed}
 use Rattle.rv_encoding.specs.Ranges.{IsUpperImmediate, IsBranchOffset, IsJumpOffset}

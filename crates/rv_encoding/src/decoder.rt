@@ -3,12 +3,13 @@
 mod kinds;
 mod word_fields;
 
-ghost use Rattle.std.specs.Prelude.{◌≡◌, ◌≢◌, ◌*◌, ◌^◌, IfSome, IfNone, All, bit_and};
+ghost use Rattle.std.specs.Prelude.{◌≡◌, ◌≢◌, ◌*◌, ◌^◌, IfSome, IfNone, All, map};
 ghost use Rattle.rv_word.specs.BitFields.{bits as bits_of};
+ghost use Rattle.rv_word.specs.Logic.{and_by_bits};
 ghost use Rattle.rv_encoding.specs.Codes.{csr_kind as csr_kind_of, csr_imm_kind as csr_imm_kind_of};
 ghost use Rattle.rv_encoding.specs.Rows.{Spells};
-ghost use Rattle.rv_encoding.specs.Listing.{listing};
-ghost use Rattle.rv_encoding.specs.Decoding.{decoded};
+ghost use Rattle.rv_encoding.specs.Listing.{listing, listed_of};
+ghost use Rattle.rv_encoding.specs.Decoding.{samples, decoded};
 ghost use Rattle.rv_encoding.specs.declared.instr.Instr.{Instr};
 
 use crate::instr::Instr;
@@ -22,7 +23,7 @@ use word_fields::{
 };
 
 /// The instruction that a word spells: `None` exactly where no row of the listing spells it.
-#[tactic(auto, using(crate::proofs::DecodingLemmas::decoded_is, crate::proofs::DecodingLemmas::none_listed))]
+#[tactic(auto, using(crate::proofs::DecodingLemmas::decoded_is, crate::proofs::DecodingLemmas::none_listed, crate::proofs::ListingLemmas::listing_of_samples))]
 pub fn decode(word: u32) -> Option<Instr>
     ensures value { result ≡ decoded word }
     // What is decoded is spelled by the word.
@@ -30,7 +31,9 @@ pub fn decode(word: u32) -> Option<Instr>
     // Whatever the word spells is decoded, so it spells one instruction at most.
     ensures only { (instr : Instr) → Spells word instr → result ≡ Some instr }
     // Where nothing is decoded, the word is no row's match under its mask.
-    ensures none { IfNone result (All (λ row. bit_and word row.mask ≢ row.match) listing) }
+    ensures none { IfNone result (All (λ row. and_by_bits word row.mask ≢ row.match) listing) }
+    // The listing is the rows of the instructions, no more and no fewer.
+    ensures table { listing ≡ map listed_of samples }
 {
     read(word)
 }

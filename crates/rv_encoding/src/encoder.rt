@@ -3,7 +3,8 @@
 mod codes;
 mod places;
 
-ghost use Rattle.std.specs.Prelude.{◌≡◌, ◌+◌, ◌*◌, ◌^◌, ◌<◌, bit_and, Some};
+ghost use Rattle.std.specs.Prelude.{◌≡◌, ◌+◌, ◌*◌, ◌%◌, ◌^◌, ◌<◌, Some};
+ghost use Rattle.rv_word.specs.Logic.{and_by_bits};
 ghost use Rattle.rv_encoding.specs.Rows.{IsInstr, Spells, row_of, word_of, fields_at};
 ghost use Rattle.rv_encoding.specs.Listing.{IsListed};
 ghost use Rattle.rv_encoding.specs.Decoding.{decoded};
@@ -28,7 +29,7 @@ pub const fn encode(instr: &Instr) -> u32
     ensures round_trip { decoded result ≡ Some instr.now }
     // The instruction's row is one of the listing, and the word is the row's match under its mask.
     ensures listed { IsListed instr.now }
-    ensures masked { bit_and result (row_of instr.now).mask ≡ (row_of instr.now).match }
+    ensures masked { and_by_bits result (row_of instr.now).mask ≡ (row_of instr.now).match }
 {
     match_of(instr) + fields_of(instr)
 }
@@ -74,13 +75,13 @@ const fn fields_of(instr: &Instr) -> u32
     match *instr {
         Instr::Lui { rd, imm } | Instr::Auipc { rd, imm } => at_rd(rd) + at_u(imm),
         Instr::Jal { rd, offset } => at_rd(rd) + at_j(offset),
-        Instr::Jalr { rd, rs1, offset } => at_rd(rd) + at_rs1(rs1) + at_i(offset),
         Instr::Branch {
             rs1,
             rs2,
             offset,
             ..
         } => at_rs1(rs1) + at_rs2(rs2) + at_b(offset),
+        Instr::Jalr { rd, rs1, offset } => at_rd(rd) + at_rs1(rs1) + at_i(offset),
         Instr::Load {
             rd,
             rs1,
@@ -103,9 +104,20 @@ const fn fields_of(instr: &Instr) -> u32
             rd,
             rs1,
         } => { at_fm(fm) + at_pred(pred) + at_succ(succ) + at_rd(rd) + at_rs1(rs1) }
+        _ => system_fields_of(instr),
+    }
+}
+
+/// The fields of an instruction of opcode 1110011, each at its places.
+const fn system_fields_of(instr: &Instr) -> u32
+    requires { (row_of instr.now).match % 2 ^ 7 ≡ 0b1110011 }
+    ensures value { result ≡ fields_at (row_of instr.now).fields }
+    ensures in_range { IsInstr instr.now }
+{
+    match *instr {
         Instr::Csr { rd, rs1, csr, .. } => at_rd(rd) + at_rs1(rs1) + at_csr(csr),
         Instr::CsrImm { rd, uimm, csr, .. } => at_rd(rd) + at_uimm(uimm) + at_csr(csr),
-        Instr::Ecall | Instr::Ebreak | Instr::Sret | Instr::Mret | Instr::Wfi => 0,
         Instr::SfenceVma { rs1, rs2 } => at_rs1(rs1) + at_rs2(rs2),
+        _ => 0,
     }
 }
