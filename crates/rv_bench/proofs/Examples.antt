@@ -1,22 +1,21 @@
 -- Lines and images that can be followed by hand.
 use Rattle.std.proofs.Common.{◌≡◌, [], ◌∷◌, codes, Ok, Err, refl}
-use Rattle.hex.proofs.OnLiterals.{hex_on_literals}
 use Rattle.rv_bench.specs.declared.fault.BenchFault.TheVariants.{Hex}
 use Rattle.rv_bench.specs.Words.{is_text, words_of}
 use Rattle.rv_bench.specs.Lines.{lines_of}
-use Rattle.rv_bench.specs.Image.{line_word, image_in, after_image}
+use Rattle.rv_bench.specs.Image.{line_word, bytes_of_digits, image_in, after_image}
 
 lines_of-example : lines_of (codes "a\r\n\nb\rc\nd\r") ≡ codes "a" ∷ [] ∷ codes "b\rc" ∷ codes "d\r" ∷ []
 lines_of-example = refl
 
 image_in-example : image_in (codes "93 \r\n\n00F0ff\n--\nstep 1\n") ≡ Ok (147 ∷ 0 ∷ 240 ∷ 255 ∷ [])
-unfolding line_word words_of is_text hex_on_literals
+unfolding line_word words_of is_text bytes_of_digits
 image_in-example = refl
 
 after_image-example : after_image (codes "93 \r\n\n00F0ff\n--\nstep 1\n") ≡ codes "step 1\n"
-unfolding line_word words_of is_text hex_on_literals
+unfolding line_word words_of is_text bytes_of_digits
 after_image-example = refl
 
 image_in-faulty_example : image_in (codes "93\n0\n") ≡ Err Hex
-unfolding line_word words_of is_text hex_on_literals
+unfolding line_word words_of is_text bytes_of_digits
 image_in-faulty_example = refl

@@ -1,5 +1,5 @@
 -- The image of lines that are read one by one.
-use Rattle.std.proofs.Common.{◌≡◌, ℕ, ◌+◌, ◌<◌, ◌≤◌, ltb, Bool, true, false, not, cond, ◌&&◌, List, [], ◌∷◌, ◌++◌, length, take, Ok, Err, Option, Some, None, codes, refl, sym, ◌∙◌, ap, subst, arith, append-nil, add-one}
+use Rattle.std.proofs.Common.{◌≡◌, ℕ, ◌+◌, ◌<◌, ◌≤◌, ltb, Bool, true, false, not, cond, ◌&&◌, List, [], ◌∷◌, ◌++◌, length, take, IsTrue, Result, IfErr, Ok, Err, Option, Some, None, codes, refl, sym, ◌∙◌, ap, subst, arith, append-nil, add-one}
 use Rattle.std.proofs.lemmas.Grind.{flat_map-append}
 use Rattle.std.proofs.lemmas.Bool.Decides.{nat_tests}
 use Rattle.std.proofs.lemmas.List.{length-append}
@@ -8,13 +8,12 @@ use Rattle.std.proofs.lemmas.List.Sums.{take_while-cons}
 use Rattle.std.specs.List.{list_all, take_while}
 use Rattle.std.specs.Option.{IsSomeAnd, is_some, unwrap_or, option_and_then}
 use Rattle.std.specs.Str.{bytes_eq}
-use Rattle.std.specs.Result.{result_ok}
-use Rattle.hex.specs.Hex.{decode_of}
-use Rattle.rv_bench.specs.declared.fault.BenchFault.TheVariants.{Hex, TooLong}
+use Rattle.rv_bench.specs.declared.fault.BenchFault.{BenchFault}
+use Rattle.rv_bench.specs.declared.fault.BenchFault.TheVariants.{Image, Ram, Read, Write, Hex, TooLong, NoMemory}
 use Rattle.rv_bench.specs.Lines.{lines_of, after_line, after_lines}
 use Rattle.rv_bench.specs.LineText.{ReadsText, TakesLine, ReadsLines}
 use Rattle.rv_bench.specs.Words.{words_of}
-use Rattle.rv_bench.specs.Image.{only_word, line_word, is_dashes, is_marker, line_bytes, is_image_line, bytes_of_lines, image_of, image_lines, image_in, after_image, LeavesLines, ReadsInImage}
+use Rattle.rv_bench.specs.Image.{only_word, line_word, bytes_of_digits, is_dashes, is_marker, line_bytes, is_image_line, bytes_of_lines, image_of, image_lines, image_in, after_image, is_text_fault, LeavesLines, ReadsInImage, ReadsUnmarked, ReadsFrontOfImage, StopsAtFault}
 use Rattle.rv_bench.proofs.CutLines.{if_good-take}
 use Rattle.rv_bench.proofs.LineLemmas.{after_lines-more}
 use Rattle.rv_bench.proofs.LineTextLemmas.{ReadsLines-none, ReadsLines-more}
@@ -89,6 +88,10 @@ image_of-faulty lines others line sound few faulty =
 bytes_of_lines-append : (xs ys : List (List ℕ)) → bytes_of_lines (xs ++ ys) ≡ bytes_of_lines xs ++ bytes_of_lines ys
 bytes_of_lines-append xs ys = flat_map-append (λ line. unwrap_or (line_bytes line) []) xs ys
 
+bytes_of_lines-push : (lines : List (List ℕ)) (line bytes : List ℕ) → line_bytes line ≡ Some bytes → bytes_of_lines (lines ++ line ∷ []) ≡ bytes_of_lines lines ++ bytes
+bytes_of_lines-push lines line bytes spells =
+    bytes_of_lines-append lines (line ∷ []) ∙ (ap (λ o. bytes_of_lines lines ++ (unwrap_or o [] ++ [])) spells ∙ ap (λ t. bytes_of_lines lines ++ t) (append-nil bytes))
+
 -- too many bytes before it decide first
 image_of-many : (lines others : List (List ℕ)) (line bytes : List ℕ) → list_all is_image_line lines ≡ true → line_bytes line ≡ Some bytes → 33554432 < length (bytes_of_lines lines) + length bytes → image_of (lines ++ line ∷ others) ≡ Err TooLong
 image_of-many lines others line bytes sound is many =
@@ -119,6 +122,11 @@ lines_with : (unread left rest : List ℕ) (ends : Bool) (image shown : List ℕ
     → lines_of unread ≡ so_far.lines ++ takes.line ∷ lines_of rest
 lines_with unread left rest ends image shown so_far takes = so_far.reads.all ∙ ap (λ t. so_far.lines ++ t) takes.lines
 
+image_lines_with : (unread left rest : List ℕ) (ends : Bool) (image shown : List ℕ) → (so_far : SpellsImage unread left false image) → (takes : TakesLine left rest ends shown) → is_marker takes.line ≡ false
+    → image_lines (lines_of unread) ≡ so_far.lines ++ takes.line ∷ image_lines (lines_of rest)
+image_lines_with unread left rest ends image shown so_far takes other =
+    ap image_lines (lines_with unread left rest ends image shown so_far takes) ∙ image_lines-other so_far.lines (lines_of rest) takes.line so_far.unmarked other
+
 some_and : (found : Option (List ℕ)) (P : List ℕ → Type 0) → IsSomeAnd found P → (bytes : List ℕ) × (found ≡ Some bytes) × P bytes
 some_and None P h = absurd h
 some_and (Some bytes) P h = (bytes, refl, h)
@@ -144,51 +152,98 @@ SpellsImage-leaves unread left rest ends image shown so_far takes =
 
 -- a line that is no marker and has bytes adds them
 pub SpellsImage-more : (unread left rest : List ℕ) (ends : Bool) (image shown word new : List ℕ) → SpellsImage unread left false image → TakesLine left rest ends shown
-    → line_word shown ≡ Some word → bytes_eq word (codes "--") ≡ false → IsSomeAnd (result_ok (decode_of word)) (λ bytes. new ≡ image ++ bytes) → SpellsImage unread rest ends new
+    → line_word shown ≡ Some word → bytes_eq word (codes "--") ≡ false → IsSomeAnd (bytes_of_digits word) (λ bytes. new ≡ image ++ bytes) → SpellsImage unread rest ends new
 SpellsImage-more unread left rest ends image shown word new so_far takes is other gives =
-    let (bytes, decodes, grown) = some_and (result_ok (decode_of word)) (λ bytes. new ≡ image ++ bytes) gives in
+    let (bytes, writes, grown) = some_and (bytes_of_digits word) (λ bytes. new ≡ image ++ bytes) gives in
     let line = takes.line in
     let has = TakesLine-word left rest ends shown (Some word) takes is in
     let unmarked : is_marker line ≡ false = ap is_dashes has ∙ other in
-    let spells : line_bytes line ≡ Some bytes = ap (option_and_then (λ w. result_ok (decode_of w))) has ∙ decodes in
+    let spells : line_bytes line ≡ Some bytes = ap (option_and_then bytes_of_digits) has ∙ writes in
     let passes : is_image_line line ≡ true = ap is_some spells in record {
       lines = so_far.lines ++ line ∷ [];
       reads = ReadsLines-more unread left rest ends shown so_far.lines so_far.reads takes;
       unmarked = list_all-push (λ l. not (is_marker l)) so_far.lines line so_far.unmarked (ap not unmarked);
       sound = list_all-push is_image_line so_far.lines line so_far.sound passes;
-      spelled = grown ∙ (ap (λ t. t ++ bytes) so_far.spelled ∙ sym (bytes_of_lines-append so_far.lines (line ∷ []) ∙ ap (λ o. bytes_of_lines so_far.lines ++ (unwrap_or o [] ++ [])) spells ∙ ap (λ t. bytes_of_lines so_far.lines ++ t) (append-nil bytes)));
+      spelled = grown ∙ (ap (λ t. t ++ bytes) so_far.spelled ∙ sym (bytes_of_lines-push so_far.lines line bytes spells));
+    }
+
+-- a line more that is no marker was read
+SpellsImage-unmarked : (unread left rest : List ℕ) (ends : Bool) (image shown : List ℕ) → (so_far : SpellsImage unread left false image) → (takes : TakesLine left rest ends shown)
+    → is_marker takes.line ≡ false → ReadsUnmarked unread rest (so_far.lines ++ takes.line ∷ [])
+SpellsImage-unmarked unread left rest ends image shown so_far takes other =
+    let reads = ReadsLines-more unread left rest ends shown so_far.lines so_far.reads takes in record {
+      all = reads.all;
+      rest = reads.rest;
+      unmarked = image_lines-other so_far.lines [] takes.line so_far.unmarked other;
+    }
+
+-- memory for the bytes of one line more was refused
+pub SpellsImage-refused : (unread left rest : List ℕ) (ends : Bool) (image shown word : List ℕ) → SpellsImage unread left false image → TakesLine left rest ends shown
+    → line_word shown ≡ Some word → bytes_eq word (codes "--") ≡ false → IsSomeAnd (bytes_of_digits word) (λ bytes. length image + length bytes ≤ 33554432) → ReadsFrontOfImage unread rest
+SpellsImage-refused unread left rest ends image shown word so_far takes is other gives =
+    let (bytes, writes, few) = some_and (bytes_of_digits word) (λ bytes. length image + length bytes ≤ 33554432) gives in
+    let line = takes.line in
+    let has = TakesLine-word left rest ends shown (Some word) takes is in
+    let spells : line_bytes line ≡ Some bytes = ap (option_and_then bytes_of_digits) has ∙ writes in
+    let sound = list_all-push is_image_line so_far.lines line so_far.sound (ap is_some spells) in
+    let all = bytes_of_lines-push so_far.lines line bytes spells in
+    let short : length (bytes_of_lines (so_far.lines ++ line ∷ [])) ≤ 33554432 = omega (arith, few, ap length all, length-append (bytes_of_lines so_far.lines) bytes, ap length so_far.spelled) in record {
+      lines = so_far.lines ++ line ∷ [];
+      some = omega (arith, length-append so_far.lines (line ∷ []));
+      reads = SpellsImage-unmarked unread left rest ends image shown so_far takes (ap is_dashes has ∙ other);
+      image = image_of-sound (so_far.lines ++ line ∷ []) sound short;
     }
 
 -- a line that is no marker and has no bytes is the first faulty one
 pub SpellsImage-faulty : (unread left rest : List ℕ) (ends : Bool) (image shown : List ℕ) → SpellsImage unread left false image → (takes : TakesLine left rest ends shown) → length image ≤ 33554432
-    → is_marker takes.line ≡ false → line_bytes takes.line ≡ None → image_in unread ≡ Err Hex
-SpellsImage-faulty unread left rest ends image shown so_far takes few unmarked faulty =
-    let others = image_lines (lines_of rest) in
-    ap (λ ls. image_of (image_lines ls)) (lines_with unread left rest ends image shown so_far takes)
-    ∙ (ap image_of (image_lines-other so_far.lines (lines_of rest) takes.line so_far.unmarked unmarked)
-    ∙ image_of-faulty so_far.lines others takes.line so_far.sound (omega (arith, few, ap length so_far.spelled)) (ap is_some faulty))
+    → is_marker takes.line ≡ false → line_bytes takes.line ≡ None → (image_in unread ≡ Err Hex) × StopsAtFault unread rest Hex
+SpellsImage-faulty unread left rest ends image shown so_far takes few other none =
+    let short : length (bytes_of_lines so_far.lines) ≤ 33554432 = omega (arith, few, ap length so_far.spelled) in
+    let faulty : is_image_line takes.line ≡ false = ap is_some none in (
+      ap image_of (image_lines_with unread left rest ends image shown so_far takes other)
+          ∙ image_of-faulty so_far.lines (image_lines (lines_of rest)) takes.line so_far.sound short faulty,
+      record {
+        sound = so_far.lines;
+        line = takes.line;
+        reads = SpellsImage-unmarked unread left rest ends image shown so_far takes other;
+        image = image_of-sound so_far.lines so_far.sound short;
+        fails = image_of-faulty so_far.lines [] takes.line so_far.sound short faulty;
+      },
+    )
 
 pub SpellsImage-no_word : (unread left rest : List ℕ) (ends : Bool) (image shown : List ℕ) → SpellsImage unread left false image → TakesLine left rest ends shown → length image ≤ 33554432
-    → line_word shown ≡ None → image_in unread ≡ Err Hex
+    → line_word shown ≡ None → (image_in unread ≡ Err Hex) × StopsAtFault unread rest Hex
 SpellsImage-no_word unread left rest ends image shown so_far takes few is =
     let has = TakesLine-word left rest ends shown None takes is in
-    SpellsImage-faulty unread left rest ends image shown so_far takes few (ap is_dashes has) (ap (option_and_then (λ w. result_ok (decode_of w))) has)
+    SpellsImage-faulty unread left rest ends image shown so_far takes few (ap is_dashes has) (ap (option_and_then bytes_of_digits) has)
 
 pub SpellsImage-no_digits : (unread left rest : List ℕ) (ends : Bool) (image shown word : List ℕ) → SpellsImage unread left false image → TakesLine left rest ends shown → length image ≤ 33554432
-    → line_word shown ≡ Some word → bytes_eq word (codes "--") ≡ false → result_ok (decode_of word) ≡ None → image_in unread ≡ Err Hex
-SpellsImage-no_digits unread left rest ends image shown word so_far takes few is other decodes =
+    → line_word shown ≡ Some word → bytes_eq word (codes "--") ≡ false → bytes_of_digits word ≡ None → (image_in unread ≡ Err Hex) × StopsAtFault unread rest Hex
+SpellsImage-no_digits unread left rest ends image shown word so_far takes few is other none =
     let has = TakesLine-word left rest ends shown (Some word) takes is in
-    SpellsImage-faulty unread left rest ends image shown so_far takes few (ap is_dashes has ∙ other) (ap (option_and_then (λ w. result_ok (decode_of w))) has ∙ decodes)
+    SpellsImage-faulty unread left rest ends image shown so_far takes few (ap is_dashes has ∙ other) (ap (option_and_then bytes_of_digits) has ∙ none)
 
 -- a line whose bytes are too many decides
-pub SpellsImage-many : (unread left rest : List ℕ) (ends : Bool) (image shown word : List ℕ) → SpellsImage unread left false image → TakesLine left rest ends shown
-    → line_word shown ≡ Some word → bytes_eq word (codes "--") ≡ false → IsSomeAnd (result_ok (decode_of word)) (λ bytes. 33554432 < length image + length bytes) → image_in unread ≡ Err TooLong
-SpellsImage-many unread left rest ends image shown word so_far takes is other gives =
-    let (bytes, decodes, many) = some_and (result_ok (decode_of word)) (λ bytes. 33554432 < length image + length bytes) gives in
+pub SpellsImage-many : (unread left rest : List ℕ) (ends : Bool) (image shown word : List ℕ) → SpellsImage unread left false image → TakesLine left rest ends shown → length image ≤ 33554432
+    → line_word shown ≡ Some word → bytes_eq word (codes "--") ≡ false → IsSomeAnd (bytes_of_digits word) (λ bytes. 33554432 < length image + length bytes)
+    → (image_in unread ≡ Err TooLong) × StopsAtFault unread rest TooLong
+SpellsImage-many unread left rest ends image shown word so_far takes few is dashes gives =
+    let (bytes, writes, many) = some_and (bytes_of_digits word) (λ bytes. 33554432 < length image + length bytes) gives in
     let has = TakesLine-word left rest ends shown (Some word) takes is in
-    ap (λ ls. image_of (image_lines ls)) (lines_with unread left rest ends image shown so_far takes)
-    ∙ (ap image_of (image_lines-other so_far.lines (lines_of rest) takes.line so_far.unmarked (ap is_dashes has ∙ other))
-    ∙ image_of-many so_far.lines (image_lines (lines_of rest)) takes.line bytes so_far.sound (ap (option_and_then (λ w. result_ok (decode_of w))) has ∙ decodes) (omega (arith, many, ap length so_far.spelled)))
+    let other = ap is_dashes has ∙ dashes in
+    let spells : line_bytes takes.line ≡ Some bytes = ap (option_and_then bytes_of_digits) has ∙ writes in
+    let short : length (bytes_of_lines so_far.lines) ≤ 33554432 = omega (arith, few, ap length so_far.spelled) in
+    let long : 33554432 < length (bytes_of_lines so_far.lines) + length bytes = omega (arith, many, ap length so_far.spelled) in (
+      ap image_of (image_lines_with unread left rest ends image shown so_far takes other)
+          ∙ image_of-many so_far.lines (image_lines (lines_of rest)) takes.line bytes so_far.sound spells long,
+      record {
+        sound = so_far.lines;
+        line = takes.line;
+        reads = SpellsImage-unmarked unread left rest ends image shown so_far takes other;
+        image = image_of-sound so_far.lines so_far.sound short;
+        fails = image_of-many so_far.lines [] takes.line bytes so_far.sound spells long;
+      },
+    )
 
 -- at the marker the image is whole, and what follows it is left
 pub SpellsImage-marker : (unread left rest : List ℕ) (ends : Bool) (image shown word : List ℕ) → SpellsImage unread left false image → TakesLine left rest ends shown → length image ≤ 33554432
@@ -211,3 +266,14 @@ SpellsImage-end unread left is_at_end image so_far few none =
       ap image_of lines ∙ (image_of-sound so_far.lines so_far.sound (omega (arith, few, ap length so_far.spelled)) ∙ ap Ok (sym so_far.spelled)),
       ap (λ ls. after_lines (length ls + 1) unread) lines ∙ (rw add-one (after_lines-more (length so_far.lines) unread) ∙ ap after_line (sym so_far.reads.rest ∙ none)),
     )
+
+-- what holds of each fault of the text
+pub IfErr-text_fault : {T : Type 0} (result : Result T BenchFault) (P : BenchFault → Type 0) → (result ≡ Err Hex → P Hex) → (result ≡ Err TooLong → P TooLong) → IfErr result (λ fault. IsTrue (is_text_fault fault) → P fault)
+IfErr-text_fault (Ok x) P hex long = tt
+IfErr-text_fault (Err (Image fault)) P hex long = λ is. cc
+IfErr-text_fault (Err (Ram fault)) P hex long = λ is. cc
+IfErr-text_fault (Err Read) P hex long = λ is. cc
+IfErr-text_fault (Err Write) P hex long = λ is. cc
+IfErr-text_fault (Err Hex) P hex long = λ _. hex refl
+IfErr-text_fault (Err TooLong) P hex long = λ _. long refl
+IfErr-text_fault (Err NoMemory) P hex long = λ is. cc

@@ -1,9 +1,8 @@
 -- The image in a text of hexadecimal lines. (This project's own format; the text is ASCII, ISO/IEC 646.)
-use Rattle.std.specs.Prelude.{◌≡◌, ℕ, ◌+◌, nat_lt, Bool, true, false, not, List, [], ◌∷◌, length, codes, flat_map, take_while, is_some, unwrap_or, option_and_then, Option, Some, None, Result, Ok, Err, if◌then◌else◌}
+use Rattle.std.specs.Prelude.{◌≡◌, ℕ, ◌+◌, ◌*◌, ◌%◌, ◌<◌, ◌++◌, ◌==◌, ◌&&◌, nat_lt, Bool, true, false, not, List, [], ◌∷◌, length, codes, flat_map, take_while, is_some, unwrap_or, option_and_then, Option, Some, None, Result, Ok, Err, if◌then◌else◌}
 use Rattle.std.specs.List.{list_all}
-use Rattle.std.specs.Result.{result_ok}
+use Rattle.std.specs.Char.{is_digit, digit_value}
 use Rattle.std.specs.Str.{bytes_eq}
-use Rattle.hex.specs.Hex.{decode_of}
 use Rattle.rv_bench.specs.declared.fault.BenchFault.{BenchFault}
 use Rattle.rv_bench.specs.declared.fault.BenchFault.TheVariants.{Image, Ram, Read, Write, Hex, TooLong, NoMemory}
 use Rattle.rv_bench.specs.Lines.{lines_of, after_lines}
@@ -28,9 +27,19 @@ is_dashes (Some word) = bytes_eq word (codes "--")
 abbrev pub is_marker : List ℕ → Bool
 is_marker line = is_dashes (line_word line)
 
--- the bytes of an image line: its word is an even number of hexadecimal digits, of either case
+-- the bytes that pairs of hexadecimal digits write, the high digit first
+abbrev pub pair_values : List ℕ → List ℕ
+pair_values [] = []
+pair_values (digit ∷ []) = []
+pair_values (high ∷ low ∷ digits) = (16 * digit_value high + digit_value low) ∷ pair_values digits
+
+-- the bytes that hexadecimal digits of either case write: an even number of them, or none, and nothing else
+unfoldable pub bytes_of_digits : List ℕ → Option (List ℕ)
+bytes_of_digits text = if (length text % 2 == 0) && list_all (λ c. is_digit c 16) text then Some (pair_values text) else None
+
+-- the bytes of an image line are those of its word
 abbrev pub line_bytes : List ℕ → Option (List ℕ)
-line_bytes line = option_and_then (λ word. result_ok (decode_of word)) (line_word line)
+line_bytes line = option_and_then bytes_of_digits (line_word line)
 
 abbrev pub is_image_line : List ℕ → Bool
 is_image_line line = is_some (line_bytes line)
@@ -67,6 +76,16 @@ is_image_fault Hex = true
 is_image_fault TooLong = true
 is_image_fault NoMemory = true
 
+-- the faults that the text of an image can have
+abbrev pub is_text_fault : BenchFault → Bool
+is_text_fault (Image fault) = false
+is_text_fault (Ram fault) = false
+is_text_fault Read = false
+is_text_fault Write = false
+is_text_fault Hex = true
+is_text_fault TooLong = true
+is_text_fault NoMemory = false
+
 -- whole lines were read, up to the bytes that are left
 pub record LeavesLines (unread left : List ℕ) : Type 0 where
   pub count : ℕ
@@ -80,3 +99,24 @@ pub record ReadsInImage (unread left kept : List ℕ) : Type 0 where
   pub unmarked : image_lines lines ≡ lines
   pub image : image_of lines ≡ Ok (bytes_of_lines lines)
   pub begun : ReadsText others left kept
+
+-- These lines were read, up to the bytes that are left, and none of them is `--`.
+pub record ReadsUnmarked (unread left : List ℕ) (lines : List (List ℕ)) : Type 0 where
+  pub all : lines_of unread ≡ lines ++ lines_of left
+  pub rest : left ≡ after_lines (length lines) unread
+  pub unmarked : image_lines lines ≡ lines
+
+-- Lines of the image were read, one or more, none of them `--`, none faulty and not too many.
+pub record ReadsFrontOfImage (unread left : List ℕ) : Type 0 where
+  pub lines : List (List ℕ)
+  pub some : 0 < length lines
+  pub reads : ReadsUnmarked unread left lines
+  pub image : image_of lines ≡ Ok (bytes_of_lines lines)
+
+-- Lines of the image were read, none of them `--`, up to and with the first that is faulty or has too many bytes.
+pub record StopsAtFault (unread left : List ℕ) (fault : BenchFault) : Type 0 where
+  pub sound : List (List ℕ)
+  pub line : List ℕ
+  pub reads : ReadsUnmarked unread left (sound ++ line ∷ [])
+  pub image : image_of sound ≡ Ok (bytes_of_lines sound)
+  pub fails : image_of (sound ++ line ∷ []) ≡ Err fault

@@ -1,11 +1,9 @@
 //! The image in a text of hexadecimal lines.
 ghost use Rattle.std.specs.Prelude.{◌≡◌, ◌≤◌, ◌++◌, codes, vec_len, length, IsTrue, IfOk, OnOk, OnErr, IfErr, IsSomeAnd, ◌⊎◌, Ok, Err, None, option_map, ◌<◌, ◌+◌};
-ghost use Rattle.std.specs.Result.{result_ok};
 ghost use Rattle.std.specs.Str.{bytes_eq};
-ghost use Rattle.hex.specs.Hex.{decode_of};
 ghost use Rattle.rv_bench.specs.Device.{HasRisen};
 ghost use Rattle.rv_bench.specs.Unread.{held, unread, TellsEnd};
-ghost use Rattle.rv_bench.specs.Image.{line_word, image_in, after_image, is_image_fault, LeavesLines, ReadsInImage};
+ghost use Rattle.rv_bench.specs.Image.{line_word, bytes_of_digits, image_in, after_image, is_image_fault, is_text_fault, LeavesLines, ReadsInImage, ReadsFrontOfImage, StopsAtFault};
 
 use crate::device::Source;
 use crate::fault::BenchFault;
@@ -48,9 +46,10 @@ fn is_dashes(word: &[u8]) -> bool
 fn add_bytes(image: &mut Vec<u8>, word: &[u8]) -> Result<(), BenchFault>
     requires image { vec_len image.old ≤ 33554432 }
     requires word { length word.now ≤ 120 }
-    ensures ok { OnOk result (IsSomeAnd (result_ok (decode_of word.now)) (λ bytes. image.new.items ≡ image.old.items ++ bytes)) }
-    ensures hex { result ≡ Err BenchFault.Hex → result_ok (decode_of word.now) ≡ None }
-    ensures too_long { result ≡ Err BenchFault.TooLong → IsSomeAnd (result_ok (decode_of word.now)) (λ bytes. 33554432 < length image.old.items + length bytes) }
+    ensures ok { OnOk result (IsSomeAnd (bytes_of_digits word.now) (λ bytes. image.new.items ≡ image.old.items ++ bytes)) }
+    ensures hex { result ≡ Err BenchFault.Hex → bytes_of_digits word.now ≡ None }
+    ensures too_long { result ≡ Err BenchFault.TooLong → IsSomeAnd (bytes_of_digits word.now) (λ bytes. 33554432 < length image.old.items + length bytes) }
+    ensures no_memory { result ≡ Err BenchFault.NoMemory → IsSomeAnd (bytes_of_digits word.now) (λ bytes. length image.old.items + length bytes ≤ 33554432) }
     ensures read { result ≡ Err BenchFault.Read → ⊥ }
     ensures fault { IfErr result (λ fault. IsTrue (is_image_fault fault)) }
     ensures err { OnErr result (image.new.items ≡ image.old.items) }
@@ -93,6 +92,10 @@ pub fn read_image<S: Source>(alloc: Global, lines: &mut Lines<S>) -> Result<Vec<
     ensures read { result ≡ Err BenchFault.Read → HasRisen (S.failures lines.old.source) (S.failures lines.new.source) }
     ensures after_read { result ≡ Err BenchFault.Read → IsTrue S.tells → ReadsInImage (unread lines.old) (S.remaining lines.new.source) (held lines.new) }
     ensures after_fault { IsTrue S.tells → OnErr result ((result ≡ Err BenchFault.Read) ⊎ LeavesLines (unread lines.old) (unread lines.new)) }
+
+    // A fault of the text is that of the last line that was read; memory is refused only at a sound line, which is read.
+    ensures at_fault { IsTrue S.tells → IfErr result (λ fault. IsTrue (is_text_fault fault) → StopsAtFault (unread lines.old) (unread lines.new) fault) }
+    ensures no_memory { result ≡ Err BenchFault.NoMemory → IsTrue S.tells → ReadsFrontOfImage (unread lines.old) (unread lines.new) }
 
     ensures failures { OnOk result (S.failures lines.new.source ≡ S.failures lines.old.source) }
     ensures end { TellsEnd lines.old lines.new }

@@ -3,7 +3,7 @@
 ghost use Rattle.std.specs.Prelude.{◌≡◌, ◌++◌, ◌⊎◌, ◌↔◌, [], true, false, IsTrue, OnOk, IfErr, IsOk, IsOkAnd};
 ghost use Rattle.rv_bench.specs.Answer.{replies};
 ghost use Rattle.rv_bench.specs.Device.{HasRisen};
-ghost use Rattle.rv_bench.specs.Image.{image_in, after_image, LeavesLines, ReadsInImage};
+ghost use Rattle.rv_bench.specs.Image.{image_in, after_image, is_text_fault, LeavesLines, ReadsInImage, ReadsFrontOfImage, StopsAtFault};
 ghost use Rattle.rv_bench.specs.Lines.{lines_of};
 ghost use Rattle.rv_bench.specs.Loaded.{started};
 ghost use Rattle.rv_bench.specs.Output.{bench_output, machine_in, output, is_start_fault, is_input_fault, is_device_fault};
@@ -146,6 +146,8 @@ pub fn run_stream<S: Source, W: Sink>(
     ensures ram_memory { result ≡ Err (BenchFault.Ram RamFault.NoMemory) →
         (is_ram_size setup.now.ram ≡ true) × (IsTrue S.tells → IsOk (image_in (unread lines.old))) }
     ensures after_image { IsTrue S.tells → IfErr result (λ fault. IsTrue (is_start_fault fault) → unread lines.new ≡ after_image (unread lines.old)) }
+    ensures at_fault { IsTrue S.tells → IfErr result (λ fault. IsTrue (is_text_fault fault) → StopsAtFault (unread lines.old) (unread lines.new) fault) }
+    ensures no_memory { result ≡ Err BenchFault.NoMemory → IsTrue S.tells → ReadsFrontOfImage (unread lines.old) (unread lines.new) }
     ensures after_fault { IsTrue S.tells → IfErr result (λ fault. is_device_fault fault ≡ false → LeavesLines (unread lines.old) (unread lines.new)) }
 
     // Each fault of a device comes only where that device failed in this call.

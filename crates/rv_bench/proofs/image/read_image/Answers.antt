@@ -1,9 +1,9 @@
 use Rattle.std.proofs.Common.{rules, ◌≡◌, ◌∙◌, ◌≤◌, inr, length, Ok, Err, sym, ap, arith}
 use Rattle.std.proofs.lemmas.Result.{IfOk-at_ok, IfErr-at_err, err_from_is_err_and}
-use Rattle.rv_bench.specs.declared.fault.BenchFault.TheVariants.{Hex, TooLong}
+use Rattle.rv_bench.specs.declared.fault.BenchFault.TheVariants.{Hex, TooLong, NoMemory}
 use Rattle.rv_bench.specs.Image.{line_word}
 use Rattle.rv_bench.proofs.Ends.{TellsEnd-more}
-use Rattle.rv_bench.proofs.ImageLemmas.{SpellsImage-going, SpellsImage-read, SpellsImage-leaves, SpellsImage-more, SpellsImage-no_word, SpellsImage-no_digits, SpellsImage-many, SpellsImage-marker, SpellsImage-end}
+use Rattle.rv_bench.proofs.ImageLemmas.{SpellsImage-going, SpellsImage-read, SpellsImage-leaves, SpellsImage-more, SpellsImage-refused, IfErr-text_fault, SpellsImage-no_word, SpellsImage-no_digits, SpellsImage-many, SpellsImage-marker, SpellsImage-end}
 use Rattle.rv_bench.proofs.Mapped.{ok_mapped, err_mapped, OnErr-always}
 use Rattle.rv_bench.proofs.WordLengths.{length-line_word}
 use Rattle.rv_bench.proofs.image.read_image.Goals as goal
@@ -21,13 +21,21 @@ returns-in_default-only_word-clause-hex g c = λ is tells.
     let so_far = SpellsImage-going _ _ _ _ (c.loop-image.invariant.image tells) (IfOk-at_ok _ found c.next_line.ensures.going) in
     let short : length c.loop-image.image.items ≤ 33554432 = omega arith in
     let word = sym (c.in_default-only_word.ensures ∙ ap line_word c.as_slice.ensures.value) in
-    SpellsImage-no_word _ _ _ _ _ _ so_far (IfOk-at_ok _ found (c.next_line.ensures.line tells)) short word
+    (SpellsImage-no_word _ _ _ _ _ _ so_far (IfOk-at_ok _ found (c.next_line.ensures.line tells)) short word).0
 
 pub returns-in_default-only_word-clause-after_fault : goal.returns-in_default-only_word-clause-after_fault
 returns-in_default-only_word-clause-after_fault g c = λ tells.
     let found = ok_mapped _ c.next_line.result c.map_err.result _ c.map_err.ensures.cases c.in_ok-line.was ∙ ap Ok c.in-Some.is in
     let so_far = SpellsImage-going _ _ _ _ (c.loop-image.invariant.image tells) (IfOk-at_ok _ found c.next_line.ensures.going) in
     inr (SpellsImage-leaves _ _ _ _ _ _ so_far (IfOk-at_ok _ found (c.next_line.ensures.line tells)))
+
+pub returns-in_default-only_word-clause-at_fault : goal.returns-in_default-only_word-clause-at_fault
+returns-in_default-only_word-clause-at_fault g c = λ tells. λ _.
+    let found = ok_mapped _ c.next_line.result c.map_err.result _ c.map_err.ensures.cases c.in_ok-line.was ∙ ap Ok c.in-Some.is in
+    let so_far = SpellsImage-going _ _ _ _ (c.loop-image.invariant.image tells) (IfOk-at_ok _ found c.next_line.ensures.going) in
+    let short : length c.loop-image.image.items ≤ 33554432 = omega arith in
+    let word = sym (c.in_default-only_word.ensures ∙ ap line_word c.as_slice.ensures.value) in
+    (SpellsImage-no_word _ _ _ _ _ _ so_far (IfOk-at_ok _ found (c.next_line.ensures.line tells)) short word).1
 
 pub returns-then-is_dashes-clause-ok : goal.returns-then-is_dashes-clause-ok
 returns-then-is_dashes-clause-ok g c = λ tells.
@@ -68,7 +76,7 @@ returns-in_err-add_bytes-clause-hex g c = λ is tells.
     let so_far = SpellsImage-going _ _ _ _ (c.loop-image.invariant.image tells) (IfOk-at_ok _ found c.next_line.ensures.going) in
     let short : length c.loop-image.image.items ≤ 33554432 = omega arith in
     let word = sym (c.in-Some-only_word.ensures ∙ ap line_word c.as_slice.ensures.value) in
-    SpellsImage-no_digits _ _ _ _ _ _ _ so_far (IfOk-at_ok _ found (c.next_line.ensures.line tells)) short word (sym c.is_dashes.ensures ∙ c.if-is_dashes.false) (c.in_err-add_bytes.ensures.hex (ap Err same))
+    (SpellsImage-no_digits _ _ _ _ _ _ _ so_far (IfOk-at_ok _ found (c.next_line.ensures.line tells)) short word (sym c.is_dashes.ensures ∙ c.if-is_dashes.false) (c.in_err-add_bytes.ensures.hex (ap Err same))).0
 
 pub returns-in_err-add_bytes-clause-too_long : goal.returns-in_err-add_bytes-clause-too_long
 returns-in_err-add_bytes-clause-too_long g c = λ is tells.
@@ -76,8 +84,31 @@ returns-in_err-add_bytes-clause-too_long g c = λ is tells.
     let same : c.in_err-add_bytes.field-0.0 ≡ TooLong = cc in
     let found = ok_mapped _ c.next_line.result c.map_err.result _ c.map_err.ensures.cases c.in_ok-line.was ∙ ap Ok c.in-Some.is in
     let so_far = SpellsImage-going _ _ _ _ (c.loop-image.invariant.image tells) (IfOk-at_ok _ found c.next_line.ensures.going) in
+    let short : length c.loop-image.image.items ≤ 33554432 = omega arith in
     let word = sym (c.in-Some-only_word.ensures ∙ ap line_word c.as_slice.ensures.value) in
-    SpellsImage-many _ _ _ _ _ _ _ so_far (IfOk-at_ok _ found (c.next_line.ensures.line tells)) word (sym c.is_dashes.ensures ∙ c.if-is_dashes.false) (c.in_err-add_bytes.ensures.too_long (ap Err same))
+    (SpellsImage-many _ _ _ _ _ _ _ so_far (IfOk-at_ok _ found (c.next_line.ensures.line tells)) short word (sym c.is_dashes.ensures ∙ c.if-is_dashes.false) (c.in_err-add_bytes.ensures.too_long (ap Err same))).0
+
+pub returns-in_err-add_bytes-clause-no_memory : goal.returns-in_err-add_bytes-clause-no_memory
+returns-in_err-add_bytes-clause-no_memory g c = λ is tells.
+    let p = err_from_is_err_and c.from_residual-in_err-add_bytes.result c.from_residual-in_err-add_bytes.ensures.1 in
+    let same : c.in_err-add_bytes.field-0.0 ≡ NoMemory = cc in
+    let found = ok_mapped _ c.next_line.result c.map_err.result _ c.map_err.ensures.cases c.in_ok-line.was ∙ ap Ok c.in-Some.is in
+    let so_far = SpellsImage-going _ _ _ _ (c.loop-image.invariant.image tells) (IfOk-at_ok _ found c.next_line.ensures.going) in
+    let word = sym (c.in-Some-only_word.ensures ∙ ap line_word c.as_slice.ensures.value) in
+    SpellsImage-refused _ _ _ _ _ _ _ so_far (IfOk-at_ok _ found (c.next_line.ensures.line tells)) word (sym c.is_dashes.ensures ∙ c.if-is_dashes.false) (c.in_err-add_bytes.ensures.no_memory (ap Err same))
+
+pub returns-in_err-add_bytes-clause-at_fault : goal.returns-in_err-add_bytes-clause-at_fault
+returns-in_err-add_bytes-clause-at_fault g c = λ tells.
+    let p = err_from_is_err_and c.from_residual-in_err-add_bytes.result c.from_residual-in_err-add_bytes.ensures.1 in
+    let found = ok_mapped _ c.next_line.result c.map_err.result _ c.map_err.ensures.cases c.in_ok-line.was ∙ ap Ok c.in-Some.is in
+    let so_far = SpellsImage-going _ _ _ _ (c.loop-image.invariant.image tells) (IfOk-at_ok _ found c.next_line.ensures.going) in
+    let takes = IfOk-at_ok _ found (c.next_line.ensures.line tells) in
+    let short : length c.loop-image.image.items ≤ 33554432 = omega arith in
+    let word = sym (c.in-Some-only_word.ensures ∙ ap line_word c.as_slice.ensures.value) in
+    let other = sym c.is_dashes.ensures ∙ c.if-is_dashes.false in
+    IfErr-text_fault c.from_residual-in_err-add_bytes.result _
+    (λ is. let same : c.in_err-add_bytes.field-0.0 ≡ Hex = cc in (SpellsImage-no_digits _ _ _ _ _ _ _ so_far takes short word other (c.in_err-add_bytes.ensures.hex (ap Err same))).1)
+    (λ is. let same : c.in_err-add_bytes.field-0.0 ≡ TooLong = cc in (SpellsImage-many _ _ _ _ _ _ _ so_far takes short word other (c.in_err-add_bytes.ensures.too_long (ap Err same))).1)
 
 pub returns-in_err-add_bytes-clause-after_fault : goal.returns-in_err-add_bytes-clause-after_fault
 returns-in_err-add_bytes-clause-after_fault g c = λ tells.
