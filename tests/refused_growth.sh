@@ -9,7 +9,7 @@ refused=
 printf 'rvbench: memory\n' > "$scratch/memory"
 printf 'rvbench: ram 2\n' > "$scratch/ram"
 if "$compiler" -shared -fPIC -nostdlib -fno-builtin "${linker[@]}" -o "$shim" "$here/refuse_allocation.c"; then
-  for at in $(seq 1 1000); do
+  for at in $(seq 1 50); do
     REFUSE_AT=$at LD_PRELOAD=$shim "$program" < "$input/stdin" > "$scratch/out"
     status=$?
     if [ "$status" = 0 ] && cmp -s "$input/stdout" "$scratch/out"; then
