@@ -1,7 +1,7 @@
 -- The replies to lines, one after another.
 use Rattle.std.proofs.Common.{◌≡◌, ℕ, List, [], ◌∷◌, ◌++◌, take, refl, sym, ◌∙◌, ap, append_assoc, append-nil}
 use Rattle.rv_bench.specs.Answer.{answer_or_fault, line_answer, replies, state_after}
-use Rattle.rv_bench.specs.Step.{State}
+use Rattle.rv_hart.specs.State.{State}
 use Rattle.rv_bench.proofs.Commands.{parse_of-cut}
 
 pub replies-append : (start : State) (xs ys : List (List ℕ)) → replies start (xs ++ ys) ≡ replies start xs ++ replies (state_after start xs) ys

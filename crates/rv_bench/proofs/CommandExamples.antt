@@ -4,7 +4,7 @@ use Rattle.std.specs.Prelude.{codes}
 use Rattle.rv_bench.specs.Words.{is_text, words_of}
 use Rattle.rv_bench.specs.Numbers.{number_of, decimal_of, hexadecimal_of}
 use Rattle.rv_bench.specs.declared.command.Command.{Command}
-use Rattle.rv_bench.specs.declared.command.Command.TheVariants.{Blank, Step, Reg, Mem}
+use Rattle.rv_bench.specs.declared.command.Command.TheVariants.{Blank, Step, Reg, Regs, SetReg, Mem}
 use Rattle.rv_bench.specs.declared.command.CommandFault.{CommandFault}
 use Rattle.rv_bench.specs.declared.command.CommandFault.TheVariants.{BadLine, UnknownCommand, BadOperand}
 use Rattle.rv_bench.specs.Command.{keyword_of, meaning_of, parse_of}
@@ -20,11 +20,19 @@ examples =
     ∷ (codes "step 0000001", Ok (Step 1))
     ∷ (codes "reg 1", Ok (Reg 1))
     ∷ (codes "reg 31", Ok (Reg 31))
+    ∷ (codes "regs", Ok Regs)
+    ∷ (codes "\tregs ", Ok Regs)
+    ∷ (codes "setreg 5 0x1F", Ok (SetReg 5 0x1f))
+    ∷ (codes "setreg 0 ffffffff", Ok (SetReg 0 0xffffffff))
+    ∷ (codes "setreg 0000031 00000000", Ok (SetReg 31 0))
     ∷ (codes "mem 8000000e 4", Ok (Mem 0x8000000e 4))
     ∷ (codes "mem 0x8000000E 64", Ok (Mem 0x8000000e 64))
     ∷ (codes "mem 0 1", Ok (Mem 0 1))
     ∷ (codes "fly", Err UnknownCommand)
     ∷ (codes "Step 1", Err UnknownCommand)
+    ∷ (codes "Regs", Err UnknownCommand)
+    ∷ (codes "setReg 1 1", Err UnknownCommand)
+    ∷ (codes "set 1 1", Err UnknownCommand)
     ∷ (codes "--", Err UnknownCommand)
     ∷ (codes "step 0", Err BadOperand)
     ∷ (codes "step 1000001", Err BadOperand)
@@ -33,6 +41,16 @@ examples =
     ∷ (codes "step 1 # x", Err BadOperand)
     ∷ (codes "reg", Err BadOperand)
     ∷ (codes "reg 32", Err BadOperand)
+    ∷ (codes "regs 1", Err BadOperand)
+    ∷ (codes "regs # x", Err BadOperand)
+    ∷ (codes "setreg", Err BadOperand)
+    ∷ (codes "setreg 1", Err BadOperand)
+    ∷ (codes "setreg 1 2 3", Err BadOperand)
+    ∷ (codes "setreg 32 0", Err BadOperand)
+    ∷ (codes "setreg 0x1 0", Err BadOperand)
+    ∷ (codes "setreg 1 100000000", Err BadOperand)
+    ∷ (codes "setreg 1 0x", Err BadOperand)
+    ∷ (codes "setreg 1 0X1", Err BadOperand)
     ∷ (codes "mem 80000000 0", Err BadOperand)
     ∷ (codes "mem 80000000 65", Err BadOperand)
     ∷ (codes "mem 0x 4", Err BadOperand)

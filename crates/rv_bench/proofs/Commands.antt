@@ -5,11 +5,15 @@ use Rattle.std.specs.List.{starts_with}
 use Rattle.rv_bench.specs.declared.command.Command.{Command}
 use Rattle.rv_bench.specs.declared.command.Command.TheVariants.{Blank}
 use Rattle.rv_bench.specs.declared.keyword.Keyword.{Keyword}
-use Rattle.rv_bench.specs.declared.keyword.Keyword.TheVariants.{Step, Reg, Mem}
-use Rattle.rv_bench.specs.Command.{one, two, operands_of, keyword_of, named, meaning_of, parse_of}
+use Rattle.rv_bench.specs.declared.keyword.Keyword.TheVariants.{Step, Reg, Regs, SetReg, Mem}
+use Rattle.rv_bench.specs.Command.{none, one, two, operands_of, keyword_of, named, meaning_of, parse_of}
 use Rattle.rv_bench.specs.Words.{words_of}
 use Rattle.rv_bench.specs.declared.command.CommandFault.TheVariants.{BadLine}
 use Rattle.rv_bench.proofs.CutLines.{if_good-take}
+
+none-take : (command : Command) (operands : List (List ℕ)) → none command (take 5 operands) ≡ none command operands
+none-take command [] = refl
+none-take command (u ∷ more) = refl
 
 one-take : {A : Type 0} (read : List ℕ → Option A) (command : A → Command) (operands : List (List ℕ)) → one read command (take 5 operands) ≡ one read command operands
 one-take read command [] = refl
@@ -25,6 +29,8 @@ two-take read read_next command (u ∷ v ∷ w ∷ more) = refl
 operands_of-take : (k : Keyword) (operands : List (List ℕ)) → operands_of k (take 5 operands) ≡ operands_of k operands
 operands_of-take Step operands = search one-take
 operands_of-take Reg operands = search one-take
+operands_of-take Regs operands = search none-take
+operands_of-take SetReg operands = search two-take
 operands_of-take Mem operands = search two-take
 
 named-take : (k : Option Keyword) (operands : List (List ℕ)) → named k (take 5 operands) ≡ named k operands

@@ -73,6 +73,12 @@ SpellsImage-none unread is_at_end = record {
 pub SpellsImage-going : (unread left : List ℕ) (is_at_end : Bool) (image : List ℕ) → SpellsImage unread left is_at_end image → is_at_end ≡ false → SpellsImage unread left false image
 SpellsImage-going unread left is_at_end image so_far going = subst (λ b. SpellsImage unread left b image) going so_far
 
+-- The lines so far spell an image that is not too long, and one more was taken, of which the front is shown.
+pub record TakesInImage (unread left rest : List ℕ) (ends : Bool) (image shown : List ℕ) : Type 0 where
+  pub so_far : SpellsImage unread left false image
+  pub takes : TakesLine left rest ends shown
+  pub few : length image ≤ 33554432
+
 -- lines that are not faulty have the image of their bytes, if these are not too many
 image_of-sound : (lines : List (List ℕ)) → list_all is_image_line lines ≡ true → length (bytes_of_lines lines) ≤ 33554432 → image_of lines ≡ Ok (bytes_of_lines lines)
 image_of-sound lines sound few =
@@ -115,8 +121,8 @@ image_lines-other : (lines others : List (List ℕ)) (line : List ℕ) → list_
 image_lines-other lines others line unmarked e = take_while-pass (λ l. not (is_marker l)) lines line others unmarked (ap not e)
 
 -- the word of the line that was taken is that of what is shown
-pub TakesLine-word : (left rest : List ℕ) (ends : Bool) (shown : List ℕ) (word : Option (List ℕ)) → (takes : TakesLine left rest ends shown) → line_word shown ≡ word → line_word takes.line ≡ word
-TakesLine-word left rest ends shown word takes is = sym (line_word-take takes.line) ∙ (ap line_word (sym takes.front) ∙ is)
+pub TakesLine-word : (left rest : List ℕ) (ends : Bool) (shown : List ℕ) (word : Option (List ℕ)) → (takes : TakesLine left rest ends shown) → word ≡ line_word shown → line_word takes.line ≡ word
+TakesLine-word left rest ends shown word takes is = sym (line_word-take takes.line) ∙ (ap line_word (sym takes.front) ∙ sym is)
 
 lines_with : (unread left rest : List ℕ) (ends : Bool) (image shown : List ℕ) → (so_far : SpellsImage unread left false image) → (takes : TakesLine left rest ends shown)
     → lines_of unread ≡ so_far.lines ++ takes.line ∷ lines_of rest
@@ -142,31 +148,6 @@ SpellsImage-read unread left rest kept image so_far few begun = record {
   begun = begun;
 }
 
--- a line more was read
-pub SpellsImage-leaves : (unread left rest : List ℕ) (ends : Bool) (image shown : List ℕ) → SpellsImage unread left false image → TakesLine left rest ends shown → LeavesLines unread rest
-SpellsImage-leaves unread left rest ends image shown so_far takes =
-    let reads = ReadsLines-more unread left rest ends shown so_far.lines so_far.reads takes in record {
-      count = length (so_far.lines ++ takes.line ∷ []);
-      rest = reads.rest;
-    }
-
--- a line that is no marker and has bytes adds them
-pub SpellsImage-more : (unread left rest : List ℕ) (ends : Bool) (image shown word new : List ℕ) → SpellsImage unread left false image → TakesLine left rest ends shown
-    → line_word shown ≡ Some word → bytes_eq word (codes "--") ≡ false → IsSomeAnd (bytes_of_digits word) (λ bytes. new ≡ image ++ bytes) → SpellsImage unread rest ends new
-SpellsImage-more unread left rest ends image shown word new so_far takes is other gives =
-    let (bytes, writes, grown) = some_and (bytes_of_digits word) (λ bytes. new ≡ image ++ bytes) gives in
-    let line = takes.line in
-    let has = TakesLine-word left rest ends shown (Some word) takes is in
-    let unmarked : is_marker line ≡ false = ap is_dashes has ∙ other in
-    let spells : line_bytes line ≡ Some bytes = ap (option_and_then bytes_of_digits) has ∙ writes in
-    let passes : is_image_line line ≡ true = ap is_some spells in record {
-      lines = so_far.lines ++ line ∷ [];
-      reads = ReadsLines-more unread left rest ends shown so_far.lines so_far.reads takes;
-      unmarked = list_all-push (λ l. not (is_marker l)) so_far.lines line so_far.unmarked (ap not unmarked);
-      sound = list_all-push is_image_line so_far.lines line so_far.sound passes;
-      spelled = grown ∙ (ap (λ t. t ++ bytes) so_far.spelled ∙ sym (bytes_of_lines-push so_far.lines line bytes spells));
-    }
-
 -- a line more that is no marker was read
 SpellsImage-unmarked : (unread left rest : List ℕ) (ends : Bool) (image shown : List ℕ) → (so_far : SpellsImage unread left false image) → (takes : TakesLine left rest ends shown)
     → is_marker takes.line ≡ false → ReadsUnmarked unread rest (so_far.lines ++ takes.line ∷ [])
@@ -175,23 +156,6 @@ SpellsImage-unmarked unread left rest ends image shown so_far takes other =
       all = reads.all;
       rest = reads.rest;
       unmarked = image_lines-other so_far.lines [] takes.line so_far.unmarked other;
-    }
-
--- memory for the bytes of one line more was refused
-pub SpellsImage-refused : (unread left rest : List ℕ) (ends : Bool) (image shown word : List ℕ) → SpellsImage unread left false image → TakesLine left rest ends shown
-    → line_word shown ≡ Some word → bytes_eq word (codes "--") ≡ false → IsSomeAnd (bytes_of_digits word) (λ bytes. length image + length bytes ≤ 33554432) → ReadsFrontOfImage unread rest
-SpellsImage-refused unread left rest ends image shown word so_far takes is other gives =
-    let (bytes, writes, few) = some_and (bytes_of_digits word) (λ bytes. length image + length bytes ≤ 33554432) gives in
-    let line = takes.line in
-    let has = TakesLine-word left rest ends shown (Some word) takes is in
-    let spells : line_bytes line ≡ Some bytes = ap (option_and_then bytes_of_digits) has ∙ writes in
-    let sound = list_all-push is_image_line so_far.lines line so_far.sound (ap is_some spells) in
-    let all = bytes_of_lines-push so_far.lines line bytes spells in
-    let short : length (bytes_of_lines (so_far.lines ++ line ∷ [])) ≤ 33554432 = omega (arith, few, ap length all, length-append (bytes_of_lines so_far.lines) bytes, ap length so_far.spelled) in record {
-      lines = so_far.lines ++ line ∷ [];
-      some = omega (arith, length-append so_far.lines (line ∷ []));
-      reads = SpellsImage-unmarked unread left rest ends image shown so_far takes (ap is_dashes has ∙ other);
-      image = image_of-sound (so_far.lines ++ line ∷ []) sound short;
     }
 
 -- a line that is no marker and has no bytes is the first faulty one
@@ -211,51 +175,108 @@ SpellsImage-faulty unread left rest ends image shown so_far takes few other none
       },
     )
 
-pub SpellsImage-no_word : (unread left rest : List ℕ) (ends : Bool) (image shown : List ℕ) → SpellsImage unread left false image → TakesLine left rest ends shown → length image ≤ 33554432
-    → line_word shown ≡ None → (image_in unread ≡ Err Hex) × StopsAtFault unread rest Hex
-SpellsImage-no_word unread left rest ends image shown so_far takes few is =
-    let has = TakesLine-word left rest ends shown None takes is in
-    SpellsImage-faulty unread left rest ends image shown so_far takes few (ap is_dashes has) (ap (option_and_then bytes_of_digits) has)
+-- ---- what one more line does
 
-pub SpellsImage-no_digits : (unread left rest : List ℕ) (ends : Bool) (image shown word : List ℕ) → SpellsImage unread left false image → TakesLine left rest ends shown → length image ≤ 33554432
-    → line_word shown ≡ Some word → bytes_eq word (codes "--") ≡ false → bytes_of_digits word ≡ None → (image_in unread ≡ Err Hex) × StopsAtFault unread rest Hex
-SpellsImage-no_digits unread left rest ends image shown word so_far takes few is other none =
-    let has = TakesLine-word left rest ends shown (Some word) takes is in
-    SpellsImage-faulty unread left rest ends image shown so_far takes few (ap is_dashes has ∙ other) (ap (option_and_then bytes_of_digits) has ∙ none)
+module _ {unread left rest : List ℕ} {ends : Bool} {image shown : List ℕ} where
+  -- a line more was read
+  pub SpellsImage-leaves : TakesInImage unread left rest ends image shown → LeavesLines unread rest
+  SpellsImage-leaves at =
+      let reads = ReadsLines-more unread left rest ends shown at.so_far.lines at.so_far.reads at.takes in record {
+        count = length (at.so_far.lines ++ at.takes.line ∷ []);
+        rest = reads.rest;
+      }
 
--- a line whose bytes are too many decides
-pub SpellsImage-many : (unread left rest : List ℕ) (ends : Bool) (image shown word : List ℕ) → SpellsImage unread left false image → TakesLine left rest ends shown → length image ≤ 33554432
-    → line_word shown ≡ Some word → bytes_eq word (codes "--") ≡ false → IsSomeAnd (bytes_of_digits word) (λ bytes. 33554432 < length image + length bytes)
-    → (image_in unread ≡ Err TooLong) × StopsAtFault unread rest TooLong
-SpellsImage-many unread left rest ends image shown word so_far takes few is dashes gives =
-    let (bytes, writes, many) = some_and (bytes_of_digits word) (λ bytes. 33554432 < length image + length bytes) gives in
-    let has = TakesLine-word left rest ends shown (Some word) takes is in
-    let other = ap is_dashes has ∙ dashes in
-    let spells : line_bytes takes.line ≡ Some bytes = ap (option_and_then bytes_of_digits) has ∙ writes in
-    let short : length (bytes_of_lines so_far.lines) ≤ 33554432 = omega (arith, few, ap length so_far.spelled) in
-    let long : 33554432 < length (bytes_of_lines so_far.lines) + length bytes = omega (arith, many, ap length so_far.spelled) in (
-      ap image_of (image_lines_with unread left rest ends image shown so_far takes other)
-          ∙ image_of-many so_far.lines (image_lines (lines_of rest)) takes.line bytes so_far.sound spells long,
-      record {
-        sound = so_far.lines;
-        line = takes.line;
-        reads = SpellsImage-unmarked unread left rest ends image shown so_far takes other;
-        image = image_of-sound so_far.lines so_far.sound short;
-        fails = image_of-many so_far.lines [] takes.line bytes so_far.sound spells long;
-      },
-    )
+  -- a line that is no marker and has bytes adds them
+  pub SpellsImage-more : {word new : List ℕ} → TakesInImage unread left rest ends image shown
+      → Some word ≡ line_word shown → bytes_eq word (codes "--") ≡ false → IsSomeAnd (bytes_of_digits word) (λ bytes. new ≡ image ++ bytes) → SpellsImage unread rest ends new
+  SpellsImage-more {word = word} {new = new} at is other gives =
+      let so_far = at.so_far in
+      let takes = at.takes in
+      let (bytes, writes, grown) = some_and (bytes_of_digits word) (λ bytes. new ≡ image ++ bytes) gives in
+      let line = takes.line in
+      let has = TakesLine-word left rest ends shown (Some word) takes is in
+      let unmarked : is_marker line ≡ false = ap is_dashes has ∙ other in
+      let spells : line_bytes line ≡ Some bytes = ap (option_and_then bytes_of_digits) has ∙ writes in
+      let passes : is_image_line line ≡ true = ap is_some spells in record {
+        lines = so_far.lines ++ line ∷ [];
+        reads = ReadsLines-more unread left rest ends shown so_far.lines so_far.reads takes;
+        unmarked = list_all-push (λ l. not (is_marker l)) so_far.lines line so_far.unmarked (ap not unmarked);
+        sound = list_all-push is_image_line so_far.lines line so_far.sound passes;
+        spelled = grown ∙ (ap (λ t. t ++ bytes) so_far.spelled ∙ sym (bytes_of_lines-push so_far.lines line bytes spells));
+      }
 
--- at the marker the image is whole, and what follows it is left
-pub SpellsImage-marker : (unread left rest : List ℕ) (ends : Bool) (image shown word : List ℕ) → SpellsImage unread left false image → TakesLine left rest ends shown → length image ≤ 33554432
-    → line_word shown ≡ Some word → bytes_eq word (codes "--") ≡ true → (image_in unread ≡ Ok image) × (rest ≡ after_image unread)
-SpellsImage-marker unread left rest ends image shown word so_far takes few is dashes =
-    let marked : is_marker takes.line ≡ true = ap is_dashes (TakesLine-word left rest ends shown (Some word) takes is) ∙ dashes in
-    let lines : image_lines (lines_of unread) ≡ so_far.lines =
-    ap image_lines (lines_with unread left rest ends image shown so_far takes) ∙ image_lines-marker so_far.lines (lines_of rest) takes.line so_far.unmarked marked in
-    let reads = ReadsLines-more unread left rest ends shown so_far.lines so_far.reads takes in (
-      ap image_of lines ∙ (image_of-sound so_far.lines so_far.sound (omega (arith, few, ap length so_far.spelled)) ∙ ap Ok (sym so_far.spelled)),
-      reads.rest ∙ (ap (λ n. after_lines n unread) (length-append so_far.lines (takes.line ∷ []) ∙ ap (λ ls. length ls + 1) (sym lines))),
-    )
+  -- memory for the bytes of one line more was refused
+  pub SpellsImage-refused : {word : List ℕ} → TakesInImage unread left rest ends image shown
+      → Some word ≡ line_word shown → bytes_eq word (codes "--") ≡ false → IsSomeAnd (bytes_of_digits word) (λ bytes. length image + length bytes ≤ 33554432) → ReadsFrontOfImage unread rest
+  SpellsImage-refused {word = word} at is other gives =
+      let so_far = at.so_far in
+      let takes = at.takes in
+      let (bytes, writes, few) = some_and (bytes_of_digits word) (λ bytes. length image + length bytes ≤ 33554432) gives in
+      let line = takes.line in
+      let has = TakesLine-word left rest ends shown (Some word) takes is in
+      let spells : line_bytes line ≡ Some bytes = ap (option_and_then bytes_of_digits) has ∙ writes in
+      let sound = list_all-push is_image_line so_far.lines line so_far.sound (ap is_some spells) in
+      let all = bytes_of_lines-push so_far.lines line bytes spells in
+      let short : length (bytes_of_lines (so_far.lines ++ line ∷ [])) ≤ 33554432 = omega (arith, few, ap length all, length-append (bytes_of_lines so_far.lines) bytes, ap length so_far.spelled) in record {
+        lines = so_far.lines ++ line ∷ [];
+        some = omega (arith, length-append so_far.lines (line ∷ []));
+        reads = SpellsImage-unmarked unread left rest ends image shown so_far takes (ap is_dashes has ∙ other);
+        image = image_of-sound (so_far.lines ++ line ∷ []) sound short;
+      }
+
+  -- a line without one word is the first faulty one
+  pub SpellsImage-no_word : TakesInImage unread left rest ends image shown
+      → None ≡ line_word shown → (image_in unread ≡ Err Hex) × StopsAtFault unread rest Hex
+  SpellsImage-no_word at is =
+      let has = TakesLine-word left rest ends shown None at.takes is in
+      SpellsImage-faulty unread left rest ends image shown at.so_far at.takes at.few (ap is_dashes has) (ap (option_and_then bytes_of_digits) has)
+
+  -- and so is one whose word is not of such digits
+  pub SpellsImage-no_digits : {word : List ℕ} → TakesInImage unread left rest ends image shown
+      → Some word ≡ line_word shown → bytes_eq word (codes "--") ≡ false → bytes_of_digits word ≡ None → (image_in unread ≡ Err Hex) × StopsAtFault unread rest Hex
+  SpellsImage-no_digits {word = word} at is other none =
+      let has = TakesLine-word left rest ends shown (Some word) at.takes is in
+      SpellsImage-faulty unread left rest ends image shown at.so_far at.takes at.few (ap is_dashes has ∙ other) (ap (option_and_then bytes_of_digits) has ∙ none)
+
+  -- a line whose bytes are too many decides
+  pub SpellsImage-many : {word : List ℕ} → TakesInImage unread left rest ends image shown
+      → Some word ≡ line_word shown → bytes_eq word (codes "--") ≡ false → IsSomeAnd (bytes_of_digits word) (λ bytes. 33554432 < length image + length bytes)
+      → (image_in unread ≡ Err TooLong) × StopsAtFault unread rest TooLong
+  SpellsImage-many {word = word} at is dashes gives =
+      let so_far = at.so_far in
+      let takes = at.takes in
+      let few = at.few in
+      let (bytes, writes, many) = some_and (bytes_of_digits word) (λ bytes. 33554432 < length image + length bytes) gives in
+      let has = TakesLine-word left rest ends shown (Some word) takes is in
+      let other = ap is_dashes has ∙ dashes in
+      let spells : line_bytes takes.line ≡ Some bytes = ap (option_and_then bytes_of_digits) has ∙ writes in
+      let short : length (bytes_of_lines so_far.lines) ≤ 33554432 = omega (arith, few, ap length so_far.spelled) in
+      let long : 33554432 < length (bytes_of_lines so_far.lines) + length bytes = omega (arith, many, ap length so_far.spelled) in (
+        ap image_of (image_lines_with unread left rest ends image shown so_far takes other)
+            ∙ image_of-many so_far.lines (image_lines (lines_of rest)) takes.line bytes so_far.sound spells long,
+        record {
+          sound = so_far.lines;
+          line = takes.line;
+          reads = SpellsImage-unmarked unread left rest ends image shown so_far takes other;
+          image = image_of-sound so_far.lines so_far.sound short;
+          fails = image_of-many so_far.lines [] takes.line bytes so_far.sound spells long;
+        },
+      )
+
+  -- at the marker the image is whole, and what follows it is left
+  pub SpellsImage-marker : {word : List ℕ} → TakesInImage unread left rest ends image shown
+      → Some word ≡ line_word shown → bytes_eq word (codes "--") ≡ true → (image_in unread ≡ Ok image) × (rest ≡ after_image unread)
+  SpellsImage-marker {word = word} at is dashes =
+      let so_far = at.so_far in
+      let takes = at.takes in
+      let few = at.few in
+      let marked : is_marker takes.line ≡ true = ap is_dashes (TakesLine-word left rest ends shown (Some word) takes is) ∙ dashes in
+      let lines : image_lines (lines_of unread) ≡ so_far.lines =
+      ap image_lines (lines_with unread left rest ends image shown so_far takes) ∙ image_lines-marker so_far.lines (lines_of rest) takes.line so_far.unmarked marked in
+      let reads = ReadsLines-more unread left rest ends shown so_far.lines so_far.reads takes in (
+        ap image_of lines ∙ (image_of-sound so_far.lines so_far.sound (omega (arith, few, ap length so_far.spelled)) ∙ ap Ok (sym so_far.spelled)),
+        reads.rest ∙ (ap (λ n. after_lines n unread) (length-append so_far.lines (takes.line ∷ []) ∙ ap (λ ls. length ls + 1) (sym lines))),
+      )
 
 -- at the end the image is whole, and nothing is left
 pub SpellsImage-end : (unread left : List ℕ) (is_at_end : Bool) (image : List ℕ) → SpellsImage unread left is_at_end image → length image ≤ 33554432 → left ≡ []

@@ -11,13 +11,11 @@ mod Keywords
 mod LineLemmas
 mod LineTextLemmas
 mod Mapped
-mod RamLaws
+mod RegisterLines
 mod ReplyExamples
 mod Runs
 mod Starts
-mod StepExamples
-mod Steps
-mod Stores
+mod Stepping
 mod WordLaws
 mod WordLengths
 mod Writing

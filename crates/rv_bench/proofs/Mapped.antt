@@ -13,6 +13,10 @@ pub err_mapped : {A E F : Type 0} (Q : E → F → Type 0) (r : Result A E) (s :
 err_mapped Q (Ok y) s f cases is = let e : s ≡ Ok y = cases in cc
 err_mapped Q (Err e) s f cases is = (e, refl)
 
+-- the error that a `?` passes on as it is
+pub err_passed : {A E : Type 0} (r : Result A E) (e f : E) → IsErrAnd r (λ x. x ≡ e) → r ≡ Err f → e ≡ f
+err_passed r e f passed is = let bad = err_from_is_err_and r passed in let was : bad.0 ≡ e = bad.2 in let got : r ≡ Err bad.0 = bad.1 in cc
+
 -- what holds anyway holds at an `Ok`
 pub OnOk-always : {A E P : Type 0} (r : Result A E) → P → OnOk r P
 OnOk-always (Ok x) p = p

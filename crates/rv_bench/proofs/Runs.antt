@@ -4,7 +4,7 @@ use Rattle.rv_bench.specs.Answer.{Answered, line_answer, replies, state_after}
 use Rattle.rv_bench.specs.Lines.{lines_of}
 use Rattle.rv_bench.specs.LineText.{ReadsText, TakesLine, ReadsLines}
 use Rattle.rv_bench.specs.Run.{StopsAtRead, StopsAtWrite}
-use Rattle.rv_bench.specs.Step.{State}
+use Rattle.rv_hart.specs.State.{State}
 use Rattle.rv_bench.specs.Transfer.{WritesFront}
 use Rattle.rv_bench.proofs.Answers.{replies-append, state_after-append, replies-more, line_answer-cut}
 use Rattle.rv_bench.proofs.LineTextLemmas.{ReadsLines-none, ReadsLines-more}

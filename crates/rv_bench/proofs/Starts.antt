@@ -1,26 +1,26 @@
 -- The machine that an image starts.
-use Rattle.std.proofs.Common.{◌≡◌, ℕ, true, List, length, replicate, None, Ok, refl, ap, ◌∙◌, zero-add}
+use Rattle.std.proofs.Common.{◌≡◌, ℕ, ◌≤◌, true, List, length, replicate, None, Some, Ok, refl, sym, ap, ◌∙◌, arith}
+use Rattle.std.proofs.lemmas.Grind.{common_steps}
 use Rattle.std.proofs.lemmas.List.{drop-replicate}
-use Rattle.rv_bench.specs.Hart.{at_reset}
-use Rattle.rv_bench.specs.HartState.{Hart}
+use Rattle.rv_memory.specs.Memory.{ram_base, is_ram_size, write}
+use Rattle.rv_hart.specs.State.{State}
+use Rattle.rv_hart.specs.Hart.{at_reset}
 use Rattle.rv_bench.specs.Loaded.{raw_fault, loaded, started}
 use Rattle.rv_bench.specs.Plans.{RawPlan}
-use Rattle.rv_bench.specs.Ram.{ram_base, is_ram_size, write_bytes}
-use Rattle.rv_bench.specs.Step.{over}
 
 -- an image at the front of a RAM that was all 0
-pub loaded-written : (image : List ℕ) (size : ℕ) → write_bytes (replicate size 0) 0 image ≡ loaded image size
-loaded-written image size = simp (zero-add, drop-replicate)
+pub loaded-written : (image : List ℕ) (size : ℕ) (memory : List ℕ) → length image ≤ size → write (replicate size 0) ram_base image ≡ Some memory → memory ≡ loaded image size
+unfolding write
+loaded-written image size memory fits written = grind (arith, common_steps, drop-replicate)
 
 -- a RAM that is made, loaded by its plan and given to a machine
-pub started-ok : (image : List ℕ) (size : ℕ) (zeros ram memory : List ℕ) (plan : RawPlan) (entry : ℕ) (hart : Hart)
-    → is_ram_size size ≡ true → raw_fault (length image) size ≡ None
+pub started-ok : (image : List ℕ) (size : ℕ) (zeros memory : List ℕ) (plan : RawPlan) (entry : ℕ) (machine : State)
+    → is_ram_size size ≡ true → raw_fault (length image) size ≡ None → length image ≤ size
     → zeros ≡ replicate size 0 → plan ≡ record { len = length image; ram_size = size; entry = ram_base }
-    → ram ≡ write_bytes zeros 0 image → entry ≡ plan.entry → hart ≡ at_reset entry → memory ≡ ram
-    → started image size ≡ Ok (over memory hart)
+    → write zeros ram_base image ≡ Some memory → entry ≡ plan.entry
+    → machine ≡ record { hart = at_reset entry; memory = memory } → started image size ≡ Ok machine
 unfolding started
-started-ok image size zeros ram memory plan entry hart lawful planned made plan_is put enters resets same =
-    let is_memory : memory ≡ loaded image size = same ∙ put ∙ ap (λ z. write_bytes z 0 image) made ∙ loaded-written image size in
+started-ok image size zeros memory plan entry machine lawful planned fits made plan_is put enters is =
+    let is_memory : memory ≡ loaded image size = loaded-written image size memory fits (rw made at put) in
     let is_entry : entry ≡ ram_base = enters ∙ ap (λ (p : RawPlan). p.entry) plan_is in
-    let is_hart : hart ≡ at_reset ram_base = resets ∙ ap at_reset is_entry in
-    rw (lawful, planned, is_memory, is_hart) refl
+    rw (lawful, planned, is, is_memory, is_entry) refl

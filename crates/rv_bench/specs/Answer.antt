@@ -1,13 +1,14 @@
 -- The answers to commands: the machine that one leaves, and the text of its reply. (This project's own commands.)
 use Rattle.std.specs.Prelude.{ℕ, List, [], ◌∷◌, ◌++◌, Result, Ok, Err}
-use Rattle.rv_bench.specs.Cases.{option_case}
+use Rattle.rv_word.specs.Cases.{option_case}
 use Rattle.rv_bench.specs.Command.{parse_of}
-use Rattle.rv_bench.specs.Ram.{read}
-use Rattle.rv_bench.specs.Registers.{register}
-use Rattle.rv_bench.specs.ReplyText.{ran_text, register_text, memory_text, fault_text, outside_text}
-use Rattle.rv_bench.specs.Step.{State, Stepped, stepped}
+use Rattle.rv_memory.specs.Memory.{read}
+use Rattle.rv_hart.specs.Registers.{register, with_register}
+use Rattle.rv_bench.specs.ReplyText.{ran_text, register_text, registers_text, ok_text, memory_text, fault_text, outside_text}
+use Rattle.rv_hart.specs.State.{State}
+use Rattle.rv_bench.specs.Steps.{AfterSteps, stepped}
 use Rattle.rv_bench.specs.declared.command.Command.{Command}
-use Rattle.rv_bench.specs.declared.command.Command.TheVariants.{Blank, Step, Reg, Mem}
+use Rattle.rv_bench.specs.declared.command.Command.TheVariants.{Blank, Step, Reg, Regs, SetReg, Mem}
 use Rattle.rv_bench.specs.declared.command.CommandFault.{CommandFault}
 
 -- a state, and the text of a reply
@@ -16,16 +17,22 @@ pub record Answered : Type 0 where
   pub reply : List ℕ
 
 -- steps are told by their number, the pc after them, and the last trap in them
-abbrev pub ran : ℕ → Stepped → Answered
+abbrev pub ran : ℕ → AfterSteps → Answered
 ran steps after = record { state = after.state; reply = ran_text steps after.state.hart.pc after.trap }
+
+-- bytes of memory are shown where all of them are in it
+abbrev pub memory_reply : List ℕ → ℕ → ℕ → List ℕ
+memory_reply memory address count = option_case (read memory address count) outside_text (memory_text address)
 
 -- one command
 unfoldable pub answer : State → Command → Answered
 answer state Blank = record { state = state; reply = [] }
 answer state (Step steps) = ran steps (stepped steps state)
 answer state (Reg number) = record { state = state; reply = register_text number (register state.hart.regs number) }
-answer state (Mem address count) =
-    record { state = state; reply = option_case (read state.memory address count) outside_text (memory_text address) }
+answer state Regs = record { state = state; reply = registers_text state.hart.regs state.hart.pc }
+answer state (SetReg number value) =
+    record { state = record state { hart = record state.hart { regs = with_register state.hart.regs number value } }; reply = ok_text }
+answer state (Mem address count) = record { state = state; reply = memory_reply state.memory address count }
 
 -- one line: a faulty one is told its fault, and changes nothing
 abbrev pub answer_or_fault : State → Result Command CommandFault → Answered

@@ -21,7 +21,11 @@ decimal_within low high operand = option_and_then (within low high) (decimal_of 
 abbrev pub register_of : List ℕ → Option ℕ
 register_of operand = decimal_within 0 31 operand
 
--- the command of just one operand, and of just two
+-- the command of no operands, of just one, and of just two
+abbrev pub none : Command → List (List ℕ) → Option Command
+none command [] = Some command
+none command _ = None
+
 abbrev pub one : {A : Type 0} → (List ℕ → Option A) → (A → Command) → List (List ℕ) → Option Command
 one read make (operand ∷ []) = option_map make (read operand)
 one read make _ = None
@@ -38,10 +42,12 @@ pub record Row : Type 0 where
 abbrev pub row_of : Keyword → Row
 row_of keyword.Step = record { spelling = codes "step"; operands = one (decimal_within 1 1000000) command.Step }
 row_of keyword.Reg = record { spelling = codes "reg"; operands = one register_of command.Reg }
+row_of keyword.Regs = record { spelling = codes "regs"; operands = none command.Regs }
+row_of keyword.SetReg = record { spelling = codes "setreg"; operands = two register_of hexadecimal_of command.SetReg }
 row_of keyword.Mem = record { spelling = codes "mem"; operands = two hexadecimal_of (decimal_within 1 64) command.Mem }
 
 abbrev pub keywords : List Keyword
-keywords = keyword.Step ∷ keyword.Reg ∷ keyword.Mem ∷ []
+keywords = keyword.Step ∷ keyword.Reg ∷ keyword.Regs ∷ keyword.SetReg ∷ keyword.Mem ∷ []
 
 abbrev pub spelling_of : Keyword → List ℕ
 spelling_of k = (row_of k).spelling

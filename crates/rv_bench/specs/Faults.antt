@@ -2,8 +2,6 @@
 use Rattle.std.specs.Prelude.{ℕ}
 use Rattle.rv_bench.specs.declared.elf_fault.ElfFault.{ElfFault}
 use Rattle.rv_bench.specs.declared.elf_fault.ElfFault.TheVariants.{Truncated, NotElf, WrongClass, WrongType, WrongMachine, BadHeader, SegmentTruncated, SegmentSizes, SegmentOutside, SegmentOverlap, BadEntry}
-use Rattle.rv_bench.specs.declared.ram_fault.RamFault.{RamFault}
-use Rattle.rv_bench.specs.declared.ram_fault.RamFault.TheVariants.{BadSize, NoMemory as NoRamMemory}
 use Rattle.rv_bench.specs.declared.fault.BenchFault.{BenchFault}
 use Rattle.rv_bench.specs.declared.fault.BenchFault.TheVariants.{Image, Ram, Read, Write, Hex, TooLong, NoMemory}
 
@@ -19,10 +17,6 @@ elf_fault_number SegmentSizes = 8
 elf_fault_number SegmentOutside = 9
 elf_fault_number SegmentOverlap = 10
 elf_fault_number BadEntry = 11
-
-abbrev pub ram_fault_number : RamFault → ℕ
-ram_fault_number BadSize = 1
-ram_fault_number NoRamMemory = 2
 
 abbrev pub bench_fault_number : BenchFault → ℕ
 bench_fault_number (Image fault) = 1

@@ -1,14 +1,9 @@
 pub mod Answer
-pub mod Cases
-pub mod Causes
 pub mod Command
 pub mod Device
 pub mod Digits
 pub mod Faults
-pub mod Hart
-pub mod HartState
 pub mod Image
-pub mod Instructions
 pub mod LineText
 pub mod Lines
 pub mod Loaded
@@ -16,11 +11,9 @@ pub mod MemoryStreams
 pub mod Numbers
 pub mod Output
 pub mod Plans
-pub mod Ram
-pub mod Registers
 pub mod ReplyText
 pub mod Run
-pub mod Step
+pub mod Steps
 pub mod Transfer
 pub mod Unread
 pub mod Within

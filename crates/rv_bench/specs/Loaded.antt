@@ -2,15 +2,15 @@
 -- first address of RAM, where execution begins, and every other byte is 0.
 -- (System V gABI, program loading: a raw image is one segment; one of no bytes is none.)
 use Rattle.std.specs.Prelude.{ℕ, ◌-◌, ◌++◌, nat_lt, List, length, replicate, Option, Some, None, Result, Ok, Err, if◌then◌else◌}
-use Rattle.rv_bench.specs.Cases.{option_case}
-use Rattle.rv_bench.specs.Hart.{at_reset}
-use Rattle.rv_bench.specs.Ram.{ram_base, is_ram_size}
-use Rattle.rv_bench.specs.Step.{State, over}
+use Rattle.rv_word.specs.Cases.{option_case}
+use Rattle.rv_hart.specs.Hart.{at_reset}
+use Rattle.rv_memory.specs.Memory.{ram_base, is_ram_size}
+use Rattle.rv_hart.specs.State.{State}
 use Rattle.rv_bench.specs.declared.elf_fault.ElfFault.{ElfFault}
 use Rattle.rv_bench.specs.declared.elf_fault.ElfFault.TheVariants.{SegmentOutside, BadEntry}
 use Rattle.rv_bench.specs.declared.fault.BenchFault.{BenchFault}
 use Rattle.rv_bench.specs.declared.fault.BenchFault.TheVariants.{Image, Ram}
-use Rattle.rv_bench.specs.declared.ram_fault.RamFault.TheVariants.{BadSize}
+use Rattle.rv_memory.specs.declared.ram_fault.RamFault.TheVariants.{BadSize}
 
 -- the fault of a raw image of so many bytes in a RAM of this size: the segment is not inside, or the entry's four bytes are not
 abbrev pub raw_fault : ℕ → ℕ → Option ElfFault
@@ -24,7 +24,7 @@ loaded image ram_size = image ++ replicate (ram_size - length image) 0
 
 -- the machine at reset over that memory
 abbrev pub reset_over : List ℕ → ℕ → State
-reset_over image ram_size = over (loaded image ram_size) (at_reset ram_base)
+reset_over image ram_size = record { hart = at_reset ram_base; memory = loaded image ram_size }
 
 -- the machine at reset, or the first fault: of the RAM's size, then of the image
 unfoldable pub started : List ℕ → ℕ → Result State BenchFault

@@ -1,14 +1,14 @@
 -- What the bench writes for an input: an image, the line `--`, and a script. (This project's own format.)
 use Rattle.std.specs.Prelude.{ℕ, Bool, true, false, List, Result, Ok, Err}
 use Rattle.rv_bench.specs.Answer.{replies}
-use Rattle.rv_bench.specs.Cases.{result_case}
+use Rattle.rv_word.specs.Cases.{result_case}
 use Rattle.rv_bench.specs.Image.{image_in, after_image}
 use Rattle.rv_bench.specs.Lines.{lines_of}
 use Rattle.rv_bench.specs.Loaded.{started}
-use Rattle.rv_bench.specs.Step.{State}
+use Rattle.rv_hart.specs.State.{State}
 use Rattle.rv_bench.specs.declared.fault.BenchFault.{BenchFault}
 use Rattle.rv_bench.specs.declared.fault.BenchFault.TheVariants.{Image, Ram, Read, Write, Hex, TooLong, NoMemory}
-use Rattle.rv_bench.specs.declared.ram_fault.RamFault.TheVariants.{BadSize, NoMemory as NoRamMemory}
+use Rattle.rv_memory.specs.declared.ram_fault.RamFault.TheVariants.{BadSize, NoMemory as NoRamMemory}
 
 -- the replies of a machine that has started, or the fault
 abbrev pub replies_of : Result State BenchFault → List (List ℕ) → Result (List ℕ) BenchFault

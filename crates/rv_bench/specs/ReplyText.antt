@@ -1,10 +1,11 @@
 -- The lines that answer commands: ASCII, ISO/IEC 646, each ended by a line feed; hexadecimal in lower case, with leading
 -- zeros. (This project's own replies.)
 use Rattle.std.specs.Prelude.{ℕ, List, ◌++◌, Option, Some, None, codes, decimal}
-use Rattle.std.specs.List.{flat_map}
-use Rattle.rv_bench.specs.Causes.{cause_code}
+use Rattle.std.specs.List.{flat_map, range_with_len}
+use Rattle.rv_hart.specs.Causes.{cause_code}
+use Rattle.rv_hart.specs.Registers.{register}
+use Rattle.rv_hart.specs.declared.trap.Trap.{Trap}
 use Rattle.rv_bench.specs.Digits.{hex2, hex8}
-use Rattle.rv_bench.specs.declared.trap.Trap.{Trap}
 use Rattle.rv_bench.specs.declared.command.CommandFault.{CommandFault}
 use Rattle.rv_bench.specs.declared.command.CommandFault.TheVariants.{BadLine, UnknownCommand, BadOperand}
 
@@ -21,9 +22,22 @@ ran_text steps pc trap = codes "ran " ++ decimal steps ++ codes " pc=" ++ hex8 p
 unfoldable pub register_text : ℕ → ℕ → List ℕ
 register_text number value = codes "x" ++ decimal number ++ codes "=" ++ hex8 value ++ codes "\n"
 
+-- `pc=hhhhhhhh`
+unfoldable pub pc_text : ℕ → List ℕ
+pc_text pc = codes "pc=" ++ hex8 pc ++ codes "\n"
+
+-- the 32 registers in their order, and pc
+unfoldable pub registers_text : List ℕ → ℕ → List ℕ
+registers_text regs pc =
+    flat_map (λ number. register_text number (register regs number)) (range_with_len 0 32) ++ pc_text pc
+
 -- `hhhhhhhh:`, and for each byte a space and two digits
 unfoldable pub memory_text : ℕ → List ℕ → List ℕ
 memory_text address bytes = hex8 address ++ codes ":" ++ flat_map (λ byte. codes " " ++ hex2 byte) bytes ++ codes "\n"
+
+-- it is done
+unfoldable pub ok_text : List ℕ
+ok_text = codes "ok\n"
 
 -- the fault of a line
 abbrev pub fault_text : CommandFault → List ℕ

@@ -2,7 +2,7 @@
 use Rattle.std.specs.Prelude.{◌≡◌, ℕ, ◌≤◌, false, List, ◌++◌, length, take}
 use Rattle.rv_bench.specs.Answer.{replies, state_after}
 use Rattle.rv_bench.specs.Lines.{has_feed, lines_of, through_last_feed}
-use Rattle.rv_bench.specs.Step.{State}
+use Rattle.rv_hart.specs.State.{State}
 use Rattle.rv_bench.specs.Transfer.{WritesFront}
 
 -- The source failed. A text of whole lines has its replies, and the line that was begun is kept, at most 122 bytes of it,

@@ -1,37 +1,54 @@
 //! The answers of the machine to commands and lines.
 
 ghost use Rattle.std.specs.Prelude.{◌≡◌};
-ghost use Rattle.rv_bench.specs.Answer.{answer, line_answer};
-ghost use Rattle.rv_bench.specs.Step.{over};
+ghost use Rattle.arrayvec.specs.ArrayVec.{array_vec_len};
+ghost use Rattle.rv_bench.specs.Answer.{answer, line_answer, memory_reply};
 
-use crate::command::{Command, parse};
-use crate::machine::Machine;
-use crate::reply::{Reply, push_fault, push_memory, push_outside, push_ran, push_register};
+use crate::command::{ByteCount, Command, parse};
+use crate::reply::{
+    Reply, push_fault, push_memory, push_ok, push_outside, push_ran, push_register, push_registers,
+};
+use crate::steps::run_steps;
+use rv_hart::Machine;
 
 /// Does one command, and puts its reply in place of what the buffer holds.
 #[tactic(auto, unfolding(crate::specs::Answer::answer))]
 pub(crate) fn answer_command(machine: &mut Machine, command: Command, reply: &mut Reply)
-    ensures { answer (over machine.old.ram machine.old.hart) command ≡ record { state = over machine.new.ram machine.new.hart; reply = reply.new.items } }
+    ensures { answer machine.old command ≡ record { state = machine.new; reply = reply.new.items } }
 {
     reply.clear();
     match command {
         Command::Blank => {}
         Command::Step(steps) => {
-            let trap = machine.run(steps.get());
-            push_ran(reply, steps.get(), machine.hart.pc(), trap);
+            let trap = run_steps(machine, steps.get());
+            push_ran(reply, steps.get(), machine.pc(), trap);
         }
-        Command::Reg(reg) => push_register(reply, reg, machine.hart.regs().get(reg)),
-        Command::Mem(address, count) => match machine.ram.part(address, count.get() as usize) {
-            Some(bytes) => push_memory(reply, address, bytes),
-            None => push_outside(reply),
-        },
+        Command::Reg(reg) => push_register(reply, reg, machine.regs().get(reg)),
+        Command::Regs => push_registers(reply, machine.regs(), machine.pc()),
+        Command::SetReg(reg, value) => {
+            machine.regs_mut().set(reg, value);
+            push_ok(reply);
+        }
+        Command::Mem(address, count) => answer_mem(machine, address, count, reply),
     }
+}
+
+/// Shows so many bytes of memory, where all of them are in it.
+fn answer_mem(machine: &Machine, address: u32, count: ByteCount, reply: &mut Reply)
+    requires { array_vec_len reply.old ≡ 0 }
+    ensures { reply.new.items ≡ memory_reply machine.now.memory address count }
+{
+    let ram = machine.ram();
+    if !ram.contains(address, count.get()) {
+        return push_outside(reply);
+    }
+    push_memory(reply, address, ram.part(address, count.get()));
 }
 
 /// Does what a line says, or replies with its fault.
 #[tactic(auto, unfolding(crate::specs::Answer::line_answer))]
 pub(crate) fn answer_line(machine: &mut Machine, line: &[u8], reply: &mut Reply)
-    ensures { line_answer (over machine.old.ram machine.old.hart) line.now ≡ record { state = over machine.new.ram machine.new.hart; reply = reply.new.items } }
+    ensures { line_answer machine.old line.now ≡ record { state = machine.new; reply = reply.new.items } }
 {
     match parse(line) {
         Ok(command) => answer_command(machine, command, reply),

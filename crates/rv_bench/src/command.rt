@@ -24,6 +24,10 @@ pub(crate) enum Command {
     Step(StepCount),
     /// `reg N`: show the register.
     Reg(Reg),
+    /// `regs`: show all registers and pc.
+    Regs,
+    /// `setreg N V`: put the word into the register; x0 stays 0.
+    SetReg(Reg, u32),
     /// `mem A N`: show so many bytes of memory from an address on.
     Mem(u32, ByteCount),
 }
@@ -74,6 +78,12 @@ fn with_operands(keyword: Keyword, operands: &[&[u8]]) -> Option<Command>
             Some(Command::Step(steps))
         }
         (Keyword::Reg, [number]) => Some(Command::Reg(register(number)?)),
+        (Keyword::Regs, []) => Some(Command::Regs),
+        (Keyword::SetReg, [number, value]) => {
+            let reg = register(number)?;
+            let value = hexadecimal(value)?;
+            Some(Command::SetReg(reg, value))
+        }
         (Keyword::Mem, [address, count]) => {
             let address = hexadecimal(address)?;
             let count = ByteCount::new(decimal(count)?)?;
@@ -128,6 +138,11 @@ mod tests {
             parse(b"mem 8000000e 4"),
             Ok(Command::Mem(0x8000_000e, four))
         );
+        assert_eq!(rt; parse(b"regs"), Ok(Command::Regs));
+        assert_eq!(rt;
+            parse(b"setreg 5 0x1F"),
+            Ok(Command::SetReg(Reg::new(5), 0x1f))
+        );
         assert_eq!(rt; parse(b" \t"), Ok(Command::Blank));
         assert_eq!(rt; parse(b"# x"), Ok(Command::Blank));
         Ok(())
@@ -138,6 +153,9 @@ mod tests {
         assert_eq!(rt; parse(b"step 0"), Err(CommandFault::BadOperand));
         assert_eq!(rt; parse(b"fly"), Err(CommandFault::UnknownCommand));
         assert_eq!(rt; parse(b"reg 32"), Err(CommandFault::BadOperand));
+        assert_eq!(rt; parse(b"regs 1"), Err(CommandFault::BadOperand));
+        assert_eq!(rt; parse(b"setreg 32 0"), Err(CommandFault::BadOperand));
+        assert_eq!(rt; parse(b"setreg 1 100000000"), Err(CommandFault::BadOperand));
         assert_eq!(rt; parse(&[b'#'; 120]), Ok(Command::Blank));
         assert_eq!(rt; parse(&[b'#'; 121]), Err(CommandFault::BadLine));
         assert_eq!(rt; CommandFault::BadLine.number(), 1);

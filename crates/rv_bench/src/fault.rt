@@ -3,7 +3,7 @@ ghost use Rattle.std.specs.Prelude.{◌≡◌};
 ghost use Rattle.rv_bench.specs.Faults.{bench_fault_number};
 
 use crate::elf_fault::ElfFault;
-use crate::ram_fault::RamFault;
+use rv_memory::RamFault;
 use thiserror::Error;
 
 /// Why a run ended early. What it displays is the line that the program prints for it; for `Write` it prints nothing.

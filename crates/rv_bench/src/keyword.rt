@@ -8,6 +8,8 @@ ghost use Rattle.rv_bench.specs.Command.{spelling_of, keyword_of};
 pub(crate) enum Keyword {
     Step,
     Reg,
+    Regs,
+    SetReg,
     Mem,
 }
 
@@ -25,6 +27,8 @@ impl Keyword {
         match word {
             b"step" => Some(Keyword::Step),
             b"reg" => Some(Keyword::Reg),
+            b"regs" => Some(Keyword::Regs),
+            b"setreg" => Some(Keyword::SetReg),
             b"mem" => Some(Keyword::Mem),
             _ => None,
         }

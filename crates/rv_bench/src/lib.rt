@@ -1,9 +1,8 @@
 //! The bench from bytes to bytes: an image and a script come in through a [`Source`], and the replies go out through a
 //! [`Sink`].
 //!
-//! The machine of RISC-V Unprivileged ISA 20191213, chapters 1 and 2, stands behind it, cut to eight instructions: lui,
-//! addi, add, lw, sw, beq, jal and ecall. The specs name what each part means: `Output` what a run writes for an input,
-//! `Answer` what a command answers, `Step` what a step does.
+//! The machine behind it is that of the crate `rv_hart`. The specs name what each part means: `Output` what a run writes for
+//! an input, `Answer` what a command answers, `Steps` what steps do one after another.
 //!
 //! ```text
 //! let mut lines = Lines::new(MemorySource::new(b"9300f0ff\n--\nstep 1\nreg 1\n"));
@@ -15,32 +14,25 @@
 #![tactic(auto)]
 
 mod answer;
-mod cause;
 mod command;
 mod device;
 mod digits;
 mod elf_fault;
 mod fault;
-mod hart;
 mod image;
 mod keyword;
 mod line;
 mod lines;
-mod machine;
 mod memory;
 mod numbers;
 mod plan;
-mod ram;
-mod ram_fault;
-mod regs;
 mod reply;
-mod request;
 mod run;
 mod setup;
 mod start;
 mod stdio;
+mod steps;
 mod transfer;
-mod trap;
 mod within;
 mod words;
 
@@ -52,8 +44,6 @@ pub use line::Line;
 pub use lines::Lines;
 pub use memory::{MemorySink, MemorySource};
 pub use plan::{Plan, plan_raw};
-pub use ram::Ram;
-pub use ram_fault::RamFault;
 pub use run::{run_bench, run_stream};
 pub use setup::Setup;
 pub use stdio::{StandardSink, StandardSource};

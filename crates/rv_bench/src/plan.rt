@@ -2,10 +2,10 @@
 
 ghost use Rattle.std.specs.Prelude.{◌≡◌, ◌%◌, length, MatchResult, None, Some};
 ghost use Rattle.rv_bench.specs.Loaded.{raw_fault};
-ghost use Rattle.rv_bench.specs.Ram.{ram_base, write_bytes};
+ghost use Rattle.rv_memory.specs.Memory.{ram_base, write};
 
 use crate::elf_fault::ElfFault;
-use crate::ram::{RAM_BASE, Ram};
+use rv_memory::{RAM_BASE, Ram};
 use std::marker::Model;
 
 /// Where the bytes of an image go, and the address of its first instruction.
@@ -30,8 +30,8 @@ impl Model for Plan {
 }
 
 impl Plan {
-    ghost use Rattle.std.specs.Prelude.{◌≡◌, ◌%◌, length};
-    ghost use Rattle.rv_bench.specs.Ram.{write_bytes};
+    ghost use Rattle.std.specs.Prelude.{◌≡◌, ◌%◌, length, Some};
+    ghost use Rattle.rv_memory.specs.Memory.{ram_base, write};
 
     /// The address of the first instruction, a multiple of 4.
     pub fn entry(&self) -> u32
@@ -45,11 +45,11 @@ impl Plan {
     pub(crate) fn load(&self, image: &[u8], ram: &mut Ram)
         requires of_image { length image.now ≡ self.now.len }
         requires of_ram { length ram.old ≡ self.now.ram_size }
-        ensures { ram.new ≡ write_bytes ram.old 0 image.now }
+        ensures { write ram.old ram_base image.now ≡ Some ram.new }
     {
         // brings in that the image is no longer than the RAM
         let _ = &self.len;
-        ram.put_image(image);
+        ram.write_part(RAM_BASE, image);
     }
 }
 

@@ -2,12 +2,12 @@
 
 ghost use Rattle.std.specs.Prelude.{◌≡◌, ℕ, ◌+◌, ◌*◌, ◌≤◌, ◌++◌, length};
 ghost use Rattle.arrayvec.specs.ArrayVec.{array_vec_len};
-ghost use Rattle.rv_bench.specs.ReplyText.{ran_text, trap_text, register_text, memory_text, fault_text, outside_text};
+ghost use Rattle.rv_bench.specs.ReplyText.{ran_text, trap_text, register_text, registers_text, pc_text, ok_text, memory_text, fault_text, outside_text};
 
 use crate::command::CommandFault;
 use crate::digits::{push_decimal, push_hex, push_text};
-use crate::trap::Trap;
 use arrayvec::ArrayVec;
+use rv_hart::{Regs, Trap};
 use rv_word::Reg;
 
 /// The bytes that answer one command.
@@ -60,6 +60,42 @@ pub(crate) fn push_register(out: &mut Reply, register: Reg, value: u32)
     push_text(out, "\n");
 }
 
+/// Writes the address of the next instruction.
+#[tactic(auto, unfolding(crate::specs::ReplyText::pc_text))]
+fn push_pc(out: &mut Reply, pc: u32)
+    requires room { array_vec_len out.old + 12 ≤ 2048 }
+    ensures items { out.new.items ≡ out.old.items ++ pc_text pc }
+    ensures len { array_vec_len out.new ≡ array_vec_len out.old + 12 }
+{
+    push_text(out, "pc=");
+    push_hex(out, pc, 8);
+    push_text(out, "\n");
+}
+
+/// Writes what each register has, from x0 on, and then pc.
+#[tactic(auto, unfolding(crate::specs::ReplyText::registers_text))]
+pub(crate) fn push_registers(out: &mut Reply, regs: &Regs, pc: u32)
+    requires room { array_vec_len out.old + 418 ≤ 2048 }
+    ensures items { out.new.items ≡ out.old.items ++ registers_text regs.now pc }
+    ensures len { array_vec_len out.new ≤ array_vec_len out.old + 418 }
+{
+    for number in 0..32 {
+        let register = Reg::new(number);
+        push_register(out, register, regs.get(register));
+    }
+    push_pc(out, pc);
+}
+
+/// Writes that a command is done.
+#[tactic(auto, unfolding(crate::specs::ReplyText::ok_text))]
+pub(crate) fn push_ok(out: &mut Reply)
+    requires room { array_vec_len out.old + 3 ≤ 2048 }
+    ensures items { out.new.items ≡ out.old.items ++ ok_text }
+    ensures len { array_vec_len out.new ≡ array_vec_len out.old + 3 }
+{
+    push_text(out, "ok\n");
+}
+
 /// Writes bytes of memory, of which the first is at the address.
 #[tactic(auto, unfolding(crate::specs::ReplyText::memory_text))]
 pub(crate) fn push_memory(out: &mut Reply, address: u32, bytes: &[u8])
@@ -102,7 +138,7 @@ pub(crate) fn push_outside(out: &mut Reply)
 #[cfg(test)]
 mod tests {
     use super::*;
-    use crate::cause::Cause;
+    use rv_hart::Cause;
 
     #[test]
     fn prints_what_steps_did(rt: HostRuntime) {
@@ -135,6 +171,37 @@ mod tests {
             out.as_slice(),
             b"x1=ffffffff\nx31=00000000\n8000000e: e2 00 ff ff\n".as_slice()
         );
+    }
+
+    #[test]
+    fn prints_all_registers(rt: HostRuntime) {
+        let mut regs = Regs::new();
+        regs.set(Reg::new(0), 1);
+        regs.set(Reg::new(7), 0xabcd);
+        regs.set(Reg::new(31), 0xffff_ffff);
+        let mut out = Reply::new();
+        push_registers(&mut out, &regs, 0x8000_0004);
+        assert_eq!(rt; out.len(), 418);
+        assert_eq!(rt;
+            out.as_slice(),
+            b"x0=00000000\nx1=00000000\nx2=00000000\nx3=00000000\n\
+              x4=00000000\nx5=00000000\nx6=00000000\nx7=0000abcd\n\
+              x8=00000000\nx9=00000000\nx10=00000000\nx11=00000000\n\
+              x12=00000000\nx13=00000000\nx14=00000000\nx15=00000000\n\
+              x16=00000000\nx17=00000000\nx18=00000000\nx19=00000000\n\
+              x20=00000000\nx21=00000000\nx22=00000000\nx23=00000000\n\
+              x24=00000000\nx25=00000000\nx26=00000000\nx27=00000000\n\
+              x28=00000000\nx29=00000000\nx30=00000000\nx31=ffffffff\n\
+              pc=80000004\n"
+                .as_slice(),
+        );
+    }
+
+    #[test]
+    fn prints_that_it_is_done(rt: HostRuntime) {
+        let mut out = Reply::new();
+        push_ok(&mut out);
+        assert_eq!(rt; out.as_slice(), b"ok\n".as_slice());
     }
 
     #[test]

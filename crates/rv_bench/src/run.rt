@@ -7,9 +7,8 @@ ghost use Rattle.rv_bench.specs.Image.{image_in, after_image, is_text_fault, Lea
 ghost use Rattle.rv_bench.specs.Lines.{lines_of};
 ghost use Rattle.rv_bench.specs.Loaded.{started};
 ghost use Rattle.rv_bench.specs.Output.{bench_output, machine_in, output, is_start_fault, is_input_fault, is_device_fault};
-ghost use Rattle.rv_bench.specs.Ram.{is_ram_size};
+ghost use Rattle.rv_memory.specs.Memory.{is_ram_size};
 ghost use Rattle.rv_bench.specs.Run.{StopsAtRead, StopsAtWrite};
-ghost use Rattle.rv_bench.specs.Step.{over};
 ghost use Rattle.rv_bench.specs.Transfer.{WritesFront};
 ghost use Rattle.rv_bench.specs.Unread.{held, unread, HasEnded, TellsEnd};
 
@@ -18,12 +17,12 @@ use crate::device::{Sink, Source};
 use crate::fault::BenchFault;
 use crate::image::read_image;
 use crate::lines::Lines;
-use crate::machine::Machine;
-use crate::ram_fault::RamFault;
 use crate::reply::Reply;
 use crate::setup::Setup;
 use crate::start::start;
 use crate::transfer::write_all;
+use rv_hart::Machine;
+use rv_memory::RamFault;
 use std::alloc::Global;
 
 /// Writes the reply to each line, until the source answers its end. It takes no memory.
@@ -35,7 +34,7 @@ fn run_lines<S: Source, W: Sink>(
     ensures read_to_end { OnOk result (lines.new.is_at_end ≡ true) }
     ensures end { TellsEnd lines.old lines.new }
     ensures written { IsTrue S.tells → IsTrue W.tells → OnOk result
-        (W.taken sink.new ≡ W.taken sink.old ++ replies (over machine.old.ram machine.old.hart) (lines_of (unread lines.old))) }
+        (W.taken sink.new ≡ W.taken sink.old ++ replies machine.old (lines_of (unread lines.old))) }
     ensures used_up { IsTrue S.tells → OnOk result (unread lines.new ≡ []) }
     ensures sound { OnOk result ((S.failures lines.new.source ≡ S.failures lines.old.source)
         × (W.failures sink.new ≡ W.failures sink.old) × (W.refusals sink.new ≡ W.refusals sink.old)) }
@@ -46,11 +45,11 @@ fn run_lines<S: Source, W: Sink>(
         HasRisen (W.failures sink.old) (W.failures sink.new) ⊎ HasRisen (W.refusals sink.old) (W.refusals sink.new) }
 
     ensures after_read { result ≡ Err BenchFault.Read → IsTrue S.tells → IsTrue W.tells →
-        StopsAtRead (over machine.old.ram machine.old.hart) (unread lines.old) (S.remaining lines.new.source) (held lines.new) (W.taken sink.old) (W.taken sink.new) }
+        StopsAtRead machine.old (unread lines.old) (S.remaining lines.new.source) (held lines.new) (W.taken sink.old) (W.taken sink.new) }
     ensures after_write { result ≡ Err BenchFault.Write → IsTrue S.tells → IsTrue W.tells →
-        StopsAtWrite (over machine.old.ram machine.old.hart) (unread lines.old) (unread lines.new) (W.taken sink.old) (W.taken sink.new) }
+        StopsAtWrite machine.old (unread lines.old) (unread lines.new) (W.taken sink.old) (W.taken sink.new) }
     ensures front { result ≡ Err BenchFault.Write → IsTrue S.tells → IsTrue W.tells →
-        WritesFront (W.taken sink.old) (W.taken sink.new) (replies (over machine.old.ram machine.old.hart) (lines_of (unread lines.old))) }
+        WritesFront (W.taken sink.old) (W.taken sink.new) (replies machine.old (lines_of (unread lines.old))) }
 {
     let mut reply = Reply::new();
     while let Some(line) = lines.next_line().map_err(|_| BenchFault::Read)? {

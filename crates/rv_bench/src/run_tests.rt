@@ -5,10 +5,9 @@ use crate::faulty::{AtSetCall, FaultySink, FaultySource};
 use crate::lines::Lines;
 use crate::memory::{MemorySink, MemorySource};
 use crate::plan::plan_raw;
-use crate::ram::Ram;
-use crate::ram_fault::RamFault;
 use crate::run::{run_bench, run_stream};
 use crate::setup::Setup;
+use rv_memory::{Ram, RamFault};
 
 const INPUT: &[u8] = b"9300f0ff\n--\nstep 1\nreg 1\n";
 

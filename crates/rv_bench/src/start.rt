@@ -3,21 +3,19 @@
 ghost use Rattle.std.specs.Prelude.{◌≡◌, ◌↔◌, false, IsTrue, IfOk, IfErr, Ok};
 ghost use Rattle.rv_bench.specs.Loaded.{started};
 ghost use Rattle.rv_bench.specs.Output.{is_start_fault, is_input_fault};
-ghost use Rattle.rv_bench.specs.Ram.{is_ram_size};
-ghost use Rattle.rv_bench.specs.Step.{over};
+ghost use Rattle.rv_memory.specs.Memory.{is_ram_size};
 
 use crate::fault::BenchFault;
-use crate::machine::Machine;
 use crate::plan::plan_raw;
-use crate::ram::Ram;
-use crate::ram_fault::RamFault;
 use crate::setup::Setup;
+use rv_hart::Machine;
+use rv_memory::{Ram, RamFault};
 use std::alloc::Global;
 
 /// The machine at reset, with the image in its RAM.
 #[tactic(auto, unfolding(crate::specs::Loaded::started))]
 pub(crate) fn start(alloc: Global, image: &[u8], setup: &Setup) -> Result<Machine, BenchFault>
-    ensures machine { IfOk result (λ machine. started image.now setup.now.ram ≡ Ok (over machine.ram machine.hart)) }
+    ensures machine { IfOk result (λ machine. started image.now setup.now.ram ≡ Ok machine) }
     ensures ram_size { (result ≡ Err (BenchFault.Ram RamFault.BadSize)) ↔ (is_ram_size setup.now.ram ≡ false) }
     ensures image { IfErr result (λ fault. IsTrue (is_input_fault fault) → started image.now setup.now.ram ≡ Err fault) }
     ensures faults { IfErr result (λ fault. IsTrue (is_start_fault fault)) }

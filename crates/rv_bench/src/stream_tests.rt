@@ -6,9 +6,9 @@ use crate::faulty::{AtSetCall, FaultySink, FaultySource};
 use crate::image::read_image;
 use crate::lines::Lines;
 use crate::memory::{MemorySink, MemorySource};
-use crate::ram_fault::RamFault;
 use crate::stdio::{StandardSink, StandardSource};
 use crate::transfer::write_all;
+use rv_memory::RamFault;
 use std::collections::VecDeque;
 use std::test::Fail;
 

@@ -1,6 +1,9 @@
 pub mod Word
+pub mod Cases
 pub mod BitFields
 pub mod ByteOrder
 pub mod Products
 pub mod Division
 pub mod Logic
+pub mod Shifts
+pub mod Widths

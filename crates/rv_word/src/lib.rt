@@ -1,6 +1,6 @@
 //! Words of 32 bits as the RISC-V Unprivileged ISA 20191213 uses them (chapters 2 and 7): register
 //! numbers, fields of bits and their signs, the bytes of a word, high words of products, divisions,
-//! and logic bit by bit.
+//! logic bit by bit, shifts, and the widths of accesses.
 //!
 //! A word is a `u32`, and its signed value is that of two's complement. No call refuses anything:
 //! what a call needs of its arguments stands in its `requires`.
@@ -17,6 +17,9 @@ mod division;
 mod logic;
 mod product;
 mod reg;
+mod shift;
+mod sign;
+mod width;
 
 pub use bit_field::{bits, sext};
 pub use byte_order::{le_bytes, le_word};
@@ -24,6 +27,9 @@ pub use division::{div, divu, rem, remu};
 pub use logic::{and, and_not, or, xor};
 pub use product::{mulh, mulhsu, mulhu};
 pub use reg::Reg;
+pub use shift::{sll, sra, srl};
+pub use sign::signed;
+pub use width::Width;
 
 #[cfg(test)]
 mod tests;

@@ -4,12 +4,7 @@ ghost use Rattle.std.specs.Prelude.{◌≡◌, ℕ, ◌*◌, ◌/◌, ◌^◌, �
 ghost use Rattle.rv_word.specs.Word.{signed as signed_of};
 ghost use Rattle.rv_word.specs.Products.{high_word as high_word_of, IsSignedHighWord};
 
-/// The signed value of a word.
-const fn signed(word: u32) -> i64
-    ensures { result ≡ signed_of word }
-{
-    word.cast_signed() as i64
-}
+use crate::sign::signed;
 
 /// The word above the low word of a product.
 const fn high_word(product: i64) -> u32

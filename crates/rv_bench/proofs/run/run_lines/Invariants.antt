@@ -1,5 +1,4 @@
 use Rattle.std.proofs.Common.{◌≡◌, IsTrue}
-use Rattle.rv_bench.specs.Step.{over}
 use Rattle.rv_bench.specs.Unread.{unread, calls_left, TellsEnd}
 use Rattle.rv_bench.proofs.Runs.{AnswersLines}
 use Rattle.rv_bench.proofs.run.run_lines.Given as goal
@@ -8,8 +7,8 @@ use Rattle.rv_bench.proofs.run.run_lines.Given as goal
 abbrev pub invariant-loop-line : goal.invariant-loop-line
 invariant-loop-line g l = record {
   answered : IsTrue g.S.Source.tells → IsTrue g.W.Sink.tells →
-      AnswersLines (over l.initial.machine.ram l.initial.machine.hart) (unread l.initial.lines) (g.W.Sink.taken l.initial.sink)
-      (over l.machine.ram l.machine.hart) (unread l.lines) l.lines.is_at_end (g.W.Sink.taken l.sink);
+      AnswersLines l.initial.machine (unread l.initial.lines) (g.W.Sink.taken l.initial.sink)
+      l.machine (unread l.lines) l.lines.is_at_end (g.W.Sink.taken l.sink);
   end : TellsEnd l.initial.lines l.lines;
   source_failures : g.S.Source.failures l.lines.source ≡ g.S.Source.failures l.initial.lines.source;
   sink_failures : g.W.Sink.failures l.sink ≡ g.W.Sink.failures l.initial.sink;

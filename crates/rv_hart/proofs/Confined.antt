@@ -1,0 +1,172 @@
+-- A step reads and writes memory only where it says.
+use Rattle.std.proofs.Common.{◌≡◌, ℕ, List, [], length, take, drop, ◌-◌, Option, Some, None, Result, Ok, Err, true, false, cond, refl, sym, ap, ◌∙◌, ◌⊎◌, ⊎_elim, inl, inr, subst}
+use Rattle.rv_word.specs.Cases.{option_case, result_case}
+use Rattle.rv_word.specs.Widths.{bytes_in}
+use Rattle.rv_word.specs.declared.width.Width.{Width}
+use Rattle.rv_word.specs.declared.width.Width.TheVariants.{Byte, Half, Word}
+use Rattle.rv_encoding.specs.declared.instr.Instr.{Instr}
+use Rattle.rv_encoding.specs.Decoding.{decoded}
+use Rattle.rv_memory.specs.Accesses.{loaded, fetched, stored}
+use Rattle.rv_memory.specs.Memory.{ram_base, is_inside, read, write, write_bytes, number_of, bytes_of}
+use Rattle.rv_memory.specs.declared.access_fault.AccessFault.{AccessFault}
+use Rattle.rv_memory.specs.declared.access_fault.AccessFault.TheVariants.{Outside}
+use Rattle.rv_memory.specs.declared.touched.Span.{Span}
+use Rattle.rv_memory.specs.declared.touched.Touched.{Touched}
+use Rattle.rv_hart.specs.Confinement.{SameIn, AgreeOn, Stores, EndAlike, IsConfined}
+use Rattle.rv_hart.specs.Exceptions.{illegal, access_fault}
+use Rattle.rv_hart.specs.HartState.{Hart}
+use Rattle.rv_hart.specs.Instructions.{request, finished}
+use Rattle.rv_hart.specs.State.{State, Ended, Stepped, over}
+use Rattle.rv_hart.specs.Step.{step, executed, accessed, concluded, trap_end, retired_end, fetch_of, load_of, store_of, span, nothing}
+use Rattle.rv_hart.specs.declared.cause.Cause.TheVariants.{InstructionAccessFault, LoadAccessFault, StoreAccessFault}
+use Rattle.rv_hart.specs.declared.request.Request.{Request}
+use Rattle.rv_hart.specs.declared.request.Request.TheVariants.{Nothing, Load, Store}
+use Rattle.rv_hart.specs.declared.trap.Trap.{Trap}
+
+-- ---- memories of one size
+
+-- a read is done in both or in neither
+abbrev ReadsBoth : List ℕ → List ℕ → ℕ → ℕ → Type 0
+ReadsBoth m n address count =
+    ((a : List ℕ) × (b : List ℕ) × (read m address count ≡ Some a) × (read n address count ≡ Some b))
+    ⊎ ((read m address count ≡ None) × (read n address count ≡ None))
+
+read-both : (m n : List ℕ) (address count : ℕ) → length m ≡ length n → ReadsBoth m n address count
+unfolding read
+read-both m n address count sizes =
+    rw (← sizes)
+    (elim (is_inside m address count) as (λ b.
+    ((x : List ℕ) × (y : List ℕ) × (cond b (Some (take count (drop (address - ram_base) m))) None ≡ Some x)
+    × (cond b (Some (take count (drop (address - ram_base) n))) None ≡ Some y))
+    ⊎ ((cond b (Some (take count (drop (address - ram_base) m))) None ≡ None)
+    × (cond b (Some (take count (drop (address - ram_base) n))) None ≡ None)))
+    [ true ↦ inl (_, _, refl, refl) | false ↦ inr (refl, refl) ])
+
+-- a write too
+write-both : (m n : List ℕ) (address : ℕ) (bytes : List ℕ) → length m ≡ length n
+    → ((a : List ℕ) × (b : List ℕ) × (write m address bytes ≡ Some a) × (write n address bytes ≡ Some b))
+    ⊎ ((write m address bytes ≡ None) × (write n address bytes ≡ None))
+unfolding write
+write-both m n address bytes sizes =
+    rw (← sizes)
+    (elim (is_inside m address (length bytes)) as (λ b.
+    ((x : List ℕ) × (y : List ℕ) × (cond b (Some (write_bytes m (address - ram_base) bytes)) None ≡ Some x)
+    × (cond b (Some (write_bytes n (address - ram_base) bytes)) None ≡ Some y))
+    ⊎ ((cond b (Some (write_bytes m (address - ram_base) bytes)) None ≡ None)
+    × (cond b (Some (write_bytes n (address - ram_base) bytes)) None ≡ None)))
+    [ true ↦ inl (_, _, refl, refl) | false ↦ inr (refl, refl) ])
+
+length-bytes_of : (width : Width) (value : ℕ) → length (bytes_of (bytes_in width) value) ≡ bytes_in width
+length-bytes_of Byte value = refl
+length-bytes_of Half value = refl
+length-bytes_of Word value = refl
+
+-- ---- what a step touches
+
+-- an instruction whose access is done touches what it touched
+touched-concluded : (hart : Hart) (touched : Touched) (finish : Result Hart Trap) → (concluded hart touched finish).outcome.touched ≡ touched
+unfolding concluded
+touched-concluded hart touched (Ok after) = refl
+touched-concluded hart touched (Err trap) = refl
+
+-- two steps that change no memory and end in the same way
+unchanged : (m n bytes : List ℕ) (ended : Ended) → ended.outcome.touched.stored ≡ None → EndAlike m n bytes (over m ended) (over n ended)
+unchanged m n bytes ended none = record { hart = refl; outcome = refl; here = rw none refl; there = rw none refl }
+
+-- ---- the access of an instruction
+
+-- the bytes that it stores
+bytes_in_request : Request → List ℕ
+bytes_in_request Nothing = []
+bytes_in_request (Load address width) = []
+bytes_in_request (Store address width value) = bytes_of (bytes_in width) value
+
+none-stored : (hart : Hart) (finish : Result Hart Trap) (touched : Touched) → touched.stored ≡ None → (concluded hart touched finish).outcome.touched.stored ≡ None
+none-stored hart finish touched none = ap (λ (t : Touched). t.stored) (touched-concluded hart touched finish) ∙ none
+
+access-confined : (hart : Hart) (m n : List ℕ) (word : ℕ) (instr : Instr) (r : Request) → length m ≡ length n
+    → SameIn m n (accessed hart m word instr r).outcome.touched.loaded
+    → EndAlike m n (bytes_in_request r) (accessed hart m word instr r) (accessed hart n word instr r)
+unfolding accessed bytes_in_request
+access-confined hart m n word instr Nothing sizes same =
+    unchanged m n _ _ (none-stored hart (finished instr hart word 0) (fetch_of hart) refl)
+access-confined hart m n word instr (Load address width) sizes same =
+    ⊎_elim
+    (λ done.
+    let here = rw (done.2, touched-concluded) at same in
+    let equal : done.0 ≡ done.1 = cc in
+    rw (done.2, done.3, equal)
+    (unchanged m n [] _ (none-stored hart (finished instr hart word (number_of done.1)) (load_of hart address width) refl)))
+    (λ refused. rw (refused.0, refused.1) (unchanged m n [] (trap_end hart (fetch_of hart) (access_fault LoadAccessFault address)) refl))
+    (read-both m n address (bytes_in width) sizes)
+access-confined hart m n word instr (Store address width value) sizes same =
+    ⊎_elim
+    (λ done. rw (done.2, done.3) (record {
+      hart = refl;
+      outcome = refl;
+      here = rw touched-concluded (length-bytes_of width value, done.2);
+      there = rw touched-concluded (length-bytes_of width value, done.3);
+    }))
+    (λ refused. rw (refused.0, refused.1) (unchanged m n _ (trap_end hart (fetch_of hart) (access_fault StoreAccessFault address)) refl))
+    (write-both m n address (bytes_of (bytes_in width) value) sizes)
+
+-- ---- the step
+
+-- an instruction touches the word at pc
+fetched-accessed : (hart : Hart) (m : List ℕ) (word : ℕ) (instr : Instr) (r : Request) → (accessed hart m word instr r).outcome.touched.fetched ≡ span hart.pc Word
+unfolding accessed
+fetched-accessed hart m word instr Nothing = rw touched-concluded refl
+fetched-accessed hart m word instr (Load address width) =
+    elim (loaded m address width) as (λ r.
+    (result_case r (λ number. over m (concluded hart (load_of hart address width) (finished instr hart word number)))
+    (λ _. over m (trap_end hart (fetch_of hart) (access_fault LoadAccessFault address)))).outcome.touched.fetched ≡ span hart.pc Word)
+    [ Ok number ↦ rw touched-concluded refl | Err fault ↦ refl ]
+fetched-accessed hart m word instr (Store address width value) =
+    elim (stored m address width value) as (λ r.
+    (result_case r (λ after. over after (concluded hart (store_of hart address width) (finished instr hart word 0)))
+    (λ _. over m (trap_end hart (fetch_of hart) (access_fault StoreAccessFault address)))).outcome.touched.fetched ≡ span hart.pc Word)
+    [ Ok after ↦ rw touched-concluded refl | Err fault ↦ refl ]
+
+-- the bytes that a fetched word stores
+bytes_in_word : Hart → ℕ → List ℕ
+bytes_in_word hart word = option_case (decoded word) [] (λ instr. bytes_in_request (request instr hart))
+
+executed-confined : (hart : Hart) (m n : List ℕ) (word : ℕ) → length m ≡ length n → SameIn m n (executed hart m word).outcome.touched.loaded
+    → EndAlike m n (bytes_in_word hart word) (executed hart m word) (executed hart n word)
+unfolding executed bytes_in_word
+executed-confined hart m n word sizes =
+    elim (decoded word) as (λ o.
+    SameIn m n (option_case o (over m (trap_end hart (fetch_of hart) (illegal word))) (λ instr. accessed hart m word instr (request instr hart))).outcome.touched.loaded
+    → EndAlike m n (option_case o [] (λ instr. bytes_in_request (request instr hart)))
+    (option_case o (over m (trap_end hart (fetch_of hart) (illegal word))) (λ instr. accessed hart m word instr (request instr hart)))
+    (option_case o (over n (trap_end hart (fetch_of hart) (illegal word))) (λ instr. accessed hart n word instr (request instr hart))))
+    [ None ↦ λ same. unchanged m n [] _ refl | Some instr ↦ λ same. access-confined hart m n word instr (request instr hart) sizes same ]
+
+fetched-executed : (hart : Hart) (m : List ℕ) (word : ℕ) → (executed hart m word).outcome.touched.fetched ≡ span hart.pc Word
+unfolding executed
+fetched-executed hart m word =
+    elim (decoded word) as (λ o.
+    (option_case o (over m (trap_end hart (fetch_of hart) (illegal word))) (λ instr. accessed hart m word instr (request instr hart))).outcome.touched.fetched
+    ≡ span hart.pc Word)
+    [ None ↦ refl | Some instr ↦ fetched-accessed hart m word instr (request instr hart) ]
+
+-- the bytes that a step stores
+bytes_in_step : State → List ℕ
+bytes_in_step state = result_case (fetched state.memory state.hart.pc) (bytes_in_word state.hart) (λ _. [])
+
+step-confined : (state : State) (n : List ℕ) → AgreeOn state.memory n (step state).outcome.touched
+    → EndAlike state.memory n (bytes_in_step state) (step state) (step (record state { memory = n }))
+unfolding step bytes_in_step
+step-confined state n agree =
+    ⊎_elim
+    (λ done.
+    let here = rw (done.2, fetched-executed) at agree.fetched in
+    let equal : done.0 ≡ done.1 = cc in
+    let loads = rw done.2 at agree.loaded in
+    rw (done.2, done.3, ← equal) (executed-confined state.hart state.memory n (number_of done.0) agree.size loads))
+    (λ refused. rw (refused.0, refused.1)
+    (unchanged state.memory n [] (trap_end state.hart nothing (access_fault InstructionAccessFault state.hart.pc)) refl))
+    (read-both state.memory n state.hart.pc 4 agree.size)
+
+pub confined : (state : State) → IsConfined state (step state)
+confined state = record { bytes = bytes_in_step state; alike = step-confined state }

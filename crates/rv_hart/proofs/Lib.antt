@@ -1,0 +1,3 @@
+mod Confined
+mod StepExamples
+mod StepLaws

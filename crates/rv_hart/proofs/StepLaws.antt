@@ -1,0 +1,91 @@
+-- A trap changes no register and no byte.
+use Rattle.std.proofs.Common.{◌≡◌, ℕ, List, Option, Some, None, Result, Ok, Err, refl, subst}
+use Rattle.std.specs.Prelude.{IfSome}
+use Rattle.rv_word.specs.Cases.{option_case, result_case}
+use Rattle.rv_encoding.specs.declared.instr.Instr.{Instr}
+use Rattle.rv_encoding.specs.declared.instr.Instr.TheVariants.{Lui, Auipc, Jal, Jalr, Branch, Load, Store, OpImm, ShiftImm, Op, Fence, Csr, CsrImm, Ecall, Ebreak, Sret, Mret, Wfi, SfenceVma}
+use Rattle.rv_encoding.specs.Decoding.{decoded}
+use Rattle.rv_memory.specs.Accesses.{loaded, fetched, stored}
+use Rattle.rv_memory.specs.declared.touched.Touched.{Touched}
+use Rattle.rv_word.specs.declared.width.Width.{Width}
+use Rattle.rv_hart.specs.Exceptions.{illegal, access_fault}
+use Rattle.rv_hart.specs.Hart.{advanced}
+use Rattle.rv_hart.specs.HartState.{Hart}
+use Rattle.rv_hart.specs.Instructions.{request, finished}
+use Rattle.rv_hart.specs.State.{State, Stepped, over}
+use Rattle.rv_hart.specs.Step.{step, executed, accessed, concluded, trap_end, retired_end, fetch_of, load_of, store_of, nothing}
+use Rattle.rv_hart.specs.StepLaws.{TrapKeeps}
+use Rattle.rv_hart.specs.declared.cause.Cause.TheVariants.{InstructionAccessFault, LoadAccessFault, StoreAccessFault}
+use Rattle.rv_hart.specs.declared.request.Request.{Request}
+use Rattle.rv_hart.specs.declared.request.Request.TheVariants as requests
+use Rattle.rv_hart.specs.declared.trap.Trap.{Trap}
+
+-- an instruction that stores ends in no exception once its store is done
+store-finishes : (instr : Instr) (hart : Hart) (address value word : ℕ) (width : Width)
+    → request instr hart ≡ requests.Store address width value → finished instr hart word 0 ≡ Ok (advanced hart)
+unfolding request finished
+store-finishes (Store kind rs1 rs2 offset) hart address value word width is = refl
+store-finishes (Load kind rd rs1 offset) hart address value word width is = cc
+store-finishes (Lui rd imm) hart address value word width is = cc
+store-finishes (Auipc rd imm) hart address value word width is = cc
+store-finishes (Jal rd offset) hart address value word width is = cc
+store-finishes (Jalr rd rs1 offset) hart address value word width is = cc
+store-finishes (Branch kind rs1 rs2 offset) hart address value word width is = cc
+store-finishes (OpImm kind rd rs1 imm) hart address value word width is = cc
+store-finishes (ShiftImm kind rd rs1 amount) hart address value word width is = cc
+store-finishes (Op kind rd rs1 rs2) hart address value word width is = cc
+store-finishes (Fence fm pred succ rd rs1) hart address value word width is = cc
+store-finishes (Csr kind rd rs1 csr) hart address value word width is = cc
+store-finishes (CsrImm kind rd number csr) hart address value word width is = cc
+store-finishes Ecall hart address value word width is = cc
+store-finishes Ebreak hart address value word width is = cc
+store-finishes Sret hart address value word width is = cc
+store-finishes Mret hart address value word width is = cc
+store-finishes Wfi hart address value word width is = cc
+store-finishes (SfenceVma rs1 rs2) hart address value word width is = cc
+
+concluded-keeps : (hart : Hart) (memory : List ℕ) (touched : Touched) (finish : Result Hart Trap)
+    → TrapKeeps (record { hart = hart; memory = memory }) (over memory (concluded hart touched finish))
+unfolding concluded
+concluded-keeps hart memory touched (Ok after) = tt
+concluded-keeps hart memory touched (Err trap) = (refl, refl)
+
+accessed-keeps : (hart : Hart) (memory : List ℕ) (word : ℕ) (instr : Instr) (r : Request) → request instr hart ≡ r
+    → TrapKeeps (record { hart = hart; memory = memory }) (accessed hart memory word instr r)
+unfolding accessed concluded
+accessed-keeps hart memory word instr requests.Nothing is = concluded-keeps hart memory (fetch_of hart) (finished instr hart word 0)
+accessed-keeps hart memory word instr (requests.Load address width) is =
+    elim (loaded memory address width) as (λ r.
+    TrapKeeps (record { hart = hart; memory = memory })
+    (result_case r (λ number. over memory (concluded hart (load_of hart address width) (finished instr hart word number)))
+    (λ _. over memory (trap_end hart (fetch_of hart) (access_fault LoadAccessFault address)))))
+    [ Ok number ↦ concluded-keeps hart memory (load_of hart address width) (finished instr hart word number) | Err fault ↦ (refl, refl) ]
+accessed-keeps hart memory word instr (requests.Store address width value) is =
+    rw (store-finishes instr hart address value word width is)
+    (elim (stored memory address width value) as (λ r.
+    TrapKeeps (record { hart = hart; memory = memory })
+    (result_case r (λ after. over after (concluded hart (store_of hart address width) (Ok (advanced hart))))
+    (λ _. over memory (trap_end hart (fetch_of hart) (access_fault StoreAccessFault address)))))
+    [ Ok after ↦ tt | Err fault ↦ (refl, refl) ])
+
+executed-keeps : (hart : Hart) (memory : List ℕ) (word : ℕ) → TrapKeeps (record { hart = hart; memory = memory }) (executed hart memory word)
+unfolding executed
+executed-keeps hart memory word =
+    elim (decoded word) as (λ o.
+    TrapKeeps (record { hart = hart; memory = memory })
+    (option_case o (over memory (trap_end hart (fetch_of hart) (illegal word))) (λ instr. accessed hart memory word instr (request instr hart))))
+    [ None ↦ (refl, refl) | Some instr ↦ accessed-keeps hart memory word instr (request instr hart) refl ]
+
+pub trap-keeps : (state : State) → TrapKeeps state (step state)
+unfolding step
+trap-keeps state =
+    elim (fetched state.memory state.hart.pc) as (λ r.
+    TrapKeeps state
+    (result_case r (executed state.hart state.memory)
+    (λ _. over state.memory (trap_end state.hart nothing (access_fault InstructionAccessFault state.hart.pc)))))
+    [ Ok word ↦ executed-keeps state.hart state.memory word | Err fault ↦ (refl, refl) ]
+
+-- what holds of every step holds of one that is named
+pub after-step : (P : State → Stepped → Type 0) → ((state : State) → P state (step state))
+    → (before state : State) (after : Stepped) → state ≡ before → step state ≡ after → P before after
+after-step P law before state after is stepped = subst (λ (s : State). P s after) is (subst (P state) stepped (law state))

@@ -1,0 +1,37 @@
+-- The hart at reset, and the small changes of its state.
+-- RISC-V Unprivileged ISA 20191213, sections 2.1 and 2.5; Privileged Architecture 20211203, sections 3.1.7 (mtvec) and 3.4
+-- (reset; that all registers are 0 then is this project's choice).
+use Rattle.std.specs.Prelude.{ℕ, ◌%◌, ◌==◌, Bool, replicate, Result, Ok, Err, if◌then◌else◌}
+use Rattle.rv_hart.specs.Arithmetic.{sum_of}
+use Rattle.rv_hart.specs.Exceptions.{misaligned}
+use Rattle.rv_hart.specs.HartState.{Hart}
+use Rattle.rv_hart.specs.Registers.{with_register}
+use Rattle.rv_hart.specs.declared.trap.Trap.{Trap}
+
+-- every register 0, and the entry next
+abbrev pub at_reset : ℕ → Hart
+at_reset entry = record { regs = replicate 32 0; pc = entry }
+
+-- the next instruction comes next
+abbrev pub advanced : Hart → Hart
+advanced hart = record hart { pc = sum_of hart.pc 4 }
+
+-- a register is written, and the next instruction comes next
+abbrev pub with_result : Hart → ℕ → ℕ → Hart
+with_result hart rd value = record hart { regs = with_register hart.regs rd value; pc = sum_of hart.pc 4 }
+
+-- a jump that leaves the address of the next instruction in rd; to a misaligned target it traps, and rd is not written
+abbrev pub jumped : Hart → ℕ → ℕ → Result Hart Trap
+jumped hart rd target =
+    if target % 4 == 0 then Ok (record hart { regs = with_register hart.regs rd (sum_of hart.pc 4); pc = target })
+    else Err (misaligned target)
+
+-- a branch, whose target matters only where it is taken
+abbrev pub branched : Hart → Bool → ℕ → Result Hart Trap
+branched hart taken target =
+    if taken then (if target % 4 == 0 then Ok (record hart { pc = target }) else Err (misaligned target))
+    else Ok (advanced hart)
+
+-- A trap goes to the reset value of mtvec. It writes no register.
+abbrev pub trapped : Hart → Hart
+trapped hart = record hart { pc = 0 }

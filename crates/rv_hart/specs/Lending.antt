@@ -1,0 +1,22 @@
+-- What a hart or a machine ends as, once a part of it that was lent is given back. (No standard's: a way of writing.)
+use Rattle.std.specs.Prelude.{ℕ, List}
+use Rattle.std.specs.Borrow.{Lends, MutBor, Fml}
+use Rattle.rv_memory.specs.contracts.ram.Ram.{the_row as ram_row}
+use Rattle.rv_hart.specs.HartState.{Hart}
+use Rattle.rv_hart.specs.State.{State}
+use Rattle.rv_hart.specs.contracts.hart.Hart.{the_row as hart_row}
+use Rattle.rv_hart.specs.contracts.machine.Machine.{the_row as machine_row}
+use Rattle.rv_hart.specs.contracts.regs.Regs.{the_row as regs_row}
+
+-- the hart ends with the registers that are left
+abbrev pub HartLendsRegs : MutBor Hart → MutBor (List ℕ) → Fml
+HartLendsRegs hart regs = Lends hart_row regs_row hart regs (λ left. record hart.now { regs = left })
+
+-- so does the machine
+abbrev pub MachineLendsRegs : MutBor State → MutBor (List ℕ) → Fml
+MachineLendsRegs machine regs =
+    Lends machine_row regs_row machine regs (λ left. record machine.now { hart = record machine.now.hart { regs = left } })
+
+-- the machine ends with the memory that is left
+abbrev pub MachineLendsRam : MutBor State → MutBor (List ℕ) → Fml
+MachineLendsRam machine ram = Lends machine_row ram_row machine ram (λ left. record machine.now { memory = left })

@@ -1,0 +1,12 @@
+pub mod Arithmetic
+pub mod Causes
+pub mod Confinement
+pub mod Exceptions
+pub mod Hart
+pub mod HartState
+pub mod Instructions
+pub mod Registers
+pub mod State
+pub mod Step
+pub mod StepLaws
+pub mod Lending

@@ -1,0 +1,392 @@
+//! One hart, in mode M and without control and status registers.
+
+ghost use Rattle.std.specs.Prelude.{◌≡◌, ◌%◌, Ok, Err};
+ghost use Rattle.rv_hart.specs.HartState.{Hart as HartState};
+
+use crate::arithmetic::{is_taken, load_value, load_width, op, op_imm, shift, store_width};
+use crate::cause::Cause;
+use crate::regs::Regs;
+use crate::request::Request;
+use crate::trap::{StepOutcome, Trap, access_fault, breakpoint, illegal, machine_call, misaligned};
+use rv_encoding::{BranchKind, Instr, OpImmKind, OpKind, Shamt, ShiftKind, decode};
+use rv_memory::{Ram, Span, Touched};
+use rv_word::{Reg, Width};
+use std::marker::Model;
+
+/// Where a trap goes: the reset value of mtvec.
+const TRAP_VECTOR: u32 = 0;
+
+/// All of the machine's state but the memory.
+#[derive(Drop, Debug)]
+pub(crate) struct Hart {
+    regs: Regs,
+    pc: u32,
+}
+
+impl Model for Hart {
+    ghost use Rattle.std.specs.Prelude.{◌≡◌, ◌%◌};
+    ghost use Rattle.rv_hart.specs.HartState.{Hart as HartState};
+
+    ghost Value = { HartState };
+
+    ghost view = { λ hart. record { regs = hart.regs; pc = hart.pc } };
+
+    ghost invariant = { λ hart. hart.pc % 4 ≡ 0 };
+}
+
+impl Hart {
+    ghost use Rattle.std.specs.Prelude.{◌≡◌, ◌%◌, Some, None, Ok, Err};
+    ghost use Rattle.std.specs.Borrow.{sem};
+    ghost use Rattle.rv_hart.specs.HartState.{Hart as HartState};
+    ghost use Rattle.rv_hart.specs.Hart.{at_reset, advanced, with_result, jumped, branched, trapped};
+    ghost use Rattle.rv_hart.specs.Arithmetic.{sum_of, op_value, op_imm_value, shift_value, is_taken as is_taken_of};
+    ghost use Rattle.rv_hart.specs.Instructions.{request, finished, made_even};
+    ghost use Rattle.rv_hart.specs.Lending.{HartLendsRegs};
+    ghost use Rattle.rv_hart.specs.Registers.{register};
+    ghost use Rattle.rv_hart.specs.State.{ended_in, over};
+    ghost use Rattle.rv_hart.specs.Step.{step, executed, accessed, concluded, trap_end, retired_end, fetch_of};
+
+    /// The hart at reset, with the entry next.
+    pub(crate) fn new(entry: u32) -> Self
+        requires { entry % 4 ≡ 0 }
+        ensures { result ≡ at_reset entry }
+    {
+        Hart {
+            regs: Regs::new(),
+            pc: entry,
+        }
+    }
+
+    /// The address of the next instruction.
+    pub(crate) fn pc(&self) -> u32
+        ensures value { result ≡ self.now.pc }
+        ensures aligned { result % 4 ≡ 0 }
+    {
+        self.pc
+    }
+
+    /// What holds in every state. It does nothing.
+    #[inline(always)]
+    pub(crate) fn is_well_formed(&self)
+        ensures x0 { register self.now.regs 0 ≡ 0 }
+        ensures aligned { self.now.pc % 4 ≡ 0 }
+    {
+        let _ = &self.pc;
+        self.regs.has_x0();
+    }
+
+    /// The registers.
+    pub(crate) fn regs(&self) -> &Regs
+        ensures { result.now ≡ self.now.regs }
+    {
+        &self.regs
+    }
+
+    /// The registers, for writing.
+    pub(crate) fn regs_mut(&mut self) -> &mut Regs
+        ensures* writes_back { sem 𝓛 (HartLendsRegs self.entry result) }
+        ensures value { result.now ≡ self.old.regs }
+    {
+        &mut self.regs
+    }
+
+    /// Does one step over a memory.
+    #[inline(always)]
+    #[tactic(auto, unfolding(crate::specs::Step::step))]
+    pub(crate) fn step(&mut self, ram: &mut Ram) -> StepOutcome
+        ensures { step (record { hart = self.old; memory = ram.old }) ≡ over ram.new (ended_in self.new result) }
+    {
+        match ram.fetch(self.pc) {
+            Ok(word) => self.execute(word, ram),
+            Err(_) => {
+                let untouched = Touched {
+                    fetched: None,
+                    loaded: None,
+                    stored: None,
+                };
+                let trap = access_fault(Cause::InstructionAccessFault, self.pc);
+                self.trap(trap, untouched)
+            }
+        }
+    }
+
+    /// Does the instruction that the fetched word spells.
+    #[inline(always)]
+    #[tactic(auto, unfolding(crate::specs::Step::executed))]
+    fn execute(&mut self, word: u32, ram: &mut Ram) -> StepOutcome
+        ensures { executed self.old ram.old word ≡ over ram.new (ended_in self.new result) }
+    {
+        let fetched = Touched {
+            fetched: Some(Span {
+                addr: self.pc,
+                len: Width::Word,
+            }),
+            loaded: None,
+            stored: None,
+        };
+        match decode(word) {
+            Some(instr) => self.access(&instr, word, fetched, ram),
+            None => self.trap(illegal(word), fetched),
+        }
+    }
+
+    /// Does the access of an instruction, and then the rest of it.
+    #[inline(always)]
+    #[tactic(auto, unfolding(crate::specs::Step::accessed))]
+    fn access(&mut self, instr: &Instr, word: u32, fetched: Touched, ram: &mut Ram) -> StepOutcome
+        requires { fetched ≡ fetch_of self.old }
+        ensures { accessed self.old ram.old word instr.now (request instr.now self.old) ≡ over ram.new (ended_in self.new result) }
+    {
+        match self.request(instr) {
+            Request::Nothing => self.finish(instr, word, 0, fetched),
+            Request::Load { address, width } => match ram.load(address, width) {
+                Ok(number) => {
+                    let loaded = Some(Span {
+                        addr: address,
+                        len: width,
+                    });
+                    self.finish(instr, word, number, Touched { loaded, ..fetched })
+                }
+                Err(_) => self.trap(access_fault(Cause::LoadAccessFault, address), fetched),
+            },
+            Request::Store {
+                address,
+                width,
+                value,
+            } => match ram.store(address, width, value) {
+                Ok(()) => {
+                    let stored = Some(Span {
+                        addr: address,
+                        len: width,
+                    });
+                    self.finish(instr, word, 0, Touched { stored, ..fetched })
+                }
+                Err(_) => self.trap(access_fault(Cause::StoreAccessFault, address), fetched),
+            },
+        }
+    }
+
+    /// The one access that an instruction asks for.
+    #[inline(always)]
+    #[tactic(auto, unfolding(crate::specs::Instructions::request))]
+    fn request(&self, instr: &Instr) -> Request
+        ensures { result ≡ request instr.now self.now }
+    {
+        match *instr {
+            Instr::Load {
+                kind,
+                rs1,
+                offset,
+                ..
+            } => Request::Load {
+                address: self.regs.get(rs1).wrapping_add(offset.word()),
+                width: load_width(kind),
+            },
+            Instr::Store {
+                kind,
+                rs1,
+                rs2,
+                offset,
+            } => Request::Store {
+                address: self.regs.get(rs1).wrapping_add(offset.word()),
+                width: store_width(kind),
+                value: self.regs.get(rs2),
+            },
+            _ => Request::Nothing,
+        }
+    }
+
+    /// Does the rest of the instruction that the word spells, once its access is done.
+    #[inline(always)]
+    #[tactic(auto, unfolding(crate::specs::Instructions::finished, crate::specs::Step::concluded))]
+    fn finish(&mut self, instr: &Instr, word: u32, loaded: u32, touched: Touched) -> StepOutcome
+        ensures { concluded self.old touched (finished instr.now self.old word loaded) ≡ ended_in self.new result }
+    {
+        match *instr {
+            Instr::Lui { rd, imm } => self.write_rd(rd, imm.word(), touched),
+            Instr::Auipc { rd, imm } => self.write_pc_sum(rd, imm.word(), touched),
+            Instr::Jal { rd, offset } => self.jump_by(rd, offset.word(), touched),
+            Instr::Jalr { rd, rs1, offset } => self.jump_to(rd, rs1, offset.word(), touched),
+            Instr::Branch {
+                kind,
+                rs1,
+                rs2,
+                offset,
+            } => self.branch(kind, rs1, rs2, offset.word(), touched),
+            Instr::Load { kind, rd, .. } => self.write_rd(rd, load_value(kind, loaded), touched),
+            Instr::OpImm { kind, rd, rs1, imm } => {
+                self.write_op_imm(kind, rd, rs1, imm.word(), touched)
+            }
+            Instr::ShiftImm {
+                kind,
+                rd,
+                rs1,
+                shamt,
+            } => self.write_shift(kind, rd, rs1, shamt, touched),
+            Instr::Op { kind, rd, rs1, rs2 } => self.write_op(kind, rd, rs1, rs2, touched),
+            Instr::Store { .. } | Instr::Fence { .. } | Instr::Wfi | Instr::SfenceVma { .. } => {
+                self.advance_pc(touched)
+            }
+            Instr::Ecall => self.trap(machine_call(), touched),
+            Instr::Ebreak => self.trap(breakpoint(self.pc), touched),
+            Instr::Csr { .. } | Instr::CsrImm { .. } | Instr::Sret | Instr::Mret => {
+                self.trap(illegal(word), touched)
+            }
+        }
+    }
+
+    /// Ends the step in a trap.
+    #[inline(always)]
+    fn trap(&mut self, trap: Trap, touched: Touched) -> StepOutcome
+        ensures { trap_end self.old touched trap ≡ ended_in self.new result }
+    {
+        self.pc = TRAP_VECTOR;
+        StepOutcome {
+            trap: Some(trap),
+            touched,
+        }
+    }
+
+    /// Goes to the next instruction.
+    #[inline(always)]
+    fn advance_pc(&mut self, touched: Touched) -> StepOutcome
+        ensures { retired_end touched (advanced self.old) ≡ ended_in self.new result }
+    {
+        self.pc = self.pc.wrapping_add(4);
+        StepOutcome {
+            trap: None,
+            touched,
+        }
+    }
+
+    /// Writes the result of an instruction, and goes to the next.
+    #[inline(always)]
+    fn write_rd(&mut self, rd: Reg, value: u32, touched: Touched) -> StepOutcome
+        ensures { retired_end touched (with_result self.old rd value) ≡ ended_in self.new result }
+    {
+        self.regs.set(rd, value);
+        self.advance_pc(touched)
+    }
+
+    /// Writes the sum of pc and an immediate.
+    #[inline(always)]
+    fn write_pc_sum(&mut self, rd: Reg, imm: u32, touched: Touched) -> StepOutcome
+        ensures { retired_end touched (with_result self.old rd (sum_of self.old.pc imm)) ≡ ended_in self.new result }
+    {
+        let value = self.pc.wrapping_add(imm);
+        self.write_rd(rd, value, touched)
+    }
+
+    /// Writes what a register and an immediate give.
+    #[inline(always)]
+    fn write_op_imm(
+        &mut self,
+        kind: OpImmKind,
+        rd: Reg,
+        rs1: Reg,
+        imm: u32,
+        touched: Touched,
+    ) -> StepOutcome
+        ensures { retired_end touched (with_result self.old rd (op_imm_value kind (register self.old.regs rs1) imm)) ≡ ended_in self.new result }
+    {
+        let value = op_imm(kind, self.regs.get(rs1), imm);
+        self.write_rd(rd, value, touched)
+    }
+
+    /// Writes a register shifted by an immediate.
+    #[inline(always)]
+    fn write_shift(
+        &mut self,
+        kind: ShiftKind,
+        rd: Reg,
+        rs1: Reg,
+        shamt: Shamt,
+        touched: Touched,
+    ) -> StepOutcome
+        ensures { retired_end touched (with_result self.old rd (shift_value kind (register self.old.regs rs1) shamt)) ≡ ended_in self.new result }
+    {
+        let value = shift(kind, self.regs.get(rs1), shamt.amount());
+        self.write_rd(rd, value, touched)
+    }
+
+    /// Writes what two registers give.
+    #[inline(always)]
+    fn write_op(
+        &mut self,
+        kind: OpKind,
+        rd: Reg,
+        rs1: Reg,
+        rs2: Reg,
+        touched: Touched,
+    ) -> StepOutcome
+        ensures { retired_end touched (with_result self.old rd (op_value kind (register self.old.regs rs1) (register self.old.regs rs2))) ≡ ended_in self.new result }
+    {
+        let value = op(kind, self.regs.get(rs1), self.regs.get(rs2));
+        self.write_rd(rd, value, touched)
+    }
+
+    /// Jumps by an offset from pc.
+    #[inline(always)]
+    #[tactic(auto, unfolding(crate::specs::Step::concluded))]
+    fn jump_by(&mut self, rd: Reg, offset: u32, touched: Touched) -> StepOutcome
+        ensures { concluded self.old touched (jumped self.old rd (sum_of self.old.pc offset)) ≡ ended_in self.new result }
+    {
+        let target = self.pc.wrapping_add(offset);
+        self.jump(rd, target, touched)
+    }
+
+    /// Jumps to an offset from a register, which is read before rd is written, with bit 0 cleared.
+    #[inline(always)]
+    #[tactic(auto, unfolding(crate::specs::Step::concluded))]
+    fn jump_to(&mut self, rd: Reg, rs1: Reg, offset: u32, touched: Touched) -> StepOutcome
+        ensures { concluded self.old touched (jumped self.old rd (made_even (sum_of (register self.old.regs rs1) offset))) ≡ ended_in self.new result }
+    {
+        let target = self.regs.get(rs1).wrapping_add(offset);
+        self.jump(rd, target - target % 2, touched)
+    }
+
+    /// Jumps, and leaves the address of the next instruction in a register.
+    #[inline(always)]
+    #[tactic(auto, unfolding(crate::specs::Step::concluded))]
+    fn jump(&mut self, rd: Reg, target: u32, touched: Touched) -> StepOutcome
+        ensures { concluded self.old touched (jumped self.old rd target) ≡ ended_in self.new result }
+    {
+        let next = self.pc.wrapping_add(4);
+        if target % 4 != 0 {
+            return self.trap(misaligned(target), touched);
+        }
+        self.regs.set(rd, next);
+        self.pc = target;
+        StepOutcome {
+            trap: None,
+            touched,
+        }
+    }
+
+    /// Branches by an offset from pc where the test of two registers holds, and else goes to the next instruction.
+    #[inline(always)]
+    #[tactic(auto, unfolding(crate::specs::Step::concluded))]
+    fn branch(
+        &mut self,
+        kind: BranchKind,
+        rs1: Reg,
+        rs2: Reg,
+        offset: u32,
+        touched: Touched,
+    ) -> StepOutcome
+        ensures { concluded self.old touched (branched self.old (is_taken_of kind (register self.old.regs rs1) (register self.old.regs rs2)) (sum_of self.old.pc offset)) ≡ ended_in self.new result }
+    {
+        if !is_taken(kind, self.regs.get(rs1), self.regs.get(rs2)) {
+            return self.advance_pc(touched);
+        }
+        let target = self.pc.wrapping_add(offset);
+        if target % 4 != 0 {
+            return self.trap(misaligned(target), touched);
+        }
+        self.pc = target;
+        StepOutcome {
+            trap: None,
+            touched,
+        }
+    }
+}

@@ -1,0 +1,59 @@
+//! The integer registers.
+
+ghost use Rattle.std.specs.Prelude.{◌≡◌, ℕ, List, replicate};
+ghost use Rattle.rv_hart.specs.Registers.{register, with_register};
+
+use rv_word::Reg;
+use std::marker::Model;
+
+/// The 32 integer registers, of which x0 is always 0 (Unprivileged ISA, section 2.1).
+#[derive(Drop, Debug)]
+pub struct Regs {
+    words: [u32; 32],
+}
+
+impl Model for Regs {
+    ghost use Rattle.std.specs.Prelude.{◌≡◌, ℕ, List, slice_index};
+
+    ghost Value = { List ℕ };
+
+    ghost view = { λ regs. regs.words };
+
+    ghost invariant = { λ regs. slice_index regs.words 0 ≡ 0 };
+}
+
+impl Regs {
+    /// The registers at reset: all 0.
+    pub fn new() -> Self
+        ensures { result ≡ replicate 32 0 }
+    {
+        Regs { words: [0; 32] }
+    }
+
+    /// What holds of the registers in every state: x0 is 0. It does nothing.
+    #[inline(always)]
+    pub fn has_x0(&self)
+        ensures { register self.now 0 ≡ 0 }
+    {
+        let _ = &self.words;
+    }
+
+    /// The word in a register.
+    #[inline(always)]
+    pub fn get(&self, reg: Reg) -> u32
+        ensures { result ≡ register self.now reg }
+    {
+        self.words[reg.number() as usize]
+    }
+
+    /// Puts a word into a register. A write to x0 changes nothing.
+    #[inline(always)]
+    pub fn set(&mut self, reg: Reg, value: u32)
+        ensures { self.new ≡ with_register self.old reg value }
+    {
+        let number = reg.number();
+        if number != 0 {
+            self.words[number as usize] = value;
+        }
+    }
+}

@@ -1,0 +1,95 @@
+-- Laws of memory: a write keeps the size, is read back, and leaves every byte outside it as it was.
+use Rattle.std.proofs.Common.{◌≡◌, ℕ, ◌+◌, ◌-◌, ◌<◌, ◌≤◌, ◌⊎◌, ◌++◌, List, length, take, drop, get_or, slice_index, Option, Some, None, true, refl, subst, sym, ap, ◌∙◌, inl, inr, arith}
+use Rattle.std.proofs.lemmas.Grind.{common_steps}
+use Rattle.std.proofs.lemmas.Bool.{cases_lt, lt-leb}
+use Rattle.std.specs.Prelude.{if◌then◌else◌}
+use Rattle.rv_word.specs.Widths.{bytes_in}
+use Rattle.rv_word.specs.declared.width.Width.{Width}
+use Rattle.rv_word.specs.declared.width.Width.TheVariants.{Byte, Half, Word}
+use Rattle.rv_memory.specs.Changes.{ChangesOnly}
+use Rattle.rv_memory.specs.Memory.{bytes_of, ram_base, is_inside, read, write, write_bytes, byte_at}
+
+-- the memory after a write has the same size
+pub length-write : (memory : List ℕ) (address : ℕ) (bytes after : List ℕ) → write memory address bytes ≡ Some after → length after ≡ length memory
+unfolding write
+length-write memory address bytes after written = grind (arith, common_steps)
+
+-- what was written is read back
+pub read-write : (memory : List ℕ) (address : ℕ) (bytes after : List ℕ) → write memory address bytes ≡ Some after → read after address (length bytes) ≡ Some bytes
+unfolding write read
+read-write memory address bytes after written = grind (arith, common_steps)
+
+-- a byte elsewhere is as before: by its index
+index-below : (memory : List ℕ) (index : ℕ) (bytes : List ℕ) (k : ℕ) → index + length bytes ≤ length memory → k < index → slice_index (write_bytes memory index bytes) k ≡ slice_index memory k
+index-below memory index bytes k within below = grind (arith, common_steps)
+
+index-above : (memory : List ℕ) (index : ℕ) (bytes : List ℕ) (k : ℕ) → index + length bytes ≤ length memory → index + length bytes ≤ k → slice_index (write_bytes memory index bytes) k ≡ slice_index memory k
+index-above memory index bytes k within above = grind (arith, common_steps)
+
+byte_at-index : (memory : List ℕ) (address : ℕ) → byte_at memory address ≡ (if is_inside memory address 1 then Some (slice_index memory (address - ram_base)) else None)
+unfolding read
+byte_at-index memory address = grind (arith, common_steps)
+
+write-is : (memory : List ℕ) (address : ℕ) (bytes after : List ℕ) → write memory address bytes ≡ Some after
+    → (ram_base ≤ address) × (address + length bytes ≤ ram_base + length memory) × (after ≡ write_bytes memory (address - ram_base) bytes)
+unfolding write
+write-is memory address bytes after written = (grind (arith, common_steps), grind (arith, common_steps), grind (arith, common_steps))
+
+-- an index is apart from the write where the address is
+index-apart : (memory : List ℕ) (address : ℕ) (bytes : List ℕ) (other : ℕ) → ram_base ≤ address → address + length bytes ≤ ram_base + length memory
+    → ram_base ≤ other → other < address ⊎ address + length bytes ≤ other
+    → slice_index (write_bytes memory (address - ram_base) bytes) (other - ram_base) ≡ slice_index memory (other - ram_base)
+index-apart memory address bytes other above within here (inl below) =
+    index-below memory (address - ram_base) bytes (other - ram_base) (omega (arith, above, within)) (omega (arith, above, here, below))
+index-apart memory address bytes other above within here (inr past) =
+    index-above memory (address - ram_base) bytes (other - ram_base) (omega (arith, above, within)) (omega (arith, above, here, past))
+
+pub byte_at-write : (memory : List ℕ) (address : ℕ) (bytes after : List ℕ) (other : ℕ) → write memory address bytes ≡ Some after
+    → other < address ⊎ address + length bytes ≤ other → byte_at after other ≡ byte_at memory other
+byte_at-write memory address bytes after other written apart =
+    let is = write-is memory address bytes after written in
+    let sizes : length after ≡ length memory = length-write memory address bytes after written in
+    rw (byte_at-index after other, byte_at-index memory other, sizes)
+    (elim (cases_lt other ram_base) [
+      | inl low ↦ rw (lt-leb ram_base other low) refl
+      | inr here ↦ rw (is.2, index-apart memory address bytes other is.0 is.1 here apart) refl
+    ])
+
+-- bytes that are put at an index inside
+pub write_at : (memory : List ℕ) (address : ℕ) (bytes after : List ℕ) → is_inside memory address (length bytes) ≡ true
+    → after ≡ write_bytes memory (address - ram_base) bytes → write memory address bytes ≡ Some after
+unfolding write
+write_at memory address bytes after inside is = rw (inside, is) refl
+
+pub changes_only : (memory : List ℕ) (address count : ℕ) (bytes after : List ℕ) → is_inside memory address count ≡ true → length bytes ≡ count
+    → after ≡ write_bytes memory (address - ram_base) bytes → ChangesOnly memory after address count
+changes_only memory address count bytes after inside is put =
+    let written = write_at memory address bytes after (rw is inside) put in
+    subst (ChangesOnly memory after address) is (record {
+      size = length-write memory address bytes after written;
+      elsewhere = λ other apart. byte_at-write memory address bytes after other written apart;
+    })
+
+pub changes_nothing : (memory : List ℕ) (address count : ℕ) → ChangesOnly memory memory address count
+changes_nothing memory address count = record { size = refl; elsewhere = λ other apart. refl }
+
+-- a word gives as many bytes as a width has
+pub length-bytes_of : (width : Width) (value : ℕ) → length (bytes_of (bytes_in width) value) ≡ bytes_in width
+length-bytes_of Byte value = refl
+length-bytes_of Half value = refl
+length-bytes_of Word value = refl
+
+-- a store of a width
+pub store_changes_only : (memory : List ℕ) (address value count : ℕ) (width : Width) (after : List ℕ) → is_inside memory address (bytes_in width) ≡ true
+    → count ≡ bytes_in width → after ≡ write_bytes memory (address - ram_base) (bytes_of count value) → ChangesOnly memory after address (bytes_in width)
+store_changes_only memory address value count width after inside is put =
+    changes_only memory address (bytes_in width) (bytes_of count value) after inside (rw is (length-bytes_of width value)) put
+
+pub store_read_back : (memory : List ℕ) (address value count : ℕ) (width : Width) (after : List ℕ) → is_inside memory address (bytes_in width) ≡ true
+    → count ≡ bytes_in width → after ≡ write_bytes memory (address - ram_base) (bytes_of count value)
+    → read after address (bytes_in width) ≡ Some (bytes_of (bytes_in width) value)
+store_read_back memory address value count width after inside is put =
+    let bytes = bytes_of (bytes_in width) value in
+    let written : write memory address bytes ≡ Some after =
+    write_at memory address bytes after (rw (length-bytes_of width value) inside) (rw is at put) in
+    rw (length-bytes_of width value) at (read-write memory address bytes after written)

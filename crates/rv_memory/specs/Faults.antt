@@ -1,0 +1,13 @@
+-- The numbers of the faults, as this project's surface gives them. (No public standard numbers them.)
+use Rattle.std.specs.Prelude.{ℕ}
+use Rattle.rv_memory.specs.declared.access_fault.AccessFault.{AccessFault}
+use Rattle.rv_memory.specs.declared.access_fault.AccessFault.TheVariants.{Outside}
+use Rattle.rv_memory.specs.declared.ram_fault.RamFault.{RamFault}
+use Rattle.rv_memory.specs.declared.ram_fault.RamFault.TheVariants.{BadSize, NoMemory}
+
+abbrev pub ram_fault_number : RamFault → ℕ
+ram_fault_number BadSize = 1
+ram_fault_number NoMemory = 2
+
+abbrev pub access_fault_number : AccessFault → ℕ
+access_fault_number Outside = 1

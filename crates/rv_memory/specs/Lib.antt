@@ -1,0 +1,4 @@
+pub mod Accesses
+pub mod Changes
+pub mod Faults
+pub mod Memory

@@ -1,0 +1,43 @@
+-- Memory as the list of its bytes, of which the first has the address 80000000: one reader of it, and one writer.
+-- Byte addresses, and numbers whose lowest byte comes first: RISC-V Unprivileged ISA 20191213, sections 1.4 and 2.6.
+use Rattle.std.specs.Prelude.{ℕ, ◌+◌, ◌-◌, ◌%◌, ◌==◌, Bool, ◌&&◌, nat_le, List, [], ◌∷◌, ◌++◌, length, take, drop, slice_index, Option, Some, None, if◌then◌else◌}
+use Rattle.std.specs.Option.{option_map}
+use Rattle.rv_word.specs.ByteOrder.{word_of_bytes, byte_of}
+
+-- the address of the first byte
+abbrev pub ram_base : ℕ
+ram_base = 0x80000000
+
+-- the sizes in bytes that a RAM may have: a multiple of 65536, from 65536 to 16777216
+abbrev pub is_ram_size : ℕ → Bool
+is_ram_size size = size % 65536 == 0 && nat_le 65536 size && nat_le size 16777216
+
+-- all of so many bytes from an address on are in the memory
+abbrev pub is_inside : List ℕ → ℕ → ℕ → Bool
+is_inside memory address count = nat_le ram_base address && nat_le (address + count) (ram_base + length memory)
+
+-- The one reader of memory: so many bytes from an address on, where all of them are in it.
+unfoldable pub read : List ℕ → ℕ → ℕ → Option (List ℕ)
+read memory address count =
+    if is_inside memory address count then Some (take count (drop (address - ram_base) memory)) else None
+
+-- The one change of memory: these bytes from an index on, and every other byte as it was.
+abbrev pub write_bytes : List ℕ → ℕ → List ℕ → List ℕ
+write_bytes memory index bytes = take index memory ++ (bytes ++ drop (index + length bytes) memory)
+
+-- the memory with these bytes from an address on, where all of them are in it
+unfoldable pub write : List ℕ → ℕ → List ℕ → Option (List ℕ)
+write memory address bytes =
+    if is_inside memory address (length bytes) then Some (write_bytes memory (address - ram_base) bytes) else None
+
+-- the byte at an address
+abbrev pub byte_at : List ℕ → ℕ → Option ℕ
+byte_at memory address = option_map (λ bytes. slice_index bytes 0) (read memory address 1)
+
+-- the number that at most four bytes spell, the lowest first: those that there are not count 0
+abbrev pub number_of : List ℕ → ℕ
+number_of bytes = word_of_bytes bytes
+
+-- so many of the lowest bytes of a word, the lowest first
+abbrev pub bytes_of : ℕ → ℕ → List ℕ
+bytes_of count word = take count (byte_of word 0 ∷ byte_of word 1 ∷ byte_of word 2 ∷ byte_of word 3 ∷ [])

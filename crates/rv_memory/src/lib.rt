@@ -1,0 +1,24 @@
+//! The memory of the machine (RISC-V Unprivileged ISA 20191213, sections 1.4 and 2.6): bytes from address 80000000 on, the
+//! accesses of a hart, and what one step of it touches.
+//!
+//! The specs name it by one reader and one writer of a list of bytes, `read` and `write` in `Memory`.
+//!
+//! ```text
+//! let mut ram = Ram::new(alloc, 65_536)?;
+//! ram.store(0x8000_0000, Width::Half, 0xabcd_1234)?;
+//! ram.load(0x8000_0000, Width::Word)?; // 0x0000_1234
+//! ```
+#![tactic(auto)]
+
+mod access_fault;
+mod ram;
+mod ram_fault;
+mod touched;
+
+pub use access_fault::AccessFault;
+pub use ram::{RAM_BASE, Ram};
+pub use ram_fault::RamFault;
+pub use touched::{Span, Touched};
+
+#[cfg(test)]
+mod tests;

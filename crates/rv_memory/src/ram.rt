@@ -1,0 +1,229 @@
+//! The memory of the machine.
+
+ghost use Rattle.std.specs.Prelude.{◌≡◌, ℕ, ◌+◌, ◌-◌, ◌%◌, ◌^◌, ◌<◌, ◌*◌, ◌≤◌, List, [], ◌∷◌, length, replicate, take, drop, IfOk, OnOk, OnErr, MatchResult, Some, None, Ok, Err, true, false, if◌then◌else◌};
+ghost use Rattle.rv_word.specs.Widths.{bytes_in};
+ghost use Rattle.rv_memory.specs.Memory.{is_ram_size, ram_base, is_inside, read, write, write_bytes, byte_at, number_of, bytes_of};
+ghost use Rattle.rv_memory.specs.Accesses.{loaded, stored, fetched};
+ghost use Rattle.rv_memory.specs.Changes.{ChangesOnly};
+
+use crate::access_fault::AccessFault;
+use crate::ram_fault::RamFault;
+use rv_word::{Width, le_bytes, le_word};
+use std::alloc::{AllocError, Global};
+use std::marker::Model;
+
+/// The address of the first byte.
+pub const RAM_BASE: u32 = 0x8000_0000;
+
+/// The memory of the machine: its bytes from address 80000000 on. There are a multiple of 65536 of them,
+/// from 65536 to 16777216.
+#[derive(Drop, Debug)]
+pub struct Ram {
+    bytes: Vec<u8>,
+}
+
+impl Model for Ram {
+    ghost use Rattle.std.specs.Prelude.{List, ℕ, vec_len, IsTrue};
+    ghost use Rattle.rv_memory.specs.Memory.{is_ram_size};
+
+    ghost Value = { List ℕ };
+
+    ghost view = { λ ram. ram.bytes.items };
+
+    ghost invariant = { λ ram. IsTrue (is_ram_size (vec_len ram.bytes)) };
+}
+
+impl Ram {
+    /// A memory of so many bytes, all 0.
+    ///
+    /// # Errors
+    ///
+    /// `BadSize` where the number is not a multiple of 65536 from 65536 to 16777216; else `NoMemory` where memory for them was
+    /// refused.
+    pub fn new(alloc: Global, bytes: u32) -> Result<Self, RamFault>
+        ensures made { IfOk result (λ ram. ram ≡ replicate bytes 0) }
+        ensures ok_size { OnOk result (is_ram_size bytes ≡ true) }
+        ensures bad_size { result ≡ Err RamFault.BadSize → is_ram_size bytes ≡ false }
+        ensures no_memory { result ≡ Err RamFault.NoMemory → is_ram_size bytes ≡ true }
+    {
+        if bytes % 65536 != 0 || bytes < 65536 || bytes > 16_777_216 {
+            return Err(RamFault::BadSize);
+        }
+        match vec![in alloc; 0; bytes as usize] {
+            Ok(bytes) => Ok(Ram { bytes }),
+            Err(AllocError) => Err(RamFault::NoMemory),
+        }
+    }
+
+    /// The number of bytes.
+    pub fn size(&self) -> u32
+        ensures size { result ≡ length self.now }
+        ensures allowed { is_ram_size result ≡ true }
+    {
+        self.bytes.len() as u32
+    }
+
+    /// Whether so many bytes from an address on are all in the memory.
+    #[inline(always)]
+    #[tactic(auto, unfolding(crate::specs::Memory::read))]
+    pub fn contains(&self, base: u32, size: u32) -> bool
+        ensures value { result ≡ is_inside self.now base size }
+        ensures outside { result ≡ false → read self.now base size ≡ None }
+    {
+        base >= RAM_BASE && base as usize + size as usize <= RAM_BASE as usize + self.bytes.len()
+    }
+
+    /// So many bytes from an address on, all of which are in the memory.
+    #[tactic(auto, unfolding(crate::specs::Memory::read))]
+    pub fn part(&self, base: u32, size: u32) -> &[u8]
+        requires { is_inside self.now base size ≡ true }
+        ensures bytes { read self.now base size ≡ Some result.now }
+        ensures len { length result.now ≡ size }
+    {
+        let start = (base - RAM_BASE) as usize;
+        &self.bytes[start..start + size as usize]
+    }
+
+    /// Puts these bytes at an address, where all of them are in the memory, and leaves every other byte as it was.
+    #[tactic(auto, using(crate::proofs::MemoryLaws::changes_only), unfolding(crate::specs::Memory::write))]
+    pub fn write_part(&mut self, base: u32, bytes: &[u8])
+        requires { is_inside self.old base (length bytes.now) ≡ true }
+        ensures written { write self.old base bytes.now ≡ Some self.new }
+        ensures only { ChangesOnly self.old self.new base (length bytes.now) }
+    {
+        self.put_bytes((base - RAM_BASE) as usize, bytes);
+    }
+
+    /// Makes so many bytes from an address on 0, all of which are in the memory, and leaves every other byte as it was.
+    #[tactic(auto, using(crate::proofs::MemoryLaws::changes_only), unfolding(crate::specs::Memory::write))]
+    pub fn zero(&mut self, base: u32, size: u32)
+        requires { is_inside self.old base size ≡ true }
+        ensures written { write self.old base (replicate size 0) ≡ Some self.new }
+        ensures only { ChangesOnly self.old self.new base size }
+    {
+        self.put_zeros((base - RAM_BASE) as usize, size as usize);
+    }
+
+    /// The byte at an address, where it is in the memory.
+    #[tactic(auto, unfolding(crate::specs::Memory::read))]
+    pub fn peek(&self, addr: u32) -> Option<u8>
+        ensures { result ≡ byte_at self.now addr }
+    {
+        if !self.contains(addr, 1) {
+            return None;
+        }
+        Some(self.bytes[(addr - RAM_BASE) as usize])
+    }
+
+    /// Puts a byte at an address, where that is in the memory; else it answers false, and nothing changes.
+    #[tactic(auto, using(crate::proofs::MemoryLaws::changes_nothing), unfolding(crate::specs::Memory::write))]
+    pub fn poke(&mut self, addr: u32, byte: u8) -> bool
+        ensures done { (if result then Some self.new else None) ≡ write self.old addr (byte ∷ []) }
+        ensures only { ChangesOnly self.old self.new addr 1 }
+        ensures same { result ≡ false → self.new ≡ self.old }
+    {
+        if !self.contains(addr, 1) {
+            return false;
+        }
+        self.write_part(addr, &[byte]);
+        true
+    }
+
+    /// The word of an instruction, from the four bytes at an address.
+    ///
+    /// # Errors
+    ///
+    /// `Outside` where one of the bytes is outside RAM.
+    #[inline(always)]
+    pub fn fetch(&self, addr: u32) -> Result<u32, AccessFault>
+        ensures { result ≡ fetched self.now addr }
+    {
+        self.load(addr, Width::Word)
+    }
+
+    /// The number that the bytes at an address spell, the lowest first.
+    ///
+    /// # Errors
+    ///
+    /// `Outside` where one of the bytes is outside RAM.
+    #[inline(always)]
+    #[tactic(auto, unfolding(crate::specs::Memory::read))]
+    pub fn load(&self, addr: u32, width: Width) -> Result<u32, AccessFault>
+        ensures { result ≡ loaded self.now addr width }
+    {
+        if !self.contains(addr, u32::from(width.bytes())) {
+            return Err(AccessFault::Outside);
+        }
+        let start = (addr - RAM_BASE) as usize;
+        Ok(match width {
+            Width::Byte => u32::from(self.bytes[start]),
+            Width::Half => self.number_at(start, 2),
+            Width::Word => self.number_at(start, 4),
+        })
+    }
+
+    /// Puts the lowest bytes of a word at an address, the lowest first, and leaves every other byte as it was.
+    ///
+    /// # Errors
+    ///
+    /// `Outside` where one of the bytes is outside RAM. Nothing changes then.
+    #[inline(always)]
+    #[tactic(auto, using(crate::proofs::MemoryLaws::changes_nothing, crate::proofs::MemoryLaws::store_changes_only, crate::proofs::MemoryLaws::store_read_back), unfolding(crate::specs::Memory::write))]
+    pub fn store(&mut self, addr: u32, width: Width, value: u32) -> Result<(), AccessFault>
+        ensures done { let gives = stored self.old addr width value in
+            MatchResult result (λ _. gives ≡ Ok self.new) (λ fault. gives ≡ Err fault) }
+        ensures only { ChangesOnly self.old self.new addr (bytes_in width) }
+        ensures read_back { OnOk result (read self.new addr (bytes_in width) ≡ Some (bytes_of (bytes_in width) value)) }
+        ensures refused { OnErr result (self.new ≡ self.old) }
+    {
+        if !self.contains(addr, u32::from(width.bytes())) {
+            return Err(AccessFault::Outside);
+        }
+        let start = (addr - RAM_BASE) as usize;
+        match width {
+            Width::Byte => self.put_at(start, 1, value),
+            Width::Half => self.put_at(start, 2, value),
+            Width::Word => self.put_at(start, 4, value),
+        }
+        Ok(())
+    }
+
+    /// The number that so many bytes from an index on spell, the lowest first.
+    #[inline(always)]
+    fn number_at(&self, start: usize, count: usize) -> u32
+        requires short { count ≤ 4 }
+        requires inside { start + count ≤ length self.now }
+        ensures { result ≡ number_of (take count (drop start self.now)) }
+    {
+        let mut bytes = [0; 4];
+        bytes[..count].copy_from_slice(&self.bytes[start..start + count]);
+        le_word(&bytes)
+    }
+
+    /// Puts bytes at an index.
+    #[inline(always)]
+    fn put_bytes(&mut self, start: usize, bytes: &[u8])
+        requires { start + length bytes.now ≤ length self.old }
+        ensures { self.new ≡ write_bytes self.old start bytes.now }
+    {
+        self.bytes[start..start + bytes.len()].copy_from_slice(bytes);
+    }
+
+    /// Puts so many zeros at an index.
+    fn put_zeros(&mut self, start: usize, count: usize)
+        requires { start + count ≤ length self.old }
+        ensures { self.new ≡ write_bytes self.old start (replicate count 0) }
+    {
+        self.bytes[start..start + count].fill(0);
+    }
+
+    /// Puts so many of the lowest bytes of a word at an index, the lowest first.
+    #[inline(always)]
+    fn put_at(&mut self, start: usize, count: usize, value: u32)
+        requires short { count ≤ 4 }
+        requires inside { start + count ≤ length self.old }
+        ensures { self.new ≡ write_bytes self.old start (bytes_of count value) }
+    {
+        self.put_bytes(start, &le_bytes(value)[..count]);
+    }
+}
