@@ -1,5 +1,5 @@
 -- The machine that an image starts.
-use Rattle.std.proofs.Common.{◌≡◌, ℕ, ◌≤◌, true, List, length, replicate, None, Some, Ok, refl, sym, ap, ◌∙◌, arith}
+use Rattle.std.proofs.Common.{◌≡◌, ℕ, ◌≤◌, true, List, length, replicate, None, Some, Ok, refl, ap, ◌∙◌, arith}
 use Rattle.std.proofs.lemmas.Grind.{common_steps}
 use Rattle.std.proofs.lemmas.List.{drop-replicate}
 use Rattle.rv_memory.specs.Memory.{ram_base, is_ram_size, write}

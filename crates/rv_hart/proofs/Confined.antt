@@ -1,5 +1,5 @@
 -- A step reads and writes memory only where it says.
-use Rattle.std.proofs.Common.{◌≡◌, ℕ, List, [], length, take, drop, ◌-◌, Option, Some, None, Result, Ok, Err, true, false, cond, refl, sym, ap, ◌∙◌, ◌⊎◌, ⊎_elim, inl, inr, subst}
+use Rattle.std.proofs.Common.{◌≡◌, ℕ, List, [], length, take, drop, ◌-◌, Some, None, Result, Ok, Err, true, false, cond, refl, ap, ◌∙◌, ◌⊎◌, ⊎_elim, inl, inr}
 use Rattle.rv_word.specs.Cases.{option_case, result_case}
 use Rattle.rv_word.specs.Widths.{bytes_in}
 use Rattle.rv_word.specs.declared.width.Width.{Width}
@@ -8,16 +8,13 @@ use Rattle.rv_encoding.specs.declared.instr.Instr.{Instr}
 use Rattle.rv_encoding.specs.Decoding.{decoded}
 use Rattle.rv_memory.specs.Accesses.{loaded, fetched, stored}
 use Rattle.rv_memory.specs.Memory.{ram_base, is_inside, read, write, write_bytes, number_of, bytes_of}
-use Rattle.rv_memory.specs.declared.access_fault.AccessFault.{AccessFault}
-use Rattle.rv_memory.specs.declared.access_fault.AccessFault.TheVariants.{Outside}
-use Rattle.rv_memory.specs.declared.touched.Span.{Span}
 use Rattle.rv_memory.specs.declared.touched.Touched.{Touched}
-use Rattle.rv_hart.specs.Confinement.{SameIn, AgreeOn, Stores, EndAlike, IsConfined}
+use Rattle.rv_hart.specs.Confinement.{SameIn, AgreeOn, EndAlike, IsConfined}
 use Rattle.rv_hart.specs.Exceptions.{illegal, access_fault}
 use Rattle.rv_hart.specs.HartState.{Hart}
 use Rattle.rv_hart.specs.Instructions.{request, finished}
-use Rattle.rv_hart.specs.State.{State, Ended, Stepped, over}
-use Rattle.rv_hart.specs.Step.{step, executed, accessed, concluded, trap_end, retired_end, fetch_of, load_of, store_of, span, nothing}
+use Rattle.rv_hart.specs.State.{State, Ended, over}
+use Rattle.rv_hart.specs.Step.{step, executed, accessed, concluded, trap_end, fetch_of, load_of, store_of, span, nothing}
 use Rattle.rv_hart.specs.declared.cause.Cause.TheVariants.{InstructionAccessFault, LoadAccessFault, StoreAccessFault}
 use Rattle.rv_hart.specs.declared.request.Request.{Request}
 use Rattle.rv_hart.specs.declared.request.Request.TheVariants.{Nothing, Load, Store}

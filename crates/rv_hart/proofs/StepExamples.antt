@@ -3,7 +3,6 @@ use Rattle.std.proofs.Common.{◌≡◌, ℕ, List, [], ◌∷◌, Some, None, r
 use Rattle.std.specs.Prelude.{replicate}
 use Rattle.rv_encoding.specs.Decoding.{decoded}
 use Rattle.rv_word.specs.Logic.{by_bits}
-use Rattle.rv_word.specs.declared.width.Width.TheVariants.{Word}
 use Rattle.rv_memory.specs.Memory.{ram_base, read}
 use Rattle.rv_hart.specs.Hart.{at_reset}
 use Rattle.rv_hart.specs.HartState.{Hart}

@@ -1,6 +1,5 @@
 -- A trap changes no register and no byte.
-use Rattle.std.proofs.Common.{◌≡◌, ℕ, List, Option, Some, None, Result, Ok, Err, refl, subst}
-use Rattle.std.specs.Prelude.{IfSome}
+use Rattle.std.proofs.Common.{◌≡◌, ℕ, List, Some, None, Result, Ok, Err, refl, subst}
 use Rattle.rv_word.specs.Cases.{option_case, result_case}
 use Rattle.rv_encoding.specs.declared.instr.Instr.{Instr}
 use Rattle.rv_encoding.specs.declared.instr.Instr.TheVariants.{Lui, Auipc, Jal, Jalr, Branch, Load, Store, OpImm, ShiftImm, Op, Fence, Csr, CsrImm, Ecall, Ebreak, Sret, Mret, Wfi, SfenceVma}
@@ -13,7 +12,7 @@ use Rattle.rv_hart.specs.Hart.{advanced}
 use Rattle.rv_hart.specs.HartState.{Hart}
 use Rattle.rv_hart.specs.Instructions.{request, finished}
 use Rattle.rv_hart.specs.State.{State, Stepped, over}
-use Rattle.rv_hart.specs.Step.{step, executed, accessed, concluded, trap_end, retired_end, fetch_of, load_of, store_of, nothing}
+use Rattle.rv_hart.specs.Step.{step, executed, accessed, concluded, trap_end, fetch_of, load_of, store_of, nothing}
 use Rattle.rv_hart.specs.StepLaws.{TrapKeeps}
 use Rattle.rv_hart.specs.declared.cause.Cause.TheVariants.{InstructionAccessFault, LoadAccessFault, StoreAccessFault}
 use Rattle.rv_hart.specs.declared.request.Request.{Request}

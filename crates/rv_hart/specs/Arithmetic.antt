@@ -1,6 +1,6 @@
 -- What instructions compute: whole numbers, modulo 2 ^ 32 at the end. RISC-V Unprivileged ISA 20191213, sections 2.4 (integer
 -- computation), 2.5 (conditions), 2.6 (loads), 7.1 (multiplication) and 7.2 (division).
-use Rattle.std.specs.Prelude.{ℕ, ◌+◌, ◌-◌, ◌*◌, ◌%◌, ◌^◌, ◌==◌, Bool, not, nat_lt, int_lt, ℤ, pos, ◌*ℤ◌, if◌then◌else◌}
+use Rattle.std.specs.Prelude.{ℕ, ◌+◌, ◌-◌, ◌*◌, ◌%◌, ◌^◌, ◌==◌, Bool, not, nat_lt, int_lt, pos, ◌*ℤ◌, if◌then◌else◌}
 use Rattle.rv_word.specs.BitFields.{sign_extended}
 use Rattle.rv_word.specs.Division.{quotient, remainder, unsigned_quotient, unsigned_remainder}
 use Rattle.rv_word.specs.Logic.{and_by_bits, or_by_bits, xor_by_bits}
