@@ -8,8 +8,7 @@ all pairs of corner values, and one for each trap that it takes, since nothing g
 
 Nothing here comes from the bench. Results are computed by the formulas of RESULT and TAKEN on Python's integers, which have no
 bound, and cut to 32 bits at the end; where an instruction goes, which bytes it loads and stores, and what it traps with, is
-written out for each group below. Results and branches were compared with a C program over int32_t, uint32_t and int64_t.
-Words are put together by instruction_words.py, from the manual's tables; llvm-mc agrees on all of them but for a fence with
+written out for each group below. Words are put together by instruction_words.py, from the manual's tables; llvm-mc agrees on all of them but for a fence with
 reserved fields, which it cannot spell.
 """
 import os

@@ -1,7 +1,6 @@
 -- The machine that an image starts.
 use Rattle.std.proofs.Common.{◌≡◌, ℕ, ◌≤◌, true, List, length, replicate, None, Some, Ok, refl, ap, ◌∙◌, arith}
 use Rattle.std.proofs.lemmas.Grind.{common_steps}
-use Rattle.std.proofs.lemmas.List.{drop-replicate}
 use Rattle.rv_memory.specs.Memory.{ram_base, is_ram_size, write}
 use Rattle.rv_hart.specs.State.{State}
 use Rattle.rv_hart.specs.Hart.{at_reset}
@@ -11,7 +10,7 @@ use Rattle.rv_bench.specs.Plans.{RawPlan}
 -- an image at the front of a RAM that was all 0
 pub loaded-written : (image : List ℕ) (size : ℕ) (memory : List ℕ) → length image ≤ size → write (replicate size 0) ram_base image ≡ Some memory → memory ≡ loaded image size
 unfolding write
-loaded-written image size memory fits written = grind (arith, common_steps, drop-replicate)
+loaded-written image size memory fits written = grind (arith, common_steps)
 
 -- a RAM that is made, loaded by its plan and given to a machine
 pub started-ok : (image : List ℕ) (size : ℕ) (zeros memory : List ℕ) (plan : RawPlan) (entry : ℕ) (machine : State)

@@ -1,4 +1,4 @@
--- Steps one after another. (RISC-V Unprivileged ISA 20191213, section 1.6.)
+-- Steps one after another: RISC-V Unprivileged ISA 20191213, section 1.2.
 use Rattle.std.specs.Prelude.{ℕ, zero, suc, Option, None}
 use Rattle.std.specs.Option.{option_or}
 use Rattle.rv_hart.specs.State.{State}

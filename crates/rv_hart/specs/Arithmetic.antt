@@ -1,12 +1,12 @@
 -- What instructions compute: whole numbers, modulo 2 ^ 32 at the end. RISC-V Unprivileged ISA 20191213, sections 2.4 (integer
 -- computation), 2.5 (conditions), 2.6 (loads), 7.1 (multiplication) and 7.2 (division).
-use Rattle.std.specs.Prelude.{ℕ, ◌+◌, ◌-◌, ◌*◌, ◌%◌, ◌^◌, ◌==◌, Bool, not, nat_lt, int_lt, pos, ◌*ℤ◌, if◌then◌else◌}
+use Rattle.std.specs.Prelude.{ℕ, ◌+◌, ◌*◌, ◌%◌, ◌^◌, ◌==◌, Bool, not, nat_lt, int_lt, pos, ◌-ℤ◌, ◌*ℤ◌, if◌then◌else◌}
 use Rattle.rv_word.specs.BitFields.{sign_extended}
 use Rattle.rv_word.specs.Division.{quotient, remainder, unsigned_quotient, unsigned_remainder}
 use Rattle.rv_word.specs.Logic.{and_by_bits, or_by_bits, xor_by_bits}
 use Rattle.rv_word.specs.Products.{high_word}
 use Rattle.rv_word.specs.Shifts.{shifted_left, shifted_right, shifted_right_signed}
-use Rattle.rv_word.specs.Word.{signed}
+use Rattle.rv_word.specs.Word.{signed, low_word}
 use Rattle.rv_word.specs.declared.width.Width.{Width}
 use Rattle.rv_word.specs.declared.width.Width.TheVariants.{Byte, Half, Word}
 use Rattle.rv_encoding.specs.declared.kind.BranchKind.{BranchKind}
@@ -25,9 +25,8 @@ use Rattle.rv_encoding.specs.declared.kind.StoreKind.TheVariants.{Sb, Sh, Sw}
 abbrev pub sum_of : ℕ → ℕ → ℕ
 sum_of left right = (left + right) % 2 ^ 32
 
--- for words: a difference below 0 gets 2 ^ 32 more
 abbrev pub difference_of : ℕ → ℕ → ℕ
-difference_of left right = (left + 2 ^ 32 - right) % 2 ^ 32
+difference_of left right = low_word (pos left -ℤ pos right)
 
 -- 1 where the test holds, and 0 where it does not
 abbrev pub flag : Bool → ℕ

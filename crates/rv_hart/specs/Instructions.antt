@@ -1,7 +1,7 @@
 -- What each instruction means: the access that it asks for, and the hart that it leaves once that access is done.
 -- RISC-V Unprivileged ISA 20191213, chapters 2 and 7; Privileged Architecture 20211203, sections 3.3.3 (wfi) and 4.2.1
 -- (sfence.vma), which do nothing here. The control and status registers and the returns from traps are illegal.
-use Rattle.std.specs.Prelude.{ℕ, ◌-◌, ◌%◌, Result, Ok, Err}
+use Rattle.std.specs.Prelude.{ℕ, ◌*◌, ◌/◌, Result, Ok, Err}
 use Rattle.rv_word.specs.BitFields.{sign_extended}
 use Rattle.rv_encoding.specs.declared.instr.Instr.{Instr}
 use Rattle.rv_encoding.specs.declared.instr.Instr.TheVariants.{Lui, Auipc, Jal, Jalr, Branch, Load, Store, OpImm, ShiftImm, Op, Fence, Csr, CsrImm, Ecall, Ebreak, Sret, Mret, Wfi, SfenceVma}
@@ -20,7 +20,7 @@ address_of hart rs1 offset = sum_of (register hart.regs rs1) (sign_extended offs
 
 -- a number with bit 0 cleared
 abbrev pub made_even : ℕ → ℕ
-made_even n = n - n % 2
+made_even n = n / 2 * 2
 
 -- the one access of an instruction
 unfoldable pub request : Instr → Hart → Request

@@ -67,12 +67,13 @@ impl Hart {
 
     /// What holds in every state. It does nothing.
     #[inline(always)]
-    pub(crate) fn is_well_formed(&self)
+    pub(crate) fn invariant(&self)
         ensures x0 { register self.now.regs 0 ≡ 0 }
         ensures aligned { self.now.pc % 4 ≡ 0 }
     {
+        // brings in what holds of every hart and of its registers
         let _ = &self.pc;
-        self.regs.has_x0();
+        let _ = self.regs.get(Reg::new(0));
     }
 
     /// The registers.
@@ -99,13 +100,8 @@ impl Hart {
         match ram.fetch(self.pc) {
             Ok(word) => self.execute(word, ram),
             Err(_) => {
-                let untouched = Touched {
-                    fetched: None,
-                    loaded: None,
-                    stored: None,
-                };
                 let trap = access_fault(Cause::InstructionAccessFault, self.pc);
-                self.trap(trap, untouched)
+                self.trap(trap, Touched::default())
             }
         }
     }
@@ -121,8 +117,7 @@ impl Hart {
                 addr: self.pc,
                 len: Width::Word,
             }),
-            loaded: None,
-            stored: None,
+            ..Touched::default()
         };
         match decode(word) {
             Some(instr) => self.access(&instr, word, fetched, ram),
@@ -342,7 +337,7 @@ impl Hart {
         ensures { concluded self.old touched (jumped self.old rd (made_even (sum_of (register self.old.regs rs1) offset))) ≡ ended_in self.new result }
     {
         let target = self.regs.get(rs1).wrapping_add(offset);
-        self.jump(rd, target - target % 2, touched)
+        self.jump(rd, target / 2 * 2, touched)
     }
 
     /// Jumps, and leaves the address of the next instruction in a register.

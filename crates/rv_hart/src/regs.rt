@@ -1,6 +1,6 @@
 //! The integer registers.
 
-ghost use Rattle.std.specs.Prelude.{◌≡◌, ℕ, List, replicate};
+ghost use Rattle.std.specs.Prelude.{◌≡◌, ℕ, List, length, replicate};
 ghost use Rattle.rv_hart.specs.Registers.{register, with_register};
 
 use rv_word::Reg;
@@ -30,18 +30,12 @@ impl Regs {
         Regs { words: [0; 32] }
     }
 
-    /// What holds of the registers in every state: x0 is 0. It does nothing.
-    #[inline(always)]
-    pub fn has_x0(&self)
-        ensures { register self.now 0 ≡ 0 }
-    {
-        let _ = &self.words;
-    }
-
-    /// The word in a register.
+    /// The word in a register. That of x0 is 0.
     #[inline(always)]
     pub fn get(&self, reg: Reg) -> u32
-        ensures { result ≡ register self.now reg }
+        ensures value { result ≡ register self.now reg }
+        ensures x0 { register self.now 0 ≡ 0 }
+        ensures count { length self.now ≡ 32 }
     {
         self.words[reg.number() as usize]
     }
@@ -55,5 +49,14 @@ impl Regs {
         if number != 0 {
             self.words[number as usize] = value;
         }
+    }
+}
+
+impl Default for Regs {
+    /// The registers at reset.
+    fn default() -> Self
+        ensures { result ≡ replicate 32 0 }
+    {
+        Regs::new()
     }
 }

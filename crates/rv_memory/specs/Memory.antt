@@ -1,8 +1,8 @@
 -- Memory as the list of its bytes, of which the first has the address 80000000: one reader of it, and one writer.
 -- Byte addresses, and numbers whose lowest byte comes first: RISC-V Unprivileged ISA 20191213, sections 1.4 and 2.6.
-use Rattle.std.specs.Prelude.{ℕ, ◌+◌, ◌-◌, ◌%◌, ◌==◌, Bool, ◌&&◌, nat_le, List, [], ◌∷◌, ◌++◌, length, take, drop, slice_index, Option, Some, None, if◌then◌else◌}
+use Rattle.std.specs.Prelude.{ℕ, ◌+◌, ◌-◌, ◌*◌, ◌%◌, ◌^◌, ◌==◌, Bool, ◌&&◌, nat_le, List, [], ◌∷◌, ◌++◌, length, take, drop, slice_index, Option, Some, None, if◌then◌else◌}
 use Rattle.std.specs.Option.{option_map}
-use Rattle.rv_word.specs.ByteOrder.{word_of_bytes, byte_of}
+use Rattle.rv_word.specs.ByteOrder.{byte_of}
 
 -- the address of the first byte
 abbrev pub ram_base : ℕ
@@ -34,9 +34,10 @@ write memory address bytes =
 abbrev pub byte_at : List ℕ → ℕ → Option ℕ
 byte_at memory address = option_map (λ bytes. slice_index bytes 0) (read memory address 1)
 
--- the number that at most four bytes spell, the lowest first: those that there are not count 0
+-- the number that bytes spell, the lowest first
 abbrev pub number_of : List ℕ → ℕ
-number_of bytes = word_of_bytes bytes
+number_of [] = 0
+number_of (byte ∷ bytes) = byte + 2 ^ 8 * number_of bytes
 
 -- so many of the lowest bytes of a word, the lowest first
 abbrev pub bytes_of : ℕ → ℕ → List ℕ

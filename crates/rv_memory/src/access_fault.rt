@@ -3,7 +3,7 @@
 ghost use Rattle.std.specs.Prelude.{◌≡◌};
 ghost use Rattle.rv_memory.specs.Faults.{access_fault_number};
 
-/// Why a fetch, a load or a store is not done. Nothing changes then.
+/// Why a fetch, a load or a store is not done (Unprivileged ISA, section 1.4). Nothing changes then.
 #[derive(Clone, Copy, Debug, PartialEq, Eq)]
 pub enum AccessFault {
     /// A byte of it is outside RAM.

@@ -129,7 +129,7 @@ impl Ram {
         true
     }
 
-    /// The word of an instruction, from the four bytes at an address.
+    /// The word of an instruction, from the four bytes at an address (Unprivileged ISA, section 1.5).
     ///
     /// # Errors
     ///
@@ -141,7 +141,7 @@ impl Ram {
         self.load(addr, Width::Word)
     }
 
-    /// The number that the bytes at an address spell, the lowest first.
+    /// The number that the bytes at an address spell, the lowest first (Unprivileged ISA, section 2.6).
     ///
     /// # Errors
     ///
@@ -162,7 +162,8 @@ impl Ram {
         })
     }
 
-    /// Puts the lowest bytes of a word at an address, the lowest first, and leaves every other byte as it was.
+    /// Puts the lowest bytes of a word at an address, the lowest first, and leaves every other byte as it was (Unprivileged ISA,
+    /// section 2.6).
     ///
     /// # Errors
     ///

@@ -9,8 +9,10 @@ const END: u32 = RAM_BASE + 65_536;
 
 #[test]
 fn makes_lawful_sizes_alone(rt: HostRuntime) -> Result<(), Fail> {
-    let ram = Ram::new(rt.alloc(), 65_536).map_err(|_| "a RAM")?;
-    assert_eq!(rt; ram.size(), 65_536);
+    for size in [65_536, 131_072, 1_048_576, 16_777_216] {
+        let ram = Ram::new(rt.alloc(), size).map_err(|_| "a RAM")?;
+        assert_eq!(rt; ram.size(), size);
+    }
     for size in [0, 1, 65_535, 65_537, 98_304, 16_842_752, 0xffff_0000] {
         assert_eq!(rt;
             Ram::new(rt.alloc(), size).err(),

@@ -1,7 +1,8 @@
 //! Corner cases of the manual's tables, and words of worked examples.
 
 use crate::{
-    and, and_not, bits, div, divu, le_bytes, le_word, mulh, mulhsu, mulhu, or, rem, remu, sext, xor,
+    Width, and, and_not, bits, div, divu, le_bytes, le_word, mulh, mulhsu, mulhu, or, rem, remu,
+    sext, signed, sll, sra, srl, xor,
 };
 
 /// By zero, and the one quotient that fits no word (Unprivileged ISA, table 7.1); and the signs.
@@ -49,4 +50,14 @@ fn goes_bit_by_bit(rt: HostRuntime) {
     assert_eq!(rt; or(0b1100, 0b1010), 0b1110);
     assert_eq!(rt; xor(0b1100, 0b1010), 0b0110);
     assert_eq!(rt; and_not(0b1100, 0b1010), 0b0100);
+}
+
+#[test]
+fn shifts(rt: HostRuntime) {
+    assert_eq!(rt; sll(0x8000_0001, 1), 2);
+    assert_eq!(rt; srl(0x8000_0001, 31), 1);
+    assert_eq!(rt; sra(0x8000_0001, 31), 0xffff_ffff);
+    assert_eq!(rt; sra(0x7fff_ffff, 30), 1);
+    assert_eq!(rt; signed(0xffff_fffe), -2);
+    assert_eq!(rt; Width::Half.bytes(), 2);
 }
