@@ -1,6 +1,7 @@
 #!/usr/bin/env python3
-"""Writes the cases of tests/cases/corner_values: a folder for each instruction of RV32IM, Zicsr and the privileged ones, with
-all pairs of corner values, and one for each trap that it takes, since nothing goes on after a trap: there is no memory at 0.
+"""Writes the cases of tests/cases/corner_values: a folder for each instruction of RV32IM, with all pairs of corner values, and
+one for each trap that it takes in mode M, since nothing goes on after a trap: there is no memory at 0. The instructions of
+Zicsr and the other privileged ones are in csr_table.py and traps.py.
 
     tests/corner_values.py                      writes the folders anew
     tests/corner_values.py --check              tells whether they are what this script writes
@@ -8,17 +9,15 @@ all pairs of corner values, and one for each trap that it takes, since nothing g
 
 Nothing here comes from the bench. Results are computed by the formulas of RESULT and TAKEN on Python's integers, which have no
 bound, and cut to 32 bits at the end; where an instruction goes, which bytes it loads and stores, and what it traps with, is
-written out for each group below. Words are put together by instruction_words.py, from the manual's tables; llvm-mc agrees on all of them but for a fence with
-reserved fields, which it cannot spell.
+written out for each group below. Words are put together by instruction_words.py, from the manual's tables; llvm-mc agrees on
+all of them but for a fence with reserved fields, which it cannot spell.
 """
-import os
-import shutil
 import sys
 
 sys.dont_write_bytecode = True
-from instruction_words import WHOLE, assemble, differing_from_llvm, named
+import case_files
+from instruction_words import WHOLE, assemble, named
 
-FOLDER = os.path.join(os.path.dirname(os.path.abspath(__file__)), "cases", "corner_values")
 START, PAST, ONES = 0x80000000, 0x80100000, 0xFFFFFFFF  # the first byte of RAM, the first one behind it, all ones
 CORNERS = [0, 1, 2, 0x12345678, 0x7FFFFFFF, 0x80000000, ONES]
 IMMEDIATES = [0, 1, -1, 2047, -2048]
@@ -53,7 +52,7 @@ TAKEN = {
 
 class Case:
     """One folder: the bytes of its image, its script with the replies, and registers, pc and bytes as they are by then."""
-    all, words = [], {}
+    topic, all, words = "corner_values", [], {}
 
     def __init__(self, name, registers=None):
         self.name, self.script, self.replies, self.told = name, [], [], None
@@ -117,9 +116,7 @@ class Case:
         return self.halves[1 - here]
 
     def files(self):
-        data = bytes(self.image.get(a, 0) for a in range(START, max(self.image) + 1)).hex()
-        lines = [data[i:i + 120] for i in range(0, len(data), 120)] + ["--"] + self.script
-        return {self.name + "/stdin": "\n".join(lines) + "\n", self.name + "/stdout": "\n".join(self.replies) + "\n"}
+        return {"stdin": case_files.stdin(self.image, self.script), "stdout": "\n".join(self.replies) + "\n"}
 
 
 def trap(name, registers, instruction, cause, tval):
@@ -250,36 +247,12 @@ def others():
         case.step("addi", 5, 0, -1, rd=5, value=-1)
         case.step(name, trap=(cause, tval))
         case.registers()
-    for instruction in [(name, 5, 0x340, 6) for name in named("csr") + named("csr_number")] + [("mret",), ("sret",)]:
-        trap(instruction[0], {5: 0x12345678, 6: ONES}, instruction, 2, assemble(*instruction)[1])
 
 
-def differing(files):
-    """The files that are missing, too many or of other bytes."""
-    there = {os.path.relpath(os.path.join(d, f), FOLDER): os.path.join(d, f) for d, _, names in os.walk(FOLDER) for f in names}
-    return [name for name in sorted(there.keys() | files.keys())
-            if name not in there or name not in files or open(there[name], "rb").read() != files[name].encode()]
-
-
-def main(words):
+def main(arguments):
     for part in (results, branches, jumps, accesses, others):
         part()
-    files = {name: text for case in Case.all for name, text in case.files().items()}
-    assert len(files) == 2 * len(Case.all), "two cases of one name"
-    if words in (["--check"], ["--check-with-llvm"]):
-        wrong, count = (differing(files), len(files)) if words == ["--check"] else differing_from_llvm(Case.words)
-        print("\n".join(["differs: " + name for name in wrong] + ["%d compared, %d differ" % (count, len(wrong))]))
-        return 1 if wrong else 0
-    if words:
-        print(__doc__)
-        return 2
-    shutil.rmtree(FOLDER, ignore_errors=True)
-    for name, text in files.items():
-        os.makedirs(os.path.dirname(os.path.join(FOLDER, name)), exist_ok=True)
-        with open(os.path.join(FOLDER, name), "w", newline="") as file:
-            file.write(text)
-    print("%d cases written" % len(Case.all))
-    return 0
+    return case_files.main(arguments, Case.all, Case.words, __doc__)
 
 
 if __name__ == "__main__":

@@ -1,6 +1,6 @@
-"""The words of the instructions that tests/corner_values.py uses, by the tables of opcode, funct3 and funct7 of the RISC-V
-Unprivileged ISA 20191213, sections 2.2, 2.3 and chapter 24, and of the Privileged Architecture 20211203. Nothing of the bench
-is used. differing_from_llvm compares them with LLVM's assembler.
+"""The words of the instructions that corner_values.py, csr_table.py and traps.py use, by the tables of opcode, funct3 and
+funct7 of the RISC-V Unprivileged ISA 20191213, sections 2.2, 2.3 and chapter 24, and of the Privileged Architecture 20211203.
+Nothing of the bench is used. differing_from_llvm compares them with LLVM's assembler.
 """
 import re
 import subprocess
@@ -32,8 +32,8 @@ FORMATS = {
     "register": (0x33, "x%d, x%d, x%d", lambda d, a, b: d << 7 | a << 15 | b << 20,
                  "add:0:0 sub:0:20 sll:1:0 slt:2:0 sltu:3:0 xor:4:0 srl:5:0 sra:5:20 or:6:0 and:7:0 "
                  "mul:0:1 mulh:1:1 mulhsu:2:1 mulhu:3:1 div:4:1 divu:5:1 rem:6:1 remu:7:1"),
-    "csr": (0x73, "x%d, %d, x%d", lambda d, c, a: d << 7 | a << 15 | c << 20, "csrrw:1 csrrs:2 csrrc:3"),
-    "csr_number": (0x73, "x%d, %d, %d", lambda d, c, n: d << 7 | n << 15 | c << 20, "csrrwi:5 csrrsi:6 csrrci:7"),
+    "csr": (0x73, "x%d, 0x%x, x%d", lambda d, c, a: d << 7 | a << 15 | c << 20, "csrrw:1 csrrs:2 csrrc:3"),
+    "csr_number": (0x73, "x%d, 0x%x, %d", lambda d, c, n: d << 7 | n << 15 | c << 20, "csrrwi:5 csrrsi:6 csrrci:7"),
     "vma": (0x73, "x%d, x%d", lambda a, b: a << 15 | b << 20, "sfence.vma:0:9")}
 ROWS = {name.split(":")[0]: (kind, *(int(f, 16) for f in (name + ":0:0").split(":")[1:3]))
         for kind, row in FORMATS.items() for name in row[3].split()}
@@ -51,6 +51,8 @@ def assemble(name, *operands):
     """The assembly text and the word of an instruction; operands are as in the text, registers by number."""
     if name in WHOLE:
         return name, WHOLE[name]
+    if name == ".word":
+        return ".word 0x%08x" % operands, operands[0]
     kind, funct3, funct7 = ROWS[name]
     opcode, form, places, _ = FORMATS[kind]
     return name + " " + form % operands, places(*operands) | funct7 << 25 | funct3 << 12 | opcode

@@ -1,10 +1,10 @@
 -- What some lines are.
-use Rattle.std.proofs.Common.{◌≡◌, ℕ, List, [], ◌∷◌, Result, Ok, Err, map, refl}
+use Rattle.std.proofs.Common.{◌≡◌, ℕ, true, false, List, [], ◌∷◌, Result, Ok, Err, map, refl}
 use Rattle.std.specs.Prelude.{codes}
 use Rattle.rv_bench.specs.Words.{is_text, words_of}
-use Rattle.rv_bench.specs.Numbers.{number_of, decimal_of, hexadecimal_of}
+use Rattle.rv_bench.specs.Numbers.{number_of, decimal_of, hexadecimal_of, csr_number_of}
 use Rattle.rv_bench.specs.declared.command.Command.{Command}
-use Rattle.rv_bench.specs.declared.command.Command.TheVariants.{Blank, Step, Reg, Regs, SetReg, Mem}
+use Rattle.rv_bench.specs.declared.command.Command.TheVariants.{Blank, Step, Reg, Regs, SetReg, Csr, Mem, Timer}
 use Rattle.rv_bench.specs.declared.command.CommandFault.{CommandFault}
 use Rattle.rv_bench.specs.declared.command.CommandFault.TheVariants.{BadLine, UnknownCommand, BadOperand}
 use Rattle.rv_bench.specs.Command.{keyword_of, meaning_of, parse_of}
@@ -25,14 +25,23 @@ examples =
     ∷ (codes "setreg 5 0x1F", Ok (SetReg 5 0x1f))
     ∷ (codes "setreg 0 ffffffff", Ok (SetReg 0 0xffffffff))
     ∷ (codes "setreg 0000031 00000000", Ok (SetReg 31 0))
+    ∷ (codes "csr 0", Ok (Csr 0))
+    ∷ (codes "csr 7b0", Ok (Csr 0x7b0))
+    ∷ (codes " csr\tFFf ", Ok (Csr 0xfff))
+    ∷ (codes "csr 03A", Ok (Csr 0x3a))
     ∷ (codes "mem 8000000e 4", Ok (Mem 0x8000000e 4))
     ∷ (codes "mem 0x8000000E 64", Ok (Mem 0x8000000e 64))
     ∷ (codes "mem 0 1", Ok (Mem 0 1))
+    ∷ (codes "timer on", Ok (Timer true))
+    ∷ (codes "timer off", Ok (Timer false))
     ∷ (codes "fly", Err UnknownCommand)
     ∷ (codes "Step 1", Err UnknownCommand)
     ∷ (codes "Regs", Err UnknownCommand)
     ∷ (codes "setReg 1 1", Err UnknownCommand)
     ∷ (codes "set 1 1", Err UnknownCommand)
+    ∷ (codes "csrs 0", Err UnknownCommand)
+    ∷ (codes "CSR 300", Err UnknownCommand)
+    ∷ (codes "Timer on", Err UnknownCommand)
     ∷ (codes "--", Err UnknownCommand)
     ∷ (codes "step 0", Err BadOperand)
     ∷ (codes "step 1000001", Err BadOperand)
@@ -51,17 +60,31 @@ examples =
     ∷ (codes "setreg 1 100000000", Err BadOperand)
     ∷ (codes "setreg 1 0x", Err BadOperand)
     ∷ (codes "setreg 1 0X1", Err BadOperand)
+    ∷ (codes "csr", Err BadOperand)
+    ∷ (codes "csr 0300", Err BadOperand)
+    ∷ (codes "csr 0x300", Err BadOperand)
+    ∷ (codes "csr 0x3", Err BadOperand)
+    ∷ (codes "csr 3g0", Err BadOperand)
+    ∷ (codes "csr +30", Err BadOperand)
+    ∷ (codes "csr mepc", Err BadOperand)
+    ∷ (codes "csr 300 0", Err BadOperand)
     ∷ (codes "mem 80000000 0", Err BadOperand)
     ∷ (codes "mem 80000000 65", Err BadOperand)
     ∷ (codes "mem 0x 4", Err BadOperand)
     ∷ (codes "mem 0X80000000 4", Err BadOperand)
     ∷ (codes "mem 080000000 4", Err BadOperand)
+    ∷ (codes "timer", Err BadOperand)
+    ∷ (codes "timer maybe", Err BadOperand)
+    ∷ (codes "timer ON", Err BadOperand)
+    ∷ (codes "timer o", Err BadOperand)
+    ∷ (codes "timer 1", Err BadOperand)
+    ∷ (codes "timer on off", Err BadOperand)
     ∷ (codes "step 1\r", Err BadLine)
     ∷ (0 ∷ [], Err BadLine)
     ∷ []
 
 pub examples_hold : map (λ e. parse_of e.0) examples ≡ map (λ e. e.1) examples
-unfolding parse_of meaning_of keyword_of words_of is_text number_of decimal_of hexadecimal_of
+unfolding parse_of meaning_of keyword_of words_of is_text number_of decimal_of hexadecimal_of csr_number_of
 examples_hold = refl
 
 pub words_of-example : words_of (codes " mem\t0  64 ") ≡ codes "mem" ∷ codes "0" ∷ codes "64" ∷ []

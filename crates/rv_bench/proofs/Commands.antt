@@ -5,7 +5,7 @@ use Rattle.std.specs.List.{starts_with}
 use Rattle.rv_bench.specs.declared.command.Command.{Command}
 use Rattle.rv_bench.specs.declared.command.Command.TheVariants.{Blank}
 use Rattle.rv_bench.specs.declared.keyword.Keyword.{Keyword}
-use Rattle.rv_bench.specs.declared.keyword.Keyword.TheVariants.{Step, Reg, Regs, SetReg, Mem}
+use Rattle.rv_bench.specs.declared.keyword.Keyword.TheVariants.{Step, Reg, Regs, SetReg, Csr, Mem, Timer}
 use Rattle.rv_bench.specs.Command.{none, one, two, operands_of, keyword_of, named, meaning_of, parse_of}
 use Rattle.rv_bench.specs.Words.{words_of}
 use Rattle.rv_bench.specs.declared.command.CommandFault.TheVariants.{BadLine}
@@ -31,7 +31,9 @@ operands_of-take Step operands = search one-take
 operands_of-take Reg operands = search one-take
 operands_of-take Regs operands = search none-take
 operands_of-take SetReg operands = search two-take
+operands_of-take Csr operands = search one-take
 operands_of-take Mem operands = search two-take
+operands_of-take Timer operands = search one-take
 
 named-take : (k : Option Keyword) (operands : List (List ℕ)) → named k (take 5 operands) ≡ named k operands
 named-take None operands = refl

@@ -24,13 +24,25 @@ value_step-lt base most i value digit low fits within small below =
     let room : suc value * base ≤ base ^ i * base = mul-le-mul_right base (omega arith) in
     omega (arith, pow-suc base i, step, room)
 
-pub number_step-lt : (base most i value digit : ℕ) (text : List ℕ) → 2 ≤ base → base ^ most ≤ 2 ^ 32 → i < length text → length text ≤ most → list_all (λ c. is_digit c base) (take i text) ≡ true → value ≡ digits_value base (take i text) → digit < base → value * base + digit < 2 ^ 32
-number_step-lt base most i value digit text low fits within short digits is below =
-    let size : length (take i text) ≡ i = length-take-le i text (omega arith) in
+-- the number that the first digits write is below the base to the power of their count
+first_digits-lt : (base i value : ℕ) (text : List ℕ) → 2 ≤ base → i ≤ length text → list_all (λ c. is_digit c base) (take i text) ≡ true → value ≡ digits_value base (take i text) → value < base ^ i
+first_digits-lt base i value text low within digits is =
+    let size : length (take i text) ≡ i = length-take-le i text within in
     let small : digits_value base (take i text) < base ^ length (take i text) = digits_value-lt base (take i text) (AllDigits-from_list_all base (take i text) digits) in
     let P : ℕ → Type 0 = λ k. digits_value base (take i text) < base ^ k in
     let narrow : digits_value base (take i text) < base ^ i = subst P size small in
-    value_step-lt base most i value digit low fits (omega arith) (omega (arith, is, narrow)) below
+    omega (arith, is, narrow)
+
+pub number_step-lt : (base most i value digit : ℕ) (text : List ℕ) → 2 ≤ base → base ^ most ≤ 2 ^ 32 → i < length text → length text ≤ most → list_all (λ c. is_digit c base) (take i text) ≡ true → value ≡ digits_value base (take i text) → digit < base → value * base + digit < 2 ^ 32
+number_step-lt base most i value digit text low fits within short digits is below =
+    value_step-lt base most i value digit low fits (omega arith) (first_digits-lt base i value text low (omega arith) digits is) below
+
+-- and so below the base to the power of the digits allowed
+pub number-lt : (base most i value : ℕ) (text : List ℕ) → 2 ≤ base → i ≤ length text → length text ≤ most → list_all (λ c. is_digit c base) (take i text) ≡ true → value ≡ digits_value base (take i text) → value < base ^ most
+number-lt base most i value text low within short digits is =
+    let narrow = first_digits-lt base i value text low within digits is in
+    let wide : base ^ i ≤ base ^ most = pow-le-pow_right (omega arith) (omega arith) in
+    omega (arith, narrow, wide)
 
 pub all_digits_more : (base i : ℕ) (text : List ℕ) → i < length text → list_all (λ c. is_digit c base) (take i text) ≡ true → digit_value (get_or text i 0) < base → list_all (λ c. is_digit c base) (take (i + 1) text) ≡ true
 all_digits_more base i text within digits below =

@@ -4,6 +4,7 @@ use Rattle.std.proofs.lemmas.Grind.{common_steps}
 use Rattle.rv_memory.specs.Memory.{ram_base, is_ram_size, write}
 use Rattle.rv_hart.specs.State.{State}
 use Rattle.rv_hart.specs.Hart.{at_reset}
+use Rattle.rv_pmp.specs.declared.mode.Mode.TheVariants.{M}
 use Rattle.rv_bench.specs.Loaded.{raw_fault, loaded, started}
 use Rattle.rv_bench.specs.Plans.{RawPlan}
 
@@ -17,7 +18,7 @@ pub started-ok : (image : List ℕ) (size : ℕ) (zeros memory : List ℕ) (plan
     → is_ram_size size ≡ true → raw_fault (length image) size ≡ None → length image ≤ size
     → zeros ≡ replicate size 0 → plan ≡ record { len = length image; ram_size = size; entry = ram_base }
     → write zeros ram_base image ≡ Some memory → entry ≡ plan.entry
-    → machine ≡ record { hart = at_reset entry; memory = memory } → started image size ≡ Ok machine
+    → machine ≡ record { hart = at_reset entry M; memory = memory } → started image size ≡ Ok machine
 unfolding started
 started-ok image size zeros memory plan entry machine lawful planned fits made plan_is put enters is =
     let is_memory : memory ≡ loaded image size = loaded-written image size memory fits (rw made at put) in

@@ -1,14 +1,17 @@
 -- The answers to commands: the machine that one leaves, and the text of its reply. (This project's own commands.)
 use Rattle.std.specs.Prelude.{ℕ, List, [], ◌∷◌, ◌++◌, Result, Ok, Err}
-use Rattle.rv_word.specs.Cases.{option_case}
+use Rattle.rv_word.specs.Cases.{option_case, result_case}
 use Rattle.rv_bench.specs.Command.{parse_of}
 use Rattle.rv_memory.specs.Memory.{read}
-use Rattle.rv_hart.specs.Registers.{register, with_register}
-use Rattle.rv_bench.specs.ReplyText.{ran_text, register_text, registers_text, ok_text, memory_text, fault_text, outside_text}
+use Rattle.rv_pmp.specs.declared.mode.Mode.TheVariants.{M}
+use Rattle.rv_state.specs.CsrState.{CsrState}
+use Rattle.rv_state.specs.CsrTable.{read_result}
+use Rattle.rv_state.specs.Registers.{register, with_register}
+use Rattle.rv_bench.specs.ReplyText.{ran_text, register_text, registers_text, ok_text, csr_text, memory_text, fault_text, no_csr_text, outside_text}
 use Rattle.rv_hart.specs.State.{State}
 use Rattle.rv_bench.specs.Steps.{AfterSteps, stepped}
 use Rattle.rv_bench.specs.declared.command.Command.{Command}
-use Rattle.rv_bench.specs.declared.command.Command.TheVariants.{Blank, Step, Reg, Regs, SetReg, Mem}
+use Rattle.rv_bench.specs.declared.command.Command.TheVariants.{Blank, Step, Reg, Regs, SetReg, Csr, Mem, Timer}
 use Rattle.rv_bench.specs.declared.command.CommandFault.{CommandFault}
 
 -- a state, and the text of a reply
@@ -18,7 +21,11 @@ pub record Answered : Type 0 where
 
 -- steps are told by their number, the pc after them, and the last trap in them
 abbrev pub ran : ℕ → AfterSteps → Answered
-ran steps after = record { state = after.state; reply = ran_text steps after.state.hart.pc after.trap }
+ran steps after = record { state = after.state; reply = ran_text steps after.state.hart.pc after.state.hart.mode after.trap }
+
+-- a control and status register is shown as mode M reads it, where there is one of the number
+abbrev pub csr_reply : CsrState → ℕ → List ℕ
+csr_reply csrs number = result_case (read_result csrs number M) (csr_text number) (λ _. no_csr_text)
 
 -- bytes of memory are shown where all of them are in it
 abbrev pub memory_reply : List ℕ → ℕ → ℕ → List ℕ
@@ -32,7 +39,10 @@ answer state (Reg number) = record { state = state; reply = register_text number
 answer state Regs = record { state = state; reply = registers_text state.hart.regs state.hart.pc }
 answer state (SetReg number value) =
     record { state = record state { hart = record state.hart { regs = with_register state.hart.regs number value } }; reply = ok_text }
+answer state (Csr number) = record { state = state; reply = csr_reply state.hart.csrs number }
 answer state (Mem address count) = record { state = state; reply = memory_reply state.memory address count }
+answer state (Timer raised) =
+    record { state = record state { hart = record state.hart { csrs = record state.hart.csrs { timer = raised } } }; reply = ok_text }
 
 -- one line: a faulty one is told its fault, and changes nothing
 abbrev pub answer_or_fault : State → Result Command CommandFault → Answered

@@ -1,10 +1,10 @@
 -- The commands of this bench: how each is written, and what a line asks for. (This project's own commands.)
-use Rattle.std.specs.Prelude.{ℕ, List, [], ◌∷◌, codes, find, Option, Some, None, Result, Ok, Err, option_and_then, option_map, nat_eq, if◌then◌else◌}
+use Rattle.std.specs.Prelude.{ℕ, Bool, true, false, List, [], ◌∷◌, codes, find, Option, Some, None, Result, Ok, Err, option_and_then, option_map, nat_eq, if◌then◌else◌}
 use Rattle.std.specs.Option.{ok_or}
 use Rattle.std.specs.List.{starts_with}
 use Rattle.std.specs.Str.{bytes_eq}
 use Rattle.rv_bench.specs.Words.{words_of, is_good_line}
-use Rattle.rv_bench.specs.Numbers.{hexadecimal_of, decimal_of}
+use Rattle.rv_bench.specs.Numbers.{hexadecimal_of, csr_number_of, decimal_of}
 use Rattle.rv_bench.specs.Within.{within}
 use Rattle.rv_bench.specs.declared.keyword.Keyword.{Keyword}
 use Rattle.rv_bench.specs.declared.keyword.Keyword.TheVariants as keyword
@@ -20,6 +20,12 @@ decimal_within low high operand = option_and_then (within low high) (decimal_of 
 -- the number of a register, x0 to x31
 abbrev pub register_of : List ℕ → Option ℕ
 register_of operand = decimal_within 0 31 operand
+
+-- on or off
+abbrev pub switch_of : List ℕ → Option Bool
+switch_of operand =
+    if bytes_eq operand (codes "on") then Some true
+    else (if bytes_eq operand (codes "off") then Some false else None)
 
 -- the command of no operands, of just one, and of just two
 abbrev pub none : Command → List (List ℕ) → Option Command
@@ -44,10 +50,12 @@ row_of keyword.Step = record { spelling = codes "step"; operands = one (decimal_
 row_of keyword.Reg = record { spelling = codes "reg"; operands = one register_of command.Reg }
 row_of keyword.Regs = record { spelling = codes "regs"; operands = none command.Regs }
 row_of keyword.SetReg = record { spelling = codes "setreg"; operands = two register_of hexadecimal_of command.SetReg }
+row_of keyword.Csr = record { spelling = codes "csr"; operands = one csr_number_of command.Csr }
 row_of keyword.Mem = record { spelling = codes "mem"; operands = two hexadecimal_of (decimal_within 1 64) command.Mem }
+row_of keyword.Timer = record { spelling = codes "timer"; operands = one switch_of command.Timer }
 
 abbrev pub keywords : List Keyword
-keywords = keyword.Step ∷ keyword.Reg ∷ keyword.Regs ∷ keyword.SetReg ∷ keyword.Mem ∷ []
+keywords = keyword.Step ∷ keyword.Reg ∷ keyword.Regs ∷ keyword.SetReg ∷ keyword.Csr ∷ keyword.Mem ∷ keyword.Timer ∷ []
 
 abbrev pub spelling_of : Keyword → List ℕ
 spelling_of k = (row_of k).spelling

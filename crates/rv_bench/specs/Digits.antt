@@ -7,9 +7,12 @@ unfoldable pub hex_digits : ℕ → ℕ → List ℕ
 hex_digits zero n = []
 hex_digits (suc places) n = hex_digits places (n / 16) ++ digit_char (n % 16) ∷ []
 
--- a word, and a byte
+-- a word, the number of a control and status register, and a byte
 abbrev pub hex8 : ℕ → List ℕ
 hex8 n = hex_digits 8 n
+
+abbrev pub hex3 : ℕ → List ℕ
+hex3 n = hex_digits 3 n
 
 abbrev pub hex2 : ℕ → List ℕ
 hex2 n = hex_digits 2 n

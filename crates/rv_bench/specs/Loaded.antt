@@ -3,6 +3,7 @@
 -- (System V gABI, program loading: a raw image is one segment; one of no bytes is none.)
 use Rattle.std.specs.Prelude.{ℕ, nat_lt, List, length, replicate, Option, Some, None, Result, Ok, Err, if◌then◌else◌}
 use Rattle.rv_word.specs.Cases.{option_case}
+use Rattle.rv_pmp.specs.declared.mode.Mode.TheVariants.{M}
 use Rattle.rv_hart.specs.Hart.{at_reset}
 use Rattle.rv_memory.specs.Memory.{ram_base, is_ram_size, write_bytes}
 use Rattle.rv_hart.specs.State.{State}
@@ -24,7 +25,7 @@ loaded image ram_size = write_bytes (replicate ram_size 0) 0 image
 
 -- the machine at reset over that memory
 abbrev pub reset_over : List ℕ → ℕ → State
-reset_over image ram_size = record { hart = at_reset ram_base; memory = loaded image ram_size }
+reset_over image ram_size = record { hart = at_reset ram_base M; memory = loaded image ram_size }
 
 -- the machine at reset, or the first fault: of the RAM's size, then of the image
 unfoldable pub started : List ℕ → ℕ → Result State BenchFault

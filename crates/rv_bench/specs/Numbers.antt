@@ -20,6 +20,10 @@ without_0x text = if starts_with nat_eq text (codes "0x") then drop 2 text else 
 unfoldable pub hexadecimal_of : List ℕ → Option ℕ
 hexadecimal_of text = number_of 16 8 (without_0x text)
 
+-- one to three hexadecimal digits of either case, with no `0x`: the number of a control and status register
+unfoldable pub csr_number_of : List ℕ → Option ℕ
+csr_number_of text = number_of 16 3 text
+
 -- one to seven decimal digits, with no sign
 unfoldable pub decimal_of : List ℕ → Option ℕ
 decimal_of text = number_of 10 7 text

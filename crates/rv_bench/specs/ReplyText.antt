@@ -2,10 +2,12 @@
 -- zeros. (This project's own replies.)
 use Rattle.std.specs.Prelude.{ℕ, List, ◌++◌, Option, Some, None, codes, decimal}
 use Rattle.std.specs.List.{flat_map, range_with_len}
-use Rattle.rv_hart.specs.Causes.{cause_code}
-use Rattle.rv_hart.specs.Registers.{register}
+use Rattle.rv_pmp.specs.declared.mode.Mode.{Mode}
+use Rattle.rv_pmp.specs.declared.mode.Mode.TheVariants.{U, S, M}
+use Rattle.rv_state.specs.Causes.{cause_code}
+use Rattle.rv_state.specs.Registers.{register}
 use Rattle.rv_hart.specs.declared.trap.Trap.{Trap}
-use Rattle.rv_bench.specs.Digits.{hex2, hex8}
+use Rattle.rv_bench.specs.Digits.{hex2, hex3, hex8}
 use Rattle.rv_bench.specs.declared.command.CommandFault.{CommandFault}
 use Rattle.rv_bench.specs.declared.command.CommandFault.TheVariants.{BadLine, UnknownCommand, BadOperand}
 
@@ -14,9 +16,16 @@ unfoldable pub trap_text : Option Trap → List ℕ
 trap_text None = codes "-"
 trap_text (Some trap) = hex8 (cause_code trap.cause) ++ codes ":" ++ hex8 trap.tval
 
--- `ran S pc=hhhhhhhh mode=M world=bare why=done trap=t`
-unfoldable pub ran_text : ℕ → ℕ → Option Trap → List ℕ
-ran_text steps pc trap = codes "ran " ++ decimal steps ++ codes " pc=" ++ hex8 pc ++ codes " mode=M world=bare why=done trap=" ++ trap_text trap ++ codes "\n"
+-- the letter of a mode
+abbrev pub mode_text : Mode → List ℕ
+mode_text U = codes "U"
+mode_text S = codes "S"
+mode_text M = codes "M"
+
+-- `ran S pc=hhhhhhhh mode=m world=bare why=done trap=t`
+unfoldable pub ran_text : ℕ → ℕ → Mode → Option Trap → List ℕ
+ran_text steps pc mode trap =
+    codes "ran " ++ decimal steps ++ codes " pc=" ++ hex8 pc ++ codes " mode=" ++ mode_text mode ++ codes " world=bare why=done trap=" ++ trap_text trap ++ codes "\n"
 
 -- `xN=hhhhhhhh`
 unfoldable pub register_text : ℕ → ℕ → List ℕ
@@ -31,6 +40,10 @@ unfoldable pub registers_text : List ℕ → ℕ → List ℕ
 registers_text regs pc =
     flat_map (λ number. register_text number (register regs number)) (range_with_len 0 32) ++ pc_text pc
 
+-- `csr ccc=hhhhhhhh`
+unfoldable pub csr_text : ℕ → ℕ → List ℕ
+csr_text number word = codes "csr " ++ hex3 number ++ codes "=" ++ hex8 word ++ codes "\n"
+
 -- `hhhhhhhh:`, and for each byte a space and two digits
 unfoldable pub memory_text : ℕ → List ℕ → List ℕ
 memory_text address bytes = hex8 address ++ codes ":" ++ flat_map (λ byte. codes " " ++ hex2 byte) bytes ++ codes "\n"
@@ -44,6 +57,10 @@ abbrev pub fault_text : CommandFault → List ℕ
 fault_text BadLine = codes "error line\n"
 fault_text UnknownCommand = codes "error command\n"
 fault_text BadOperand = codes "error operand\n"
+
+-- there is no control and status register of the number
+unfoldable pub no_csr_text : List ℕ
+no_csr_text = codes "error csr\n"
 
 -- a byte that was asked for is outside RAM
 unfoldable pub outside_text : List ℕ

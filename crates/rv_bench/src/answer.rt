@@ -2,14 +2,17 @@
 
 ghost use Rattle.std.specs.Prelude.{◌≡◌};
 ghost use Rattle.arrayvec.specs.ArrayVec.{array_vec_len};
-ghost use Rattle.rv_bench.specs.Answer.{answer, line_answer, memory_reply};
+ghost use Rattle.rv_bench.specs.Answer.{answer, line_answer, csr_reply, memory_reply};
 
 use crate::command::{ByteCount, Command, parse};
 use crate::reply::{
-    Reply, push_fault, push_memory, push_ok, push_outside, push_ran, push_register, push_registers,
+    Reply, push_csr, push_fault, push_memory, push_no_csr, push_ok, push_outside, push_ran,
+    push_register, push_registers,
 };
 use crate::steps::run_steps;
+use rv_encoding::CsrNumber;
 use rv_hart::Machine;
+use rv_pmp::Mode;
 
 /// Does one command, and puts its reply in place of what the buffer holds.
 #[tactic(auto, unfolding(crate::specs::Answer::answer))]
@@ -21,7 +24,7 @@ pub(crate) fn answer_command(machine: &mut Machine, command: Command, reply: &mu
         Command::Blank => {}
         Command::Step(steps) => {
             let trap = run_steps(machine, steps.get());
-            push_ran(reply, steps.get(), machine.pc(), trap);
+            push_ran(reply, steps.get(), machine.pc(), machine.mode(), trap);
         }
         Command::Reg(reg) => push_register(reply, reg, machine.regs().get(reg)),
         Command::Regs => push_registers(reply, machine.regs(), machine.pc()),
@@ -29,7 +32,23 @@ pub(crate) fn answer_command(machine: &mut Machine, command: Command, reply: &mu
             machine.regs_mut().set(reg, value);
             push_ok(reply);
         }
+        Command::Csr(csr) => answer_csr(machine, csr, reply),
         Command::Mem(address, count) => answer_mem(machine, address, count, reply),
+        Command::Timer(raised) => {
+            machine.csrs_mut().set_timer(raised);
+            push_ok(reply);
+        }
+    }
+}
+
+/// Shows a control and status register as mode M reads it, where there is one of the number.
+fn answer_csr(machine: &Machine, csr: CsrNumber, reply: &mut Reply)
+    requires { array_vec_len reply.old ≡ 0 }
+    ensures { reply.new.items ≡ csr_reply machine.now.hart.csrs csr }
+{
+    match machine.csrs().read(csr.number(), Mode::M) {
+        Ok(word) => push_csr(reply, csr, word),
+        Err(_) => push_no_csr(reply),
     }
 }
 

@@ -1,12 +1,13 @@
 //! The commands, and how a line is read as one.
 
 ghost use Rattle.std.specs.Prelude.{◌≡◌, map};
-ghost use Rattle.rv_bench.specs.Command.{register_of, operands_of, meaning_of, parse_of, number_of_fault};
+ghost use Rattle.rv_bench.specs.Command.{register_of, switch_of, operands_of, meaning_of, parse_of, number_of_fault};
 
 use crate::keyword::Keyword;
-use crate::numbers::{decimal, hexadecimal};
+use crate::numbers::{csr_number, decimal, hexadecimal};
 use crate::within::Within;
 use crate::words::{first_words, is_good_line};
+use rv_encoding::CsrNumber;
 use rv_word::Reg;
 
 /// How many steps one command makes: 1 to 1000000.
@@ -28,8 +29,12 @@ pub(crate) enum Command {
     Regs,
     /// `setreg N V`: put the word into the register; x0 stays 0.
     SetReg(Reg, u32),
+    /// `csr C`: show the control and status register, as mode M reads it.
+    Csr(CsrNumber),
     /// `mem A N`: show so many bytes of memory from an address on.
     Mem(u32, ByteCount),
+    /// `timer on`, `timer off`: raise the timer line, or lower it.
+    Timer(bool),
 }
 
 /// What is wrong with a line: the first of these faults that it has.
@@ -68,6 +73,17 @@ fn register(operand: &[u8]) -> Option<Reg>
     Some(Reg::new(number as u8))
 }
 
+/// Whether an operand says `on` rather than `off`; any other says neither.
+fn switch(operand: &[u8]) -> Option<bool>
+    ensures { result ≡ switch_of operand.now }
+{
+    match operand {
+        b"on" => Some(true),
+        b"off" => Some(false),
+        _ => None,
+    }
+}
+
 /// The command that a keyword makes of its operands.
 fn with_operands(keyword: Keyword, operands: &[&[u8]]) -> Option<Command>
     ensures { result ≡ operands_of keyword (map (λ operand. operand.now) operands.now) }
@@ -84,11 +100,13 @@ fn with_operands(keyword: Keyword, operands: &[&[u8]]) -> Option<Command>
             let value = hexadecimal(value)?;
             Some(Command::SetReg(reg, value))
         }
+        (Keyword::Csr, [number]) => Some(Command::Csr(csr_number(number)?)),
         (Keyword::Mem, [address, count]) => {
             let address = hexadecimal(address)?;
             let count = ByteCount::new(decimal(count)?)?;
             Some(Command::Mem(address, count))
         }
+        (Keyword::Timer, [raised]) => Some(Command::Timer(switch(raised)?)),
         _ => None,
     }
 }
@@ -143,6 +161,10 @@ mod tests {
             parse(b"setreg 5 0x1F"),
             Ok(Command::SetReg(Reg::new(5), 0x1f))
         );
+        let mepc = CsrNumber::new(0x341);
+        assert_eq!(rt; parse(b"csr 341"), Ok(Command::Csr(mepc)));
+        assert_eq!(rt; parse(b"timer on"), Ok(Command::Timer(true)));
+        assert_eq!(rt; parse(b"timer off"), Ok(Command::Timer(false)));
         assert_eq!(rt; parse(b" \t"), Ok(Command::Blank));
         assert_eq!(rt; parse(b"# x"), Ok(Command::Blank));
         Ok(())
@@ -156,6 +178,8 @@ mod tests {
         assert_eq!(rt; parse(b"regs 1"), Err(CommandFault::BadOperand));
         assert_eq!(rt; parse(b"setreg 32 0"), Err(CommandFault::BadOperand));
         assert_eq!(rt; parse(b"setreg 1 100000000"), Err(CommandFault::BadOperand));
+        assert_eq!(rt; parse(b"csr 0x300"), Err(CommandFault::BadOperand));
+        assert_eq!(rt; parse(b"timer maybe"), Err(CommandFault::BadOperand));
         assert_eq!(rt; parse(&[b'#'; 120]), Ok(Command::Blank));
         assert_eq!(rt; parse(&[b'#'; 121]), Err(CommandFault::BadLine));
         assert_eq!(rt; CommandFault::BadLine.number(), 1);

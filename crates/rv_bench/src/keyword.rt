@@ -10,7 +10,9 @@ pub(crate) enum Keyword {
     Reg,
     Regs,
     SetReg,
+    Csr,
     Mem,
+    Timer,
 }
 
 impl Keyword {
@@ -29,7 +31,9 @@ impl Keyword {
             b"reg" => Some(Keyword::Reg),
             b"regs" => Some(Keyword::Regs),
             b"setreg" => Some(Keyword::SetReg),
+            b"csr" => Some(Keyword::Csr),
             b"mem" => Some(Keyword::Mem),
+            b"timer" => Some(Keyword::Timer),
             _ => None,
         }
     }

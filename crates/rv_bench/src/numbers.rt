@@ -1,7 +1,9 @@
 //! Numbers that the operands of a command write.
 
-ghost use Rattle.std.specs.Prelude.{◌≡◌, ℕ, ◌^◌, ◌≤◌};
-ghost use Rattle.rv_bench.specs.Numbers.{number_of, hexadecimal_of, decimal_of};
+ghost use Rattle.std.specs.Prelude.{◌≡◌, ℕ, ◌^◌, ◌≤◌, ◌<◌, IfSome};
+ghost use Rattle.rv_bench.specs.Numbers.{number_of, hexadecimal_of, csr_number_of, decimal_of};
+
+use rv_encoding::CsrNumber;
 
 /// The number that digits in the base write, where there are one to `most` of them and nothing else.
 #[tactic(auto, unfolding(crate::specs::Numbers::number_of))]
@@ -9,7 +11,8 @@ fn number(text: &[u8], base: u32, most: usize) -> Option<u32>
     requires low { 2 ≤ base }
     requires high { base ≤ 36 }
     requires fits { base ^ most ≤ 2 ^ 32 }
-    ensures { result ≡ number_of base most text.now }
+    ensures value { result ≡ number_of base most text.now }
+    ensures below { IfSome result (λ value. value < base ^ most) }
 {
     if text.is_empty() || text.len() > most {
         return None;
@@ -28,6 +31,15 @@ pub(crate) fn hexadecimal(text: &[u8]) -> Option<u32>
     ensures { result ≡ hexadecimal_of text.now }
 {
     number(text.strip_prefix(b"0x").unwrap_or(text), 16, 8)
+}
+
+/// The register that an operand names by its number: one to three hexadecimal digits of either case, and no `0x`.
+#[tactic(auto, unfolding(crate::specs::Numbers::csr_number_of))]
+pub(crate) fn csr_number(text: &[u8]) -> Option<CsrNumber>
+    ensures { result ≡ csr_number_of text.now }
+{
+    let number = number(text, 16, 3)?;
+    Some(CsrNumber::new(number as u16))
 }
 
 /// The number that a decimal operand writes: one to seven digits.

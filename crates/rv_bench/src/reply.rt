@@ -2,12 +2,15 @@
 
 ghost use Rattle.std.specs.Prelude.{◌≡◌, ℕ, ◌+◌, ◌*◌, ◌≤◌, ◌++◌, length};
 ghost use Rattle.arrayvec.specs.ArrayVec.{array_vec_len};
-ghost use Rattle.rv_bench.specs.ReplyText.{ran_text, trap_text, register_text, registers_text, pc_text, ok_text, memory_text, fault_text, outside_text};
+ghost use Rattle.rv_bench.specs.ReplyText.{mode_text, ran_text, trap_text, register_text, registers_text, pc_text, ok_text, csr_text, memory_text, fault_text, no_csr_text, outside_text};
 
 use crate::command::CommandFault;
 use crate::digits::{push_decimal, push_hex, push_text};
 use arrayvec::ArrayVec;
-use rv_hart::{Regs, Trap};
+use rv_encoding::CsrNumber;
+use rv_hart::Trap;
+use rv_pmp::Mode;
+use rv_state::Regs;
 use rv_word::Reg;
 
 /// The bytes that answer one command.
@@ -30,18 +33,33 @@ fn push_trap(out: &mut Reply, trap: Option<Trap>)
     }
 }
 
+/// Writes the letter of a mode.
+fn push_mode(out: &mut Reply, mode: Mode)
+    requires room { array_vec_len out.old + 1 ≤ 2048 }
+    ensures items { out.new.items ≡ out.old.items ++ mode_text mode }
+    ensures len { array_vec_len out.new ≤ array_vec_len out.old + 1 }
+{
+    match mode {
+        Mode::U => push_text(out, "U"),
+        Mode::S => push_text(out, "S"),
+        Mode::M => push_text(out, "M"),
+    }
+}
+
 /// Writes what steps did: how many they were, the pc after them, and the last trap in them.
 #[tactic(auto, unfolding(crate::specs::ReplyText::ran_text))]
-pub(crate) fn push_ran(out: &mut Reply, steps: u32, pc: u32, trap: Option<Trap>)
+pub(crate) fn push_ran(out: &mut Reply, steps: u32, pc: u32, mode: Mode, trap: Option<Trap>)
     requires room { array_vec_len out.old + 80 ≤ 2048 }
-    ensures items { out.new.items ≡ out.old.items ++ ran_text steps pc trap }
+    ensures items { out.new.items ≡ out.old.items ++ ran_text steps pc mode trap }
     ensures len { array_vec_len out.new ≤ array_vec_len out.old + 80 }
 {
     push_text(out, "ran ");
     push_decimal(out, steps);
     push_text(out, " pc=");
     push_hex(out, pc, 8);
-    push_text(out, " mode=M world=bare why=done trap=");
+    push_text(out, " mode=");
+    push_mode(out, mode);
+    push_text(out, " world=bare why=done trap=");
     push_trap(out, trap);
     push_text(out, "\n");
 }
@@ -96,6 +114,20 @@ pub(crate) fn push_ok(out: &mut Reply)
     push_text(out, "ok\n");
 }
 
+/// Writes what a control and status register reads.
+#[tactic(auto, unfolding(crate::specs::ReplyText::csr_text))]
+pub(crate) fn push_csr(out: &mut Reply, csr: CsrNumber, word: u32)
+    requires room { array_vec_len out.old + 17 ≤ 2048 }
+    ensures items { out.new.items ≡ out.old.items ++ csr_text csr word }
+    ensures len { array_vec_len out.new ≡ array_vec_len out.old + 17 }
+{
+    push_text(out, "csr ");
+    push_hex(out, u32::from(csr.number()), 3);
+    push_text(out, "=");
+    push_hex(out, word, 8);
+    push_text(out, "\n");
+}
+
 /// Writes bytes of memory, of which the first is at the address.
 #[tactic(auto, unfolding(crate::specs::ReplyText::memory_text))]
 pub(crate) fn push_memory(out: &mut Reply, address: u32, bytes: &[u8])
@@ -125,6 +157,16 @@ pub(crate) fn push_fault(out: &mut Reply, fault: CommandFault)
     }
 }
 
+/// Writes that there is no control and status register of the number that was asked for.
+#[tactic(auto, unfolding(crate::specs::ReplyText::no_csr_text))]
+pub(crate) fn push_no_csr(out: &mut Reply)
+    requires room { array_vec_len out.old + 10 ≤ 2048 }
+    ensures items { out.new.items ≡ out.old.items ++ no_csr_text }
+    ensures len { array_vec_len out.new ≡ array_vec_len out.old + 10 }
+{
+    push_text(out, "error csr\n");
+}
+
 /// Writes that a byte that was asked for is outside RAM.
 #[tactic(auto, unfolding(crate::specs::ReplyText::outside_text))]
 pub(crate) fn push_outside(out: &mut Reply)
@@ -138,18 +180,19 @@ pub(crate) fn push_outside(out: &mut Reply)
 #[cfg(test)]
 mod tests {
     use super::*;
-    use rv_hart::Cause;
+    use rv_state::{Cause, Exception};
 
     #[test]
     fn prints_what_steps_did(rt: HostRuntime) {
         let mut out = Reply::new();
-        push_ran(&mut out, 1, 0x8000_0004, None);
+        push_ran(&mut out, 1, 0x8000_0004, Mode::M, None);
         push_ran(
             &mut out,
             1,
             0,
+            Mode::M,
             Some(Trap {
-                cause: Cause::IllegalInstruction,
+                cause: Cause::Exception(Exception::IllegalInstruction),
                 tval: 0xffff_ffff,
             }),
         );
@@ -157,6 +200,19 @@ mod tests {
             out.as_slice(),
             b"ran 1 pc=80000004 mode=M world=bare why=done trap=-\n\
               ran 1 pc=00000000 mode=M world=bare why=done trap=00000002:ffffffff\n"
+                .as_slice(),
+        );
+    }
+
+    #[test]
+    fn prints_modes(rt: HostRuntime) {
+        let mut out = Reply::new();
+        push_ran(&mut out, 1, 0x8000_0004, Mode::U, None);
+        push_ran(&mut out, 1, 0x8000_0004, Mode::S, None);
+        assert_eq!(rt;
+            out.as_slice(),
+            b"ran 1 pc=80000004 mode=U world=bare why=done trap=-\n\
+              ran 1 pc=80000004 mode=S world=bare why=done trap=-\n"
                 .as_slice(),
         );
     }
@@ -194,6 +250,18 @@ mod tests {
               x28=00000000\nx29=00000000\nx30=00000000\nx31=ffffffff\n\
               pc=80000004\n"
                 .as_slice(),
+        );
+    }
+
+    #[test]
+    fn prints_csrs(rt: HostRuntime) {
+        let mut out = Reply::new();
+        push_csr(&mut out, CsrNumber::new(0x341), 0x8000_0004);
+        push_csr(&mut out, CsrNumber::new(0x1), u32::MAX);
+        push_no_csr(&mut out);
+        assert_eq!(rt;
+            out.as_slice(),
+            b"csr 341=80000004\ncsr 001=ffffffff\nerror csr\n".as_slice()
         );
     }
 

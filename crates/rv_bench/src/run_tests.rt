@@ -47,6 +47,22 @@ fn answers_a_script(rt: HostRuntime) {
 }
 
 #[test]
+fn answers_csr_and_timer(rt: HostRuntime) {
+    let mut buffer = [0u8; 128];
+    let script = b"csr 344\ntimer on\ncsr 344\ntimer off\ncsr 344\ncsr 301\ncsr 7a0";
+    let mut lines = Lines::new(MemorySource::new(script));
+    let mut sink = MemorySink::new(&mut buffer);
+    let outcome = run_bench(rt.alloc(), b"", &Setup::default(), &mut lines, &mut sink);
+    assert_eq!(rt; outcome, Ok(()));
+    assert_eq!(rt;
+        sink.bytes(),
+        b"csr 344=00000000\nok\ncsr 344=00000080\nok\ncsr 344=00000000\n\
+          csr 301=40141100\nerror csr\n"
+            .as_slice()
+    );
+}
+
+#[test]
 fn flushes_once(rt: HostRuntime) {
     let mut buffer = [0u8; 128];
     let mut lines = Lines::new(FaultySource::new(INPUT, 1, 0));

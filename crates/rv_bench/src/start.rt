@@ -10,6 +10,7 @@ use crate::plan::plan_raw;
 use crate::setup::Setup;
 use rv_hart::Machine;
 use rv_memory::{Ram, RamFault};
+use rv_pmp::Mode;
 use std::alloc::Global;
 
 /// The machine at reset, with the image in its RAM.
@@ -27,7 +28,7 @@ pub(crate) fn start(alloc: Global, image: &[u8], setup: &Setup) -> Result<Machin
     match plan_raw(image.len(), setup.ram) {
         Ok(plan) => {
             plan.load(image, &mut ram);
-            Ok(Machine::new(ram, plan.entry()))
+            Ok(Machine::new(ram, plan.entry(), Mode::M))
         }
         Err(fault) => Err(BenchFault::Image(fault)),
     }

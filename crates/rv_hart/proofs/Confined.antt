@@ -1,5 +1,5 @@
 -- A step reads and writes memory only where it says.
-use Rattle.std.proofs.Common.{◌≡◌, ℕ, List, [], length, take, drop, ◌-◌, Some, None, Result, Ok, Err, true, false, cond, refl, ap, ◌∙◌, ◌⊎◌, ⊎_elim, inl, inr}
+use Rattle.std.proofs.Common.{◌≡◌, ℕ, List, [], length, take, drop, ◌-◌, Some, None, Result, Ok, Err, true, false, cond, refl, ap, ◌∙◌, ◌⊎◌, ⊎_elim, inl, inr, Option}
 use Rattle.rv_word.specs.Cases.{option_case, result_case}
 use Rattle.rv_word.specs.Widths.{bytes_in}
 use Rattle.rv_word.specs.declared.width.Width.{Width}
@@ -10,12 +10,14 @@ use Rattle.rv_memory.specs.Accesses.{loaded, fetched, stored}
 use Rattle.rv_memory.specs.Memory.{ram_base, is_inside, read, write, write_bytes, number_of, bytes_of}
 use Rattle.rv_memory.specs.declared.touched.Touched.{Touched}
 use Rattle.rv_hart.specs.Confinement.{SameIn, AgreeOn, EndAlike, IsConfined}
-use Rattle.rv_hart.specs.Exceptions.{illegal, access_fault}
+use Rattle.rv_state.specs.Interrupts.{pending}
+use Rattle.rv_hart.specs.CsrInstructions.{written_csr}
+use Rattle.rv_hart.specs.Exceptions.{illegal, access_fault, interrupted}
 use Rattle.rv_hart.specs.HartState.{Hart}
 use Rattle.rv_hart.specs.Instructions.{request, finished}
 use Rattle.rv_hart.specs.State.{State, Ended, over}
-use Rattle.rv_hart.specs.Step.{step, executed, accessed, concluded, trap_end, fetch_of, load_of, store_of, span, nothing}
-use Rattle.rv_hart.specs.declared.cause.Cause.TheVariants.{InstructionAccessFault, LoadAccessFault, StoreAccessFault}
+use Rattle.rv_hart.specs.Step.{step, attempted, executed, accessed, concluded, done, trap_end, fetch_of, load_of, store_of, span, nothing}
+use Rattle.rv_state.specs.declared.cause.Exception.TheVariants.{InstructionAccessFault, LoadAccessFault, StoreAccessFault}
 use Rattle.rv_hart.specs.declared.request.Request.{Request}
 use Rattle.rv_hart.specs.declared.request.Request.TheVariants.{Nothing, Load, Store}
 use Rattle.rv_hart.specs.declared.trap.Trap.{Trap}
@@ -61,10 +63,10 @@ length-bytes_of Word value = refl
 -- ---- what a step touches
 
 -- an instruction whose access is done touches what it touched
-touched-concluded : (hart : Hart) (touched : Touched) (finish : Result Hart Trap) → (concluded hart touched finish).outcome.touched ≡ touched
+touched-concluded : (hart : Hart) (touched : Touched) (written : Option ℕ) (finish : Result Hart Trap) → (concluded hart touched written finish).outcome.touched ≡ touched
 unfolding concluded
-touched-concluded hart touched (Ok after) = refl
-touched-concluded hart touched (Err trap) = refl
+touched-concluded hart touched written (Ok after) = refl
+touched-concluded hart touched written (Err trap) = refl
 
 -- two steps that change no memory and end in the same way
 unchanged : (m n bytes : List ℕ) (ended : Ended) → ended.outcome.touched.stored ≡ None → EndAlike m n bytes (over m ended) (over n ended)
@@ -78,22 +80,22 @@ bytes_in_request Nothing = []
 bytes_in_request (Load address width) = []
 bytes_in_request (Store address width value) = bytes_of (bytes_in width) value
 
-none-stored : (hart : Hart) (finish : Result Hart Trap) (touched : Touched) → touched.stored ≡ None → (concluded hart touched finish).outcome.touched.stored ≡ None
-none-stored hart finish touched none = ap (λ (t : Touched). t.stored) (touched-concluded hart touched finish) ∙ none
+none-stored : (hart : Hart) (written : Option ℕ) (finish : Result Hart Trap) (touched : Touched) → touched.stored ≡ None → (concluded hart touched written finish).outcome.touched.stored ≡ None
+none-stored hart written finish touched none = ap (λ (t : Touched). t.stored) (touched-concluded hart touched written finish) ∙ none
 
 access-confined : (hart : Hart) (m n : List ℕ) (word : ℕ) (instr : Instr) (r : Request) → length m ≡ length n
     → SameIn m n (accessed hart m word instr r).outcome.touched.loaded
     → EndAlike m n (bytes_in_request r) (accessed hart m word instr r) (accessed hart n word instr r)
 unfolding accessed bytes_in_request
 access-confined hart m n word instr Nothing sizes same =
-    unchanged m n _ _ (none-stored hart (finished instr hart word 0) (fetch_of hart) refl)
+    unchanged m n _ _ (none-stored hart (written_csr instr) (finished instr hart word 0) (fetch_of hart) refl)
 access-confined hart m n word instr (Load address width) sizes same =
     ⊎_elim
     (λ done.
     let here = rw (done.2, touched-concluded) at same in
     let equal : done.0 ≡ done.1 = cc in
     rw (done.2, done.3, equal)
-    (unchanged m n [] _ (none-stored hart (finished instr hart word (number_of done.1)) (load_of hart address width) refl)))
+    (unchanged m n [] _ (none-stored hart (written_csr instr) (finished instr hart word (number_of done.1)) (load_of hart address width) refl)))
     (λ refused. rw (refused.0, refused.1) (unchanged m n [] (trap_end hart (fetch_of hart) (access_fault LoadAccessFault address)) refl))
     (read-both m n address (bytes_in width) sizes)
 access-confined hart m n word instr (Store address width value) sizes same =
@@ -115,12 +117,12 @@ unfolding accessed
 fetched-accessed hart m word instr Nothing = rw touched-concluded refl
 fetched-accessed hart m word instr (Load address width) =
     elim (loaded m address width) as (λ r.
-    (result_case r (λ number. over m (concluded hart (load_of hart address width) (finished instr hart word number)))
+    (result_case r (λ number. over m (done hart (load_of hart address width) word instr number))
     (λ _. over m (trap_end hart (fetch_of hart) (access_fault LoadAccessFault address)))).outcome.touched.fetched ≡ span hart.pc Word)
     [ Ok number ↦ rw touched-concluded refl | Err fault ↦ refl ]
 fetched-accessed hart m word instr (Store address width value) =
     elim (stored m address width value) as (λ r.
-    (result_case r (λ after. over after (concluded hart (store_of hart address width) (finished instr hart word 0)))
+    (result_case r (λ after. over after (done hart (store_of hart address width) word instr 0))
     (λ _. over m (trap_end hart (fetch_of hart) (access_fault StoreAccessFault address)))).outcome.touched.fetched ≡ span hart.pc Word)
     [ Ok after ↦ rw touched-concluded refl | Err fault ↦ refl ]
 
@@ -147,23 +149,39 @@ fetched-executed hart m word =
     ≡ span hart.pc Word)
     [ None ↦ refl | Some instr ↦ fetched-accessed hart m word instr (request instr hart) ]
 
--- the bytes that a step stores
-bytes_in_step : State → List ℕ
-bytes_in_step state = result_case (fetched state.memory state.hart.pc) (bytes_in_word state.hart) (λ _. [])
+-- the bytes that a fetched instruction stores
+bytes_at_pc : Hart → List ℕ → List ℕ
+bytes_at_pc hart memory = result_case (fetched memory hart.pc) (bytes_in_word hart) (λ _. [])
 
-step-confined : (state : State) (n : List ℕ) → AgreeOn state.memory n (step state).outcome.touched
-    → EndAlike state.memory n (bytes_in_step state) (step state) (step (record state { memory = n }))
-unfolding step bytes_in_step
-step-confined state n agree =
+attempted-confined : (hart : Hart) (m n : List ℕ) → AgreeOn m n (attempted hart m).outcome.touched
+    → EndAlike m n (bytes_at_pc hart m) (attempted hart m) (attempted hart n)
+unfolding attempted bytes_at_pc
+attempted-confined hart m n agree =
     ⊎_elim
     (λ done.
     let here = rw (done.2, fetched-executed) at agree.fetched in
     let equal : done.0 ≡ done.1 = cc in
     let loads = rw done.2 at agree.loaded in
-    rw (done.2, done.3, ← equal) (executed-confined state.hart state.memory n (number_of done.0) agree.size loads))
-    (λ refused. rw (refused.0, refused.1)
-    (unchanged state.memory n [] (trap_end state.hart nothing (access_fault InstructionAccessFault state.hart.pc)) refl))
-    (read-both state.memory n state.hart.pc 4 agree.size)
+    rw (done.2, done.3, ← equal) (executed-confined hart m n (number_of done.0) agree.size loads))
+    (λ refused. rw (refused.0, refused.1) (unchanged m n [] (trap_end hart nothing (access_fault InstructionAccessFault hart.pc)) refl))
+    (read-both m n hart.pc 4 agree.size)
+
+-- the bytes that a step stores
+bytes_in_step : State → List ℕ
+bytes_in_step state = option_case (pending state.hart.csrs state.hart.mode) (bytes_at_pc state.hart state.memory) (λ _. [])
+
+step-confined : (state : State) (n : List ℕ) → AgreeOn state.memory n (step state).outcome.touched
+    → EndAlike state.memory n (bytes_in_step state) (step state) (step (record state { memory = n }))
+unfolding step bytes_in_step
+step-confined state n =
+    let hart = state.hart in
+    let m = state.memory in
+    elim (pending hart.csrs hart.mode) as (λ o.
+    AgreeOn m n (option_case o (attempted hart m) (λ interrupt. over m (trap_end hart nothing (interrupted interrupt)))).outcome.touched
+    → EndAlike m n (option_case o (bytes_at_pc hart m) (λ _. []))
+    (option_case o (attempted hart m) (λ interrupt. over m (trap_end hart nothing (interrupted interrupt))))
+    (option_case o (attempted hart n) (λ interrupt. over n (trap_end hart nothing (interrupted interrupt)))))
+    [ None ↦ λ agree. attempted-confined hart m n agree | Some interrupt ↦ λ agree. unchanged m n [] _ refl ]
 
 pub confined : (state : State) → IsConfined state (step state)
 confined state = record { bytes = bytes_in_step state; alike = step-confined state }

@@ -1,3 +1,4 @@
 mod Confined
+mod Mprv
 mod StepExamples
 mod StepLaws

@@ -8,35 +8,62 @@ use Rattle.rv_hart.specs.Hart.{at_reset}
 use Rattle.rv_hart.specs.HartState.{Hart}
 use Rattle.rv_hart.specs.Instructions.{request, finished}
 use Rattle.rv_hart.specs.State.{State}
-use Rattle.rv_hart.specs.Step.{step, executed, accessed, concluded, fetch_of}
-use Rattle.rv_hart.specs.declared.cause.Cause.TheVariants.{InstructionAddressMisaligned, IllegalInstruction}
-
-abbrev reset : Hart
-reset = at_reset ram_base
+use Rattle.rv_hart.specs.Step.{step, attempted, executed, accessed, concluded, fetch_of}
+use Rattle.rv_hart.specs.CsrInstructions.{csr_changed, written_csr}
+use Rattle.rv_state.specs.CsrState.{at_reset as csrs_at_reset}
+use Rattle.rv_state.specs.CsrTable.{listing, csr_named, write_result, written}
+use Rattle.rv_state.specs.Mstatus.{mstatus_at_reset}
+use Rattle.rv_pmp.specs.declared.mode.Mode.TheVariants.{M}
+use Rattle.rv_hart.specs.Exceptions.{misaligned, illegal}
 
 abbrev over_bytes : List ℕ → Hart → State
 over_bytes memory hart = record { hart = hart; memory = memory }
 
+abbrev reset : Hart
+reset = at_reset ram_base M
+
+-- the hart after a first step that traps: the trap is written down, and mcycle is 1
+abbrev trapped_once : ℕ → ℕ → Hart
+trapped_once cause tval = record {
+  regs = replicate 32 0;
+  csrs = record csrs_at_reset { mepc = ram_base; mcause = cause; mtval = tval; mcycle = 1; mstatus = record mstatus_at_reset { mpp = M } };
+  pc = 0;
+  mode = M;
+}
+
 -- addi x1, x0, -1
 step-addi : step (over_bytes (0x93 ∷ 0x00 ∷ 0xf0 ∷ 0xff ∷ []) reset) ≡ record {
-  state = over_bytes (0x93 ∷ 0x00 ∷ 0xf0 ∷ 0xff ∷ []) (record { regs = 0 ∷ 0xffffffff ∷ replicate 30 0; pc = 0x80000004 });
+  state = over_bytes (0x93 ∷ 0x00 ∷ 0xf0 ∷ 0xff ∷ []) (record {
+    regs = 0 ∷ 0xffffffff ∷ replicate 30 0;
+    csrs = record csrs_at_reset { mcycle = 1; minstret = 1 };
+    pc = 0x80000004;
+    mode = M;
+  });
   outcome = record { trap = None; touched = fetch_of reset };
 }
-unfolding step executed accessed request finished concluded decoded by_bits read
+unfolding step attempted executed accessed request finished concluded written_csr decoded by_bits read
 step-addi = refl
+
+-- csrrw x0, mepc, x0, which reads nothing
+step-csrrw : step (over_bytes (0x73 ∷ 0x10 ∷ 0x10 ∷ 0x34 ∷ []) reset) ≡ record {
+  state = over_bytes (0x73 ∷ 0x10 ∷ 0x10 ∷ 0x34 ∷ []) (record reset { csrs = record csrs_at_reset { mcycle = 1; minstret = 1 }; pc = 0x80000004 });
+  outcome = record { trap = None; touched = fetch_of reset };
+}
+unfolding step attempted executed accessed request finished concluded written_csr csr_changed write_result csr_named listing written decoded by_bits read
+step-csrrw = refl
 
 -- jal x1, 2: rd is not written
 step-jal_misaligned : step (over_bytes (0xef ∷ 0x00 ∷ 0x20 ∷ 0x00 ∷ []) reset) ≡ record {
-  state = over_bytes (0xef ∷ 0x00 ∷ 0x20 ∷ 0x00 ∷ []) (record { regs = replicate 32 0; pc = 0 });
-  outcome = record { trap = Some (record { cause = InstructionAddressMisaligned; tval = 0x80000002 }); touched = fetch_of reset };
+  state = over_bytes (0xef ∷ 0x00 ∷ 0x20 ∷ 0x00 ∷ []) (trapped_once 0 0x80000002);
+  outcome = record { trap = Some (misaligned 0x80000002); touched = fetch_of reset };
 }
-unfolding step executed accessed request finished concluded decoded by_bits read
+unfolding step attempted executed accessed request finished concluded decoded by_bits read
 step-jal_misaligned = refl
 
 -- no row spells the word 0
 step-illegal : step (over_bytes (0 ∷ 0 ∷ 0 ∷ 0 ∷ []) reset) ≡ record {
-  state = over_bytes (0 ∷ 0 ∷ 0 ∷ 0 ∷ []) (record { regs = replicate 32 0; pc = 0 });
-  outcome = record { trap = Some (record { cause = IllegalInstruction; tval = 0 }); touched = fetch_of reset };
+  state = over_bytes (0 ∷ 0 ∷ 0 ∷ 0 ∷ []) (trapped_once 2 0);
+  outcome = record { trap = Some (illegal 0); touched = fetch_of reset };
 }
-unfolding step executed accessed request finished concluded decoded by_bits read
+unfolding step attempted executed accessed request finished concluded decoded by_bits read
 step-illegal = refl

@@ -1,5 +1,5 @@
--- A trap changes no register and no byte.
-use Rattle.std.proofs.Common.{◌≡◌, ℕ, List, Some, None, Result, Ok, Err, refl, subst}
+-- A trap changes nothing but what every trap changes.
+use Rattle.std.proofs.Common.{◌≡◌, ℕ, List, Some, None, Result, Ok, Err, refl, subst, Option}
 use Rattle.rv_word.specs.Cases.{option_case, result_case}
 use Rattle.rv_encoding.specs.declared.instr.Instr.{Instr}
 use Rattle.rv_encoding.specs.declared.instr.Instr.TheVariants.{Lui, Auipc, Jal, Jalr, Branch, Load, Store, OpImm, ShiftImm, Op, Fence, Csr, CsrImm, Ecall, Ebreak, Sret, Mret, Wfi, SfenceVma}
@@ -7,14 +7,16 @@ use Rattle.rv_encoding.specs.Decoding.{decoded}
 use Rattle.rv_memory.specs.Accesses.{loaded, fetched, stored}
 use Rattle.rv_memory.specs.declared.touched.Touched.{Touched}
 use Rattle.rv_word.specs.declared.width.Width.{Width}
-use Rattle.rv_hart.specs.Exceptions.{illegal, access_fault}
+use Rattle.rv_hart.specs.Exceptions.{illegal, access_fault, interrupted}
 use Rattle.rv_hart.specs.Hart.{advanced}
 use Rattle.rv_hart.specs.HartState.{Hart}
 use Rattle.rv_hart.specs.Instructions.{request, finished}
 use Rattle.rv_hart.specs.State.{State, Stepped, over}
-use Rattle.rv_hart.specs.Step.{step, executed, accessed, concluded, trap_end, fetch_of, load_of, store_of, nothing}
+use Rattle.rv_hart.specs.Step.{step, attempted, executed, accessed, concluded, done, trap_end, fetch_of, load_of, store_of, nothing}
+use Rattle.rv_state.specs.Interrupts.{pending}
+use Rattle.rv_hart.specs.CsrInstructions.{written_csr}
 use Rattle.rv_hart.specs.StepLaws.{TrapKeeps}
-use Rattle.rv_hart.specs.declared.cause.Cause.TheVariants.{InstructionAccessFault, LoadAccessFault, StoreAccessFault}
+use Rattle.rv_state.specs.declared.cause.Exception.TheVariants.{InstructionAccessFault, LoadAccessFault, StoreAccessFault}
 use Rattle.rv_hart.specs.declared.request.Request.{Request}
 use Rattle.rv_hart.specs.declared.request.Request.TheVariants as requests
 use Rattle.rv_hart.specs.declared.trap.Trap.{Trap}
@@ -43,27 +45,30 @@ store-finishes Mret hart address value word width is = cc
 store-finishes Wfi hart address value word width is = cc
 store-finishes (SfenceVma rs1 rs2) hart address value word width is = cc
 
-concluded-keeps : (hart : Hart) (memory : List ℕ) (touched : Touched) (finish : Result Hart Trap)
-    → TrapKeeps (record { hart = hart; memory = memory }) (over memory (concluded hart touched finish))
+concluded-keeps : (hart : Hart) (memory : List ℕ) (touched : Touched) (written : Option ℕ) (finish : Result Hart Trap)
+    → TrapKeeps (record { hart = hart; memory = memory }) (over memory (concluded hart touched written finish))
 unfolding concluded
-concluded-keeps hart memory touched (Ok after) = tt
-concluded-keeps hart memory touched (Err trap) = (refl, refl)
+concluded-keeps hart memory touched written (Ok after) = tt
+concluded-keeps hart memory touched written (Err trap) = (refl, refl)
 
 accessed-keeps : (hart : Hart) (memory : List ℕ) (word : ℕ) (instr : Instr) (r : Request) → request instr hart ≡ r
     → TrapKeeps (record { hart = hart; memory = memory }) (accessed hart memory word instr r)
 unfolding accessed concluded
-accessed-keeps hart memory word instr requests.Nothing is = concluded-keeps hart memory (fetch_of hart) (finished instr hart word 0)
+accessed-keeps hart memory word instr requests.Nothing is =
+    concluded-keeps hart memory (fetch_of hart) (written_csr instr) (finished instr hart word 0)
 accessed-keeps hart memory word instr (requests.Load address width) is =
     elim (loaded memory address width) as (λ r.
     TrapKeeps (record { hart = hart; memory = memory })
-    (result_case r (λ number. over memory (concluded hart (load_of hart address width) (finished instr hart word number)))
-    (λ _. over memory (trap_end hart (fetch_of hart) (access_fault LoadAccessFault address)))))
-    [ Ok number ↦ concluded-keeps hart memory (load_of hart address width) (finished instr hart word number) | Err fault ↦ (refl, refl) ]
+    (result_case r (λ number. over memory (done hart (load_of hart address width) word instr number))
+    (λ _. over memory (trap_end hart (fetch_of hart) (access_fault LoadAccessFault address))))) [
+      | Ok number ↦ concluded-keeps hart memory (load_of hart address width) (written_csr instr) (finished instr hart word number)
+      | Err fault ↦ (refl, refl)
+    ]
 accessed-keeps hart memory word instr (requests.Store address width value) is =
     rw (store-finishes instr hart address value word width is)
     (elim (stored memory address width value) as (λ r.
     TrapKeeps (record { hart = hart; memory = memory })
-    (result_case r (λ after. over after (concluded hart (store_of hart address width) (Ok (advanced hart))))
+    (result_case r (λ after. over after (concluded hart (store_of hart address width) (written_csr instr) (Ok (advanced hart))))
     (λ _. over memory (trap_end hart (fetch_of hart) (access_fault StoreAccessFault address)))))
     [ Ok after ↦ tt | Err fault ↦ (refl, refl) ])
 
@@ -75,14 +80,21 @@ executed-keeps hart memory word =
     (option_case o (over memory (trap_end hart (fetch_of hart) (illegal word))) (λ instr. accessed hart memory word instr (request instr hart))))
     [ None ↦ (refl, refl) | Some instr ↦ accessed-keeps hart memory word instr (request instr hart) refl ]
 
+attempted-keeps : (hart : Hart) (memory : List ℕ) → TrapKeeps (record { hart = hart; memory = memory }) (attempted hart memory)
+unfolding attempted
+attempted-keeps hart memory =
+    elim (fetched memory hart.pc) as (λ r.
+    TrapKeeps (record { hart = hart; memory = memory })
+    (result_case r (executed hart memory) (λ _. over memory (trap_end hart nothing (access_fault InstructionAccessFault hart.pc)))))
+    [ Ok word ↦ executed-keeps hart memory word | Err fault ↦ (refl, refl) ]
+
 pub trap-keeps : (state : State) → TrapKeeps state (step state)
 unfolding step
 trap-keeps state =
-    elim (fetched state.memory state.hart.pc) as (λ r.
+    elim (pending state.hart.csrs state.hart.mode) as (λ o.
     TrapKeeps state
-    (result_case r (executed state.hart state.memory)
-    (λ _. over state.memory (trap_end state.hart nothing (access_fault InstructionAccessFault state.hart.pc)))))
-    [ Ok word ↦ executed-keeps state.hart state.memory word | Err fault ↦ (refl, refl) ]
+    (option_case o (attempted state.hart state.memory) (λ interrupt. over state.memory (trap_end state.hart nothing (interrupted interrupt)))))
+    [ None ↦ attempted-keeps state.hart state.memory | Some interrupt ↦ (refl, refl) ]
 
 -- what holds of every step holds of one that is named
 pub after-step : (P : State → Stepped → Type 0) → ((state : State) → P state (step state))

@@ -1,9 +1,9 @@
 -- What instructions compute: whole numbers, modulo 2 ^ 32 at the end. RISC-V Unprivileged ISA 20191213, sections 2.4 (integer
 -- computation), 2.5 (conditions), 2.6 (loads), 7.1 (multiplication) and 7.2 (division).
-use Rattle.std.specs.Prelude.{ℕ, ◌+◌, ◌*◌, ◌%◌, ◌^◌, ◌==◌, Bool, not, nat_lt, int_lt, pos, ◌-ℤ◌, ◌*ℤ◌, if◌then◌else◌}
+use Rattle.std.specs.Prelude.{ℕ, ◌+◌, ◌*◌, ◌%◌, ◌^◌, ◌==◌, Bool, not, nat_lt, int_lt, pos, ◌-ℤ◌, ◌*ℤ◌}
 use Rattle.rv_word.specs.BitFields.{sign_extended}
 use Rattle.rv_word.specs.Division.{quotient, remainder, unsigned_quotient, unsigned_remainder}
-use Rattle.rv_word.specs.Logic.{and_by_bits, or_by_bits, xor_by_bits}
+use Rattle.rv_word.specs.Logic.{digit, and_by_bits, or_by_bits, xor_by_bits}
 use Rattle.rv_word.specs.Products.{high_word}
 use Rattle.rv_word.specs.Shifts.{shifted_left, shifted_right, shifted_right_signed}
 use Rattle.rv_word.specs.Word.{signed, low_word}
@@ -28,10 +28,6 @@ sum_of left right = (left + right) % 2 ^ 32
 abbrev pub difference_of : ℕ → ℕ → ℕ
 difference_of left right = low_word (pos left -ℤ pos right)
 
--- 1 where the test holds, and 0 where it does not
-abbrev pub flag : Bool → ℕ
-flag test = if test then 1 else 0
-
 abbrev pub is_less : ℕ → ℕ → Bool
 is_less left right = int_lt (signed left) (signed right)
 
@@ -43,8 +39,8 @@ abbrev pub op_value : OpKind → ℕ → ℕ → ℕ
 op_value Add rs1 rs2 = sum_of rs1 rs2
 op_value Sub rs1 rs2 = difference_of rs1 rs2
 op_value Sll rs1 rs2 = shifted_left rs1 (rs2 % 32)
-op_value Slt rs1 rs2 = flag (is_less rs1 rs2)
-op_value Sltu rs1 rs2 = flag (is_less_unsigned rs1 rs2)
+op_value Slt rs1 rs2 = digit (is_less rs1 rs2)
+op_value Sltu rs1 rs2 = digit (is_less_unsigned rs1 rs2)
 op_value Xor rs1 rs2 = xor_by_bits rs1 rs2
 op_value Srl rs1 rs2 = shifted_right rs1 (rs2 % 32)
 op_value Sra rs1 rs2 = shifted_right_signed rs1 (rs2 % 32)
@@ -62,8 +58,8 @@ op_value Remu rs1 rs2 = unsigned_remainder rs1 rs2
 -- a register and an immediate, which is sign-extended, also where sltiu compares it as unsigned
 abbrev pub op_imm_value : OpImmKind → ℕ → ℕ → ℕ
 op_imm_value Addi rs1 imm = sum_of rs1 imm
-op_imm_value Slti rs1 imm = flag (is_less rs1 imm)
-op_imm_value Sltiu rs1 imm = flag (is_less_unsigned rs1 imm)
+op_imm_value Slti rs1 imm = digit (is_less rs1 imm)
+op_imm_value Sltiu rs1 imm = digit (is_less_unsigned rs1 imm)
 op_imm_value Xori rs1 imm = xor_by_bits rs1 imm
 op_imm_value Ori rs1 imm = or_by_bits rs1 imm
 op_imm_value Andi rs1 imm = and_by_bits rs1 imm

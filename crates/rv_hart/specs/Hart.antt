@@ -1,16 +1,21 @@
 -- The hart at reset, and the small changes of its state.
--- RISC-V Unprivileged ISA 20191213, sections 2.1 and 2.5; Privileged Architecture 20211203, sections 3.1.7 (mtvec) and 3.4
--- (reset; that all registers are 0 then is this project's choice).
-use Rattle.std.specs.Prelude.{ℕ, ◌%◌, ◌==◌, Bool, replicate, Result, Ok, Err, if◌then◌else◌}
+-- RISC-V Unprivileged ISA 20191213, sections 2.1 and 2.5; Privileged Architecture 20211203, sections 3.1.6 to 3.1.16 (trap
+-- entry), 3.1.10 and 3.1.12 (counters) and 3.4 (reset; that all registers are 0 then is this project's choice).
+use Rattle.std.specs.Prelude.{ℕ, ◌%◌, ◌==◌, Bool, Option, replicate, Result, Ok, Err, if◌then◌else◌}
+use Rattle.rv_pmp.specs.declared.mode.Mode.{Mode}
+use Rattle.rv_pmp.specs.declared.mode.Mode.TheVariants.{M}
+use Rattle.rv_state.specs.Counters.{ticked}
+use Rattle.rv_state.specs.CsrState.{at_reset as csrs_at_reset}
+use Rattle.rv_state.specs.Traps.{trapped as csrs_trapped, trap_target}
 use Rattle.rv_hart.specs.Arithmetic.{sum_of}
 use Rattle.rv_hart.specs.Exceptions.{misaligned}
 use Rattle.rv_hart.specs.HartState.{Hart}
-use Rattle.rv_hart.specs.Registers.{with_register}
+use Rattle.rv_state.specs.Registers.{with_register}
 use Rattle.rv_hart.specs.declared.trap.Trap.{Trap}
 
 -- every register 0, and the entry next
-abbrev pub at_reset : ℕ → Hart
-at_reset entry = record { regs = replicate 32 0; pc = entry }
+abbrev pub at_reset : ℕ → Mode → Hart
+at_reset entry mode = record { regs = replicate 32 0; csrs = csrs_at_reset; pc = entry; mode = mode }
 
 -- the next instruction comes next
 abbrev pub advanced : Hart → Hart
@@ -32,6 +37,14 @@ branched hart taken target =
     if taken then (if target % 4 == 0 then Ok (record hart { pc = target }) else Err (misaligned target))
     else Ok (advanced hart)
 
--- A trap goes to the reset value of mtvec. It writes no register.
-abbrev pub trapped : Hart → Hart
-trapped hart = record hart { pc = 0 }
+-- A trap goes to mode M. It writes no integer register.
+abbrev pub trapped : Hart → Trap → Hart
+trapped hart trap = record hart {
+  csrs = csrs_trapped hart.csrs hart.mode hart.pc trap.cause trap.tval;
+  pc = trap_target hart.csrs.mtvec trap.cause;
+  mode = M;
+}
+
+-- a step is counted, by what mcountinhibit was before it and the register that it wrote
+abbrev pub counted : Hart → Bool → ℕ → Option ℕ → Hart
+counted hart retired inhibit written = record hart { csrs = ticked hart.csrs retired inhibit written }

@@ -1,15 +1,22 @@
 -- What each instruction means: the access that it asks for, and the hart that it leaves once that access is done.
--- RISC-V Unprivileged ISA 20191213, chapters 2 and 7; Privileged Architecture 20211203, sections 3.3.3 (wfi) and 4.2.1
--- (sfence.vma), which do nothing here. The control and status registers and the returns from traps are illegal.
-use Rattle.std.specs.Prelude.{ℕ, ◌*◌, ◌/◌, Result, Ok, Err}
+-- RISC-V Unprivileged ISA 20191213, chapters 2, 7 and 9; Privileged Architecture 20211203, sections 3.1.6.5 (TVM, TW, TSR),
+-- 3.3.2 (mret, sret), 3.3.3 (wfi) and 4.2.1 (sfence.vma).
+use Rattle.std.specs.Prelude.{ℕ, ◌*◌, ◌/◌, Bool, true, false, not, Result, Ok, Err, if◌then◌else◌}
+use Rattle.rv_word.specs.Cases.{result_case}
 use Rattle.rv_word.specs.BitFields.{sign_extended}
 use Rattle.rv_encoding.specs.declared.instr.Instr.{Instr}
 use Rattle.rv_encoding.specs.declared.instr.Instr.TheVariants.{Lui, Auipc, Jal, Jalr, Branch, Load, Store, OpImm, ShiftImm, Op, Fence, Csr, CsrImm, Ecall, Ebreak, Sret, Mret, Wfi, SfenceVma}
 use Rattle.rv_hart.specs.Arithmetic.{sum_of, op_value, op_imm_value, shift_value, is_taken, load_width, load_value, store_width}
-use Rattle.rv_hart.specs.Exceptions.{illegal, breakpoint, machine_call}
+use Rattle.rv_pmp.specs.declared.mode.Mode.{Mode}
+use Rattle.rv_pmp.specs.declared.mode.Mode.TheVariants.{U, S, M}
+use Rattle.rv_state.specs.Interrupts.{is_machine}
+use Rattle.rv_state.specs.Traps.{after_mret, after_sret, mode_of_spp}
+use Rattle.rv_state.specs.declared.csr_fault.CsrFault.{CsrFault}
+use Rattle.rv_hart.specs.CsrInstructions.{csr_changed}
+use Rattle.rv_hart.specs.Exceptions.{illegal, breakpoint, environment_call}
 use Rattle.rv_hart.specs.Hart.{advanced, with_result, jumped, branched}
 use Rattle.rv_hart.specs.HartState.{Hart}
-use Rattle.rv_hart.specs.Registers.{register}
+use Rattle.rv_state.specs.Registers.{register}
 use Rattle.rv_hart.specs.declared.request.Request.{Request}
 use Rattle.rv_hart.specs.declared.request.Request.TheVariants as requests
 use Rattle.rv_hart.specs.declared.trap.Trap.{Trap}
@@ -21,6 +28,33 @@ address_of hart rs1 offset = sum_of (register hart.regs rs1) (sign_extended offs
 -- a number with bit 0 cleared
 abbrev pub made_even : ℕ → ℕ
 made_even n = n / 2 * 2
+
+-- ---- where an instruction is allowed
+
+-- what supervisor mode may do unless a bit of mstatus refuses it, and user mode never
+abbrev pub unless_refused : Mode → Bool → Bool
+unless_refused M refused = true
+unless_refused S refused = not refused
+unless_refused U refused = false
+
+-- an instruction that is done where it is allowed, and else is illegal
+abbrev pub where_allowed : Bool → ℕ → Hart → Result Hart Trap
+where_allowed allowed word after = if allowed then Ok after else Err (illegal word)
+
+-- a change of a control and status register, where no access is refused
+abbrev pub unless_illegal : ℕ → Result Hart CsrFault → Result Hart Trap
+unless_illegal word change = result_case change Ok (λ _. Err (illegal word))
+
+-- ---- the instructions
+
+-- the returns from traps
+abbrev pub returned_from_machine : Hart → Hart
+returned_from_machine hart =
+    record hart { csrs = after_mret hart.csrs; pc = hart.csrs.mepc; mode = hart.csrs.mstatus.mpp }
+
+abbrev pub returned_from_supervisor : Hart → Hart
+returned_from_supervisor hart =
+    record hart { csrs = after_sret hart.csrs; pc = hart.csrs.sepc; mode = mode_of_spp hart.csrs.mstatus.spp }
 
 -- the one access of an instruction
 unfoldable pub request : Instr → Hart → Request
@@ -46,11 +80,15 @@ finished (ShiftImm kind rd rs1 shamt) hart word loaded =
 finished (Op kind rd rs1 rs2) hart word loaded =
     Ok (with_result hart rd (op_value kind (register hart.regs rs1) (register hart.regs rs2)))
 finished (Fence fm pred succ rd rs1) hart word loaded = Ok (advanced hart)
-finished (Csr kind rd rs1 csr) hart word loaded = Err (illegal word)
-finished (CsrImm kind rd uimm csr) hart word loaded = Err (illegal word)
-finished Ecall hart word loaded = Err machine_call
+finished (Csr kind rd rs1 csr) hart word loaded =
+    unless_illegal word (csr_changed hart kind rd rs1 (register hart.regs rs1) csr)
+finished (CsrImm kind rd uimm csr) hart word loaded =
+    unless_illegal word (csr_changed hart kind rd uimm uimm csr)
+finished Ecall hart word loaded = Err (environment_call hart.mode)
 finished Ebreak hart word loaded = Err (breakpoint hart.pc)
-finished Sret hart word loaded = Err (illegal word)
-finished Mret hart word loaded = Err (illegal word)
-finished Wfi hart word loaded = Ok (advanced hart)
-finished (SfenceVma rs1 rs2) hart word loaded = Ok (advanced hart)
+finished Sret hart word loaded =
+    where_allowed (unless_refused hart.mode hart.csrs.mstatus.tsr) word (returned_from_supervisor hart)
+finished Mret hart word loaded = where_allowed (is_machine hart.mode) word (returned_from_machine hart)
+finished Wfi hart word loaded = where_allowed (unless_refused hart.mode hart.csrs.mstatus.tw) word (advanced hart)
+finished (SfenceVma rs1 rs2) hart word loaded =
+    where_allowed (unless_refused hart.mode hart.csrs.mstatus.tvm) word (advanced hart)

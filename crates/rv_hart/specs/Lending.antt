@@ -6,16 +6,26 @@ use Rattle.rv_hart.specs.HartState.{Hart}
 use Rattle.rv_hart.specs.State.{State}
 use Rattle.rv_hart.specs.contracts.hart.Hart.{the_row as hart_row}
 use Rattle.rv_hart.specs.contracts.machine.Machine.{the_row as machine_row}
-use Rattle.rv_hart.specs.contracts.regs.Regs.{the_row as regs_row}
+use Rattle.rv_state.specs.contracts.csrs.Csrs.{the_row as csrs_row}
+use Rattle.rv_state.specs.contracts.regs.Regs.{the_row as regs_row}
+use Rattle.rv_state.specs.CsrState.{CsrState}
 
 -- the hart ends with the registers that are left
 abbrev pub HartLendsRegs : MutBor Hart → MutBor (List ℕ) → Fml
 HartLendsRegs hart regs = Lends hart_row regs_row hart regs (λ left. record hart.now { regs = left })
 
+-- the hart ends with the control and status registers that are left
+abbrev pub HartLendsCsrs : MutBor Hart → MutBor CsrState → Fml
+HartLendsCsrs hart csrs = Lends hart_row csrs_row hart csrs (λ left. record hart.now { csrs = left })
+
 -- so does the machine
 abbrev pub MachineLendsRegs : MutBor State → MutBor (List ℕ) → Fml
 MachineLendsRegs machine regs =
     Lends machine_row regs_row machine regs (λ left. record machine.now { hart = record machine.now.hart { regs = left } })
+
+abbrev pub MachineLendsCsrs : MutBor State → MutBor CsrState → Fml
+MachineLendsCsrs machine csrs =
+    Lends machine_row csrs_row machine csrs (λ left. record machine.now { hart = record machine.now.hart { csrs = left } })
 
 -- the machine ends with the memory that is left
 abbrev pub MachineLendsRam : MutBor State → MutBor (List ℕ) → Fml

@@ -1,11 +1,10 @@
 pub mod Arithmetic
-pub mod Causes
 pub mod Confinement
+pub mod CsrInstructions
 pub mod Exceptions
 pub mod Hart
 pub mod HartState
 pub mod Instructions
-pub mod Registers
 pub mod State
 pub mod Step
 pub mod StepLaws

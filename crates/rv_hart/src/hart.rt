@@ -1,26 +1,25 @@
-//! One hart, in mode M and without control and status registers.
+//! One hart.
 
 ghost use Rattle.std.specs.Prelude.{◌≡◌, ◌%◌, Ok, Err};
 ghost use Rattle.rv_hart.specs.HartState.{Hart as HartState};
 
 use crate::arithmetic::{is_taken, load_value, load_width, op, op_imm, shift, store_width};
-use crate::cause::Cause;
-use crate::regs::Regs;
 use crate::request::Request;
-use crate::trap::{StepOutcome, Trap, access_fault, breakpoint, illegal, machine_call, misaligned};
+use crate::trap::{StepOutcome, Trap, environment_call, exception, interrupted};
 use rv_encoding::{BranchKind, Instr, OpImmKind, OpKind, Shamt, ShiftKind, decode};
 use rv_memory::{Ram, Span, Touched};
+use rv_pmp::Mode;
+use rv_state::{Cause, Csrs, Exception, Regs};
 use rv_word::{Reg, Width};
 use std::marker::Model;
-
-/// Where a trap goes: the reset value of mtvec.
-const TRAP_VECTOR: u32 = 0;
 
 /// All of the machine's state but the memory.
 #[derive(Drop, Debug)]
 pub(crate) struct Hart {
-    regs: Regs,
-    pc: u32,
+    pub(crate) regs: Regs,
+    pub(crate) csrs: Csrs,
+    pub(crate) pc: u32,
+    pub(crate) mode: Mode,
 }
 
 impl Model for Hart {
@@ -29,31 +28,33 @@ impl Model for Hart {
 
     ghost Value = { HartState };
 
-    ghost view = { λ hart. record { regs = hart.regs; pc = hart.pc } };
+    ghost view = { λ hart. record { regs = hart.regs; csrs = hart.csrs; pc = hart.pc; mode = hart.mode } };
 
     ghost invariant = { λ hart. hart.pc % 4 ≡ 0 };
 }
 
 impl Hart {
-    ghost use Rattle.std.specs.Prelude.{◌≡◌, ◌%◌, Some, None, Ok, Err};
+    ghost use Rattle.std.specs.Prelude.{◌≡◌, ◌%◌, Some, None, Ok, Err, true, false};
     ghost use Rattle.std.specs.Borrow.{sem};
     ghost use Rattle.rv_hart.specs.HartState.{Hart as HartState};
-    ghost use Rattle.rv_hart.specs.Hart.{at_reset, advanced, with_result, jumped, branched, trapped};
+    ghost use Rattle.rv_hart.specs.Hart.{at_reset, advanced, with_result, jumped, branched, trapped, counted};
     ghost use Rattle.rv_hart.specs.Arithmetic.{sum_of, op_value, op_imm_value, shift_value, is_taken as is_taken_of};
     ghost use Rattle.rv_hart.specs.Instructions.{request, finished, made_even};
-    ghost use Rattle.rv_hart.specs.Lending.{HartLendsRegs};
-    ghost use Rattle.rv_hart.specs.Registers.{register};
+    ghost use Rattle.rv_hart.specs.Lending.{HartLendsRegs, HartLendsCsrs};
+    ghost use Rattle.rv_state.specs.Registers.{register};
     ghost use Rattle.rv_hart.specs.State.{ended_in, over};
-    ghost use Rattle.rv_hart.specs.Step.{step, executed, accessed, concluded, trap_end, retired_end, fetch_of};
+    ghost use Rattle.rv_hart.specs.Step.{step, executed, accessed, concluded, done, trap_end, retired_end, fetch_of};
 
     /// The hart at reset, with the entry next.
-    pub(crate) fn new(entry: u32) -> Self
+    pub(crate) fn new(entry: u32, mode: Mode) -> Self
         requires { entry % 4 ≡ 0 }
-        ensures { result ≡ at_reset entry }
+        ensures { result ≡ at_reset entry mode }
     {
         Hart {
             regs: Regs::new(),
+            csrs: Csrs::new(),
             pc: entry,
+            mode,
         }
     }
 
@@ -63,6 +64,22 @@ impl Hart {
         ensures aligned { result % 4 ≡ 0 }
     {
         self.pc
+    }
+
+    /// The mode.
+    pub(crate) fn mode(&self) -> Mode
+        ensures { result ≡ self.now.mode }
+    {
+        self.mode
+    }
+
+    /// Goes on at another address, in another mode.
+    pub(crate) fn set_pc(&mut self, pc: u32, mode: Mode)
+        requires { pc % 4 ≡ 0 }
+        ensures { self.new ≡ record self.old { pc = pc; mode = mode } }
+    {
+        self.pc = pc;
+        self.mode = mode;
     }
 
     /// What holds in every state. It does nothing.
@@ -91,16 +108,34 @@ impl Hart {
         &mut self.regs
     }
 
-    /// Does one step over a memory.
+    /// The control and status registers.
+    pub(crate) fn csrs(&self) -> &Csrs
+        ensures { result.now ≡ self.now.csrs }
+    {
+        &self.csrs
+    }
+
+    /// The control and status registers, for writing.
+    pub(crate) fn csrs_mut(&mut self) -> &mut Csrs
+        ensures* writes_back { sem 𝓛 (HartLendsCsrs self.entry result) }
+        ensures value { result.now ≡ self.old.csrs }
+    {
+        &mut self.csrs
+    }
+
+    /// Does one step over a memory: takes an interrupt, or does the instruction at pc.
     #[inline(always)]
-    #[tactic(auto, unfolding(crate::specs::Step::step))]
+    #[tactic(auto, unfolding(crate::specs::Step::step, crate::specs::Step::attempted))]
     pub(crate) fn step(&mut self, ram: &mut Ram) -> StepOutcome
         ensures { step (record { hart = self.old; memory = ram.old }) ≡ over ram.new (ended_in self.new result) }
     {
+        if let Some(interrupt) = self.csrs.pending_interrupt(self.mode) {
+            return self.trap(interrupted(interrupt), Touched::default());
+        }
         match ram.fetch(self.pc) {
             Ok(word) => self.execute(word, ram),
             Err(_) => {
-                let trap = access_fault(Cause::InstructionAccessFault, self.pc);
+                let trap = exception(Exception::InstructionAccessFault, self.pc);
                 self.trap(trap, Touched::default())
             }
         }
@@ -121,7 +156,7 @@ impl Hart {
         };
         match decode(word) {
             Some(instr) => self.access(&instr, word, fetched, ram),
-            None => self.trap(illegal(word), fetched),
+            None => self.trap(exception(Exception::IllegalInstruction, word), fetched),
         }
     }
 
@@ -142,7 +177,7 @@ impl Hart {
                     });
                     self.finish(instr, word, number, Touched { loaded, ..fetched })
                 }
-                Err(_) => self.trap(access_fault(Cause::LoadAccessFault, address), fetched),
+                Err(_) => self.trap(exception(Exception::LoadAccessFault, address), fetched),
             },
             Request::Store {
                 address,
@@ -156,7 +191,7 @@ impl Hart {
                     });
                     self.finish(instr, word, 0, Touched { stored, ..fetched })
                 }
-                Err(_) => self.trap(access_fault(Cause::StoreAccessFault, address), fetched),
+                Err(_) => self.trap(exception(Exception::StoreAccessFault, address), fetched),
             },
         }
     }
@@ -193,9 +228,9 @@ impl Hart {
 
     /// Does the rest of the instruction that the word spells, once its access is done.
     #[inline(always)]
-    #[tactic(auto, unfolding(crate::specs::Instructions::finished, crate::specs::Step::concluded))]
+    #[tactic(auto, unfolding(crate::specs::Instructions::finished, crate::specs::CsrInstructions::written_csr, crate::specs::Step::concluded))]
     fn finish(&mut self, instr: &Instr, word: u32, loaded: u32, touched: Touched) -> StepOutcome
-        ensures { concluded self.old touched (finished instr.now self.old word loaded) ≡ ended_in self.new result }
+        ensures { done self.old touched word instr.now loaded ≡ ended_in self.new result }
     {
         match *instr {
             Instr::Lui { rd, imm } => self.write_rd(rd, imm.word(), touched),
@@ -219,45 +254,73 @@ impl Hart {
                 shamt,
             } => self.write_shift(kind, rd, rs1, shamt, touched),
             Instr::Op { kind, rd, rs1, rs2 } => self.write_op(kind, rd, rs1, rs2, touched),
-            Instr::Store { .. } | Instr::Fence { .. } | Instr::Wfi | Instr::SfenceVma { .. } => {
-                self.advance_pc(touched)
-            }
-            Instr::Ecall => self.trap(machine_call(), touched),
-            Instr::Ebreak => self.trap(breakpoint(self.pc), touched),
-            Instr::Csr { .. } | Instr::CsrImm { .. } | Instr::Sret | Instr::Mret => {
-                self.trap(illegal(word), touched)
-            }
+            Instr::Store { .. } | Instr::Fence { .. } => self.advance_pc(touched),
+            Instr::Csr { kind, rd, rs1, csr } => self.csr(kind, rd, rs1, csr, word, touched),
+            Instr::CsrImm {
+                kind,
+                rd,
+                uimm,
+                csr,
+            } => self.csr_imm(kind, rd, uimm, csr, word, touched),
+            Instr::Ecall => self.trap(environment_call(self.mode), touched),
+            Instr::Ebreak => self.trap(exception(Exception::Breakpoint, self.pc), touched),
+            Instr::Sret => self.return_from_supervisor(word, touched),
+            Instr::Mret => self.return_from_machine(word, touched),
+            Instr::Wfi => self.wait(word, touched),
+            Instr::SfenceVma { .. } => self.order_translations(word, touched),
         }
     }
 
     /// Ends the step in a trap.
     #[inline(always)]
-    fn trap(&mut self, trap: Trap, touched: Touched) -> StepOutcome
+    pub(crate) fn trap(&mut self, trap: Trap, touched: Touched) -> StepOutcome
         ensures { trap_end self.old touched trap ≡ ended_in self.new result }
     {
-        self.pc = TRAP_VECTOR;
+        self.enter_trap(trap.cause, trap.tval);
         StepOutcome {
             trap: Some(trap),
             touched,
         }
     }
 
-    /// Goes to the next instruction.
-    #[inline(always)]
-    fn advance_pc(&mut self, touched: Touched) -> StepOutcome
-        ensures { retired_end touched (advanced self.old) ≡ ended_in self.new result }
+    /// Enters a trap, and counts the step.
+    #[cold]
+    #[inline(never)]
+    fn enter_trap(&mut self, cause: Cause, tval: u32)
+        ensures { self.new ≡ counted (trapped self.old (record { cause = cause; tval = tval })) false self.old.csrs.mcountinhibit None }
     {
-        self.pc = self.pc.wrapping_add(4);
+        let inhibit = self.csrs.inhibit();
+        self.pc = self.csrs.enter_trap(self.mode, self.pc, cause, tval);
+        self.mode = Mode::M;
+        self.csrs.tick_counters(false, inhibit, None);
+    }
+
+    /// Ends the step of an instruction that retires and wrote no control and status register.
+    #[inline(always)]
+    pub(crate) fn retire(&mut self, touched: Touched) -> StepOutcome
+        ensures { ended_in (counted self.old true self.old.csrs.mcountinhibit None) (record { trap = None; touched = touched }) ≡ ended_in self.new result }
+    {
+        let inhibit = self.csrs.inhibit();
+        self.csrs.tick_counters(true, inhibit, None);
         StepOutcome {
             trap: None,
             touched,
         }
     }
 
+    /// Goes to the next instruction.
+    #[inline(always)]
+    pub(crate) fn advance_pc(&mut self, touched: Touched) -> StepOutcome
+        ensures { retired_end self.old touched None (advanced self.old) ≡ ended_in self.new result }
+    {
+        self.pc = self.pc.wrapping_add(4);
+        self.retire(touched)
+    }
+
     /// Writes the result of an instruction, and goes to the next.
     #[inline(always)]
     fn write_rd(&mut self, rd: Reg, value: u32, touched: Touched) -> StepOutcome
-        ensures { retired_end touched (with_result self.old rd value) ≡ ended_in self.new result }
+        ensures { retired_end self.old touched None (with_result self.old rd value) ≡ ended_in self.new result }
     {
         self.regs.set(rd, value);
         self.advance_pc(touched)
@@ -266,7 +329,7 @@ impl Hart {
     /// Writes the sum of pc and an immediate.
     #[inline(always)]
     fn write_pc_sum(&mut self, rd: Reg, imm: u32, touched: Touched) -> StepOutcome
-        ensures { retired_end touched (with_result self.old rd (sum_of self.old.pc imm)) ≡ ended_in self.new result }
+        ensures { retired_end self.old touched None (with_result self.old rd (sum_of self.old.pc imm)) ≡ ended_in self.new result }
     {
         let value = self.pc.wrapping_add(imm);
         self.write_rd(rd, value, touched)
@@ -282,7 +345,7 @@ impl Hart {
         imm: u32,
         touched: Touched,
     ) -> StepOutcome
-        ensures { retired_end touched (with_result self.old rd (op_imm_value kind (register self.old.regs rs1) imm)) ≡ ended_in self.new result }
+        ensures { retired_end self.old touched None (with_result self.old rd (op_imm_value kind (register self.old.regs rs1) imm)) ≡ ended_in self.new result }
     {
         let value = op_imm(kind, self.regs.get(rs1), imm);
         self.write_rd(rd, value, touched)
@@ -298,7 +361,7 @@ impl Hart {
         shamt: Shamt,
         touched: Touched,
     ) -> StepOutcome
-        ensures { retired_end touched (with_result self.old rd (shift_value kind (register self.old.regs rs1) shamt)) ≡ ended_in self.new result }
+        ensures { retired_end self.old touched None (with_result self.old rd (shift_value kind (register self.old.regs rs1) shamt)) ≡ ended_in self.new result }
     {
         let value = shift(kind, self.regs.get(rs1), shamt.amount());
         self.write_rd(rd, value, touched)
@@ -314,7 +377,7 @@ impl Hart {
         rs2: Reg,
         touched: Touched,
     ) -> StepOutcome
-        ensures { retired_end touched (with_result self.old rd (op_value kind (register self.old.regs rs1) (register self.old.regs rs2))) ≡ ended_in self.new result }
+        ensures { retired_end self.old touched None (with_result self.old rd (op_value kind (register self.old.regs rs1) (register self.old.regs rs2))) ≡ ended_in self.new result }
     {
         let value = op(kind, self.regs.get(rs1), self.regs.get(rs2));
         self.write_rd(rd, value, touched)
@@ -324,7 +387,7 @@ impl Hart {
     #[inline(always)]
     #[tactic(auto, unfolding(crate::specs::Step::concluded))]
     fn jump_by(&mut self, rd: Reg, offset: u32, touched: Touched) -> StepOutcome
-        ensures { concluded self.old touched (jumped self.old rd (sum_of self.old.pc offset)) ≡ ended_in self.new result }
+        ensures { concluded self.old touched None (jumped self.old rd (sum_of self.old.pc offset)) ≡ ended_in self.new result }
     {
         let target = self.pc.wrapping_add(offset);
         self.jump(rd, target, touched)
@@ -334,7 +397,7 @@ impl Hart {
     #[inline(always)]
     #[tactic(auto, unfolding(crate::specs::Step::concluded))]
     fn jump_to(&mut self, rd: Reg, rs1: Reg, offset: u32, touched: Touched) -> StepOutcome
-        ensures { concluded self.old touched (jumped self.old rd (made_even (sum_of (register self.old.regs rs1) offset))) ≡ ended_in self.new result }
+        ensures { concluded self.old touched None (jumped self.old rd (made_even (sum_of (register self.old.regs rs1) offset))) ≡ ended_in self.new result }
     {
         let target = self.regs.get(rs1).wrapping_add(offset);
         self.jump(rd, target / 2 * 2, touched)
@@ -344,18 +407,18 @@ impl Hart {
     #[inline(always)]
     #[tactic(auto, unfolding(crate::specs::Step::concluded))]
     fn jump(&mut self, rd: Reg, target: u32, touched: Touched) -> StepOutcome
-        ensures { concluded self.old touched (jumped self.old rd target) ≡ ended_in self.new result }
+        ensures { concluded self.old touched None (jumped self.old rd target) ≡ ended_in self.new result }
     {
         let next = self.pc.wrapping_add(4);
         if target % 4 != 0 {
-            return self.trap(misaligned(target), touched);
+            return self.trap(
+                exception(Exception::InstructionAddressMisaligned, target),
+                touched,
+            );
         }
         self.regs.set(rd, next);
         self.pc = target;
-        StepOutcome {
-            trap: None,
-            touched,
-        }
+        self.retire(touched)
     }
 
     /// Branches by an offset from pc where the test of two registers holds, and else goes to the next instruction.
@@ -369,19 +432,19 @@ impl Hart {
         offset: u32,
         touched: Touched,
     ) -> StepOutcome
-        ensures { concluded self.old touched (branched self.old (is_taken_of kind (register self.old.regs rs1) (register self.old.regs rs2)) (sum_of self.old.pc offset)) ≡ ended_in self.new result }
+        ensures { concluded self.old touched None (branched self.old (is_taken_of kind (register self.old.regs rs1) (register self.old.regs rs2)) (sum_of self.old.pc offset)) ≡ ended_in self.new result }
     {
         if !is_taken(kind, self.regs.get(rs1), self.regs.get(rs2)) {
             return self.advance_pc(touched);
         }
         let target = self.pc.wrapping_add(offset);
         if target % 4 != 0 {
-            return self.trap(misaligned(target), touched);
+            return self.trap(
+                exception(Exception::InstructionAddressMisaligned, target),
+                touched,
+            );
         }
         self.pc = target;
-        StepOutcome {
-            trap: None,
-            touched,
-        }
+        self.retire(touched)
     }
 }

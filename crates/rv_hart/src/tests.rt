@@ -1,7 +1,9 @@
 //! Steps of small programs, and what they show. The corner values of every row are command-line cases of the bench.
 
-use crate::{Cause, Machine, StepOutcome, Trap};
+use crate::{Machine, StepOutcome, Trap};
 use rv_memory::{RAM_BASE, Ram, Span, Touched};
+use rv_pmp::Mode;
+use rv_state::{Cause, Exception, Interrupt};
 use rv_word::{Reg, Width};
 use std::test::Fail;
 
@@ -14,7 +16,7 @@ fn machine_with(rt: HostRuntime, words: &[u32]) -> Result<Machine, Fail> {
             .map_err(|_| "a program that fits")?;
         address = address.wrapping_add(4);
     }
-    Ok(Machine::new(ram, RAM_BASE))
+    Ok(Machine::new(ram, RAM_BASE, Mode::M))
 }
 
 /// The span of a step's own word.
@@ -71,7 +73,7 @@ fn tells_a_refused_load(rt: HostRuntime) -> Result<(), Fail> {
     let mut machine = machine_with(rt, &[0x0020_a183])?;
     machine.regs_mut().set(Reg::new(1), RAM_BASE + 65_532);
     let trap = Some(Trap {
-        cause: Cause::LoadAccessFault,
+        cause: Cause::Exception(Exception::LoadAccessFault),
         tval: RAM_BASE + 65_534,
     });
     let touched = Touched {
@@ -84,26 +86,83 @@ fn tells_a_refused_load(rt: HostRuntime) -> Result<(), Fail> {
     let trap = machine.step().trap;
     assert_eq!(rt;
         trap.map(|trap| trap.cause),
-        Some(Cause::InstructionAccessFault)
+        Some(Cause::Exception(Exception::InstructionAccessFault))
     );
     Ok(())
 }
 
-/// ecall, ebreak, csrrw x0, mscratch, x0, mret, and a word that no row spells
+/// ecall, ebreak, and a word that no row spells
 #[test]
 fn traps_by_their_causes(rt: HostRuntime) -> Result<(), Fail> {
-    for (word, cause, tval) in [
-        (0x0000_0073, Cause::EnvironmentCallFromM, 0),
-        (0x0010_0073, Cause::Breakpoint, RAM_BASE),
-        (0x3400_1073, Cause::IllegalInstruction, 0x3400_1073),
-        (0x3020_0073, Cause::IllegalInstruction, 0x3020_0073),
-        (0x0000_0000, Cause::IllegalInstruction, 0),
+    for (word, exception, tval) in [
+        (0x0000_0073, Exception::EnvironmentCallFromM, 0),
+        (0x0010_0073, Exception::Breakpoint, RAM_BASE),
+        (0x0000_0000, Exception::IllegalInstruction, 0),
     ] {
+        let cause = Cause::Exception(exception);
         let mut machine = machine_with(rt, &[word])?;
         assert_eq!(rt; machine.step().trap, Some(Trap { cause, tval }), "{word}");
         assert_eq!(rt; machine.pc(), 0);
+        assert_eq!(rt; machine.csrs().read(0x341, Mode::M), Ok(RAM_BASE));
+        assert_eq!(rt; machine.csrs().read(0x342, Mode::M), Ok(cause.code()));
     }
-    assert_eq!(rt; Cause::Breakpoint.code(), 3);
+    Ok(())
+}
+
+/// mret to mode U, where mret, wfi and a read of mscratch are illegal, and ecall has a cause of its own
+#[test]
+fn keeps_modes_apart(rt: HostRuntime) -> Result<(), Fail> {
+    for (word, exception, tval) in [
+        (0x3020_0073, Exception::IllegalInstruction, 0x3020_0073),
+        (0x1050_0073, Exception::IllegalInstruction, 0x1050_0073),
+        (0x3400_20f3, Exception::IllegalInstruction, 0x3400_20f3),
+        (0x0000_0073, Exception::EnvironmentCallFromU, 0),
+    ] {
+        let mut machine = machine_with(rt, &[0x3020_0073, word])?;
+        machine.csrs_mut().set_mepc(RAM_BASE + 4);
+        assert_eq!(rt; machine.step().trap, None);
+        assert_eq!(rt; machine.mode(), Mode::U);
+        assert_eq!(rt; machine.pc(), RAM_BASE + 4);
+        let cause = Cause::Exception(exception);
+        assert_eq!(rt; machine.step().trap, Some(Trap { cause, tval }), "{word}");
+        assert_eq!(rt; machine.mode(), Mode::M);
+    }
+    Ok(())
+}
+
+/// csrrw x1, mscratch, x2; csrrs x3, mscratch, x0: the second one only reads.
+#[test]
+fn changes_a_register_by_another(rt: HostRuntime) -> Result<(), Fail> {
+    let mut machine = machine_with(rt, &[0x3401_10f3, 0x3400_21f3])?;
+    machine.regs_mut().set(Reg::new(2), 0x1234);
+    assert_eq!(rt; machine.step().trap, None);
+    assert_eq!(rt; machine.step().trap, None);
+    assert_eq!(rt; machine.regs().get(Reg::new(1)), 0);
+    assert_eq!(rt; machine.regs().get(Reg::new(3)), 0x1234);
+    assert_eq!(rt; machine.csrs().read(0xb02, Mode::M), Ok(2));
+    Ok(())
+}
+
+/// The timer's interrupt comes before the instruction, in mode U also where MIE is 0.
+#[test]
+fn takes_an_interrupt_first(rt: HostRuntime) -> Result<(), Fail> {
+    let mut machine = machine_with(rt, &[0x0000_0013])?;
+    machine.set_pc(RAM_BASE, Mode::U);
+    machine.csrs_mut().set_mie(0x80);
+    machine.csrs_mut().set_timer(true);
+    let touched = Touched {
+        fetched: None,
+        loaded: None,
+        stored: None,
+    };
+    let trap = Some(Trap {
+        cause: Cause::Interrupt(Interrupt::MachineTimer),
+        tval: 0,
+    });
+    assert_eq!(rt; machine.step(), StepOutcome { trap, touched });
+    assert_eq!(rt; machine.mode(), Mode::M);
+    assert_eq!(rt; machine.csrs().read(0xb00, Mode::M), Ok(1));
+    assert_eq!(rt; machine.csrs().read(0xb02, Mode::M), Ok(0));
     Ok(())
 }
 

@@ -1,17 +1,18 @@
 //! Traps, and what one step shows.
 
 ghost use Rattle.std.specs.Prelude.{◌≡◌};
-ghost use Rattle.rv_hart.specs.Exceptions.{illegal as illegal_of, misaligned as misaligned_of, access_fault as access_fault_of, breakpoint as breakpoint_of, machine_call as machine_call_of};
+ghost use Rattle.rv_hart.specs.Exceptions.{exception as exception_of, interrupted as interrupted_by, environment_call as environment_call_of};
 
-use crate::cause::Cause;
 use rv_memory::Touched;
+use rv_pmp::Mode;
+use rv_state::{Cause, Exception, Interrupt};
 
 /// A trap: its cause, and what it is about (RISC-V Privileged Architecture 20211203, sections 3.1.15 and 3.1.16).
 #[derive(Clone, Copy, Debug, PartialEq, Eq)]
 pub struct Trap {
-    /// What mcause would have.
+    /// What mcause has then.
     pub cause: Cause,
-    /// What mtval would have: the address or the instruction word that the trap is about, or 0.
+    /// What mtval has then: the address or the instruction word that the trap is about, or 0.
     pub tval: u32,
 }
 
@@ -24,52 +25,37 @@ pub struct StepOutcome {
     pub touched: Touched,
 }
 
-/// A jump or a taken branch to this target, which is not a multiple of 4.
-pub(crate) const fn misaligned(target: u32) -> Trap
-    ensures { result ≡ misaligned_of target }
+/// An exception of an instruction, with its value.
+#[inline(always)]
+pub(crate) const fn exception(cause: Exception, tval: u32) -> Trap
+    ensures { result ≡ exception_of cause tval }
 {
     Trap {
-        cause: Cause::InstructionAddressMisaligned,
-        tval: target,
+        cause: Cause::Exception(cause),
+        tval,
     }
 }
 
-/// A word that is no instruction of the hart.
-pub(crate) const fn illegal(word: u32) -> Trap
-    ensures { result ≡ illegal_of word }
+/// An ecall in this mode.
+#[inline(always)]
+pub(crate) const fn environment_call(mode: Mode) -> Trap
+    ensures { result ≡ environment_call_of mode }
 {
-    Trap {
-        cause: Cause::IllegalInstruction,
-        tval: word,
-    }
+    let cause = match mode {
+        Mode::U => Exception::EnvironmentCallFromU,
+        Mode::S => Exception::EnvironmentCallFromS,
+        Mode::M => Exception::EnvironmentCallFromM,
+    };
+    exception(cause, 0)
 }
 
-/// An access with a byte outside RAM, which shows its first address.
-pub(crate) const fn access_fault(cause: Cause, address: u32) -> Trap
-    ensures { result ≡ access_fault_of cause address }
+/// An interrupt that is taken.
+#[inline(always)]
+pub(crate) const fn interrupted(interrupt: Interrupt) -> Trap
+    ensures { result ≡ interrupted_by interrupt }
 {
     Trap {
-        cause,
-        tval: address,
-    }
-}
-
-/// An ebreak at this address.
-pub(crate) const fn breakpoint(pc: u32) -> Trap
-    ensures { result ≡ breakpoint_of pc }
-{
-    Trap {
-        cause: Cause::Breakpoint,
-        tval: pc,
-    }
-}
-
-/// An ecall in mode M.
-pub(crate) const fn machine_call() -> Trap
-    ensures { result ≡ machine_call_of }
-{
-    Trap {
-        cause: Cause::EnvironmentCallFromM,
+        cause: Cause::Interrupt(interrupt),
         tval: 0,
     }
 }

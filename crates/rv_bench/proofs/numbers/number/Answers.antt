@@ -1,7 +1,7 @@
 use Rattle.std.proofs.Common.{arith, ◌≡◌, get_or}
 use Rattle.std.proofs.lemmas.Grind.{common_steps}
 use Rattle.std.proofs.lemmas.Int.Digits.{digits_value_more}
-use Rattle.rv_bench.proofs.DigitValues.{number_step-lt, all_digits_more}
+use Rattle.rv_bench.proofs.DigitValues.{number_step-lt, number-lt, all_digits_more}
 use Rattle.rv_bench.proofs.numbers.number.Goals as goal
 
 pub overflow_add-value : goal.overflow_add-value
@@ -23,3 +23,8 @@ loop-byte-preserved c =
       digits = all_digits_more c.args.base c.loop-byte.byte-index c.args.text.now (omega arith) c.loop-byte.invariant.digits (rw byte at c.in_ok-digit.ensures.value.0);
       value = grind (arith, common_steps, digits_value_more);
     }
+
+pub returns-clause-below : goal.returns-clause-below
+returns-clause-below c =
+    let kept = c.loop-byte.invariant in
+    number-lt c.args.base c.args.most c.loop-byte.byte-index c.loop-byte.value c.args.text.now c.requires.low (omega arith) (omega arith) kept.digits kept.value

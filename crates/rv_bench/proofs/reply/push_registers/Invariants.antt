@@ -1,6 +1,6 @@
 use Rattle.std.proofs.Common.{◌≡◌, ◌+◌, ◌-◌, ◌*◌, ◌≤◌, ◌++◌, length}
 use Rattle.std.specs.List.{flat_map, range_with_len}
-use Rattle.rv_hart.specs.Registers.{register}
+use Rattle.rv_state.specs.Registers.{register}
 use Rattle.rv_bench.specs.ReplyText.{register_text}
 use Rattle.rv_bench.proofs.reply.push_registers.Given as goal
 

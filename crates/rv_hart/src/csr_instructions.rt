@@ -1,0 +1,158 @@
+//! The instructions that read and change a control and status register (Unprivileged ISA, section 9.1).
+
+ghost use Rattle.std.specs.Prelude.{◌≡◌, ◌^◌, ◌<◌, Ok, Err, MatchResult, OnErr};
+ghost use Rattle.rv_hart.specs.CsrInstructions.{is_read as is_read_of, is_written as is_written_of, changed as changed_of};
+
+use crate::hart::Hart;
+use crate::trap::{StepOutcome, exception};
+use rv_encoding::{CsrKind, CsrNumber, Uimm};
+use rv_memory::Touched;
+use rv_state::{CsrFault, Exception};
+use rv_word::{Reg, and_not, or};
+
+/// Whether the register is read: csrrw and csrrwi do not where rd is x0.
+fn is_read(kind: CsrKind, rd: Reg) -> bool
+    ensures { result ≡ is_read_of kind rd }
+{
+    match kind {
+        CsrKind::Write => rd.number() != 0,
+        CsrKind::Set | CsrKind::Clear => true,
+    }
+}
+
+/// Whether the register is written: those that set or clear bits do not where rs1 is x0 or the immediate 0.
+#[inline(always)]
+fn is_written(kind: CsrKind, source: u32) -> bool
+    ensures { result ≡ is_written_of kind source }
+{
+    match kind {
+        CsrKind::Write => true,
+        CsrKind::Set | CsrKind::Clear => source != 0,
+    }
+}
+
+/// The word that is written.
+fn changed(kind: CsrKind, old: u32, operand: u32) -> u32
+    ensures { result ≡ changed_of kind old operand }
+{
+    match kind {
+        CsrKind::Write => operand,
+        CsrKind::Set => or(old, operand),
+        CsrKind::Clear => and_not(old, operand),
+    }
+}
+
+impl Hart {
+    ghost use Rattle.std.specs.Prelude.{◌≡◌, Ok, Err, Some, None, MatchResult, OnErr, if◌then◌else◌, true};
+    ghost use Rattle.rv_hart.specs.CsrInstructions.{csr_changed, is_written as is_written_of};
+    ghost use Rattle.rv_hart.specs.Hart.{with_result, counted};
+    ghost use Rattle.rv_hart.specs.Instructions.{unless_illegal};
+    ghost use Rattle.rv_state.specs.Registers.{register};
+    ghost use Rattle.rv_hart.specs.State.{ended_in};
+    ghost use Rattle.rv_hart.specs.Step.{concluded};
+
+    /// Changes a register by a word of an integer register.
+    #[inline(always)]
+    pub(crate) fn csr(
+        &mut self,
+        kind: CsrKind,
+        rd: Reg,
+        rs1: Reg,
+        csr: CsrNumber,
+        word: u32,
+        touched: Touched,
+    ) -> StepOutcome
+        ensures { concluded self.old touched (if is_written_of kind rs1 then Some csr else None)
+            (unless_illegal word (csr_changed self.old kind rd rs1 (register self.old.regs rs1) csr)) ≡ ended_in self.new result }
+    {
+        let operand = self.regs.get(rs1);
+        self.change(
+            kind,
+            rd,
+            u32::from(rs1.number()),
+            operand,
+            csr,
+            word,
+            touched,
+        )
+    }
+
+    /// Changes a register by an immediate.
+    #[inline(always)]
+    pub(crate) fn csr_imm(
+        &mut self,
+        kind: CsrKind,
+        rd: Reg,
+        uimm: Uimm,
+        csr: CsrNumber,
+        word: u32,
+        touched: Touched,
+    ) -> StepOutcome
+        ensures { concluded self.old touched (if is_written_of kind uimm then Some csr else None)
+            (unless_illegal word (csr_changed self.old kind rd uimm uimm csr)) ≡ ended_in self.new result }
+    {
+        let number = uimm.number();
+        self.change(kind, rd, number, number, csr, word, touched)
+    }
+
+    /// Changes a register, or ends the step in an illegal instruction. The source is the number of rs1, or the immediate.
+    #[inline(always)]
+    #[tactic(auto, unfolding(crate::specs::Step::concluded))]
+    fn change(
+        &mut self,
+        kind: CsrKind,
+        rd: Reg,
+        source: u32,
+        operand: u32,
+        csr: CsrNumber,
+        word: u32,
+        touched: Touched,
+    ) -> StepOutcome
+        ensures { concluded self.old touched (if is_written_of kind source then Some csr else None)
+            (unless_illegal word (csr_changed self.old kind rd source operand csr)) ≡ ended_in self.new result }
+    {
+        let inhibit = self.csrs.inhibit();
+        if self
+            .change_csr(kind, rd, source, operand, csr.number())
+            .is_err()
+        {
+            return self.trap(exception(Exception::IllegalInstruction, word), touched);
+        }
+        let written = is_written(kind, source).then_some(csr.number());
+        self.csrs.tick_counters(true, inhibit, written);
+        StepOutcome {
+            trap: None,
+            touched,
+        }
+    }
+
+    /// Puts the old word of a register into rd, and the changed one into the register. A refused access changes nothing.
+    #[cold]
+    #[inline(never)]
+    #[tactic(auto, unfolding(crate::specs::CsrInstructions::csr_changed))]
+    fn change_csr(
+        &mut self,
+        kind: CsrKind,
+        rd: Reg,
+        source: u32,
+        operand: u32,
+        csr: u16,
+    ) -> Result<(), CsrFault>
+        ensures done { let gives = csr_changed self.old kind rd source operand csr in
+            MatchResult result (λ _. gives ≡ Ok self.new) (λ fault. gives ≡ Err fault) }
+        ensures refused { OnErr result (self.new ≡ self.old) }
+    {
+        let old = if is_read(kind, rd) {
+            self.csrs.read(csr, self.mode)?
+        } else {
+            0
+        };
+        if is_written(kind, source) {
+            self.csrs
+                .write(csr, changed(kind, old, operand), self.mode)?;
+        }
+        self.regs.set(rd, old);
+        self.pc = self.pc.wrapping_add(4);
+        Ok(())
+    }
+}

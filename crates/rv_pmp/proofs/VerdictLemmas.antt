@@ -1,0 +1,161 @@
+-- Tests of the numbers from one up to another, and the verdict from which entries meet an access.
+use Rattle.std.proofs.Common.{◌≡◌, ℕ, zero, suc, ◌+◌, ◌<◌, ◌≤◌, ◌⊎◌, ◌↔◌, Bool, true, false, ◌||◌, ◌&&◌, IsTrue, List, Some, None, refl, sym, ◌∙◌, ap, inl, inr, arith, max}
+use Rattle.std.specs.List.{range_with_len, list_any, list_all, find}
+use Rattle.std.proofs.lemmas.Bool.{cases_eq, or_from, or_left, or_right, and_from, and_left, and_right, cases_Bool, cond-true, cond-false, false_from_ne_true, true_from_ne_false, both_ways}
+use Rattle.rv_pmp.specs.declared.mode.Mode.{Mode}
+use Rattle.rv_pmp.specs.declared.access.Access.{Access}
+use Rattle.rv_pmp.specs.Entries.{Entries}
+use Rattle.rv_pmp.specs.Covers.{covers}
+use Rattle.rv_pmp.specs.Verdicts.{decider, verdict, verdict_by, decided, undecided}
+
+-- a number that passes settles `any`
+pub any_at : (p : ℕ → Bool) (a n b : ℕ) → a ≤ b → b < a + n → p b ≡ true → list_any p (range_with_len a n) ≡ true
+any_at p a zero b low high passes = absurd (omega arith)
+any_at p a (suc n) b low high passes = elim (cases_eq a b) [
+  | inl same ↦ or_left (p a) _ (ap p same ∙ passes)
+  | inr other ↦ or_right (p a) _ (any_at p (a + 1) n b (omega arith) (omega arith) passes)
+]
+
+-- where none passes, `any` fails
+pub any_none : (p : ℕ → Bool) (a n : ℕ) → ((b : ℕ) → a ≤ b → b < a + n → p b ≡ false) → list_any p (range_with_len a n) ≡ false
+any_none p a zero none = refl
+any_none p a (suc n) none =
+    or_from (p a) _ (none a (omega arith) (omega arith))
+    (any_none p (a + 1) n (λ b low high. none b (omega arith) (omega arith)))
+
+-- where each passes, `all` holds
+pub all_each : (p : ℕ → Bool) (a n : ℕ) → ((b : ℕ) → a ≤ b → b < a + n → p b ≡ true) → list_all p (range_with_len a n) ≡ true
+all_each p a zero each = refl
+all_each p a (suc n) each =
+    and_from (p a) _ (each a (omega arith) (omega arith))
+    (all_each p (a + 1) n (λ b low high. each b (omega arith) (omega arith)))
+
+-- a number that fails settles `all`
+pub all_fails_at : (p : ℕ → Bool) (a n b : ℕ) → a ≤ b → b < a + n → p b ≡ false → list_all p (range_with_len a n) ≡ false
+all_fails_at p a zero b low high fails = absurd (omega arith)
+all_fails_at p a (suc n) b low high fails = elim (cases_eq a b) [
+  | inl same ↦ and_left (p a) _ (ap p same ∙ fails)
+  | inr other ↦ and_right (p a) _ (all_fails_at p (a + 1) n b (omega arith) (omega arith) fails)
+]
+
+-- where `all` holds, each passes
+pub each_from_all : (p : ℕ → Bool) (a n : ℕ) → list_all p (range_with_len a n) ≡ true → (b : ℕ) → a ≤ b → b < a + n → p b ≡ true
+each_from_all p a n all b low high =
+    true_from_ne_false (p b) (λ fails. both_ways _ (all_fails_at p a n b low high fails) all)
+
+-- where `any` fails, none passes
+pub none_from_any : (p : ℕ → Bool) (a n : ℕ) → list_any p (range_with_len a n) ≡ false → (b : ℕ) → a ≤ b → b < a + n → p b ≡ false
+none_from_any p a n none b low high =
+    false_from_ne_true (p b) (λ passes. both_ways _ none (any_at p a n b low high passes))
+
+or_rest : (x y : Bool) → x ≡ false → (x || y) ≡ y
+or_rest true y fails = absurd (both_ways true fails refl)
+or_rest false y fails = refl
+
+and_rest : (x y : Bool) → x ≡ true → (x && y) ≡ y
+and_rest true y passes = refl
+and_rest false y passes = absurd (both_ways false refl passes)
+
+-- where `any` holds, some number passes
+pub some_from_any : (p : ℕ → Bool) (a n : ℕ) → list_any p (range_with_len a n) ≡ true → (b : ℕ) × (a ≤ b) × (b < a + n) × (p b ≡ true)
+some_from_any p a zero passes = absurd (both_ways false refl passes)
+some_from_any p a (suc n) passes = elim (cases_Bool (p a)) [
+  | inl here ↦ (a, omega arith, omega arith, here)
+  | inr other ↦
+      let rest = some_from_any p (a + 1) n (sym (or_rest (p a) (list_any p (range_with_len (a + 1) n)) other) ∙ passes) in
+      (rest.0, omega (arith, rest.1), omega (arith, rest.2), rest.3)
+]
+
+-- where `all` fails, some number fails
+pub some_from_all : (p : ℕ → Bool) (a n : ℕ) → list_all p (range_with_len a n) ≡ false → (b : ℕ) × (a ≤ b) × (b < a + n) × (p b ≡ false)
+some_from_all p a zero fails = absurd (both_ways true fails refl)
+some_from_all p a (suc n) fails = elim (cases_Bool (p a)) [
+  | inl passes ↦
+      let rest = some_from_all p (a + 1) n (sym (and_rest (p a) (list_all p (range_with_len (a + 1) n)) passes) ∙ fails) in
+      (rest.0, omega (arith, rest.1), omega (arith, rest.2), rest.3)
+  | inr here ↦ (a, omega arith, omega arith, here)
+]
+
+-- the first that passes is found
+pub find_at : (p : ℕ → Bool) (a n i : ℕ) → a ≤ i → i < a + n → p i ≡ true → ((j : ℕ) → a ≤ j → j < i → p j ≡ false) → find p (range_with_len a n) ≡ Some i
+find_at p a zero i low high passes first = absurd (omega arith)
+find_at p a (suc n) i low high passes first = elim (cases_eq a i) [
+  | inl same ↦ cond-true (p a) _ _ (ap p same ∙ passes) ∙ ap Some same
+  | inr other ↦ cond-false (p a) _ _ (first a (omega arith) (omega arith))
+      ∙ find_at p (a + 1) n i (omega arith) (omega arith) passes (λ j j_low j_high. first j (omega arith) (omega arith))
+]
+
+-- where none passes, nothing is found
+pub find_none : (p : ℕ → Bool) (a n : ℕ) → ((j : ℕ) → a ≤ j → j < a + n → p j ≡ false) → find p (range_with_len a n) ≡ None
+find_none p a zero none = refl
+find_none p a (suc n) none =
+    cond-false (p a) _ _ (none a (omega arith) (omega arith))
+    ∙ find_none p (a + 1) n (λ j low high. none j (omega arith) (omega arith))
+
+-- i is the first from a on, among n, that passes
+pub record IsFirst (p : ℕ → Bool) (a n i : ℕ) : Type 0 where
+  pub low : a ≤ i
+  pub high : i < a + n
+  pub passes : p i ≡ true
+  pub first : (j : ℕ) → a ≤ j → j < i → p j ≡ false
+
+-- a number is found that is the first, or nothing where none passes
+pub find_cases : (p : ℕ → Bool) (a n : ℕ) → ((i : ℕ) × (find p (range_with_len a n) ≡ Some i) × IsFirst p a n i) ⊎ ((find p (range_with_len a n) ≡ None) × ((j : ℕ) → a ≤ j → j < a + n → p j ≡ false))
+find_cases p a zero = inr (refl, λ j low high. absurd (omega arith))
+find_cases p a (suc n) = elim (cases_Bool (p a)) [
+  | inl found ↦ inl (
+    a,
+    cond-true (p a) _ _ found,
+    record { low = omega arith; high = omega arith; passes = found; first = λ j j_low j_high. absurd (omega arith) },
+  )
+  | inr other ↦ elim (find_cases p (a + 1) n) [
+    | inl found ↦ let is = found.2 in inl (
+      found.0,
+      cond-false (p a) _ _ other ∙ found.1,
+      record {
+        low = omega (arith, is.low);
+        high = omega (arith, is.high);
+        passes = is.passes;
+        first = λ j j_low j_high. elim (cases_eq a j) [
+          | inl same ↦ ap p (sym same) ∙ other
+          | inr apart ↦ is.first j (omega arith) j_high
+        ];
+      },
+    )
+    | inr nothing ↦ inr (
+      cond-false (p a) _ _ other ∙ nothing.0,
+      λ j low high. elim (cases_eq a j) [
+        | inl same ↦ ap p (sym same) ∙ other
+        | inr apart ↦ nothing.1 j (omega arith) (omega arith)
+      ],
+    )
+  ]
+]
+
+-- an access of n bytes from a on meets a range that begins before its end and ends after its start
+pub meets_range : (p : ℕ → Bool) (from to : ℕ) → ((b : ℕ) → IsTrue (p b) ↔ ((from ≤ b) × (b < to))) → (a n : ℕ) → 0 < n → from < to → from < a + n → a < to → list_any p (range_with_len a n) ≡ true
+meets_range p from to range a n some some_byte left right =
+    any_at p a n (max from a) (omega arith) (omega arith) ((range (max from a)).1 (omega arith, omega arith))
+
+-- the least entry that covers some byte is found
+pub decider_first : (entries : Entries) (bytes : List ℕ) (i : ℕ) → i < 16 → list_any (covers entries i) bytes ≡ true → ((j : ℕ) → j < i → list_any (covers entries j) bytes ≡ false) → decider entries bytes ≡ Some i
+unfolding decider
+decider_first entries bytes i in_range meets first =
+    find_at (λ j. list_any (covers entries j) bytes) 0 16 i (omega arith) (omega arith) meets (λ j low high. first j high)
+
+-- where no entry covers a byte, none is
+pub decider_none : (entries : Entries) (bytes : List ℕ) → ((j : ℕ) → j < 16 → list_any (covers entries j) bytes ≡ false) → decider entries bytes ≡ None
+unfolding decider
+decider_none entries bytes none = find_none (λ j. list_any (covers entries j) bytes) 0 16 (λ j low high. none j high)
+
+-- the least entry that covers some byte decides
+pub verdict_decided : (e : Entries) (mode : Mode) (access : Access) (bytes : List ℕ) (i : ℕ) → i < 16 → list_any (covers e i) bytes ≡ true → ((j : ℕ) → j < i → list_any (covers e j) bytes ≡ false) → verdict e mode access bytes ≡ decided e mode access i (list_all (covers e i) bytes)
+unfolding verdict decider
+verdict_decided e mode access bytes i in_range meets first =
+    ap (verdict_by e mode access bytes) (find_at (λ j. list_any (covers e j) bytes) 0 16 i (omega arith) (omega arith) meets (λ j low high. first j high))
+
+-- where no entry covers a byte, none decides
+pub verdict_undecided : (e : Entries) (mode : Mode) (access : Access) (bytes : List ℕ) → ((j : ℕ) → j < 16 → list_any (covers e j) bytes ≡ false) → verdict e mode access bytes ≡ undecided mode
+unfolding verdict decider
+verdict_undecided e mode access bytes none =
+    ap (verdict_by e mode access bytes) (find_none (λ j. list_any (covers e j) bytes) 0 16 (λ j low high. none j high))

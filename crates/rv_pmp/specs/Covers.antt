@@ -1,0 +1,35 @@
+-- The bytes that an entry covers, one byte address at a time: RISC-V Privileged Architecture 20211203, section 3.7.1,
+-- Address Matching.
+use Rattle.std.specs.Prelude.{ℕ, zero, suc, ◌+◌, ◌*◌, ◌/◌, ◌%◌, ◌^◌, ◌<◌, ◌≤◌, Bool, false, ◌&&◌, ◌==◌, ◌≡◌, ◌↔◌, IsTrue, nat_lt, nat_le, if◌then◌else◌}
+use Rattle.rv_pmp.specs.Cfg.{matching_of}
+use Rattle.rv_pmp.specs.Entries.{Entries, cfg_of, addr_of, addr_before}
+use Rattle.rv_pmp.specs.declared.address_matching.AddressMatching.{AddressMatching}
+use Rattle.rv_pmp.specs.declared.address_matching.AddressMatching.TheVariants.{Off, Tor, Na4, Napot}
+
+-- how many ones a number of so many bits ends in
+unfoldable pub ones_at_end : ℕ → ℕ → ℕ
+ones_at_end zero number = 0
+ones_at_end (suc bits) number = if number % 2 == 1 then 1 + ones_at_end bits (number / 2) else 0
+
+-- the bytes in the range of a NAPOT entry: 2^(k+3) where its pmpaddr ends in k ones
+abbrev pub napot_size : ℕ → ℕ
+napot_size addr = 8 * 2 ^ ones_at_end 32 addr
+
+-- whether a byte address matches, given the pmpaddr value before the entry's own, and its own
+abbrev pub matches : AddressMatching → ℕ → ℕ → ℕ → Bool
+matches Off before addr byte = false
+matches Tor before addr byte = nat_le (4 * before) byte && nat_lt byte (4 * addr)
+matches Na4 before addr byte = byte / 4 == addr
+matches Napot before addr byte = byte / napot_size addr == 4 * addr / napot_size addr
+
+-- Whether entry i covers the byte at an address.
+unfoldable pub covers : Entries → ℕ → ℕ → Bool
+covers entries i byte = matches (matching_of (cfg_of entries i)) (addr_before entries i) (addr_of entries i) byte
+
+-- entry i covers the bytes from the first address up to the second, and no others
+abbrev pub CoversRange : Entries → ℕ → ℕ → ℕ → Type 0
+CoversRange entries i from to = (byte : ℕ) → IsTrue (covers entries i byte) ↔ ((from ≤ byte) × (byte < to))
+
+-- entry i covers no byte
+abbrev pub CoversNothing : Entries → ℕ → Type 0
+CoversNothing entries i = (byte : ℕ) → covers entries i byte ≡ false

@@ -1,0 +1,26 @@
+-- The sixteen entries: RISC-V Privileged Architecture 20211203, section 3.7.1.
+use Rattle.std.specs.Prelude.{ℕ, ◌-◌, ◌==◌, ◌≡◌, if◌then◌else◌, List, length, slice_index, replicate}
+
+-- the cfg bytes, and the pmpaddr values (bits 33 to 2 of an address), the lowest entry first
+pub record Entries : Type 0 where
+  pub cfgs : List ℕ
+  pub addrs : List ℕ
+
+abbrev pub cfg_of : Entries → ℕ → ℕ
+cfg_of entries i = slice_index entries.cfgs i
+
+abbrev pub addr_of : Entries → ℕ → ℕ
+addr_of entries i = slice_index entries.addrs i
+
+-- the pmpaddr value before that of entry i, and 0 before the first
+abbrev pub addr_before : Entries → ℕ → ℕ
+addr_before entries i = if i == 0 then 0 else addr_of entries (i - 1)
+
+-- the entries at reset
+abbrev pub reset : Entries
+reset = record { cfgs = replicate 16 0; addrs = replicate 16 0 }
+
+-- there are sixteen
+pub record HasSixteen (entries : Entries) : Type 0 where
+  pub cfgs : length entries.cfgs ≡ 16
+  pub addrs : length entries.addrs ≡ 16

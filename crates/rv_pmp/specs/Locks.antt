@@ -1,0 +1,47 @@
+-- Writes of entries, and the locks that refuse them: RISC-V Privileged Architecture 20211203, section 3.7.1, Locking and
+-- Privilege Mode.
+use Rattle.std.specs.Prelude.{ℕ, ◌+◌, ◌/◌, ◌%◌, ◌==◌, Bool, not, ◌&&◌, ◌||◌, if◌then◌else◌, map, slice_set}
+use Rattle.std.specs.List.{range_with_len}
+use Rattle.rv_word.specs.ByteOrder.{byte_of}
+use Rattle.rv_pmp.specs.Cfg.{is_tor, is_locked, stored_cfg}
+use Rattle.rv_pmp.specs.Entries.{Entries, cfg_of}
+
+-- whether the cfg byte of entry i takes no write
+abbrev pub is_cfg_locked : Entries → ℕ → Bool
+is_cfg_locked entries i = is_locked (cfg_of entries i)
+
+-- whether entry i is a locked TOR entry, also where it covers nothing; past the last there is none
+abbrev pub is_locked_tor : Entries → ℕ → Bool
+is_locked_tor entries i = is_locked (cfg_of entries i) && is_tor (cfg_of entries i)
+
+-- Whether the pmpaddr of entry i takes no write: the entry is locked, or the one above is a locked TOR entry.
+abbrev pub is_addr_locked : Entries → ℕ → Bool
+is_addr_locked entries i = is_cfg_locked entries i || is_locked_tor entries (i + 1)
+
+-- the entries after a write of a cfg byte
+abbrev pub with_cfg : Entries → ℕ → ℕ → Entries
+with_cfg entries i cfg =
+    if is_cfg_locked entries i then entries
+    else record { cfgs = slice_set entries.cfgs i (stored_cfg cfg); addrs = entries.addrs }
+
+-- the entries after a write of a pmpaddr
+abbrev pub with_addr : Entries → ℕ → ℕ → Entries
+with_addr entries i addr =
+    if is_addr_locked entries i then entries
+    else record { cfgs = entries.cfgs; addrs = slice_set entries.addrs i addr }
+
+-- the entries with entry i as given, its cfg byte in its stored form
+abbrev pub with_entry : Entries → ℕ → ℕ → ℕ → Entries
+with_entry entries i cfg addr =
+    record { cfgs = slice_set entries.cfgs i (stored_cfg cfg); addrs = slice_set entries.addrs i addr }
+
+-- the cfg byte of entry i after a write of a word to a register pmpcfg: byte k of the word is for entry 4 * register + k
+abbrev pub cfg_after : Entries → ℕ → ℕ → ℕ → ℕ
+cfg_after entries register word i =
+    if i / 4 == register && not (is_cfg_locked entries i) then stored_cfg (byte_of word (i % 4))
+    else cfg_of entries i
+
+-- The entries after that write: each byte goes by the lock of its own entry as it stood before.
+abbrev pub with_cfg_word : Entries → ℕ → ℕ → Entries
+with_cfg_word entries register word =
+    record { cfgs = map (cfg_after entries register word) (range_with_len 0 16); addrs = entries.addrs }

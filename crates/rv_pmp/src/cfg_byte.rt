@@ -1,0 +1,51 @@
+//! The fields of a cfg byte, and its stored form (Privileged Architecture, section 3.7.1).
+
+ghost use Rattle.std.specs.Prelude.{◌≡◌};
+ghost use Rattle.rv_pmp.specs.Cfg as spec;
+
+use crate::access::Access;
+use crate::mode::Mode;
+
+/// Whether L, bit 7, is set.
+pub(crate) fn is_locked(cfg: u8) -> bool
+    ensures { result ≡ spec.is_locked cfg }
+{
+    cfg / 128 % 2 == 1
+}
+
+/// Whether A, bits 4 and 3, is TOR.
+pub(crate) fn is_tor(cfg: u8) -> bool
+    ensures { result ≡ spec.is_tor cfg }
+{
+    cfg / 8 % 4 == 1
+}
+
+/// Whether the bit for this kind of access is set.
+pub(crate) fn has_permission(access: Access, cfg: u8) -> bool
+    ensures { result ≡ spec.has_permission access cfg }
+{
+    match access {
+        Access::Fetch => cfg / 4 % 2 == 1,
+        Access::Read => cfg % 2 == 1,
+        Access::Write => cfg / 2 % 2 == 1,
+    }
+}
+
+/// Whether an entry gives this kind of access to a mode; M is bound by a locked entry alone.
+pub(crate) fn grants(mode: Mode, access: Access, cfg: u8) -> bool
+    ensures { result ≡ spec.grants mode access cfg }
+{
+    match mode {
+        Mode::M => !is_locked(cfg) || has_permission(access, cfg),
+        Mode::S | Mode::U => has_permission(access, cfg),
+    }
+}
+
+/// The byte that is stored for a written one: bits 6 and 5 are cleared, and W where R is 0.
+#[tactic(auto, using(crate::proofs::CfgLemmas::without_write, crate::proofs::CfgLemmas::with_write))]
+pub(crate) fn stored(cfg: u8) -> u8
+    ensures { result ≡ spec.stored_cfg cfg }
+{
+    let kept = cfg & 0x9f;
+    if kept & 3 == 2 { kept & 0xfd } else { kept }
+}

@@ -1,0 +1,32 @@
+//! Physical memory protection: the privilege modes, the kinds of access, the sixteen entries of a hart and their verdict
+//! on an access (RISC-V Privileged Architecture 20211203, sections 1.2 and 3.7).
+//!
+//! ```text
+//! let mut pmp = Pmp::new();
+//! pmp.write_addr(PmpIndex::new(0), 0x2000_01ff); // NAPOT: the 4096 bytes from 80000000 on
+//! pmp.write_cfg(PmpIndex::new(0), 0x19); // for reading
+//! pmp.judge(Mode::U, Access::Read, 0x8000_0ffc, Width::Word); // Verdict::Allowed(PmpIndex::new(0))
+//! pmp.judge(Mode::U, Access::Read, 0x8000_0ffd, Width::Word); // Verdict::DeniedPartial(PmpIndex::new(0))
+//! ```
+#![tactic(auto)]
+
+mod access;
+mod address_matching;
+mod cfg_byte;
+mod matched_range;
+mod mode;
+mod open_range;
+mod pmp;
+mod pmp_index;
+mod verdict;
+
+pub use access::Access;
+pub use mode::Mode;
+pub use pmp::Pmp;
+pub use pmp_index::PmpIndex;
+pub use verdict::Verdict;
+
+#[cfg(test)]
+mod tests;
+#[cfg(test)]
+mod verdict_table;

@@ -1,0 +1,181 @@
+-- What a register reads after a write is the word under its mask.
+use Rattle.std.proofs.Common.{◌≡◌, ℕ, zero, suc, ◌+◌, ◌*◌, ◌/◌, ◌%◌, ◌^◌, ◌<◌, Bool, true, false, List, [], ◌∷◌, Option, Some, None, Ok, Err, refl, sym, ap, ◌∙◌, arith}
+use Rattle.std.specs.Prelude.{nat_lt, ◌&&◌, ◌==◌, if◌then◌else◌}
+use Rattle.std.proofs.Math.Nat.{pow-suc, div-div-eq-div-mul, div-one}
+use Rattle.rv_word.specs.Logic.{bit_list, number_of, digit, bitwise, by_bits, and_by_bits}
+use Rattle.rv_pmp.specs.Mode.{mode_number}
+use Rattle.rv_state.specs.Bits.{is_set, field, aligned_to_4}
+use Rattle.rv_state.specs.Mstatus.{mstatus_word, mstatus_of, mode_of_mpp, sstatus_word, with_sstatus}
+use Rattle.rv_state.specs.declared.mstatus.Mstatus.{Mstatus}
+use Rattle.rv_state.specs.Counters.{with_low_half, with_high_half}
+use Rattle.rv_state.specs.CsrState.{CsrState}
+use Rattle.rv_state.specs.CsrTable.{reading, written, is_trapped, on_register, csr_named, least_mode, is_read_only, read_result, write_result}
+use Rattle.rv_state.specs.Laws.{mstatus_mask, kept, kept_at, ReadsBack}
+use Rattle.rv_state.specs.declared.csr_name.CsrName.{CsrName}
+use Rattle.rv_state.specs.declared.csr_name.CsrName.TheVariants.{Sstatus, Stvec, Sscratch, Sepc, Scause, Stval, Satp, Mstatus as NameMstatus, Misa, Mie, Mtvec, Mscratch, Mepc, Mcause, Mtval, Mip, Mcycle, Minstret, Mcycleh, Minstreth, Mcountinhibit, Zero}
+use Rattle.rv_state.specs.declared.csr_fault.CsrFault.TheVariants.{Privilege, ReadOnly, Trapped}
+use Rattle.rv_pmp.specs.declared.mode.Mode.{Mode}
+use Rattle.rv_state.proofs.MaskLemmas.{digit-rem}
+
+-- ---- a word under a mask, as the sum of the bits that the mask has
+
+-- the bits of a list that a mask has
+abbrev pub masked : List Bool → List Bool → List Bool
+masked [] bits = []
+masked (m ∷ ms) [] = []
+masked (m ∷ ms) (bit ∷ bits) = (m && bit) ∷ masked ms bits
+
+and-comm : (x y : Bool) → (x && y) ≡ (y && x)
+and-comm true true = refl
+and-comm true false = refl
+and-comm false true = refl
+and-comm false false = refl
+
+pub bitwise-masked : (bits mask : List Bool) → bitwise (λ x y. x && y) bits mask ≡ masked mask bits
+bitwise-masked [] [] = refl
+bitwise-masked [] (m ∷ ms) = refl
+bitwise-masked (bit ∷ bits) [] = refl
+bitwise-masked (bit ∷ bits) (m ∷ ms) = rw (and-comm bit m, bitwise-masked bits ms) refl
+
+-- so many bits of a word from bit k up
+abbrev bits_from : ℕ → ℕ → ℕ → List Bool
+bits_from zero k word = []
+bits_from (suc count) k word = is_set word k ∷ bits_from count (suc k) word
+
+halved : (word k : ℕ) → word / 2 ^ k / 2 ≡ word / 2 ^ suc k
+halved word k = div-div-eq-div-mul word (2 ^ k) 2 ∙ sym (ap (λ n. word / n) (pow-suc 2 k))
+
+bit_list-from : (count k word : ℕ) → bit_list count (word / 2 ^ k) ≡ bits_from count k word
+bit_list-from zero k word = refl
+bit_list-from (suc count) k word =
+    rw (halved word k) (ap (λ bits. is_set word k ∷ bits) (bit_list-from count (suc k) word))
+
+by_places : (word mask : ℕ) → and_by_bits word mask ≡ number_of (masked (bit_list 32 mask) (bits_from 32 0 word))
+unfolding by_bits
+by_places word mask =
+    ap number_of (bitwise-masked (bit_list 32 word) (bit_list 32 mask)
+    ∙ ap (masked (bit_list 32 mask)) (ap (bit_list 32) (sym (div-one word)) ∙ bit_list-from 32 0 word))
+
+-- ---- bits 1:0 cleared
+
+-- a word below 2 ^ count is its bits, so many
+number_of-bit_list : (count word : ℕ) → word < 2 ^ count → number_of (bit_list count word) ≡ word
+number_of-bit_list zero word below = omega arith
+number_of-bit_list (suc count) word below =
+    let rest = number_of-bit_list count (word / 2) (omega (arith, pow-suc 2 count)) in
+    omega (arith, rest, digit-rem word)
+
+pub aligned-is : (word : ℕ) → word < 2 ^ 32 → aligned_to_4 word ≡ and_by_bits word 0xFFFFFFFC
+aligned-is word below =
+    let above : number_of (bits_from 30 2 word) ≡ word / 4 =
+    ap number_of (sym (bit_list-from 30 2 word)) ∙ number_of-bit_list 30 (word / 4) (omega arith)
+    in
+    omega (arith, above, by_places word 0xFFFFFFFC)
+
+-- ---- sstatus and mstatus
+
+pub sstatus-kept : (status : Mstatus) (word : ℕ) → sstatus_word (with_sstatus status word) ≡ and_by_bits word 0x00080122
+sstatus-kept status word = omega (arith, by_places word 0x00080122)
+
+-- the number of the mode that a field of two bits leaves
+mpp-number : (two_bits : ℕ) → two_bits < 4 → mode_number (mode_of_mpp two_bits) ≡ (if two_bits == 2 then 0 else two_bits)
+mpp-number zero below = refl
+mpp-number (suc zero) below = refl
+mpp-number (suc (suc zero)) below = refl
+mpp-number (suc (suc (suc zero))) below = refl
+mpp-number (suc (suc (suc (suc n)))) below = absurd (omega arith)
+
+mpp-digits : (word : ℕ) → field word 11 2 ≡ digit (is_set word 11) + 2 * digit (is_set word 12)
+mpp-digits word = omega (arith, digit-rem (word / 2 ^ 11), digit-rem (word / 2 ^ 12))
+
+mstatus-kept-by : (word : ℕ) (is_two : Bool) → (field word 11 2 == 2) ≡ is_two → mstatus_word (mstatus_of word) ≡ and_by_bits word (if is_two then 0x007A01AA else 0x007A19AA)
+mstatus-kept-by word true e =
+    let mode : mode_number (mode_of_mpp (field word 11 2)) ≡ 0 =
+    mpp-number (field word 11 2) (omega arith) ∙ ap (λ (b : Bool). if b then 0 else field word 11 2) e
+    in
+    omega (arith, mode, by_places word 0x007A01AA)
+mstatus-kept-by word false e =
+    let mode : mode_number (mode_of_mpp (field word 11 2)) ≡ field word 11 2 =
+    mpp-number (field word 11 2) (omega arith) ∙ ap (λ (b : Bool). if b then 0 else field word 11 2) e
+    in
+    omega (arith, mode, mpp-digits word, by_places word 0x007A19AA)
+
+pub mstatus-kept : (word : ℕ) → mstatus_word (mstatus_of word) ≡ and_by_bits word (mstatus_mask word)
+mstatus-kept word = mstatus-kept-by word (field word 11 2 == 2) refl
+
+-- ---- every register
+
+low-half : (counter word : ℕ) → word < 2 ^ 32 → with_low_half counter word % 2 ^ 32 ≡ word
+low-half counter word below = omega arith
+
+high-half : (counter word : ℕ) → with_high_half counter word / 2 ^ 32 ≡ word
+high-half counter word = omega arith
+
+reading-written : (name : CsrName) (word : ℕ) (c : CsrState) → word < 2 ^ 32 → reading name (written name word c) ≡ kept name word c
+unfolding reading written
+reading-written Sstatus word c below = sstatus-kept c.mstatus word
+reading-written Stvec word c below = refl
+reading-written Sscratch word c below = refl
+reading-written Sepc word c below = aligned-is word below
+reading-written Scause word c below = refl
+reading-written Stval word c below = refl
+reading-written Satp word c below = refl
+reading-written NameMstatus word c below = mstatus-kept word
+reading-written Misa word c below = refl
+reading-written Mie word c below = refl
+reading-written Mtvec word c below = refl
+reading-written Mscratch word c below = refl
+reading-written Mepc word c below = aligned-is word below
+reading-written Mcause word c below = refl
+reading-written Mtval word c below = refl
+reading-written Mip word c below = refl
+reading-written Mcycle word c below = low-half c.mcycle word below
+reading-written Minstret word c below = low-half c.minstret word below
+reading-written Mcycleh word c below = high-half c.mcycle word
+reading-written Minstreth word c below = high-half c.minstret word
+reading-written Mcountinhibit word c below = refl
+reading-written Zero word c below = refl
+
+-- a write does not make satp refused
+trapped-after : (name : CsrName) (word : ℕ) (mode : Mode) (c : CsrState) → is_trapped name mode c ≡ false → is_trapped name mode (written name word c) ≡ false
+unfolding written
+trapped-after Satp word mode c free = free
+trapped-after Sstatus word mode c free = refl
+trapped-after Stvec word mode c free = refl
+trapped-after Sscratch word mode c free = refl
+trapped-after Sepc word mode c free = refl
+trapped-after Scause word mode c free = refl
+trapped-after Stval word mode c free = refl
+trapped-after NameMstatus word mode c free = refl
+trapped-after Misa word mode c free = refl
+trapped-after Mie word mode c free = refl
+trapped-after Mtvec word mode c free = refl
+trapped-after Mscratch word mode c free = refl
+trapped-after Mepc word mode c free = refl
+trapped-after Mcause word mode c free = refl
+trapped-after Mtval word mode c free = refl
+trapped-after Mip word mode c free = refl
+trapped-after Mcycle word mode c free = refl
+trapped-after Minstret word mode c free = refl
+trapped-after Mcycleh word mode c free = refl
+trapped-after Minstreth word mode c free = refl
+trapped-after Mcountinhibit word mode c free = refl
+trapped-after Zero word mode c free = refl
+
+-- the tests of an access to a register that is there, in the order in which they are asked
+ok-by-tests : (low read_only refused : Bool) (before after : CsrState) (name : CsrName) (word : ℕ) → (if low then Err Privilege else (if read_only then Err ReadOnly else (if refused then Err Trapped else Ok (written name word before)))) ≡ Ok after → (low ≡ false) × (refused ≡ false) × (written name word before ≡ after)
+ok-by-tests true read_only refused before after name word e = cc
+ok-by-tests false true refused before after name word e = cc
+ok-by-tests false false true before after name word e = cc
+ok-by-tests false false false before after name word e = (refl, refl, cc)
+
+reads-back : (found : Option CsrName) (low read_only : Bool) (before after : CsrState) (word : ℕ) (mode : Mode) → word < 2 ^ 32 → on_register found (λ name. if low then Err Privilege else (if read_only then Err ReadOnly else (if is_trapped name mode before then Err Trapped else Ok (written name word before)))) ≡ Ok after → on_register found (λ name. if low then Err Privilege else (if is_trapped name mode after then Err Trapped else Ok (reading name after))) ≡ Ok (kept_at found word before)
+reads-back None low read_only before after word mode below e = cc
+reads-back (Some name) low read_only before after word mode below e =
+    let tests = ok-by-tests low read_only (is_trapped name mode before) before after name word e in
+    rw (tests.0, ← tests.2, trapped-after name word mode before tests.1, reading-written name word before below) refl
+
+pub write_reads_back : (before after : CsrState) (number word : ℕ) (mode : Mode) → word < 2 ^ 32 → write_result before number word mode ≡ Ok after → ReadsBack before after number word mode
+unfolding write_result read_result ReadsBack
+write_reads_back before after number word mode below e =
+    reads-back (csr_named number) (nat_lt (mode_number mode) (least_mode number)) (is_read_only number) before after word mode below e

@@ -1,0 +1,11 @@
+-- The numbers of the refusals of an access to a register, in the order in which they are asked, as this project's surface
+-- gives them. (To the hart each is an illegal instruction: RISC-V Privileged Architecture 20211203, section 2.1.)
+use Rattle.std.specs.Prelude.{ℕ}
+use Rattle.rv_state.specs.declared.csr_fault.CsrFault.{CsrFault}
+use Rattle.rv_state.specs.declared.csr_fault.CsrFault.TheVariants.{Missing, Privilege, ReadOnly, Trapped}
+
+abbrev pub csr_fault_number : CsrFault → ℕ
+csr_fault_number Missing = 1
+csr_fault_number Privilege = 2
+csr_fault_number ReadOnly = 3
+csr_fault_number Trapped = 4

@@ -1,0 +1,32 @@
+-- Which interrupts wait, and which is taken: RISC-V Privileged Architecture 20211203, sections 3.1.6.1 and 3.1.9.
+-- No interrupt is delegated.
+use Rattle.std.specs.Prelude.{ℕ, ◌+◌, Bool, true, false, ◌&&◌, not, if◌then◌else◌, List, [], ◌∷◌, Option, None, find}
+use Rattle.rv_pmp.specs.declared.mode.Mode.{Mode}
+use Rattle.rv_pmp.specs.declared.mode.Mode.TheVariants.{M}
+use Rattle.rv_state.specs.Bits.{is_set, flag}
+use Rattle.rv_state.specs.Causes.{interrupt_number}
+use Rattle.rv_state.specs.CsrState.{CsrState}
+use Rattle.rv_state.specs.declared.cause.Interrupt.{Interrupt}
+use Rattle.rv_state.specs.declared.cause.Interrupt.TheVariants.{SupervisorSoftware, MachineSoftware, SupervisorTimer, MachineTimer, SupervisorExternal, MachineExternal}
+
+-- what mip reads: the bits that software wrote, and MTIP, which is the timer line
+abbrev pub mip_word : CsrState → ℕ
+mip_word c = c.software_pending + flag 7 c.timer
+
+-- the order in which interrupts are taken where several wait
+abbrev pub interrupt_order : List Interrupt
+interrupt_order =
+    MachineExternal ∷ MachineSoftware ∷ MachineTimer ∷ SupervisorExternal ∷ SupervisorSoftware ∷ SupervisorTimer ∷ []
+
+-- the first of them whose bit is set in both mip and mie
+abbrev pub first_interrupt : ℕ → ℕ → Option Interrupt
+first_interrupt mip mie =
+    find (λ interrupt. is_set mip (interrupt_number interrupt) && is_set mie (interrupt_number interrupt)) interrupt_order
+
+abbrev pub is_machine : Mode → Bool
+is_machine M = true
+is_machine _ = false
+
+-- the interrupt that is taken before an instruction in this mode: one only where the mode is below M or MIE is set
+abbrev pub pending : CsrState → Mode → Option Interrupt
+pending c mode = if is_machine mode && not c.mstatus.mie then None else first_interrupt (mip_word c) c.mie

@@ -1,0 +1,59 @@
+-- What holds of the table and of traps beyond their equations: RISC-V Privileged Architecture 20211203, sections 2.3 (fields
+-- that ignore what is written), 3.1.6.1, 3.3.2 and 4.1.1.
+use Rattle.std.specs.Prelude.{◌≡◌, ℕ, ◌+◌, ◌%◌, ◌==◌, if◌then◌else◌, Option, Some, None, Ok}
+use Rattle.rv_word.specs.Logic.{and_by_bits}
+use Rattle.rv_pmp.specs.declared.mode.Mode.{Mode}
+use Rattle.rv_state.specs.Bits.{field, flag}
+use Rattle.rv_state.specs.CsrState.{CsrState}
+use Rattle.rv_state.specs.CsrTable.{csr_named, read_result}
+use Rattle.rv_state.specs.Traps.{after_mret}
+use Rattle.rv_state.specs.declared.csr_name.CsrName.{CsrName}
+use Rattle.rv_state.specs.declared.csr_name.CsrName.TheVariants.{Sstatus, Stvec, Sscratch, Sepc, Scause, Stval, Satp, Mstatus, Misa, Mie, Mtvec, Mscratch, Mepc, Mcause, Mtval, Mip, Mcycle, Minstret, Mcycleh, Minstreth, Mcountinhibit, Zero}
+
+-- ---- what is read after a write: the word under the register's mask
+
+-- mstatus has no mode 2 in MPP (bits 12:11)
+abbrev pub mstatus_mask : ℕ → ℕ
+mstatus_mask word = if field word 11 2 == 2 then 0x007A01AA else 0x007A19AA
+
+abbrev pub kept : CsrName → ℕ → CsrState → ℕ
+kept Sstatus word c = and_by_bits word 0x00080122
+kept Stvec word c = and_by_bits word 0xFFFFFFFD
+kept Sscratch word c = word
+kept Sepc word c = and_by_bits word 0xFFFFFFFC
+kept Scause word c = word
+kept Stval word c = word
+kept Satp word c = 0
+kept Mstatus word c = and_by_bits word (mstatus_mask word)
+kept Misa word c = 0x40141100
+kept Mie word c = and_by_bits word 0x00000AAA
+kept Mtvec word c = and_by_bits word 0xFFFFFFFD
+kept Mscratch word c = word
+kept Mepc word c = and_by_bits word 0xFFFFFFFC
+kept Mcause word c = word
+kept Mtval word c = word
+kept Mip word c = and_by_bits word 0x00000222 + flag 7 c.timer
+kept Mcycle word c = word
+kept Minstret word c = word
+kept Mcycleh word c = word
+kept Minstreth word c = word
+kept Mcountinhibit word c = and_by_bits word 0x00000005
+kept Zero word c = 0
+
+abbrev pub kept_at : Option CsrName → ℕ → CsrState → ℕ
+kept_at None word c = 0
+kept_at (Some name) word c = kept name word c
+
+-- the register that was written reads so in the same mode
+unfoldable pub ReadsBack : CsrState → CsrState → ℕ → ℕ → Mode → Type 0
+ReadsBack before after number word mode =
+    read_result after number mode ≡ Ok (kept_at (csr_named number) word before)
+
+-- ---- a trap and the mret after it
+
+-- After a trap from this mode at pc, mret would go on in that mode at pc, with MIE as it was.
+abbrev pub ComesBack : CsrState → CsrState → Mode → ℕ → Type 0
+ComesBack before after mode pc =
+    (after.mstatus.mpp ≡ mode)
+    × (pc % 4 ≡ 0 → after.mepc ≡ pc)
+    × ((after_mret after).mstatus.mie ≡ before.mstatus.mie)

@@ -1,0 +1,11 @@
+pub mod Registers
+pub mod Bits
+pub mod Causes
+pub mod CsrFaults
+pub mod Mstatus
+pub mod CsrState
+pub mod Counters
+pub mod Interrupts
+pub mod Traps
+pub mod CsrTable
+pub mod Laws

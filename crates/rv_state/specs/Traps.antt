@@ -1,0 +1,47 @@
+-- Trap entry and the two returns: RISC-V Privileged Architecture 20211203, sections 3.1.6.1 (the stacks of xIE and xPP),
+-- 3.1.6.3 (MPRV), 3.1.7 (mtvec), 3.1.14 to 3.1.16 (mepc, mcause, mtval) and 3.3.2 (mret, sret).
+use Rattle.std.specs.Prelude.{ℕ, ◌+◌, ◌*◌, ◌%◌, ◌^◌, Bool, true, false, ◌&&◌, ◌==◌, if◌then◌else◌}
+use Rattle.rv_pmp.specs.declared.mode.Mode.{Mode}
+use Rattle.rv_pmp.specs.declared.mode.Mode.TheVariants.{U, S}
+use Rattle.rv_state.specs.Bits.{aligned_to_4}
+use Rattle.rv_state.specs.Causes.{cause_code, interrupt_number}
+use Rattle.rv_state.specs.CsrState.{CsrState}
+use Rattle.rv_state.specs.Interrupts.{is_machine}
+use Rattle.rv_state.specs.declared.cause.Cause.{Cause}
+use Rattle.rv_state.specs.declared.cause.Cause.TheVariants as causes
+
+-- the registers after a trap from this mode at pc; every trap is taken in mode M
+abbrev pub trapped : CsrState → Mode → ℕ → Cause → ℕ → CsrState
+trapped c mode pc cause tval = record c {
+  mepc = aligned_to_4 pc;
+  mcause = cause_code cause;
+  mtval = tval;
+  mstatus = record c.mstatus { mpie = c.mstatus.mie; mie = false; mpp = mode };
+}
+
+-- where a trap goes on: at mtvec's base, and for an interrupt in mtvec's mode Vectored (1) four times its number further
+abbrev pub trap_target : ℕ → Cause → ℕ
+trap_target mtvec (causes.Exception exception) = aligned_to_4 mtvec
+trap_target mtvec (causes.Interrupt interrupt) =
+    if mtvec % 4 == 1 then (aligned_to_4 mtvec + 4 * interrupt_number interrupt) % 2 ^ 32 else aligned_to_4 mtvec
+
+-- the registers after mret, which goes on in the mode of MPP at mepc; below M it leaves MPRV 0
+abbrev pub after_mret : CsrState → CsrState
+after_mret c = record c {
+  mstatus = record c.mstatus {
+    mie = c.mstatus.mpie;
+    mpie = true;
+    mpp = U;
+    mprv = c.mstatus.mprv && is_machine c.mstatus.mpp;
+  };
+}
+
+-- the mode that SPP names
+abbrev pub mode_of_spp : Bool → Mode
+mode_of_spp spp = if spp then S else U
+
+-- the registers after sret, which goes on in the mode of SPP at sepc
+abbrev pub after_sret : CsrState → CsrState
+after_sret c = record c {
+  mstatus = record c.mstatus { sie = c.mstatus.spie; spie = true; spp = false; mprv = false };
+}

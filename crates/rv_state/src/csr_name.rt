@@ -1,0 +1,108 @@
+//! Which register a number is.
+
+ghost use Rattle.std.specs.Prelude.{◌≡◌};
+ghost use Rattle.rv_state.specs.CsrTable.{csr_named, is_read_only, least_mode};
+
+/// A control and status register that keeps or shows something, or one of those that are kept as zero
+/// (Privileged Architecture, section 2.2).
+#[derive(Clone, Copy, Debug, PartialEq, Eq)]
+pub(crate) enum CsrName {
+    /// A view of mstatus.
+    Sstatus,
+    /// Where traps to mode S go: kept alone, since no trap goes there.
+    Stvec,
+    Sscratch,
+    /// Where sret goes on.
+    Sepc,
+    Scause,
+    Stval,
+    /// Reads 0: there is no translation.
+    Satp,
+    Mstatus,
+    /// RV32IM with modes S and U.
+    Misa,
+    /// Which interrupts are enabled.
+    Mie,
+    /// Where traps go.
+    Mtvec,
+    Mscratch,
+    /// Where mret goes on.
+    Mepc,
+    Mcause,
+    Mtval,
+    /// Which interrupts wait.
+    Mip,
+    /// The lower half of the count of steps.
+    Mcycle,
+    /// The lower half of the count of retired instructions.
+    Minstret,
+    /// The upper half of the count of steps.
+    Mcycleh,
+    /// The upper half of the count of retired instructions.
+    Minstreth,
+    /// Which counters stand still.
+    Mcountinhibit,
+    /// Reads 0, and ignores lawful writes.
+    Zero,
+}
+
+impl CsrName {
+    /// The register of this number, if there is one.
+    #[tactic(auto, unfolding(crate::specs::CsrTable::csr_named, crate::specs::CsrTable::listing))]
+    pub(crate) const fn of_number(number: u16) -> Option<Self>
+        ensures { result ≡ csr_named number }
+    {
+        match number {
+            0x100 => Some(CsrName::Sstatus),
+            0x105 => Some(CsrName::Stvec),
+            0x140 => Some(CsrName::Sscratch),
+            0x141 => Some(CsrName::Sepc),
+            0x142 => Some(CsrName::Scause),
+            0x143 => Some(CsrName::Stval),
+            0x180 => Some(CsrName::Satp),
+            0x300 => Some(CsrName::Mstatus),
+            0x301 => Some(CsrName::Misa),
+            0x304 => Some(CsrName::Mie),
+            0x305 => Some(CsrName::Mtvec),
+            0x340 => Some(CsrName::Mscratch),
+            0x341 => Some(CsrName::Mepc),
+            0x342 => Some(CsrName::Mcause),
+            0x343 => Some(CsrName::Mtval),
+            0x344 => Some(CsrName::Mip),
+            0xB00 => Some(CsrName::Mcycle),
+            0xB02 => Some(CsrName::Minstret),
+            0xB80 => Some(CsrName::Mcycleh),
+            0xB82 => Some(CsrName::Minstreth),
+            0x320 => Some(CsrName::Mcountinhibit),
+            0x104
+            | 0x106
+            | 0x10A
+            | 0x144
+            | 0x302
+            | 0x303
+            | 0x306
+            | 0x30A
+            | 0x310
+            | 0x31A
+            | 0x323..=0x33F
+            | 0xB03..=0xB1F
+            | 0xB83..=0xB9F
+            | 0xF11..=0xF15 => Some(CsrName::Zero),
+            _ => None,
+        }
+    }
+}
+
+/// The number of the least mode that may access a register: bits 9:8 of its number.
+pub(crate) const fn least_mode(number: u16) -> u32
+    ensures { result ≡ least_mode number }
+{
+    (number >> 8) as u32 % 4
+}
+
+/// Whether a register is only read: bits 11:10 of its number are 11.
+pub(crate) const fn is_read_only(number: u16) -> bool
+    ensures { result ≡ is_read_only number }
+{
+    (number >> 10) % 4 == 3
+}

@@ -1,0 +1,31 @@
+//! The state of a hart beside its pc and mode: the integer registers, and the control and status registers with
+//! their table, traps and returns, interrupts and counters (RISC-V Unprivileged ISA 20191213, section 2.1;
+//! Privileged Architecture 20211203, chapters 2 to 4).
+//!
+//! ```text
+//! let mut csrs = Csrs::new();
+//! csrs.write(0x305, 0x400, Mode::M)?; // mtvec
+//! let cause = Cause::Exception(Exception::EnvironmentCallFromU);
+//! let pc = csrs.enter_trap(Mode::U, 0x8000_0010, cause, 0); // 0x400
+//! let (mode, pc) = csrs.do_mret(); // mode U, 0x8000_0010
+//! ```
+#![tactic(auto)]
+
+mod bits;
+mod cause;
+mod counters;
+mod csr_fault;
+mod csr_name;
+mod csrs;
+mod mstatus;
+mod regs;
+mod traps;
+
+pub use cause::{Cause, Exception, Interrupt};
+pub use csr_fault::CsrFault;
+pub use csrs::Csrs;
+pub use mstatus::Mstatus;
+pub use regs::Regs;
+
+#[cfg(test)]
+mod tests;
