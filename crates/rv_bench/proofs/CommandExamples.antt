@@ -4,7 +4,10 @@ use Rattle.std.specs.Prelude.{codes}
 use Rattle.rv_bench.specs.Words.{is_text, words_of}
 use Rattle.rv_bench.specs.Numbers.{number_of, decimal_of, hexadecimal_of, csr_number_of}
 use Rattle.rv_bench.specs.declared.command.Command.{Command}
-use Rattle.rv_bench.specs.declared.command.Command.TheVariants.{Blank, Step, Reg, Regs, SetReg, Csr, Mem, Timer}
+use Rattle.rv_bench.specs.declared.command.Command.TheVariants.{Blank, Step, Reg, Regs, SetReg, Csr, Mem, Pmp, Access, Timer}
+use Rattle.rv_pmp.specs.declared.access.Access.TheVariants.{Fetch, Read, Write}
+use Rattle.rv_pmp.specs.declared.mode.Mode.TheVariants.{U, S, M}
+use Rattle.rv_word.specs.declared.width.Width.TheVariants.{Byte, Half, Word}
 use Rattle.rv_bench.specs.declared.command.CommandFault.{CommandFault}
 use Rattle.rv_bench.specs.declared.command.CommandFault.TheVariants.{BadLine, UnknownCommand, BadOperand}
 use Rattle.rv_bench.specs.Command.{keyword_of, meaning_of, parse_of}
@@ -32,6 +35,11 @@ examples =
     ∷ (codes "mem 8000000e 4", Ok (Mem 0x8000000e 4))
     ∷ (codes "mem 0x8000000E 64", Ok (Mem 0x8000000e 64))
     ∷ (codes "mem 0 1", Ok (Mem 0 1))
+    ∷ (codes "pmp", Ok Pmp)
+    ∷ (codes " pmp\t", Ok Pmp)
+    ∷ (codes "access M r 80000100 4", Ok (Access M Read 0x80000100 Word))
+    ∷ (codes "access S w 0x8000010E 2", Ok (Access S Write 0x8000010e Half))
+    ∷ (codes "access U x 0 1", Ok (Access U Fetch 0 Byte))
     ∷ (codes "timer on", Ok (Timer true))
     ∷ (codes "timer off", Ok (Timer false))
     ∷ (codes "fly", Err UnknownCommand)
@@ -41,6 +49,9 @@ examples =
     ∷ (codes "set 1 1", Err UnknownCommand)
     ∷ (codes "csrs 0", Err UnknownCommand)
     ∷ (codes "CSR 300", Err UnknownCommand)
+    ∷ (codes "Pmp", Err UnknownCommand)
+    ∷ (codes "pmps", Err UnknownCommand)
+    ∷ (codes "Access M r 0 1", Err UnknownCommand)
     ∷ (codes "Timer on", Err UnknownCommand)
     ∷ (codes "--", Err UnknownCommand)
     ∷ (codes "step 0", Err BadOperand)
@@ -73,6 +84,21 @@ examples =
     ∷ (codes "mem 0x 4", Err BadOperand)
     ∷ (codes "mem 0X80000000 4", Err BadOperand)
     ∷ (codes "mem 080000000 4", Err BadOperand)
+    ∷ (codes "pmp 0", Err BadOperand)
+    ∷ (codes "pmp # x", Err BadOperand)
+    ∷ (codes "access", Err BadOperand)
+    ∷ (codes "access M r 80000000", Err BadOperand)
+    ∷ (codes "access M r 80000000 4 4", Err BadOperand)
+    ∷ (codes "access m r 80000000 4", Err BadOperand)
+    ∷ (codes "access H r 80000000 4", Err BadOperand)
+    ∷ (codes "access M R 80000000 4", Err BadOperand)
+    ∷ (codes "access M rw 80000000 4", Err BadOperand)
+    ∷ (codes "access r M 80000000 4", Err BadOperand)
+    ∷ (codes "access M r 0X80000000 4", Err BadOperand)
+    ∷ (codes "access M r 180000000 4", Err BadOperand)
+    ∷ (codes "access M r 80000000 04", Err BadOperand)
+    ∷ (codes "access M r 80000000 3", Err BadOperand)
+    ∷ (codes "access M r 80000000 8", Err BadOperand)
     ∷ (codes "timer", Err BadOperand)
     ∷ (codes "timer maybe", Err BadOperand)
     ∷ (codes "timer ON", Err BadOperand)

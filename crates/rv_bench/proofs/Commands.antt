@@ -5,8 +5,8 @@ use Rattle.std.specs.List.{starts_with}
 use Rattle.rv_bench.specs.declared.command.Command.{Command}
 use Rattle.rv_bench.specs.declared.command.Command.TheVariants.{Blank}
 use Rattle.rv_bench.specs.declared.keyword.Keyword.{Keyword}
-use Rattle.rv_bench.specs.declared.keyword.Keyword.TheVariants.{Step, Reg, Regs, SetReg, Csr, Mem, Timer}
-use Rattle.rv_bench.specs.Command.{none, one, two, operands_of, keyword_of, named, meaning_of, parse_of}
+use Rattle.rv_bench.specs.declared.keyword.Keyword.TheVariants.{Step, Reg, Regs, SetReg, Csr, Mem, Pmp, Access, Timer}
+use Rattle.rv_bench.specs.Command.{none, one, two, four, operands_of, keyword_of, named, meaning_of, parse_of}
 use Rattle.rv_bench.specs.Words.{words_of}
 use Rattle.rv_bench.specs.declared.command.CommandFault.TheVariants.{BadLine}
 use Rattle.rv_bench.proofs.CutLines.{if_good-take}
@@ -26,6 +26,14 @@ two-take read read_next command (u ∷ []) = refl
 two-take read read_next command (u ∷ v ∷ []) = refl
 two-take read read_next command (u ∷ v ∷ w ∷ more) = refl
 
+four-take : {A B C D : Type 0} (first : List ℕ → Option A) (second : List ℕ → Option B) (third : List ℕ → Option C) (fourth : List ℕ → Option D) (command : A → B → C → D → Command) (operands : List (List ℕ)) → four first second third fourth command (take 5 operands) ≡ four first second third fourth command operands
+four-take first second third fourth command [] = refl
+four-take first second third fourth command (t ∷ []) = refl
+four-take first second third fourth command (t ∷ u ∷ []) = refl
+four-take first second third fourth command (t ∷ u ∷ v ∷ []) = refl
+four-take first second third fourth command (t ∷ u ∷ v ∷ w ∷ []) = refl
+four-take first second third fourth command (t ∷ u ∷ v ∷ w ∷ x ∷ more) = refl
+
 operands_of-take : (k : Keyword) (operands : List (List ℕ)) → operands_of k (take 5 operands) ≡ operands_of k operands
 operands_of-take Step operands = search one-take
 operands_of-take Reg operands = search one-take
@@ -33,6 +41,8 @@ operands_of-take Regs operands = search none-take
 operands_of-take SetReg operands = search two-take
 operands_of-take Csr operands = search one-take
 operands_of-take Mem operands = search two-take
+operands_of-take Pmp operands = search none-take
+operands_of-take Access operands = search four-take
 operands_of-take Timer operands = search one-take
 
 named-take : (k : Option Keyword) (operands : List (List ℕ)) → named k (take 5 operands) ≡ named k operands

@@ -5,12 +5,19 @@ use Rattle.std.proofs.lemmas.Bool.Decides.{nat_tests}
 use Rattle.std.proofs.lemmas.Fmt.{decimal_digit, decimal_step}
 use Rattle.rv_state.specs.CsrState.{at_reset}
 use Rattle.rv_state.specs.CsrTable.{csr_named, listing, reading, read_result}
-use Rattle.rv_bench.specs.Answer.{csr_reply}
+use Rattle.rv_bench.specs.Answer.{csr_reply, access_reply}
+use Rattle.rv_memory.specs.Memory.{read}
+use Rattle.rv_pmp.specs.Covers.{covers}
+use Rattle.rv_pmp.specs.Entries.{Entries}
+use Rattle.rv_pmp.specs.Verdicts.{decider, verdict}
+use Rattle.rv_pmp.specs.declared.access.Access.TheVariants.{Fetch, Read, Write}
+use Rattle.rv_pmp.specs.declared.verdict.Verdict.TheVariants.{Allowed, AllowedFree, Denied, DeniedPartial, DeniedFree}
+use Rattle.rv_word.specs.declared.width.Width.TheVariants.{Byte, Half, Word}
 use Rattle.rv_bench.specs.Digits.{hex_digits}
 use Rattle.rv_pmp.specs.declared.mode.Mode.TheVariants.{U, S, M}
 use Rattle.rv_state.specs.declared.cause.Cause.TheVariants.{Exception}
 use Rattle.rv_state.specs.declared.cause.Exception.TheVariants.{IllegalInstruction}
-use Rattle.rv_bench.specs.ReplyText.{trap_text, ran_text, register_text, registers_text, pc_text, ok_text, csr_text, memory_text, no_csr_text}
+use Rattle.rv_bench.specs.ReplyText.{trap_text, ran_text, register_text, registers_text, pc_text, ok_text, csr_text, memory_text, entry_text, pmp_text, verdict_text, denied_outside_text, no_csr_text}
 
 -- a number of one digit or two, written so that it computes
 abbrev shown : ℕ → List ℕ
@@ -60,6 +67,20 @@ pub memory_text-example : memory_text 0x8000000e (0xe2 ∷ 0 ∷ 0xff ∷ 0xff �
 unfolding memory_text hex_digits
 memory_text-example = refl
 
+pub pmp_text-example : pmp_text (record { cfgs = 0x17 ∷ (replicate 14 0 ++ 0x9f ∷ []); addrs = 0x20000040 ∷ (replicate 14 0 ++ 0xffffffff ∷ []) }) ≡
+    codes "pmp 0 cfg=17 addr=20000040\npmp 1 cfg=00 addr=00000000\npmp 2 cfg=00 addr=00000000\npmp 3 cfg=00 addr=00000000\n"
+    ++ codes "pmp 4 cfg=00 addr=00000000\npmp 5 cfg=00 addr=00000000\npmp 6 cfg=00 addr=00000000\npmp 7 cfg=00 addr=00000000\n"
+    ++ codes "pmp 8 cfg=00 addr=00000000\npmp 9 cfg=00 addr=00000000\npmp 10 cfg=00 addr=00000000\npmp 11 cfg=00 addr=00000000\n"
+    ++ codes "pmp 12 cfg=00 addr=00000000\npmp 13 cfg=00 addr=00000000\npmp 14 cfg=00 addr=00000000\npmp 15 cfg=9f addr=ffffffff\n"
+unfolding pmp_text entry_text hex_digits
+pmp_text-example = simp decimal-shown
+
+pub verdict_text-examples :
+    verdict_text (Allowed 0) ++ verdict_text AllowedFree ++ verdict_text (Denied 15) ++ verdict_text (DeniedPartial 9) ++ verdict_text DeniedFree ++ denied_outside_text ≡
+    codes "allowed entry 0\nallowed free\ndenied entry 15\ndenied partial 9\ndenied free\ndenied outside\n"
+unfolding verdict_text denied_outside_text
+verdict_text-examples = simp decimal-shown
+
 pub ok_text-example : ok_text ≡ codes "ok\n"
 unfolding ok_text
 ok_text-example = refl
@@ -70,3 +91,24 @@ pub csr_reply-examples :
     codes "csr 301=40141100\ncsr b00=00000000\nerror csr\ncsr 344=00000080\n"
 unfolding csr_text no_csr_text hex_digits read_result csr_named listing reading
 csr_reply-examples = refl
+
+-- four bytes from 80000100 on, for reading and executing
+abbrev four_bytes : Entries
+four_bytes = record { cfgs = 0x15 ∷ replicate 15 0; addrs = 0x20000040 ∷ replicate 15 0 }
+
+-- and the same, locked
+abbrev four_locked : Entries
+four_locked = record { cfgs = 0x95 ∷ replicate 15 0; addrs = 0x20000040 ∷ replicate 15 0 }
+
+-- what `access` answers over 264 bytes of memory: by the mode that is named, and outside first of all
+pub access_reply-examples :
+    access_reply (replicate 264 0) four_bytes M Read 0x800000fe Word ++ access_reply (replicate 264 0) four_bytes M Read 0x80000100 Word
+    ++ access_reply (replicate 264 0) four_bytes U Fetch 0x80000102 Half ++ access_reply (replicate 264 0) four_bytes S Write 0x80000103 Byte
+    ++ access_reply (replicate 264 0) four_bytes U Write 0x800000fc Word ++ access_reply (replicate 264 0) four_bytes M Write 0x800000fc Word
+    ++ access_reply (replicate 264 0) four_bytes M Write 0x80000104 Word ++ access_reply (replicate 264 0) four_bytes M Write 0x80000105 Word
+    ++ access_reply (replicate 258 0) four_bytes U Read 0x80000101 Half ++ access_reply (replicate 264 0) four_bytes U Read 0xfffffffe Word
+    ++ access_reply (replicate 264 0) four_locked M Write 0x80000100 Word ≡
+    codes "denied partial 0\nallowed entry 0\nallowed entry 0\ndenied entry 0\ndenied free\nallowed free\n"
+    ++ codes "allowed free\ndenied outside\ndenied outside\ndenied outside\ndenied entry 0\n"
+unfolding read verdict decider covers verdict_text denied_outside_text
+access_reply-examples = simp decimal-shown

@@ -1,17 +1,23 @@
 -- The answers to commands: the machine that one leaves, and the text of its reply. (This project's own commands.)
 use Rattle.std.specs.Prelude.{ℕ, List, [], ◌∷◌, ◌++◌, Result, Ok, Err}
 use Rattle.rv_word.specs.Cases.{option_case, result_case}
+use Rattle.rv_word.specs.Widths.{bytes_in}
+use Rattle.rv_word.specs.declared.width.Width.{Width}
 use Rattle.rv_bench.specs.Command.{parse_of}
+use Rattle.rv_memory.specs.Accesses.{verdict_on}
 use Rattle.rv_memory.specs.Memory.{read}
+use Rattle.rv_pmp.specs.Entries.{Entries}
+use Rattle.rv_pmp.specs.declared.access.Access.{Access as AccessKind}
+use Rattle.rv_pmp.specs.declared.mode.Mode.{Mode}
 use Rattle.rv_pmp.specs.declared.mode.Mode.TheVariants.{M}
 use Rattle.rv_state.specs.CsrState.{CsrState}
 use Rattle.rv_state.specs.CsrTable.{read_result}
 use Rattle.rv_state.specs.Registers.{register, with_register}
-use Rattle.rv_bench.specs.ReplyText.{ran_text, register_text, registers_text, ok_text, csr_text, memory_text, fault_text, no_csr_text, outside_text}
+use Rattle.rv_bench.specs.ReplyText.{ran_text, register_text, registers_text, ok_text, csr_text, memory_text, pmp_text, verdict_text, denied_outside_text, fault_text, no_csr_text, outside_text}
 use Rattle.rv_hart.specs.State.{State}
 use Rattle.rv_bench.specs.Steps.{AfterSteps, stepped}
 use Rattle.rv_bench.specs.declared.command.Command.{Command}
-use Rattle.rv_bench.specs.declared.command.Command.TheVariants.{Blank, Step, Reg, Regs, SetReg, Csr, Mem, Timer}
+use Rattle.rv_bench.specs.declared.command.Command.TheVariants.{Blank, Step, Reg, Regs, SetReg, Csr, Mem, Pmp, Access, Timer}
 use Rattle.rv_bench.specs.declared.command.CommandFault.{CommandFault}
 
 -- a state, and the text of a reply
@@ -31,6 +37,12 @@ csr_reply csrs number = result_case (read_result csrs number M) (csr_text number
 abbrev pub memory_reply : List ℕ → ℕ → ℕ → List ℕ
 memory_reply memory address count = option_case (read memory address count) outside_text (memory_text address)
 
+-- an access is told to be outside where a byte of it is; else what the entries say of it in the mode that is named
+abbrev pub access_reply : List ℕ → Entries → Mode → AccessKind → ℕ → Width → List ℕ
+access_reply memory entries mode access address width =
+    option_case (read memory address (bytes_in width)) denied_outside_text
+    (λ _. verdict_text (verdict_on entries mode access address width))
+
 -- one command
 unfoldable pub answer : State → Command → Answered
 answer state Blank = record { state = state; reply = [] }
@@ -41,6 +53,9 @@ answer state (SetReg number value) =
     record { state = record state { hart = record state.hart { regs = with_register state.hart.regs number value } }; reply = ok_text }
 answer state (Csr number) = record { state = state; reply = csr_reply state.hart.csrs number }
 answer state (Mem address count) = record { state = state; reply = memory_reply state.memory address count }
+answer state Pmp = record { state = state; reply = pmp_text state.hart.csrs.pmp }
+answer state (Access mode access address width) =
+    record { state = state; reply = access_reply state.memory state.hart.csrs.pmp mode access address width }
 answer state (Timer raised) =
     record { state = record state { hart = record state.hart { csrs = record state.hart.csrs { timer = raised } } }; reply = ok_text }
 

@@ -6,6 +6,12 @@ use Rattle.std.specs.Str.{bytes_eq}
 use Rattle.rv_bench.specs.Words.{words_of, is_good_line}
 use Rattle.rv_bench.specs.Numbers.{hexadecimal_of, csr_number_of, decimal_of}
 use Rattle.rv_bench.specs.Within.{within}
+use Rattle.rv_pmp.specs.declared.access.Access.{Access}
+use Rattle.rv_pmp.specs.declared.access.Access.TheVariants.{Fetch, Read, Write}
+use Rattle.rv_pmp.specs.declared.mode.Mode.{Mode}
+use Rattle.rv_pmp.specs.declared.mode.Mode.TheVariants.{U, S, M}
+use Rattle.rv_word.specs.declared.width.Width.{Width}
+use Rattle.rv_word.specs.declared.width.Width.TheVariants.{Byte, Half, Word}
 use Rattle.rv_bench.specs.declared.keyword.Keyword.{Keyword}
 use Rattle.rv_bench.specs.declared.keyword.Keyword.TheVariants as keyword
 use Rattle.rv_bench.specs.declared.command.Command.{Command}
@@ -27,7 +33,28 @@ switch_of operand =
     if bytes_eq operand (codes "on") then Some true
     else (if bytes_eq operand (codes "off") then Some false else None)
 
--- the command of no operands, of just one, and of just two
+-- the mode of a letter
+abbrev pub mode_of : List ℕ → Option Mode
+mode_of operand =
+    if bytes_eq operand (codes "M") then Some M
+    else (if bytes_eq operand (codes "S") then Some S
+    else (if bytes_eq operand (codes "U") then Some U else None))
+
+-- the kind of access of a letter, that of the permission which it needs
+abbrev pub access_of : List ℕ → Option Access
+access_of operand =
+    if bytes_eq operand (codes "r") then Some Read
+    else (if bytes_eq operand (codes "w") then Some Write
+    else (if bytes_eq operand (codes "x") then Some Fetch else None))
+
+-- the width of just so many bytes, written in one digit
+abbrev pub width_of : List ℕ → Option Width
+width_of operand =
+    if bytes_eq operand (codes "1") then Some Byte
+    else (if bytes_eq operand (codes "2") then Some Half
+    else (if bytes_eq operand (codes "4") then Some Word else None))
+
+-- the command of no operands, of just one, of just two, and of just four
 abbrev pub none : Command → List (List ℕ) → Option Command
 none command [] = Some command
 none command _ = None
@@ -39,6 +66,11 @@ one read make _ = None
 abbrev pub two : {A B : Type 0} → (List ℕ → Option A) → (List ℕ → Option B) → (A → B → Command) → List (List ℕ) → Option Command
 two read read_next make (operand ∷ next ∷ []) = option_and_then (λ a. option_map (make a) (read_next next)) (read operand)
 two read read_next make _ = None
+
+abbrev pub four : {A B C D : Type 0} → (List ℕ → Option A) → (List ℕ → Option B) → (List ℕ → Option C) → (List ℕ → Option D) → (A → B → C → D → Command) → List (List ℕ) → Option Command
+four first second third fourth make (t ∷ u ∷ v ∷ w ∷ []) =
+    option_and_then (λ a. option_and_then (λ b. option_and_then (λ c. option_map (make a b c) (fourth w)) (third v)) (second u)) (first t)
+four first second third fourth make _ = None
 
 -- a row of the table of commands: the first word, and the command that the words after it make
 pub record Row : Type 0 where
@@ -52,10 +84,12 @@ row_of keyword.Regs = record { spelling = codes "regs"; operands = none command.
 row_of keyword.SetReg = record { spelling = codes "setreg"; operands = two register_of hexadecimal_of command.SetReg }
 row_of keyword.Csr = record { spelling = codes "csr"; operands = one csr_number_of command.Csr }
 row_of keyword.Mem = record { spelling = codes "mem"; operands = two hexadecimal_of (decimal_within 1 64) command.Mem }
+row_of keyword.Pmp = record { spelling = codes "pmp"; operands = none command.Pmp }
+row_of keyword.Access = record { spelling = codes "access"; operands = four mode_of access_of hexadecimal_of width_of command.Access }
 row_of keyword.Timer = record { spelling = codes "timer"; operands = one switch_of command.Timer }
 
 abbrev pub keywords : List Keyword
-keywords = keyword.Step ∷ keyword.Reg ∷ keyword.Regs ∷ keyword.SetReg ∷ keyword.Csr ∷ keyword.Mem ∷ keyword.Timer ∷ []
+keywords = keyword.Step ∷ keyword.Reg ∷ keyword.Regs ∷ keyword.SetReg ∷ keyword.Csr ∷ keyword.Mem ∷ keyword.Pmp ∷ keyword.Access ∷ keyword.Timer ∷ []
 
 abbrev pub spelling_of : Keyword → List ℕ
 spelling_of k = (row_of k).spelling

@@ -2,8 +2,11 @@
 -- zeros. (This project's own replies.)
 use Rattle.std.specs.Prelude.{ℕ, List, ◌++◌, Option, Some, None, codes, decimal}
 use Rattle.std.specs.List.{flat_map, range_with_len}
+use Rattle.rv_pmp.specs.Entries.{Entries, cfg_of, addr_of}
 use Rattle.rv_pmp.specs.declared.mode.Mode.{Mode}
 use Rattle.rv_pmp.specs.declared.mode.Mode.TheVariants.{U, S, M}
+use Rattle.rv_pmp.specs.declared.verdict.Verdict.{Verdict}
+use Rattle.rv_pmp.specs.declared.verdict.Verdict.TheVariants.{Allowed, AllowedFree, Denied, DeniedPartial, DeniedFree}
 use Rattle.rv_state.specs.Causes.{cause_code}
 use Rattle.rv_state.specs.Registers.{register}
 use Rattle.rv_hart.specs.declared.trap.Trap.{Trap}
@@ -47,6 +50,27 @@ csr_text number word = codes "csr " ++ hex3 number ++ codes "=" ++ hex8 word ++ 
 -- `hhhhhhhh:`, and for each byte a space and two digits
 unfoldable pub memory_text : ℕ → List ℕ → List ℕ
 memory_text address bytes = hex8 address ++ codes ":" ++ flat_map (λ byte. codes " " ++ hex2 byte) bytes ++ codes "\n"
+
+-- `pmp I cfg=hh addr=hhhhhhhh`
+unfoldable pub entry_text : ℕ → ℕ → ℕ → List ℕ
+entry_text number cfg addr = codes "pmp " ++ decimal number ++ codes " cfg=" ++ hex2 cfg ++ codes " addr=" ++ hex8 addr ++ codes "\n"
+
+-- the sixteen entries in their order
+unfoldable pub pmp_text : Entries → List ℕ
+pmp_text entries =
+    flat_map (λ number. entry_text number (cfg_of entries number) (addr_of entries number)) (range_with_len 0 16)
+
+-- the verdict on an access, with the entry that decides, or `free` where none does
+unfoldable pub verdict_text : Verdict → List ℕ
+verdict_text (Allowed number) = codes "allowed entry " ++ decimal number ++ codes "\n"
+verdict_text AllowedFree = codes "allowed free\n"
+verdict_text (Denied number) = codes "denied entry " ++ decimal number ++ codes "\n"
+verdict_text (DeniedPartial number) = codes "denied partial " ++ decimal number ++ codes "\n"
+verdict_text DeniedFree = codes "denied free\n"
+
+-- a byte of the access is outside RAM
+unfoldable pub denied_outside_text : List ℕ
+denied_outside_text = codes "denied outside\n"
 
 -- it is done
 unfoldable pub ok_text : List ℕ

@@ -2,17 +2,18 @@
 
 ghost use Rattle.std.specs.Prelude.{◌≡◌};
 ghost use Rattle.arrayvec.specs.ArrayVec.{array_vec_len};
-ghost use Rattle.rv_bench.specs.Answer.{answer, line_answer, csr_reply, memory_reply};
+ghost use Rattle.rv_bench.specs.Answer.{answer, line_answer, csr_reply, memory_reply, access_reply};
 
 use crate::command::{ByteCount, Command, parse};
 use crate::reply::{
-    Reply, push_csr, push_fault, push_memory, push_no_csr, push_ok, push_outside, push_ran,
-    push_register, push_registers,
+    Reply, push_csr, push_denied_outside, push_fault, push_memory, push_no_csr, push_ok,
+    push_outside, push_pmp, push_ran, push_register, push_registers, push_verdict,
 };
 use crate::steps::run_steps;
 use rv_encoding::CsrNumber;
 use rv_hart::Machine;
-use rv_pmp::Mode;
+use rv_pmp::{Access, Mode};
+use rv_word::Width;
 
 /// Does one command, and puts its reply in place of what the buffer holds.
 #[tactic(auto, unfolding(crate::specs::Answer::answer))]
@@ -34,6 +35,13 @@ pub(crate) fn answer_command(machine: &mut Machine, command: Command, reply: &mu
         }
         Command::Csr(csr) => answer_csr(machine, csr, reply),
         Command::Mem(address, count) => answer_mem(machine, address, count, reply),
+        Command::Pmp => push_pmp(reply, machine.csrs().pmp()),
+        Command::Access {
+            mode,
+            access,
+            address,
+            width,
+        } => answer_access(machine, mode, access, address, width, reply),
         Command::Timer(raised) => {
             machine.csrs_mut().set_timer(raised);
             push_ok(reply);
@@ -62,6 +70,27 @@ fn answer_mem(machine: &Machine, address: u32, count: ByteCount, reply: &mut Rep
         return push_outside(reply);
     }
     push_memory(reply, address, ram.part(address, count.get()));
+}
+
+/// Tells that an access is outside where a byte of it is, and else what the entries say of it in the mode that is named.
+#[tactic(auto, unfolding(rv_memory::specs::Memory::read))]
+fn answer_access(
+    machine: &Machine,
+    mode: Mode,
+    access: Access,
+    address: u32,
+    width: Width,
+    reply: &mut Reply,
+)
+    requires { array_vec_len reply.old ≡ 0 }
+    ensures { reply.new.items ≡ access_reply machine.now.memory machine.now.hart.csrs.pmp mode access address width }
+{
+    let ram = machine.ram();
+    if !ram.contains(address, u32::from(width.bytes())) {
+        return push_denied_outside(reply);
+    }
+    let verdict = machine.csrs().pmp().judge(mode, access, address, width);
+    push_verdict(reply, verdict);
 }
 
 /// Does what a line says, or replies with its fault.

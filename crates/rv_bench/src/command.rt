@@ -1,14 +1,15 @@
 //! The commands, and how a line is read as one.
 
 ghost use Rattle.std.specs.Prelude.{◌≡◌, map};
-ghost use Rattle.rv_bench.specs.Command.{register_of, switch_of, operands_of, meaning_of, parse_of, number_of_fault};
+ghost use Rattle.rv_bench.specs.Command.{register_of, switch_of, mode_of, access_of, width_of, operands_of, meaning_of, parse_of, number_of_fault};
 
 use crate::keyword::Keyword;
 use crate::numbers::{csr_number, decimal, hexadecimal};
 use crate::within::Within;
 use crate::words::{first_words, is_good_line};
 use rv_encoding::CsrNumber;
-use rv_word::Reg;
+use rv_pmp::{Access, Mode};
+use rv_word::{Reg, Width};
 
 /// How many steps one command makes: 1 to 1000000.
 pub(crate) type StepCount = Within<1, 1_000_000>;
@@ -33,6 +34,20 @@ pub(crate) enum Command {
     Csr(CsrNumber),
     /// `mem A N`: show so many bytes of memory from an address on.
     Mem(u32, ByteCount),
+    /// `pmp`: show the sixteen entries of physical memory protection.
+    Pmp,
+    /// `access M K A L`: tell whether an access would be permitted, and by which entry. It is judged in the mode that is
+    /// named, whatever mode the hart is in.
+    Access {
+        /// M: the mode.
+        mode: Mode,
+        /// K: what the access is for.
+        access: Access,
+        /// A: the address of its first byte.
+        address: u32,
+        /// L: how many bytes it has.
+        width: Width,
+    },
     /// `timer on`, `timer off`: raise the timer line, or lower it.
     Timer(bool),
 }
@@ -84,6 +99,42 @@ fn switch(operand: &[u8]) -> Option<bool>
     }
 }
 
+/// The mode that an operand names by its letter.
+fn mode(operand: &[u8]) -> Option<Mode>
+    ensures { result ≡ mode_of operand.now }
+{
+    match operand {
+        b"M" => Some(Mode::M),
+        b"S" => Some(Mode::S),
+        b"U" => Some(Mode::U),
+        _ => None,
+    }
+}
+
+/// The kind of access that an operand names by the letter of its permission.
+fn access(operand: &[u8]) -> Option<Access>
+    ensures { result ≡ access_of operand.now }
+{
+    match operand {
+        b"r" => Some(Access::Read),
+        b"w" => Some(Access::Write),
+        b"x" => Some(Access::Fetch),
+        _ => None,
+    }
+}
+
+/// The width that an operand names by its number of bytes, in one digit.
+fn width(operand: &[u8]) -> Option<Width>
+    ensures { result ≡ width_of operand.now }
+{
+    match operand {
+        b"1" => Some(Width::Byte),
+        b"2" => Some(Width::Half),
+        b"4" => Some(Width::Word),
+        _ => None,
+    }
+}
+
 /// The command that a keyword makes of its operands.
 fn with_operands(keyword: Keyword, operands: &[&[u8]]) -> Option<Command>
     ensures { result ≡ operands_of keyword (map (λ operand. operand.now) operands.now) }
@@ -105,6 +156,19 @@ fn with_operands(keyword: Keyword, operands: &[&[u8]]) -> Option<Command>
             let address = hexadecimal(address)?;
             let count = ByteCount::new(decimal(count)?)?;
             Some(Command::Mem(address, count))
+        }
+        (Keyword::Pmp, []) => Some(Command::Pmp),
+        (Keyword::Access, [letter, kind, address, length]) => {
+            let mode = mode(letter)?;
+            let access = access(kind)?;
+            let address = hexadecimal(address)?;
+            let width = width(length)?;
+            Some(Command::Access {
+                mode,
+                access,
+                address,
+                width,
+            })
         }
         (Keyword::Timer, [raised]) => Some(Command::Timer(switch(raised)?)),
         _ => None,
@@ -163,11 +227,72 @@ mod tests {
         );
         let mepc = CsrNumber::new(0x341);
         assert_eq!(rt; parse(b"csr 341"), Ok(Command::Csr(mepc)));
+        assert_eq!(rt; parse(b"pmp"), Ok(Command::Pmp));
         assert_eq!(rt; parse(b"timer on"), Ok(Command::Timer(true)));
         assert_eq!(rt; parse(b"timer off"), Ok(Command::Timer(false)));
         assert_eq!(rt; parse(b" \t"), Ok(Command::Blank));
         assert_eq!(rt; parse(b"# x"), Ok(Command::Blank));
         Ok(())
+    }
+
+    #[test]
+    fn reads_accesses(rt: HostRuntime) {
+        let cases: [(&[u8], Mode, Access, Width); 5] = [
+            (b"access M r 8000000e 4", Mode::M, Access::Read, Width::Word),
+            (
+                b"access S w 8000000e 2",
+                Mode::S,
+                Access::Write,
+                Width::Half,
+            ),
+            (
+                b"access U x 0x8000000E 1",
+                Mode::U,
+                Access::Fetch,
+                Width::Byte,
+            ),
+            (b"access U r 8000000e 2", Mode::U, Access::Read, Width::Half),
+            (
+                b" access\tM x 8000000e 4 ",
+                Mode::M,
+                Access::Fetch,
+                Width::Word,
+            ),
+        ];
+        for (line, mode, access, width) in cases {
+            let want = Command::Access {
+                mode,
+                access,
+                address: 0x8000_000e,
+                width,
+            };
+            assert_eq!(rt; parse(line), Ok(want));
+        }
+    }
+
+    #[test]
+    fn refuses_operands_of_pmp_and_access(rt: HostRuntime) {
+        let cases: [&[u8]; 14] = [
+            b"pmp 0",
+            b"access",
+            b"access M r 80000000",
+            b"access M r 80000000 4 4",
+            b"access m r 80000000 4",
+            b"access H r 80000000 4",
+            b"access M R 80000000 4",
+            b"access M rw 80000000 4",
+            b"access r M 80000000 4",
+            b"access M r 0X80000000 4",
+            b"access M r 180000000 4",
+            b"access M r 80000000 04",
+            b"access M r 80000000 3",
+            b"access M r 80000000 8",
+        ];
+        for line in cases {
+            assert_eq!(rt; parse(line), Err(CommandFault::BadOperand));
+        }
+        assert_eq!(rt; parse(b"PMP"), Err(CommandFault::UnknownCommand));
+        assert_eq!(rt; parse(b"Access M r 0 4"), Err(CommandFault::UnknownCommand));
     }
 
     #[test]

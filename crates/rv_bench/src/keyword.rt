@@ -12,6 +12,8 @@ pub(crate) enum Keyword {
     SetReg,
     Csr,
     Mem,
+    Pmp,
+    Access,
     Timer,
 }
 
@@ -33,6 +35,8 @@ impl Keyword {
             b"setreg" => Some(Keyword::SetReg),
             b"csr" => Some(Keyword::Csr),
             b"mem" => Some(Keyword::Mem),
+            b"pmp" => Some(Keyword::Pmp),
+            b"access" => Some(Keyword::Access),
             b"timer" => Some(Keyword::Timer),
             _ => None,
         }

@@ -1,15 +1,15 @@
 //! The lines that answer commands.
 
-ghost use Rattle.std.specs.Prelude.{◌≡◌, ℕ, ◌+◌, ◌*◌, ◌≤◌, ◌++◌, length};
+ghost use Rattle.std.specs.Prelude.{◌≡◌, ℕ, ◌+◌, ◌*◌, ◌≤◌, ◌++◌, length, codes, decimal};
 ghost use Rattle.arrayvec.specs.ArrayVec.{array_vec_len};
-ghost use Rattle.rv_bench.specs.ReplyText.{mode_text, ran_text, trap_text, register_text, registers_text, pc_text, ok_text, csr_text, memory_text, fault_text, no_csr_text, outside_text};
+ghost use Rattle.rv_bench.specs.ReplyText.{mode_text, ran_text, trap_text, register_text, registers_text, pc_text, ok_text, csr_text, memory_text, entry_text, pmp_text, verdict_text, denied_outside_text, fault_text, no_csr_text, outside_text};
 
 use crate::command::CommandFault;
 use crate::digits::{push_decimal, push_hex, push_text};
 use arrayvec::ArrayVec;
 use rv_encoding::CsrNumber;
 use rv_hart::Trap;
-use rv_pmp::Mode;
+use rv_pmp::{Mode, Pmp, PmpIndex, Verdict};
 use rv_state::Regs;
 use rv_word::Reg;
 
@@ -144,6 +144,72 @@ pub(crate) fn push_memory(out: &mut Reply, address: u32, bytes: &[u8])
     push_text(out, "\n");
 }
 
+/// Writes an entry of physical memory protection: its number, cfg byte and pmpaddr value.
+#[tactic(auto, unfolding(crate::specs::ReplyText::entry_text))]
+fn push_entry(out: &mut Reply, index: PmpIndex, cfg: u8, addr: u32)
+    requires room { array_vec_len out.old + 36 ≤ 2048 }
+    ensures items { out.new.items ≡ out.old.items ++ entry_text index cfg addr }
+    ensures len { array_vec_len out.new ≤ array_vec_len out.old + 36 }
+{
+    push_text(out, "pmp ");
+    push_decimal(out, u32::from(index.number()));
+    push_text(out, " cfg=");
+    push_hex(out, u32::from(cfg), 2);
+    push_text(out, " addr=");
+    push_hex(out, addr, 8);
+    push_text(out, "\n");
+}
+
+/// Writes the entries of physical memory protection, from entry 0 on.
+#[tactic(auto, unfolding(crate::specs::ReplyText::pmp_text))]
+pub(crate) fn push_pmp(out: &mut Reply, pmp: &Pmp)
+    requires room { array_vec_len out.old + 576 ≤ 2048 }
+    ensures items { out.new.items ≡ out.old.items ++ pmp_text pmp.now }
+    ensures len { array_vec_len out.new ≤ array_vec_len out.old + 576 }
+{
+    for number in 0..16 {
+        let index = PmpIndex::new(number);
+        push_entry(out, index, pmp.cfg(index), pmp.addr(index));
+    }
+}
+
+/// Writes a word or two and the number of the entry that decides.
+fn push_decider(out: &mut Reply, words: &str, index: PmpIndex)
+    requires room { array_vec_len out.old + (length words.now + 11) ≤ 2048 }
+    ensures items { out.new.items ≡ out.old.items ++ (words.now ++ decimal index ++ codes "\n") }
+    ensures len { array_vec_len out.new ≤ array_vec_len out.old + (length words.now + 11) }
+{
+    push_text(out, words);
+    push_decimal(out, u32::from(index.number()));
+    push_text(out, "\n");
+}
+
+/// Writes the verdict on an access.
+#[tactic(auto, unfolding(crate::specs::ReplyText::verdict_text))]
+pub(crate) fn push_verdict(out: &mut Reply, verdict: Verdict)
+    requires room { array_vec_len out.old + 26 ≤ 2048 }
+    ensures items { out.new.items ≡ out.old.items ++ verdict_text verdict }
+    ensures len { array_vec_len out.new ≤ array_vec_len out.old + 26 }
+{
+    match verdict {
+        Verdict::Allowed(index) => push_decider(out, "allowed entry ", index),
+        Verdict::AllowedFree => push_text(out, "allowed free\n"),
+        Verdict::Denied(index) => push_decider(out, "denied entry ", index),
+        Verdict::DeniedPartial(index) => push_decider(out, "denied partial ", index),
+        Verdict::DeniedFree => push_text(out, "denied free\n"),
+    }
+}
+
+/// Writes that a byte of an access is outside RAM.
+#[tactic(auto, unfolding(crate::specs::ReplyText::denied_outside_text))]
+pub(crate) fn push_denied_outside(out: &mut Reply)
+    requires room { array_vec_len out.old + 15 ≤ 2048 }
+    ensures items { out.new.items ≡ out.old.items ++ denied_outside_text }
+    ensures len { array_vec_len out.new ≡ array_vec_len out.old + 15 }
+{
+    push_text(out, "denied outside\n");
+}
+
 /// Writes the fault of a line.
 pub(crate) fn push_fault(out: &mut Reply, fault: CommandFault)
     requires room { array_vec_len out.old + 14 ≤ 2048 }
@@ -262,6 +328,55 @@ mod tests {
         assert_eq!(rt;
             out.as_slice(),
             b"csr 341=80000004\ncsr 001=ffffffff\nerror csr\n".as_slice()
+        );
+    }
+
+    #[test]
+    fn prints_entries(rt: HostRuntime) {
+        let mut pmp = Pmp::new();
+        pmp.write_addr(PmpIndex::new(0), 0x2000_0040);
+        pmp.write_cfg(PmpIndex::new(0), 0x17);
+        pmp.write_addr(PmpIndex::new(1), 0xffff_ffff);
+        pmp.write_addr(PmpIndex::new(15), 1);
+        pmp.write_cfg(PmpIndex::new(15), 0x9f);
+        let mut out = Reply::new();
+        push_pmp(&mut out, &pmp);
+        assert_eq!(rt;
+            out.as_slice(),
+            b"pmp 0 cfg=17 addr=20000040\n\
+              pmp 1 cfg=00 addr=ffffffff\n\
+              pmp 2 cfg=00 addr=00000000\n\
+              pmp 3 cfg=00 addr=00000000\n\
+              pmp 4 cfg=00 addr=00000000\n\
+              pmp 5 cfg=00 addr=00000000\n\
+              pmp 6 cfg=00 addr=00000000\n\
+              pmp 7 cfg=00 addr=00000000\n\
+              pmp 8 cfg=00 addr=00000000\n\
+              pmp 9 cfg=00 addr=00000000\n\
+              pmp 10 cfg=00 addr=00000000\n\
+              pmp 11 cfg=00 addr=00000000\n\
+              pmp 12 cfg=00 addr=00000000\n\
+              pmp 13 cfg=00 addr=00000000\n\
+              pmp 14 cfg=00 addr=00000000\n\
+              pmp 15 cfg=9f addr=00000001\n"
+                .as_slice(),
+        );
+    }
+
+    #[test]
+    fn prints_verdicts(rt: HostRuntime) {
+        let mut out = Reply::new();
+        push_verdict(&mut out, Verdict::Allowed(PmpIndex::new(0)));
+        push_verdict(&mut out, Verdict::AllowedFree);
+        push_verdict(&mut out, Verdict::Denied(PmpIndex::new(15)));
+        push_verdict(&mut out, Verdict::DeniedPartial(PmpIndex::new(9)));
+        push_verdict(&mut out, Verdict::DeniedFree);
+        push_denied_outside(&mut out);
+        assert_eq!(rt;
+            out.as_slice(),
+            b"allowed entry 0\nallowed free\ndenied entry 15\ndenied partial 9\n\
+              denied free\ndenied outside\n"
+                .as_slice(),
         );
     }
 

@@ -63,6 +63,49 @@ fn answers_csr_and_timer(rt: HostRuntime) {
 }
 
 #[test]
+fn answers_pmp_and_access(rt: HostRuntime) {
+    let mut buffer = [0u8; 1024];
+    // writes x1 to pmpaddr0 and x2 to pmpcfg0: four bytes from 80000100 on, for each kind of access
+    let image = b"\x73\x90\x00\x3b\x73\x10\x01\x3a";
+    let script = b"setreg 1 20000040\nsetreg 2 17\nstep 2\n\
+        access M r 800000fe 4\naccess M r 80000100 4\naccess U x 80000102 2\n\
+        access U w 800000fc 4\naccess M w 800000fc 4\naccess U r fffffffe 4\npmp";
+    let mut lines = Lines::new(MemorySource::new(script));
+    let mut sink = MemorySink::new(&mut buffer);
+    let outcome = run_bench(rt.alloc(), image, &Setup::default(), &mut lines, &mut sink);
+    assert_eq!(rt; outcome, Ok(()));
+    assert_eq!(rt;
+        sink.bytes(),
+        b"ok\n\
+          ok\n\
+          ran 2 pc=80000008 mode=M world=bare why=done trap=-\n\
+          denied partial 0\n\
+          allowed entry 0\n\
+          allowed entry 0\n\
+          denied free\n\
+          allowed free\n\
+          denied outside\n\
+          pmp 0 cfg=17 addr=20000040\n\
+          pmp 1 cfg=00 addr=00000000\n\
+          pmp 2 cfg=00 addr=00000000\n\
+          pmp 3 cfg=00 addr=00000000\n\
+          pmp 4 cfg=00 addr=00000000\n\
+          pmp 5 cfg=00 addr=00000000\n\
+          pmp 6 cfg=00 addr=00000000\n\
+          pmp 7 cfg=00 addr=00000000\n\
+          pmp 8 cfg=00 addr=00000000\n\
+          pmp 9 cfg=00 addr=00000000\n\
+          pmp 10 cfg=00 addr=00000000\n\
+          pmp 11 cfg=00 addr=00000000\n\
+          pmp 12 cfg=00 addr=00000000\n\
+          pmp 13 cfg=00 addr=00000000\n\
+          pmp 14 cfg=00 addr=00000000\n\
+          pmp 15 cfg=00 addr=00000000\n"
+            .as_slice()
+    );
+}
+
+#[test]
 fn flushes_once(rt: HostRuntime) {
     let mut buffer = [0u8; 128];
     let mut lines = Lines::new(FaultySource::new(INPUT, 1, 0));

@@ -1,4 +1,5 @@
 mod Confined
 mod Mprv
+mod Permitted
 mod StepExamples
 mod StepLaws

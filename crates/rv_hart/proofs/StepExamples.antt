@@ -3,6 +3,8 @@ use Rattle.std.proofs.Common.{◌≡◌, ℕ, List, [], ◌∷◌, Some, None, r
 use Rattle.std.specs.Prelude.{replicate}
 use Rattle.rv_encoding.specs.Decoding.{decoded}
 use Rattle.rv_word.specs.Logic.{by_bits}
+use Rattle.rv_pmp.specs.Covers.{covers}
+use Rattle.rv_pmp.specs.Verdicts.{decider, verdict}
 use Rattle.rv_memory.specs.Memory.{ram_base, read}
 use Rattle.rv_hart.specs.Hart.{at_reset}
 use Rattle.rv_hart.specs.HartState.{Hart}
@@ -41,7 +43,7 @@ step-addi : step (over_bytes (0x93 ∷ 0x00 ∷ 0xf0 ∷ 0xff ∷ []) reset) ≡
   });
   outcome = record { trap = None; touched = fetch_of reset };
 }
-unfolding step attempted executed accessed request finished concluded written_csr decoded by_bits read
+unfolding step attempted executed accessed request finished concluded written_csr decoded by_bits read verdict decider covers
 step-addi = refl
 
 -- csrrw x0, mepc, x0, which reads nothing
@@ -49,7 +51,7 @@ step-csrrw : step (over_bytes (0x73 ∷ 0x10 ∷ 0x10 ∷ 0x34 ∷ []) reset) �
   state = over_bytes (0x73 ∷ 0x10 ∷ 0x10 ∷ 0x34 ∷ []) (record reset { csrs = record csrs_at_reset { mcycle = 1; minstret = 1 }; pc = 0x80000004 });
   outcome = record { trap = None; touched = fetch_of reset };
 }
-unfolding step attempted executed accessed request finished concluded written_csr csr_changed write_result csr_named listing written decoded by_bits read
+unfolding step attempted executed accessed request finished concluded written_csr csr_changed write_result csr_named listing written decoded by_bits read verdict decider covers
 step-csrrw = refl
 
 -- jal x1, 2: rd is not written
@@ -57,7 +59,7 @@ step-jal_misaligned : step (over_bytes (0xef ∷ 0x00 ∷ 0x20 ∷ 0x00 ∷ []) 
   state = over_bytes (0xef ∷ 0x00 ∷ 0x20 ∷ 0x00 ∷ []) (trapped_once 0 0x80000002);
   outcome = record { trap = Some (misaligned 0x80000002); touched = fetch_of reset };
 }
-unfolding step attempted executed accessed request finished concluded decoded by_bits read
+unfolding step attempted executed accessed request finished concluded decoded by_bits read verdict decider covers
 step-jal_misaligned = refl
 
 -- no row spells the word 0
@@ -65,5 +67,5 @@ step-illegal : step (over_bytes (0 ∷ 0 ∷ 0 ∷ 0 ∷ []) reset) ≡ record {
   state = over_bytes (0 ∷ 0 ∷ 0 ∷ 0 ∷ []) (trapped_once 2 0);
   outcome = record { trap = Some (illegal 0); touched = fetch_of reset };
 }
-unfolding step attempted executed accessed request finished concluded decoded by_bits read
+unfolding step attempted executed accessed request finished concluded decoded by_bits read verdict decider covers
 step-illegal = refl

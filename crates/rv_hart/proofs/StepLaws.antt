@@ -12,7 +12,7 @@ use Rattle.rv_hart.specs.Hart.{advanced}
 use Rattle.rv_hart.specs.HartState.{Hart}
 use Rattle.rv_hart.specs.Instructions.{request, finished}
 use Rattle.rv_hart.specs.State.{State, Stepped, over}
-use Rattle.rv_hart.specs.Step.{step, attempted, executed, accessed, concluded, done, trap_end, fetch_of, load_of, store_of, nothing}
+use Rattle.rv_hart.specs.Step.{step, attempted, executed, accessed, concluded, data_mode, done, trap_end, fetch_of, load_of, store_of, nothing}
 use Rattle.rv_state.specs.Interrupts.{pending}
 use Rattle.rv_hart.specs.CsrInstructions.{written_csr}
 use Rattle.rv_hart.specs.StepLaws.{TrapKeeps}
@@ -57,7 +57,7 @@ unfolding accessed concluded
 accessed-keeps hart memory word instr requests.Nothing is =
     concluded-keeps hart memory (fetch_of hart) (written_csr instr) (finished instr hart word 0)
 accessed-keeps hart memory word instr (requests.Load address width) is =
-    elim (loaded memory address width) as (λ r.
+    elim (loaded memory hart.csrs.pmp (data_mode hart) address width) as (λ r.
     TrapKeeps (record { hart = hart; memory = memory })
     (result_case r (λ number. over memory (done hart (load_of hart address width) word instr number))
     (λ _. over memory (trap_end hart (fetch_of hart) (access_fault LoadAccessFault address))))) [
@@ -66,7 +66,7 @@ accessed-keeps hart memory word instr (requests.Load address width) is =
     ]
 accessed-keeps hart memory word instr (requests.Store address width value) is =
     rw (store-finishes instr hart address value word width is)
-    (elim (stored memory address width value) as (λ r.
+    (elim (stored memory hart.csrs.pmp (data_mode hart) address width value) as (λ r.
     TrapKeeps (record { hart = hart; memory = memory })
     (result_case r (λ after. over after (concluded hart (store_of hart address width) (written_csr instr) (Ok (advanced hart))))
     (λ _. over memory (trap_end hart (fetch_of hart) (access_fault StoreAccessFault address)))))
@@ -83,7 +83,7 @@ executed-keeps hart memory word =
 attempted-keeps : (hart : Hart) (memory : List ℕ) → TrapKeeps (record { hart = hart; memory = memory }) (attempted hart memory)
 unfolding attempted
 attempted-keeps hart memory =
-    elim (fetched memory hart.pc) as (λ r.
+    elim (fetched memory hart.csrs.pmp hart.mode hart.pc) as (λ r.
     TrapKeeps (record { hart = hart; memory = memory })
     (result_case r (executed hart memory) (λ _. over memory (trap_end hart nothing (access_fault InstructionAccessFault hart.pc)))))
     [ Ok word ↦ executed-keeps hart memory word | Err fault ↦ (refl, refl) ]

@@ -9,3 +9,4 @@ pub mod State
 pub mod Step
 pub mod StepLaws
 pub mod Lending
+pub mod Permitted

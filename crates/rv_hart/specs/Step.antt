@@ -1,7 +1,7 @@
 -- One step of a machine. Memory enters it by the fetched word and the loaded number alone, and leaves it by one store.
 -- RISC-V Unprivileged ISA 20191213, sections 1.4 to 1.6; Privileged Architecture 20211203, sections 3.1.6.1 and 3.1.9
 -- (interrupts), 3.1.10 and 3.1.12 (counters), 3.1.15 (causes).
-use Rattle.std.specs.Prelude.{ℕ, true, false, List, Option, Some, None, Result}
+use Rattle.std.specs.Prelude.{ℕ, true, false, if◌then◌else◌, List, Option, Some, None, Result}
 use Rattle.rv_word.specs.declared.width.Width.{Width}
 use Rattle.rv_word.specs.declared.width.Width.TheVariants.{Word}
 use Rattle.rv_encoding.specs.declared.instr.Instr.{Instr}
@@ -10,6 +10,7 @@ use Rattle.rv_memory.specs.Accesses.{loaded, fetched, stored}
 use Rattle.rv_memory.specs.declared.touched.Span.{Span}
 use Rattle.rv_memory.specs.declared.touched.Touched.{Touched}
 use Rattle.rv_word.specs.Cases.{option_case, result_case}
+use Rattle.rv_pmp.specs.declared.mode.Mode.{Mode}
 use Rattle.rv_state.specs.Interrupts.{pending}
 use Rattle.rv_hart.specs.CsrInstructions.{written_csr}
 use Rattle.rv_hart.specs.Exceptions.{access_fault, illegal, interrupted}
@@ -62,6 +63,10 @@ concluded hart touched written finish = result_case finish (retired_end hart tou
 
 -- ---- the step
 
+-- the mode in which loads and stores are judged: that of MPP where MPRV is set (section 3.1.6.3)
+abbrev pub data_mode : Hart → Mode
+data_mode hart = if hart.csrs.mstatus.mprv then hart.csrs.mstatus.mpp else hart.mode
+
 -- an instruction whose access is done
 abbrev pub done : Hart → Touched → ℕ → Instr → ℕ → Ended
 done hart touched word instr loaded = concluded hart touched (written_csr instr) (finished instr hart word loaded)
@@ -70,11 +75,11 @@ done hart touched word instr loaded = concluded hart touched (written_csr instr)
 unfoldable pub accessed : Hart → List ℕ → ℕ → Instr → Request → Stepped
 accessed hart memory word instr Nothing = over memory (done hart (fetch_of hart) word instr 0)
 accessed hart memory word instr (Load address width) =
-    result_case (loaded memory address width)
+    result_case (loaded memory hart.csrs.pmp (data_mode hart) address width)
     (λ number. over memory (done hart (load_of hart address width) word instr number))
     (λ _. over memory (trap_end hart (fetch_of hart) (access_fault LoadAccessFault address)))
 accessed hart memory word instr (Store address width value) =
-    result_case (stored memory address width value)
+    result_case (stored memory hart.csrs.pmp (data_mode hart) address width value)
     (λ after. over after (done hart (store_of hart address width) word instr 0))
     (λ _. over memory (trap_end hart (fetch_of hart) (access_fault StoreAccessFault address)))
 
@@ -87,7 +92,7 @@ executed hart memory word =
 -- the word at pc is fetched
 unfoldable pub attempted : Hart → List ℕ → Stepped
 attempted hart memory =
-    result_case (fetched memory hart.pc) (executed hart memory)
+    result_case (fetched memory hart.csrs.pmp hart.mode hart.pc) (executed hart memory)
     (λ _. over memory (trap_end hart nothing (access_fault InstructionAccessFault hart.pc)))
 
 -- one step: an interrupt is taken, or an instruction is done

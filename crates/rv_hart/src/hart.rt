@@ -43,7 +43,7 @@ impl Hart {
     ghost use Rattle.rv_hart.specs.Lending.{HartLendsRegs, HartLendsCsrs};
     ghost use Rattle.rv_state.specs.Registers.{register};
     ghost use Rattle.rv_hart.specs.State.{ended_in, over};
-    ghost use Rattle.rv_hart.specs.Step.{step, executed, accessed, concluded, done, trap_end, retired_end, fetch_of};
+    ghost use Rattle.rv_hart.specs.Step.{step, executed, accessed, concluded, done, trap_end, retired_end, fetch_of, data_mode};
 
     /// The hart at reset, with the entry next.
     pub(crate) fn new(entry: u32, mode: Mode) -> Self
@@ -132,7 +132,7 @@ impl Hart {
         if let Some(interrupt) = self.csrs.pending_interrupt(self.mode) {
             return self.trap(interrupted(interrupt), Touched::default());
         }
-        match ram.fetch(self.pc) {
+        match ram.fetch(self.csrs.pmp_mut(), self.mode, self.pc) {
             Ok(word) => self.execute(word, ram),
             Err(_) => {
                 let trap = exception(Exception::InstructionAccessFault, self.pc);
@@ -167,9 +167,15 @@ impl Hart {
         requires { fetched ≡ fetch_of self.old }
         ensures { accessed self.old ram.old word instr.now (request instr.now self.old) ≡ over ram.new (ended_in self.new result) }
     {
+        let mode = self.data_mode();
         match self.request(instr) {
             Request::Nothing => self.finish(instr, word, 0, fetched),
-            Request::Load { address, width } => match ram.load(address, width) {
+            Request::Load { address, width } => match ram.load(
+                self.csrs.pmp_mut(),
+                mode,
+                address,
+                width,
+            ) {
                 Ok(number) => {
                     let loaded = Some(Span {
                         addr: address,
@@ -183,7 +189,7 @@ impl Hart {
                 address,
                 width,
                 value,
-            } => match ram.store(address, width, value) {
+            } => match ram.store(self.csrs.pmp_mut(), mode, address, width, value) {
                 Ok(()) => {
                     let stored = Some(Span {
                         addr: address,
@@ -194,6 +200,15 @@ impl Hart {
                 Err(_) => self.trap(exception(Exception::StoreAccessFault, address), fetched),
             },
         }
+    }
+
+    /// The mode in which loads and stores are judged: that of MPP where MPRV is set (Privileged Architecture, section 3.1.6.3).
+    #[inline(always)]
+    fn data_mode(&self) -> Mode
+        ensures { result ≡ data_mode self.now }
+    {
+        let status = self.csrs.mstatus();
+        if status.mprv { status.mpp } else { self.mode }
     }
 
     /// The one access that an instruction asks for.

@@ -4,7 +4,7 @@ use crate::{Machine, StepOutcome, Trap};
 use rv_memory::{RAM_BASE, Ram, Span, Touched};
 use rv_pmp::Mode;
 use rv_state::{Cause, Exception, Interrupt};
-use rv_word::{Reg, Width};
+use rv_word::{Reg, Width, le_bytes};
 use std::test::Fail;
 
 /// A machine over the words of a program.
@@ -12,9 +12,10 @@ fn machine_with(rt: HostRuntime, words: &[u32]) -> Result<Machine, Fail> {
     let mut ram = Ram::new(rt.alloc(), 65_536).map_err(|_| "a RAM")?;
     let mut address = RAM_BASE;
     for word in words {
-        ram.store(address, Width::Word, *word)
-            .map_err(|_| "a program that fits")?;
-        address = address.wrapping_add(4);
+        for byte in le_bytes(*word) {
+            ram.poke(address, byte);
+            address = address.wrapping_add(1);
+        }
     }
     Ok(Machine::new(ram, RAM_BASE, Mode::M))
 }
@@ -120,6 +121,10 @@ fn keeps_modes_apart(rt: HostRuntime) -> Result<(), Fail> {
     ] {
         let mut machine = machine_with(rt, &[0x3020_0073, word])?;
         machine.csrs_mut().set_mepc(RAM_BASE + 4);
+        // entry 0 lets every mode fetch everywhere
+        let opened = machine.csrs_mut().write(0x3b0, u32::MAX, Mode::M);
+        assert_eq!(rt; opened, Ok(()));
+        assert_eq!(rt; machine.csrs_mut().write(0x3a0, 0x1c, Mode::M), Ok(()));
         assert_eq!(rt; machine.step().trap, None);
         assert_eq!(rt; machine.mode(), Mode::U);
         assert_eq!(rt; machine.pc(), RAM_BASE + 4);
@@ -191,5 +196,24 @@ fn lends_its_memory(rt: HostRuntime) -> Result<(), Fail> {
         .write_part(RAM_BASE, &[0x93, 0x00, 0xf0, 0xff]);
     assert_eq!(rt; machine.step().trap, None);
     assert_eq!(rt; machine.regs().get(Reg::new(1)), 0xffff_ffff);
+    Ok(())
+}
+
+/// lw x3, 0(x1) in mode U: the entry for fetching does not permit it; with MPRV in mode M it is judged in mode U too.
+#[test]
+fn judges_by_the_entries(rt: HostRuntime) -> Result<(), Fail> {
+    for (mode, mprv) in [(Mode::U, 0), (Mode::M, 0x2_0000)] {
+        let mut machine = machine_with(rt, &[0x0000_a183])?;
+        machine.regs_mut().set(Reg::new(1), RAM_BASE);
+        assert_eq!(rt; machine.csrs_mut().write(0x3b0, u32::MAX, Mode::M), Ok(()));
+        assert_eq!(rt; machine.csrs_mut().write(0x3a0, 0x1c, Mode::M), Ok(()));
+        assert_eq!(rt; machine.csrs_mut().write(0x300, mprv, Mode::M), Ok(()));
+        machine.set_pc(RAM_BASE, mode);
+        let trap = Some(Trap {
+            cause: Cause::Exception(Exception::LoadAccessFault),
+            tval: RAM_BASE,
+        });
+        assert_eq!(rt; machine.step().trap, trap);
+    }
     Ok(())
 }

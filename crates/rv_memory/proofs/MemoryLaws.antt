@@ -80,16 +80,16 @@ length-bytes_of Half value = refl
 length-bytes_of Word value = refl
 
 -- a store of a width
-pub store_changes_only : (memory : List ℕ) (address value count : ℕ) (width : Width) (after : List ℕ) → is_inside memory address (bytes_in width) ≡ true
-    → count ≡ bytes_in width → after ≡ write_bytes memory (address - ram_base) (bytes_of count value) → ChangesOnly memory after address (bytes_in width)
-store_changes_only memory address value count width after inside is put =
-    changes_only memory address (bytes_in width) (bytes_of count value) after inside (rw is (length-bytes_of width value)) put
+pub store_changes_only : (memory : List ℕ) (address value : ℕ) (width : Width) (after : List ℕ) → is_inside memory address (bytes_in width) ≡ true
+    → after ≡ write_bytes memory (address - ram_base) (bytes_of (bytes_in width) value) → ChangesOnly memory after address (bytes_in width)
+store_changes_only memory address value width after inside put =
+    changes_only memory address (bytes_in width) (bytes_of (bytes_in width) value) after inside (length-bytes_of width value) put
 
-pub store_read_back : (memory : List ℕ) (address value count : ℕ) (width : Width) (after : List ℕ) → is_inside memory address (bytes_in width) ≡ true
-    → count ≡ bytes_in width → after ≡ write_bytes memory (address - ram_base) (bytes_of count value)
+pub store_read_back : (memory : List ℕ) (address value : ℕ) (width : Width) (after : List ℕ) → is_inside memory address (bytes_in width) ≡ true
+    → after ≡ write_bytes memory (address - ram_base) (bytes_of (bytes_in width) value)
     → read after address (bytes_in width) ≡ Some (bytes_of (bytes_in width) value)
-store_read_back memory address value count width after inside is put =
+store_read_back memory address value width after inside put =
     let bytes = bytes_of (bytes_in width) value in
     let written : write memory address bytes ≡ Some after =
-    write_at memory address bytes after (rw (length-bytes_of width value) inside) (rw is at put) in
+    write_at memory address bytes after (rw (length-bytes_of width value) inside) put in
     rw (length-bytes_of width value) at (read-write memory address bytes after written)

@@ -1,7 +1,7 @@
 -- The numbers of the faults, as this project's surface gives them. (No public standard numbers them.)
 use Rattle.std.specs.Prelude.{ℕ}
 use Rattle.rv_memory.specs.declared.access_fault.AccessFault.{AccessFault}
-use Rattle.rv_memory.specs.declared.access_fault.AccessFault.TheVariants.{Outside}
+use Rattle.rv_memory.specs.declared.access_fault.AccessFault.TheVariants.{Outside, Refused}
 use Rattle.rv_memory.specs.declared.ram_fault.RamFault.{RamFault}
 use Rattle.rv_memory.specs.declared.ram_fault.RamFault.TheVariants.{BadSize, NoMemory}
 
@@ -11,3 +11,4 @@ ram_fault_number NoMemory = 2
 
 abbrev pub access_fault_number : AccessFault → ℕ
 access_fault_number Outside = 1
+access_fault_number (Refused verdict) = 2

@@ -3,11 +3,12 @@
 ghost use Rattle.std.specs.Prelude.{◌≡◌, ℕ, ◌+◌, ◌-◌, ◌%◌, ◌^◌, ◌<◌, ◌*◌, ◌≤◌, List, [], ◌∷◌, length, replicate, take, drop, IfOk, OnOk, OnErr, MatchResult, Some, None, Ok, Err, true, false, if◌then◌else◌};
 ghost use Rattle.rv_word.specs.Widths.{bytes_in};
 ghost use Rattle.rv_memory.specs.Memory.{is_ram_size, ram_base, is_inside, read, write, write_bytes, byte_at, number_of, bytes_of};
-ghost use Rattle.rv_memory.specs.Accesses.{loaded, stored, fetched};
+ghost use Rattle.rv_memory.specs.Accesses.{loaded, stored, fetched, verdict_on};
 ghost use Rattle.rv_memory.specs.Changes.{ChangesOnly};
 
 use crate::access_fault::AccessFault;
 use crate::ram_fault::RamFault;
+use rv_pmp::{Access, Mode, Pmp};
 use rv_word::{Width, le_bytes, le_word};
 use std::alloc::{AllocError, Global};
 use std::marker::Model;
@@ -129,30 +130,50 @@ impl Ram {
         true
     }
 
-    /// The word of an instruction, from the four bytes at an address (Unprivileged ISA, section 1.5).
+    /// The word of an instruction, from the four bytes at an address (Unprivileged ISA, section 1.5). The entries stay as they
+    /// are.
     ///
     /// # Errors
     ///
-    /// `Outside` where one of the bytes is outside RAM.
-    #[inline(always)]
-    pub fn fetch(&self, addr: u32) -> Result<u32, AccessFault>
-        ensures { result ≡ fetched self.now addr }
-    {
-        self.load(addr, Width::Word)
-    }
-
-    /// The number that the bytes at an address spell, the lowest first (Unprivileged ISA, section 2.6).
-    ///
-    /// # Errors
-    ///
-    /// `Outside` where one of the bytes is outside RAM.
+    /// `Outside` where one of the bytes is outside RAM; else `Refused` where the entries do not permit the fetch in this mode.
     #[inline(always)]
     #[tactic(auto, unfolding(crate::specs::Memory::read))]
-    pub fn load(&self, addr: u32, width: Width) -> Result<u32, AccessFault>
-        ensures { result ≡ loaded self.now addr width }
+    pub fn fetch(&self, pmp: &mut Pmp, mode: Mode, addr: u32) -> Result<u32, AccessFault>
+        ensures value { result ≡ fetched self.now pmp.old mode addr }
+        ensures same { pmp.new ≡ pmp.old }
+    {
+        if !self.contains(addr, 4) {
+            return Err(AccessFault::Outside);
+        }
+        if !pmp.check(mode, Access::Fetch, addr, Width::Word) {
+            return Err(refused(pmp, mode, Access::Fetch, addr, Width::Word));
+        }
+        Ok(self.number_at((addr - RAM_BASE) as usize, 4))
+    }
+
+    /// The number that the bytes at an address spell, the lowest first (Unprivileged ISA, section 2.6). The entries stay as they
+    /// are.
+    ///
+    /// # Errors
+    ///
+    /// `Outside` where one of the bytes is outside RAM; else `Refused` where the entries do not permit the load in this mode.
+    #[inline(always)]
+    #[tactic(auto, unfolding(crate::specs::Memory::read))]
+    pub fn load(
+        &self,
+        pmp: &mut Pmp,
+        mode: Mode,
+        addr: u32,
+        width: Width,
+    ) -> Result<u32, AccessFault>
+        ensures value { result ≡ loaded self.now pmp.old mode addr width }
+        ensures same { pmp.new ≡ pmp.old }
     {
         if !self.contains(addr, u32::from(width.bytes())) {
             return Err(AccessFault::Outside);
+        }
+        if !pmp.check(mode, Access::Read, addr, width) {
+            return Err(refused(pmp, mode, Access::Read, addr, width));
         }
         let start = (addr - RAM_BASE) as usize;
         Ok(match width {
@@ -163,30 +184,50 @@ impl Ram {
     }
 
     /// Puts the lowest bytes of a word at an address, the lowest first, and leaves every other byte as it was (Unprivileged ISA,
-    /// section 2.6).
+    /// section 2.6). The entries stay as they are.
     ///
     /// # Errors
     ///
-    /// `Outside` where one of the bytes is outside RAM. Nothing changes then.
+    /// `Outside` where one of the bytes is outside RAM; else `Refused` where the entries do not permit the store in this mode.
+    /// Nothing changes then.
     #[inline(always)]
-    #[tactic(auto, using(crate::proofs::MemoryLaws::changes_nothing, crate::proofs::MemoryLaws::store_changes_only, crate::proofs::MemoryLaws::store_read_back), unfolding(crate::specs::Memory::write))]
-    pub fn store(&mut self, addr: u32, width: Width, value: u32) -> Result<(), AccessFault>
-        ensures done { let gives = stored self.old addr width value in
+    #[tactic(auto, using(crate::proofs::MemoryLaws::changes_nothing), unfolding(crate::specs::Memory::write))]
+    pub fn store(
+        &mut self,
+        pmp: &mut Pmp,
+        mode: Mode,
+        addr: u32,
+        width: Width,
+        value: u32,
+    ) -> Result<(), AccessFault>
+        ensures done { let gives = stored self.old pmp.old mode addr width value in
             MatchResult result (λ _. gives ≡ Ok self.new) (λ fault. gives ≡ Err fault) }
         ensures only { ChangesOnly self.old self.new addr (bytes_in width) }
         ensures read_back { OnOk result (read self.new addr (bytes_in width) ≡ Some (bytes_of (bytes_in width) value)) }
         ensures refused { OnErr result (self.new ≡ self.old) }
+        ensures same { pmp.new ≡ pmp.old }
     {
         if !self.contains(addr, u32::from(width.bytes())) {
             return Err(AccessFault::Outside);
         }
-        let start = (addr - RAM_BASE) as usize;
+        if !pmp.check(mode, Access::Write, addr, width) {
+            return Err(refused(pmp, mode, Access::Write, addr, width));
+        }
+        self.put_number((addr - RAM_BASE) as usize, width, value);
+        Ok(())
+    }
+
+    /// Puts the lowest bytes of a word at an index, the lowest first.
+    #[inline(always)]
+    fn put_number(&mut self, start: usize, width: Width, value: u32)
+        requires { start + bytes_in width ≤ length self.old }
+        ensures { self.new ≡ write_bytes self.old start (bytes_of (bytes_in width) value) }
+    {
         match width {
             Width::Byte => self.put_at(start, 1, value),
             Width::Half => self.put_at(start, 2, value),
             Width::Word => self.put_at(start, 4, value),
         }
-        Ok(())
     }
 
     /// The number that so many bytes from an index on spell, the lowest first.
@@ -227,4 +268,13 @@ impl Ram {
     {
         self.put_bytes(start, &le_bytes(value)[..count]);
     }
+}
+
+/// The refusal of an access that the entries do not permit.
+#[cold]
+#[inline(never)]
+fn refused(pmp: &Pmp, mode: Mode, access: Access, addr: u32, width: Width) -> AccessFault
+    ensures { result ≡ AccessFault.Refused (verdict_on pmp.now mode access addr width) }
+{
+    AccessFault::Refused(pmp.judge(mode, access, addr, width))
 }

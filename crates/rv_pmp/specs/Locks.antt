@@ -1,8 +1,8 @@
 -- Writes of entries, and the locks that refuse them: RISC-V Privileged Architecture 20211203, section 3.7.1, Locking and
 -- Privilege Mode.
-use Rattle.std.specs.Prelude.{ℕ, ◌+◌, ◌/◌, ◌%◌, ◌==◌, Bool, not, ◌&&◌, ◌||◌, if◌then◌else◌, map, slice_set}
+use Rattle.std.specs.Prelude.{ℕ, ◌+◌, ◌/◌, ◌%◌, ◌==◌, Bool, not, ◌&&◌, ◌||◌, if◌then◌else◌, map, slice_set, [], ◌∷◌, ◌*◌}
 use Rattle.std.specs.List.{range_with_len}
-use Rattle.rv_word.specs.ByteOrder.{byte_of}
+use Rattle.rv_word.specs.ByteOrder.{word_of_bytes, byte_of}
 use Rattle.rv_pmp.specs.Cfg.{is_tor, is_locked, stored_cfg}
 use Rattle.rv_pmp.specs.Entries.{Entries, cfg_of}
 
@@ -34,6 +34,11 @@ with_addr entries i addr =
 abbrev pub with_entry : Entries → ℕ → ℕ → ℕ → Entries
 with_entry entries i cfg addr =
     record { cfgs = slice_set entries.cfgs i (stored_cfg cfg); addrs = slice_set entries.addrs i addr }
+
+-- what a register pmpcfg reads: the cfg bytes of four entries, the lowest first
+abbrev pub cfg_word : Entries → ℕ → ℕ
+cfg_word entries register =
+    word_of_bytes (cfg_of entries (4 * register) ∷ cfg_of entries (4 * register + 1) ∷ cfg_of entries (4 * register + 2) ∷ cfg_of entries (4 * register + 3) ∷ [])
 
 -- the cfg byte of entry i after a write of a word to a register pmpcfg: byte k of the word is for entry 4 * register + k
 abbrev pub cfg_after : Entries → ℕ → ℕ → ℕ → ℕ

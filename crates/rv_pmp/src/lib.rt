@@ -18,12 +18,14 @@ mod mode;
 mod open_range;
 mod pmp;
 mod pmp_index;
+mod pmp_register;
 mod verdict;
 
 pub use access::Access;
 pub use mode::Mode;
 pub use pmp::Pmp;
 pub use pmp_index::PmpIndex;
+pub use pmp_register::PmpRegister;
 pub use verdict::Verdict;
 
 #[cfg(test)]

@@ -4,7 +4,7 @@ use crate::verdict_table::{
     ALL_ONES, ALL_ONES_ENTRIES, LOCKED, LOCKED_ENTRIES, NA4_AT_BORDER, NA4_AT_BORDER_ENTRIES,
     NAPOT_IN_TOR, NAPOT_IN_TOR_ENTRIES, PAST_THE_TOP, PAST_THE_TOP_ENTRIES,
 };
-use crate::{Access, Mode, Pmp, PmpIndex, Verdict};
+use crate::{Access, Mode, Pmp, PmpIndex, PmpRegister, Verdict};
 use rv_word::Width;
 use std::process::Abort;
 
@@ -114,10 +114,10 @@ fn locks_and_stored_bytes(rt: HostRuntime) {
 #[test]
 fn register_of_four_entries(rt: HostRuntime) {
     let mut pmp = Pmp::new();
-    pmp.write_cfg_word(0, 0x0000_8f00);
-    pmp.write_cfg_word(0, 0x0006_0000);
-    pmp.write_cfg_word(3, 0x9f7f_0201);
-    pmp.write_cfg_word(3, 0x0000_0000);
+    pmp.write_cfg_word(PmpRegister::new(0), 0x0000_8f00);
+    pmp.write_cfg_word(PmpRegister::new(0), 0x0006_0000);
+    pmp.write_cfg_word(PmpRegister::new(3), 0x9f7f_0201);
+    pmp.write_cfg_word(PmpRegister::new(3), 0x0000_0000);
     for (number, cfg) in [
         (0, 0),
         (1, 0x8f),

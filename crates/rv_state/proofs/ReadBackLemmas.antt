@@ -12,7 +12,7 @@ use Rattle.rv_state.specs.CsrState.{CsrState}
 use Rattle.rv_state.specs.CsrTable.{reading, written, is_trapped, on_register, csr_named, least_mode, is_read_only, read_result, write_result}
 use Rattle.rv_state.specs.Laws.{mstatus_mask, kept, kept_at, ReadsBack}
 use Rattle.rv_state.specs.declared.csr_name.CsrName.{CsrName}
-use Rattle.rv_state.specs.declared.csr_name.CsrName.TheVariants.{Sstatus, Stvec, Sscratch, Sepc, Scause, Stval, Satp, Mstatus as NameMstatus, Misa, Mie, Mtvec, Mscratch, Mepc, Mcause, Mtval, Mip, Mcycle, Minstret, Mcycleh, Minstreth, Mcountinhibit, Zero}
+use Rattle.rv_state.specs.declared.csr_name.CsrName.TheVariants.{Sstatus, Stvec, Sscratch, Sepc, Scause, Stval, Satp, Mstatus as NameMstatus, Misa, Mie, Mtvec, Mscratch, Mepc, Mcause, Mtval, Mip, Pmpcfg, Pmpaddr, Mcycle, Minstret, Mcycleh, Minstreth, Mcountinhibit, Zero}
 use Rattle.rv_state.specs.declared.csr_fault.CsrFault.TheVariants.{Privilege, ReadOnly, Trapped}
 use Rattle.rv_pmp.specs.declared.mode.Mode.{Mode}
 use Rattle.rv_state.proofs.MaskLemmas.{digit-rem}
@@ -129,6 +129,8 @@ reading-written Mepc word c below = aligned-is word below
 reading-written Mcause word c below = refl
 reading-written Mtval word c below = refl
 reading-written Mip word c below = refl
+reading-written (Pmpcfg k) word c below = refl
+reading-written (Pmpaddr i) word c below = refl
 reading-written Mcycle word c below = low-half c.mcycle word below
 reading-written Minstret word c below = low-half c.minstret word below
 reading-written Mcycleh word c below = high-half c.mcycle word
@@ -155,6 +157,8 @@ trapped-after Mepc word mode c free = refl
 trapped-after Mcause word mode c free = refl
 trapped-after Mtval word mode c free = refl
 trapped-after Mip word mode c free = refl
+trapped-after (Pmpcfg k) word mode c free = refl
+trapped-after (Pmpaddr i) word mode c free = refl
 trapped-after Mcycle word mode c free = refl
 trapped-after Minstret word mode c free = refl
 trapped-after Mcycleh word mode c free = refl

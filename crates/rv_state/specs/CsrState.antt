@@ -1,6 +1,7 @@
 -- What the control and status registers keep, and the reset: RISC-V Privileged Architecture 20211203, sections 3.1, 3.4
 -- and 4.1. That all of it is 0 at reset is this project's choice, where the manual leaves it open.
 use Rattle.std.specs.Prelude.{ℕ, Bool, false}
+use Rattle.rv_pmp.specs.Entries.{Entries, reset as no_entries}
 use Rattle.rv_state.specs.declared.mstatus.Mstatus.{Mstatus}
 use Rattle.rv_state.specs.Mstatus.{mstatus_at_reset}
 
@@ -18,6 +19,8 @@ pub record CsrState : Type 0 where
   pub software_pending : ℕ
   -- the timer line, which mip shows as MTIP
   pub timer : Bool
+  -- the sixteen entries of physical memory protection
+  pub pmp : Entries
   -- whole counters of 64 bits
   pub mcycle : ℕ
   pub minstret : ℕ
@@ -39,6 +42,7 @@ at_reset = record {
   mtval = 0;
   software_pending = 0;
   timer = false;
+  pmp = no_entries;
   mcycle = 0;
   minstret = 0;
   stvec = 0;

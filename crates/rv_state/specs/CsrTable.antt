@@ -2,10 +2,12 @@
 -- an access is refused. RISC-V Privileged Architecture 20211203, chapter 2: the listing is in the order of tables 2.3, 2.5
 -- and 2.6. What the registers keep: sections 3.1 and 4.1. Which numbers there are, those kept as zero included, is this
 -- machine's profile; any other number is missing.
-use Rattle.std.specs.Prelude.{ℕ, ◌/◌, ◌%◌, ◌^◌, Bool, false, ◌&&◌, nat_lt, nat_le, ◌==◌, if◌then◌else◌, List, [], ◌∷◌, Option, Some, None, Result, Ok, Err}
+use Rattle.std.specs.Prelude.{ℕ, ◌-◌, ◌/◌, ◌%◌, ◌^◌, Bool, false, ◌&&◌, nat_lt, nat_le, ◌==◌, if◌then◌else◌, List, [], ◌∷◌, Option, Some, None, Result, Ok, Err}
 use Rattle.rv_word.specs.Logic.{and_by_bits}
 use Rattle.rv_pmp.specs.declared.mode.Mode.{Mode}
 use Rattle.rv_pmp.specs.declared.mode.Mode.TheVariants.{S}
+use Rattle.rv_pmp.specs.Entries.{addr_of}
+use Rattle.rv_pmp.specs.Locks.{cfg_word, with_cfg_word, with_addr}
 use Rattle.rv_pmp.specs.Mode.{mode_number}
 use Rattle.rv_state.specs.Bits.{aligned_to_4, field}
 use Rattle.rv_state.specs.CsrState.{CsrState}
@@ -13,7 +15,7 @@ use Rattle.rv_state.specs.Counters.{with_low_half, with_high_half}
 use Rattle.rv_state.specs.Interrupts.{mip_word}
 use Rattle.rv_state.specs.Mstatus.{mstatus_word, mstatus_of, sstatus_word, with_sstatus}
 use Rattle.rv_state.specs.declared.csr_name.CsrName.{CsrName}
-use Rattle.rv_state.specs.declared.csr_name.CsrName.TheVariants.{Sstatus, Stvec, Sscratch, Sepc, Scause, Stval, Satp, Mstatus, Misa, Mie, Mtvec, Mscratch, Mepc, Mcause, Mtval, Mip, Mcycle, Minstret, Mcycleh, Minstreth, Mcountinhibit, Zero}
+use Rattle.rv_state.specs.declared.csr_name.CsrName.TheVariants.{Sstatus, Stvec, Sscratch, Sepc, Scause, Stval, Satp, Mstatus, Misa, Mie, Mtvec, Mscratch, Mepc, Mcause, Mtval, Mip, Pmpcfg, Pmpaddr, Mcycle, Minstret, Mcycleh, Minstreth, Mcountinhibit, Zero}
 use Rattle.rv_state.specs.declared.csr_fault.CsrFault.{CsrFault}
 use Rattle.rv_state.specs.declared.csr_fault.CsrFault.TheVariants as faults
 
@@ -29,16 +31,21 @@ is_read_only number = field number 10 2 == 3
 
 -- ---- the listing (section 2.2)
 
--- a row: the numbers that it is of, and their register
+-- a row: the numbers that it is of, and the register of each
 pub record Row : Type 0 where
   pub is_of : ℕ → Bool
-  pub name : CsrName
+  pub name : ℕ → CsrName
 
 abbrev pub csr : ℕ → CsrName → Row
-csr own name = record { is_of = λ number. number == own; name = name }
+csr own name = record { is_of = λ number. number == own; name = λ _. name }
 
 abbrev pub range : ℕ → ℕ → CsrName → Row
-range first last name = record { is_of = λ number. nat_le first number && nat_le number last; name = name }
+range first last name = record { is_of = λ number. nat_le first number && nat_le number last; name = λ _. name }
+
+-- registers that are counted from the first of them on
+abbrev pub counted_range : ℕ → ℕ → (ℕ → CsrName) → Row
+counted_range first last name =
+    record { is_of = λ number. nat_le first number && nat_le number last; name = λ number. name (number - first) }
 
 unfoldable pub listing : List Row
 listing =
@@ -77,6 +84,9 @@ listing =
     -- Machine Configuration
     ∷ csr 0x30A Zero  -- menvcfg
     ∷ csr 0x31A Zero  -- menvcfgh
+    -- Machine Memory Protection
+    ∷ counted_range 0x3A0 0x3A3 Pmpcfg  -- pmpcfg0 to pmpcfg3
+    ∷ counted_range 0x3B0 0x3BF Pmpaddr  -- pmpaddr0 to pmpaddr15
     -- table 2.6, Machine Counter/Timers
     ∷ csr 0xB00 Mcycle
     ∷ csr 0xB02 Minstret
@@ -91,7 +101,7 @@ listing =
 
 abbrev pub first_of_number : List Row → ℕ → Option CsrName
 first_of_number [] number = None
-first_of_number (row ∷ rows) number = if row.is_of number then Some row.name else first_of_number rows number
+first_of_number (row ∷ rows) number = if row.is_of number then Some (row.name number) else first_of_number rows number
 
 -- the register of a number, if there is one
 unfoldable pub csr_named : ℕ → Option CsrName
@@ -116,6 +126,8 @@ reading Mepc c = c.mepc
 reading Mcause c = c.mcause
 reading Mtval c = c.mtval
 reading Mip c = mip_word c
+reading (Pmpcfg k) c = cfg_word c.pmp k
+reading (Pmpaddr i) c = addr_of c.pmp i
 reading Mcycle c = c.mcycle % 2 ^ 32
 reading Minstret c = c.minstret % 2 ^ 32
 reading Mcycleh c = c.mcycle / 2 ^ 32
@@ -156,6 +168,8 @@ written Mepc word c = record c { mepc = aligned_to_4 word }
 written Mcause word c = record c { mcause = word }
 written Mtval word c = record c { mtval = word }
 written Mip word c = record c { software_pending = software_pending_of word }
+written (Pmpcfg k) word c = record c { pmp = with_cfg_word c.pmp k word }
+written (Pmpaddr i) word c = record c { pmp = with_addr c.pmp i word }
 written Mcycle word c = record c { mcycle = with_low_half c.mcycle word }
 written Minstret word c = record c { minstret = with_low_half c.minstret word }
 written Mcycleh word c = record c { mcycle = with_high_half c.mcycle word }

@@ -3,12 +3,14 @@
 use Rattle.std.specs.Prelude.{◌≡◌, ℕ, ◌+◌, ◌%◌, ◌==◌, if◌then◌else◌, Option, Some, None, Ok}
 use Rattle.rv_word.specs.Logic.{and_by_bits}
 use Rattle.rv_pmp.specs.declared.mode.Mode.{Mode}
+use Rattle.rv_pmp.specs.Entries.{addr_of}
+use Rattle.rv_pmp.specs.Locks.{cfg_word, with_cfg_word, with_addr}
 use Rattle.rv_state.specs.Bits.{field, flag}
 use Rattle.rv_state.specs.CsrState.{CsrState}
 use Rattle.rv_state.specs.CsrTable.{csr_named, read_result}
 use Rattle.rv_state.specs.Traps.{after_mret}
 use Rattle.rv_state.specs.declared.csr_name.CsrName.{CsrName}
-use Rattle.rv_state.specs.declared.csr_name.CsrName.TheVariants.{Sstatus, Stvec, Sscratch, Sepc, Scause, Stval, Satp, Mstatus, Misa, Mie, Mtvec, Mscratch, Mepc, Mcause, Mtval, Mip, Mcycle, Minstret, Mcycleh, Minstreth, Mcountinhibit, Zero}
+use Rattle.rv_state.specs.declared.csr_name.CsrName.TheVariants.{Sstatus, Stvec, Sscratch, Sepc, Scause, Stval, Satp, Mstatus, Misa, Mie, Mtvec, Mscratch, Mepc, Mcause, Mtval, Mip, Pmpcfg, Pmpaddr, Mcycle, Minstret, Mcycleh, Minstreth, Mcountinhibit, Zero}
 
 -- ---- what is read after a write: the word under the register's mask
 
@@ -33,6 +35,8 @@ kept Mepc word c = and_by_bits word 0xFFFFFFFC
 kept Mcause word c = word
 kept Mtval word c = word
 kept Mip word c = and_by_bits word 0x00000222 + flag 7 c.timer
+kept (Pmpcfg k) word c = cfg_word (with_cfg_word c.pmp k word) k
+kept (Pmpaddr i) word c = addr_of (with_addr c.pmp i word) i
 kept Mcycle word c = word
 kept Minstret word c = word
 kept Mcycleh word c = word

@@ -9,3 +9,4 @@ pub mod Interrupts
 pub mod Traps
 pub mod CsrTable
 pub mod Laws
+pub mod Lending

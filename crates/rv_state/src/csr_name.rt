@@ -3,6 +3,8 @@
 ghost use Rattle.std.specs.Prelude.{◌≡◌};
 ghost use Rattle.rv_state.specs.CsrTable.{csr_named, is_read_only, least_mode};
 
+use rv_pmp::{PmpIndex, PmpRegister};
+
 /// A control and status register that keeps or shows something, or one of those that are kept as zero
 /// (Privileged Architecture, section 2.2).
 #[derive(Clone, Copy, Debug, PartialEq, Eq)]
@@ -32,6 +34,10 @@ pub(crate) enum CsrName {
     Mtval,
     /// Which interrupts wait.
     Mip,
+    /// The cfg bytes of four PMP entries.
+    Pmpcfg(PmpRegister),
+    /// The address of a PMP entry.
+    Pmpaddr(PmpIndex),
     /// The lower half of the count of steps.
     Mcycle,
     /// The lower half of the count of retired instructions.
@@ -69,25 +75,18 @@ impl CsrName {
             0x342 => Some(CsrName::Mcause),
             0x343 => Some(CsrName::Mtval),
             0x344 => Some(CsrName::Mip),
+            0x3A0..=0x3A3 => Some(CsrName::Pmpcfg(PmpRegister::new((number - 0x3A0) as u8))),
+            0x3B0..=0x3BF => Some(CsrName::Pmpaddr(PmpIndex::new((number - 0x3B0) as u8))),
             0xB00 => Some(CsrName::Mcycle),
             0xB02 => Some(CsrName::Minstret),
             0xB80 => Some(CsrName::Mcycleh),
             0xB82 => Some(CsrName::Minstreth),
             0x320 => Some(CsrName::Mcountinhibit),
-            0x104
-            | 0x106
-            | 0x10A
-            | 0x144
-            | 0x302
-            | 0x303
-            | 0x306
-            | 0x30A
-            | 0x310
-            | 0x31A
-            | 0x323..=0x33F
-            | 0xB03..=0xB1F
-            | 0xB83..=0xB9F
-            | 0xF11..=0xF15 => Some(CsrName::Zero),
+            0x104 | 0x106 | 0x10A | 0x144 | 0x306 | 0x30A | 0x310 | 0x31A => Some(CsrName::Zero),
+            0x302 | 0x303 => Some(CsrName::Zero),
+            0x323..=0x33F => Some(CsrName::Zero),
+            0xB03..=0xB1F | 0xB83..=0xB9F => Some(CsrName::Zero),
+            0xF11..=0xF15 => Some(CsrName::Zero),
             _ => None,
         }
     }

@@ -7,7 +7,7 @@ use rv_word::Reg;
 
 /// The registers that there are, by rising numbers, written from the table of docs/ISA.md: the first and the last
 /// number of those that are alike, what they read at reset, and in mode M after all ones were written.
-const REGISTERS: [(u16, u16, u32, u32); 33] = [
+const REGISTERS: [(u16, u16, u32, u32); 35] = [
     (0x100, 0x100, 0, 0x0008_0122), // sstatus
     (0x104, 0x104, 0, 0), // sie
     (0x105, 0x105, 0, 0xFFFF_FFFD), // stvec
@@ -33,6 +33,8 @@ const REGISTERS: [(u16, u16, u32, u32); 33] = [
     (0x341, 0x341, 0, 0xFFFF_FFFC), // mepc
     (0x342, 0x343, 0, 0xFFFF_FFFF), // mcause, mtval
     (0x344, 0x344, 0, 0x0000_0222), // mip
+    (0x3A0, 0x3A3, 0, 0x9F9F_9F9F), // pmpcfg0 to pmpcfg3
+    (0x3B0, 0x3BF, 0, 0xFFFF_FFFF), // pmpaddr0 to pmpaddr15
     (0xB00, 0xB00, 0, 0xFFFF_FFFF), // mcycle
     (0xB02, 0xB02, 0, 0xFFFF_FFFF), // minstret
     (0xB03, 0xB1F, 0, 0), // mhpmcounter3 to mhpmcounter31
@@ -80,7 +82,7 @@ fn every_number_reads_in_every_mode_as_listed(rt: HostRuntime) {
             found = found.wrapping_add(1);
         }
     }
-    assert_eq!(rt; found, 123);
+    assert_eq!(rt; found, 143);
 }
 
 #[test]
