@@ -13,38 +13,23 @@ import sys
 sys.dont_write_bytecode = True
 import case_files
 from instruction_words import named
-from privileged_hart import (KEPT, M, MCAUSE, MEPC, MIE_CSR, MIP, MSCRATCH, MSTATUS, MTVAL, MTVEC, NUMBER, ONES, S, SATP,
-                             SSTATUS, START, TABLE, TVM, U, Case)
+from privileged_hart import (KEPT, M, MCAUSE, MEPC, MIE_CSR, MIP, MSCRATCH, MSTATUS, MTVAL, NUMBER, ONES, PMPADDR, PMPCFG,
+                             S, SATP, SSTATUS, TABLE, TVM, U, Case, Returning)
 
 MISSING = [0x000, 0x001, 0x0FF, 0x101, 0x102, 0x103, 0x107, 0x13F, 0x145, 0x17F, 0x181, 0x1FF, 0x200, 0x2FF, 0x307, 0x311,
-           0x321, 0x322, 0x345, 0x34A, 0x34B, 0x3A0, 0x3A3, 0x3A4, 0x3B0, 0x3BF, 0x3C0, 0x747, 0x7A0, 0x7B0, 0x7FF, 0x9FF,
+           0x321, 0x322, 0x345, 0x34A, 0x34B, 0x39F, 0x3A4, 0x3AF, 0x3C0, 0x3EF, 0x747, 0x7A0, 0x7B0, 0x7FF, 0x9FF,
            0xAFF, 0xB01, 0xB20, 0xB7F, 0xB81, 0xBA0, 0xBFF, 0xC00, 0xC01, 0xC02, 0xC80, 0xC82, 0xD00, 0xE00, 0xF10, 0xF16,
            0xFFF]
 PATTERNS = [ONES, 0, 0xA5C3965A, 0x5A3C69A5, 0]
 READ_ONLY = [number for number in KEPT if number >> 10 == 3]
 
 
-class Accesses(Case):
-    """A case with a handler that goes back from a trap into the mode that it came from, at the address in x30."""
+class Accesses(Returning):
+    """A case that accesses registers in every mode, and goes on behind those accesses that trap."""
 
     def __init__(self, name):
         super().__init__("csr_table", name)
-        self.set(31, START + 8)
-        self.place(START + 8, "csrrw", 0, MEPC, 30)
-        self.place(START + 12, "mret")
-        self.run(("csrrw", 0, MTVEC, 31), ("jal", 0, 12))
-
-    def attempt(self, *instruction):
-        """One access; where it traps, on behind it."""
-        self.set(30, self.hart.pc + 4)
-        if self.run(instruction):
-            self.run(None, None)
-
-    def to(self, mode, mstatus=0):
-        """From mode M to another."""
-        self.set(29, mstatus | mode << 11)
-        self.set(30, self.hart.pc + 12)
-        self.run(("csrrw", 0, MSTATUS, 29), ("csrrw", 0, MEPC, 30), ("mret",))
+        self.open()
 
 
 def readings():
@@ -55,7 +40,7 @@ def readings():
 def writings():
     """Each register that can be written, in mode M, by csrrw, which shows what it read before."""
     for part, first, last in (("supervisor", 0x100, 0x1FF), ("machine_set_up", 0x300, 0x31F), ("events", 0x320, 0x33F),
-                              ("machine_traps", 0x340, 0x3FF), ("counters", 0xB00, 0xB1F), ("upper_halves", 0xB80, 0xB9F)):
+                              ("machine_traps", 0x340, 0x34F), ("counters", 0xB00, 0xB1F), ("upper_halves", 0xB80, 0xB9F)):
         case = Case("csr_table", "writing_" + part)
         for number in sorted(KEPT):
             for word in PATTERNS if first <= number <= last else []:
@@ -63,6 +48,13 @@ def writings():
                 case.run(("csrrw", 5, number, 6))
                 case.reg(5)
                 case.show(number)
+    case = Case("csr_table", "writing_pmp")  # the locks are those of pmp.py
+    for number in [*PMPCFG, *PMPADDR]:
+        for word in PATTERNS:
+            case.set(6, word & (0x7F7F7F7F if number in PMPCFG else ONES))
+            case.run(("csrrw", 5, number, 6))
+            case.reg(5)
+            case.show(number)
     case = Case("csr_table", "single_bits")
     for number in [first for first, _, _, kept in TABLE if kept not in (0, ONES)]:
         for bit in range(33):  # the last word is 0

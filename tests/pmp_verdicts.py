@@ -3,18 +3,15 @@
 
     tests/pmp_verdicts.py > crates/rv_pmp/src/verdict_table.rt && (cd crates/rv_pmp && rt fmt)
 
-Each verdict is worked out byte by byte, by the RISC-V Privileged Architecture 20211203, section 3.7.1.
+Each verdict is worked out byte by byte, in pmp_entries.py.
 """
 
-OFF, TOR, NA4, NAPOT = 0x00, 0x08, 0x10, 0x18
-R, W, X, L = 0x01, 0x02, 0x04, 0x80
-BIT = {"Fetch": X, "Read": R, "Write": W}
+import sys
 
+sys.dont_write_bytecode = True
+from pmp_entries import NA4, NAPOT, OFF, TOR, Entries, L, R, W, X, napot
 
-def napot(base, size):
-    """The pmpaddr of a NAPOT entry."""
-    return (base + size // 2 - 1) >> 2
-
+KINDS = {"Fetch": "x", "Read": "r", "Write": "w"}
 
 # name, what it shows, the entries {number: (cfg, pmpaddr)}, the borders
 SETS = [
@@ -38,34 +35,6 @@ SETS = [
 ]
 
 
-def covers(cfgs, addrs, i, byte):
-    matching = cfgs[i] & 0x18
-    if matching == TOR:
-        below = addrs[i - 1] if i > 0 else 0
-        return 4 * below <= byte < 4 * addrs[i]
-    if matching == NA4:
-        return byte // 4 == addrs[i]
-    if matching == NAPOT:
-        ones = 0
-        while ones < 32 and addrs[i] >> ones & 1:
-            ones += 1
-        return byte >> (ones + 3) == 4 * addrs[i] >> (ones + 3)
-    return False
-
-
-def verdict(cfgs, addrs, mode, access, address, width):
-    each = range(address, address + width)
-    for i in range(16):
-        covered = [covers(cfgs, addrs, i, byte) for byte in each]
-        if not any(covered):
-            continue
-        if not all(covered):
-            return f"DeniedPartial({i})"
-        given = mode == "M" and not cfgs[i] & L or cfgs[i] & BIT[access]
-        return f"Allowed({i})" if given else f"Denied({i})"
-    return "AllowedFree" if mode == "M" else "DeniedFree"
-
-
 def hexadecimal(number):
     return f"0x{number >> 16:04x}_{number & 0xFFFF:04x}"
 
@@ -80,25 +49,25 @@ def main():
     print("use rv_word::Width::{Byte, Half, Word};")
     turn = 0
     for name, shows, entries, borders in SETS:
-        cfgs = [entries.get(i, (0, 0))[0] for i in range(16)]
-        addrs = [entries.get(i, (0, 0))[1] for i in range(16)]
+        written = Entries(entries)
         rows = []
         for border in borders:
             for offset, width in [(-4, 4), (-3, 4), (-1, 4), (0, 4), (-2, 2), (-1, 2), (0, 2), (-1, 1), (0, 1), (2, 4), (3, 2)]:
                 address = border + offset
                 if not 0 <= address < 1 << 32:
                     continue
-                access = ["Fetch", "Read", "Write"][turn % 3]
+                access = list(KINDS)[turn % 3]
                 turn += 1
                 width_name = {1: "Byte", 2: "Half", 4: "Word"}[width]
                 for mode in "US"[turn % 2], "M":
-                    told = verdict(cfgs, addrs, mode, access, address, width)
+                    verdict, i = written.verdict(mode, KINDS[access], address, width)
+                    told = verdict if i is None else f"{verdict}({i})"
                     rows.append(f"    ({mode}, {access}, {hexadecimal(address)}, {width_name}, {told}),")
         print()
         print(f"/// {shows} Each entry is its number, cfg byte and pmpaddr.")
         print(f"pub(crate) const {name}_ENTRIES: [(u8, u8, u32); {len(entries)}] = [")
         for i in sorted(entries):
-            print(f"    ({i}, 0x{cfgs[i]:02x}, {hexadecimal(addrs[i])}),")
+            print(f"    ({i}, 0x{entries[i][0]:02x}, {hexadecimal(entries[i][1])}),")
         print("];")
         print()
         print("/// Accesses, and the verdicts on them.")

@@ -13,7 +13,7 @@ import sys
 sys.dont_write_bytecode = True
 import case_files
 from privileged_hart import (M, MCAUSE, MCOUNTINHIBIT, MCYCLE, MEPC, MIE, MINSTRET, MIP, MPIE, MPRV, MSTATUS, MTVAL, MTVEC,
-                             ONES, PAST, S, SEPC, SIE, SPIE, SPP, TSR, TVM, TW, U, Case)
+                             ONES, PAST, S, SEPC, SIE, SPIE, SPP, TSR, TVM, TW, U, Case, Opened)
 
 MODES = (M, S, U)
 COUNT, MRET, SRET, ECALL, EBREAK = ("addi", 10, 10, 1), ("mret",), ("sret",), ("ecall",), ("ebreak",)
@@ -29,7 +29,7 @@ def each_cause():
             ("misaligned_jump", [("jal", 1, 2)]), ("fetch_behind_ram", [("jalr", 0, 0, 8), None]), ("ebreak", [EBREAK]),
             ("load_outside_ram", [("lw", 1, -1, 8)]), ("store_outside_ram", [("sw", 1, 3, 8)]), ("ecall", [ECALL]),
             ("words_of_no_instruction", *([(".word", word)] for word in (0, ONES, 0xC0102573, 0x0000100F)))):  # rdtime, fence.i
-        case = Case("traps", name)
+        case = Opened("traps", name)
         case.set(8, PAST)
         case.set(1, 0x11111111)
         for i, (mode, enabled, vector) in enumerate((m, e, v) for m in MODES for e in (MPIE, 0) for v in (DIRECT, VECTORED)):
@@ -42,7 +42,7 @@ def each_cause():
 
 def what_a_trap_leaves():
     """All other fields of mstatus and the supervisor's registers stay; a trap in a trap's handler is one more."""
-    case = Case("traps", "fields_that_a_trap_leaves")
+    case = Opened("traps", "fields_that_a_trap_leaves")
     for mode in MODES:
         case.write(stvec=0x80000F00, sscratch=0x11111111, sepc=0x22222220, scause=0x33333333, stval=0x44444444,
                    mscratch=0x55555555)
@@ -68,7 +68,7 @@ def returns():
                             for rest in (0, MPIE, MIE, MPRV, MPRV | MPIE | MIE, others)]),
             ("sret_in_m", SRET, [spp | rest for spp in (SPP, 0)
                                  for rest in (0, SPIE, SIE, MPRV, M << 11, TSR | TW | TVM, others)])):
-        case = Case("returns", name)
+        case = Opened("returns", name)
         for before in fields:
             target = case.hart.pc + 24
             epcs = (target + 3, 0x80000400) if instruction == MRET else (0x80000400, target + 3)  # bits 1:0 are not kept
@@ -76,7 +76,7 @@ def returns():
             case.show(MSTATUS, MEPC, SEPC)
             case.run(ECALL)  # shows the mode, and leads back to M
             case.show(MSTATUS, MCAUSE)
-    case = Case("returns", "sret_in_s")
+    case = Opened("returns", "sret_in_s")
     for rest in (0, SPIE, SPP, SPIE | SPP, SIE, SPP | SIE, others, others | SPP):
         case.write(sepc=case.after_enter(1) + 8)
         case.enter(S, case.after_enter(4), rest & ~TSR)
@@ -89,7 +89,7 @@ def returns():
 def refused_below():
     """mret, sret, wfi, sfence.vma and a fence in each mode, under TSR, TW and TVM; but for returns that are done."""
     for name, instruction in (("mret", MRET), ("sret", SRET), ("wfi", WFI), ("sfence_vma", VMA), ("fence", FENCE)):
-        case = Case("traps", name + "_by_mode")
+        case = Opened("traps", name + "_by_mode")
         for mode, field in [(m, f) for m in MODES for f in (0, TSR, TW, TVM, TSR | TW | TVM)]:
             if mode == M and name in ("mret", "sret") or name == "sret" and mode == S and not field & TSR:
                 continue
@@ -121,26 +121,26 @@ def interrupted(case, mode, numbers, enabled, vector=VECTORED, mstatus=MPIE):
 def interrupts():
     choices = [[number for i, number in enumerate((1, 5, 7, 9)) if chosen >> i & 1] for chosen in range(16)]
     for name, vector in (("vectored", VECTORED), ("direct", DIRECT)):
-        case = Case("interrupts", "each_" + name)
+        case = Opened("interrupts", "each_" + name)
         for mode, number in [(mode, number) for mode in MODES for number in (7, 9, 1, 5)]:
             for enabled in (0, 1 << number, 0xAAA & ~(1 << number), 0xAAA):
                 interrupted(case, mode, [number], enabled, vector)
-    case = Case("interrupts", "first_of_those_that_are_raised")
+    case = Opened("interrupts", "first_of_those_that_are_raised")
     for mode, numbers in [(mode, numbers) for mode in MODES for numbers in choices]:
         interrupted(case, mode, numbers, 0xAAA)
-    case = Case("interrupts", "first_of_those_that_are_enabled")
+    case = Opened("interrupts", "first_of_those_that_are_enabled")
     for mode, numbers in [(mode, numbers) for mode in MODES for numbers in choices]:
         interrupted(case, mode, [1, 5, 7, 9], sum(1 << number for number in numbers))
-    case = Case("interrupts", "by_mode_with_mie_clear")
+    case = Opened("interrupts", "by_mode_with_mie_clear")
     for mode, mstatus in [(mode, mstatus) for mode in MODES for mstatus in (0, SIE, SPIE | SIE | SPP)]:
         interrupted(case, mode, [1, 5, 7, 9], 0xAAA, VECTORED, mstatus)
-    case = Case("interrupts", "fields_that_an_interrupt_leaves")
+    case = Opened("interrupts", "fields_that_an_interrupt_leaves")
     for mode in MODES:
         interrupted(case, mode, [7], 0x80, DIRECT, ALL_BITS & ~(MIE | 3 << 11))
 
 
 def when_taken():
-    case = Case("interrupts", "line_stays_up")
+    case = Opened("interrupts", "line_stays_up")
     case.write(mie=0x80)
     case.enter(U, case.after_enter(4))
     case.run(COUNT, COUNT)
@@ -175,7 +175,7 @@ def when_taken():
         case.reg(10)
         case.show(MSTATUS, MEPC, MCAUSE)
 
-    case = Case("interrupts", "before_any_exception")
+    case = Opened("interrupts", "before_any_exception")
     for address, instruction in ((PAST, None), (None, ECALL), (None, (".word", ONES)), (None, EBREAK)):
         there = address or case.hart.pc + 28
         case.write(MRET, mie=0x20, mip=0x20, mtvec=case.hart.pc + 32, mstatus=0, mepc=there)
@@ -208,7 +208,7 @@ def what_counts():
                         ("csrrw", 0, 0xF14, 5)):
         case.write(mtvec=case.hart.pc + 16)
         counted(case, instruction)
-    case = Case("counters", "each_mode")
+    case = Opened("counters", "each_mode")
     for mode in MODES:
         case.enter(mode, case.after_enter(6))
         for instructions in ([], [COUNT] * 4, [ECALL]):
