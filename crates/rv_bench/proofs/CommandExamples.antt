@@ -1,10 +1,12 @@
 -- What some lines are.
 use Rattle.std.proofs.Common.{◌≡◌, ℕ, true, false, List, [], ◌∷◌, Result, Ok, Err, map, refl}
 use Rattle.std.specs.Prelude.{codes}
-use Rattle.rv_bench.specs.Words.{is_text, words_of}
-use Rattle.rv_bench.specs.Numbers.{number_of, decimal_of, hexadecimal_of, csr_number_of}
+use Rattle.rv_asm.specs.LineText.{is_text}
+use Rattle.rv_bench.specs.Words.{words_of}
+use Rattle.rv_bench.specs.Numbers.{decimal_of, hexadecimal_of, csr_number_of}
+use Rattle.rv_asm.specs.Numbers.{number_of}
 use Rattle.rv_bench.specs.declared.command.Command.{Command}
-use Rattle.rv_bench.specs.declared.command.Command.TheVariants.{Blank, Step, Reg, Regs, SetReg, Csr, Mem, Pmp, Access, Timer}
+use Rattle.rv_bench.specs.declared.command.Command.TheVariants.{Blank, Step, Reg, Regs, SetReg, Csr, Mem, Dis, Pmp, Access, Timer}
 use Rattle.rv_pmp.specs.declared.access.Access.TheVariants.{Fetch, Read, Write}
 use Rattle.rv_pmp.specs.declared.mode.Mode.TheVariants.{U, S, M}
 use Rattle.rv_word.specs.declared.width.Width.TheVariants.{Byte, Half, Word}
@@ -35,6 +37,9 @@ examples =
     ∷ (codes "mem 8000000e 4", Ok (Mem 0x8000000e 4))
     ∷ (codes "mem 0x8000000E 64", Ok (Mem 0x8000000e 64))
     ∷ (codes "mem 0 1", Ok (Mem 0 1))
+    ∷ (codes "dis 8000000e", Ok (Dis 0x8000000e))
+    ∷ (codes "\tdis  0x8000000E ", Ok (Dis 0x8000000e))
+    ∷ (codes "dis 0", Ok (Dis 0))
     ∷ (codes "pmp", Ok Pmp)
     ∷ (codes " pmp\t", Ok Pmp)
     ∷ (codes "access M r 80000100 4", Ok (Access M Read 0x80000100 Word))
@@ -49,6 +54,8 @@ examples =
     ∷ (codes "set 1 1", Err UnknownCommand)
     ∷ (codes "csrs 0", Err UnknownCommand)
     ∷ (codes "CSR 300", Err UnknownCommand)
+    ∷ (codes "Dis 0", Err UnknownCommand)
+    ∷ (codes "disasm 0", Err UnknownCommand)
     ∷ (codes "Pmp", Err UnknownCommand)
     ∷ (codes "pmps", Err UnknownCommand)
     ∷ (codes "Access M r 0 1", Err UnknownCommand)
@@ -84,6 +91,11 @@ examples =
     ∷ (codes "mem 0x 4", Err BadOperand)
     ∷ (codes "mem 0X80000000 4", Err BadOperand)
     ∷ (codes "mem 080000000 4", Err BadOperand)
+    ∷ (codes "dis", Err BadOperand)
+    ∷ (codes "dis 80000000 4", Err BadOperand)
+    ∷ (codes "dis 080000000", Err BadOperand)
+    ∷ (codes "dis 0x", Err BadOperand)
+    ∷ (codes "dis pc", Err BadOperand)
     ∷ (codes "pmp 0", Err BadOperand)
     ∷ (codes "pmp # x", Err BadOperand)
     ∷ (codes "access", Err BadOperand)

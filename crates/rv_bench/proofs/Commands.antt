@@ -5,7 +5,7 @@ use Rattle.std.specs.List.{starts_with}
 use Rattle.rv_bench.specs.declared.command.Command.{Command}
 use Rattle.rv_bench.specs.declared.command.Command.TheVariants.{Blank}
 use Rattle.rv_bench.specs.declared.keyword.Keyword.{Keyword}
-use Rattle.rv_bench.specs.declared.keyword.Keyword.TheVariants.{Step, Reg, Regs, SetReg, Csr, Mem, Pmp, Access, Timer}
+use Rattle.rv_bench.specs.declared.keyword.Keyword.TheVariants.{Step, Reg, Regs, SetReg, Csr, Mem, Dis, Pmp, Access, Timer}
 use Rattle.rv_bench.specs.Command.{none, one, two, four, operands_of, keyword_of, named, meaning_of, parse_of}
 use Rattle.rv_bench.specs.Words.{words_of}
 use Rattle.rv_bench.specs.declared.command.CommandFault.TheVariants.{BadLine}
@@ -41,6 +41,7 @@ operands_of-take Regs operands = search none-take
 operands_of-take SetReg operands = search two-take
 operands_of-take Csr operands = search one-take
 operands_of-take Mem operands = search two-take
+operands_of-take Dis operands = search one-take
 operands_of-take Pmp operands = search none-take
 operands_of-take Access operands = search four-take
 operands_of-take Timer operands = search one-take

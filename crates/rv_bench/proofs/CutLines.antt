@@ -2,7 +2,7 @@
 use Rattle.std.proofs.Common.{◌≡◌, ℕ, ◌<◌, leb, false, cond, List, length, take, refl, sym, ◌∙◌, ap, arith, inl, inr}
 use Rattle.std.proofs.lemmas.Bool.{cases_lt}
 use Rattle.std.proofs.lemmas.List.{take_all, length-take}
-use Rattle.rv_bench.specs.Words.{is_good_line}
+use Rattle.rv_asm.specs.LineText.{is_good_line}
 
 long_is_bad : (line : List ℕ) → 120 < length line → is_good_line line ≡ false
 long_is_bad line long = let e : leb (length line) 120 ≡ false = grind arith in rw e refl

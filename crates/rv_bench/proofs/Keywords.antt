@@ -5,7 +5,7 @@ use Rattle.std.specs.Str.{bytes_eq}
 use Rattle.std.proofs.lemmas.Slice.Eq.{bytes_eq-Decides}
 use Rattle.std.proofs.lemmas.Bool.{false_from_ne_true}
 use Rattle.rv_bench.specs.declared.keyword.Keyword.{Keyword}
-use Rattle.rv_bench.specs.declared.keyword.Keyword.TheVariants.{Step, Reg, Regs, SetReg, Csr, Mem, Pmp, Access, Timer}
+use Rattle.rv_bench.specs.declared.keyword.Keyword.TheVariants.{Step, Reg, Regs, SetReg, Csr, Mem, Dis, Pmp, Access, Timer}
 use Rattle.rv_bench.specs.Command.{spelling_of, keywords, keyword_of}
 
 find_none : {X : Type 0} (test : X → Bool) (xs : List X) → ((x : X) → test x ≡ false) → None ≡ find test xs
@@ -25,6 +25,7 @@ keyword_of-spelling_of Regs = refl
 keyword_of-spelling_of SetReg = refl
 keyword_of-spelling_of Csr = refl
 keyword_of-spelling_of Mem = refl
+keyword_of-spelling_of Dis = refl
 keyword_of-spelling_of Pmp = refl
 keyword_of-spelling_of Access = refl
 keyword_of-spelling_of Timer = refl

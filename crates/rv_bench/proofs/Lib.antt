@@ -1,14 +1,12 @@
 mod Answers
+mod Assembling
 mod CommandExamples
 mod Commands
 mod CutLines
-mod DigitValues
 mod Ends
 mod Examples
-mod HexDigits
 mod ImageLemmas
 mod Keywords
-mod LineLemmas
 mod LineTextLemmas
 mod Mapped
 mod RegisterLines
@@ -19,3 +17,4 @@ mod Stepping
 mod WordLaws
 mod WordLengths
 mod Writing
+mod WrittenLines

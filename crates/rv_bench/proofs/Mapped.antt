@@ -1,6 +1,6 @@
 -- What a call whose error is mapped gave.
-use Rattle.std.proofs.Common.{◌≡◌, Result, Ok, Err, refl, ap}
-use Rattle.std.specs.Result.{MatchResult, IsErrAnd, OnOk, OnErr}
+use Rattle.std.proofs.Common.{◌≡◌, Result, Ok, Err, refl, sym, ap, subst}
+use Rattle.std.specs.Result.{MatchResult, IsOkAnd, IsErrAnd, OnOk, OnErr}
 use Rattle.std.proofs.lemmas.Result.{err_from_is_err_and}
 
 -- an `Ok` was one
@@ -26,3 +26,12 @@ OnOk-always (Err e) p = tt
 pub OnErr-always : {A E P : Type 0} (r : Result A E) → P → OnErr r P
 OnErr-always (Ok x) p = tt
 OnErr-always (Err e) p = p
+
+-- what follows from what an `Ok` has, once the error is mapped
+pub OnOk-mapped : {A E F P Q : Type 0} (R : E → F → Type 0) (r : Result A E) (s : Result A F) → MatchResult r (λ y. s ≡ Ok y) (λ e. IsErrAnd s (R e)) → (P → Q) → OnOk r P → OnOk s Q
+OnOk-mapped {Q = Q} R (Ok y) s cases then p = subst (λ s. OnOk s Q) (sym cases) (then p)
+OnOk-mapped {Q = Q} R (Err e) s cases then p = let bad = err_from_is_err_and s cases in subst (λ s. OnOk s Q) (sym bad.1) tt
+
+-- a value that is known
+pub IsOkAnd-at : {A E : Type 0} (r : Result A E) (x : A) (P : A → Type 0) → r ≡ Ok x → P x → IsOkAnd r P
+IsOkAnd-at r x P is p = subst (λ s. IsOkAnd s P) (sym is) p

@@ -1,11 +1,12 @@
 -- What some replies are.
 use Rattle.std.proofs.Common.{◌≡◌, ℕ, ◌+◌, ◌/◌, ◌%◌, List, ◌∷◌, [], ◌++◌, Some, None, true, refl, ◌<◌, ◌≤◌, arith}
 use Rattle.std.specs.Prelude.{codes, decimal, replicate, nat_lt, if◌then◌else◌}
+use Rattle.std.specs.Fmt.{digits}
 use Rattle.std.proofs.lemmas.Bool.Decides.{nat_tests}
 use Rattle.std.proofs.lemmas.Fmt.{decimal_digit, decimal_step}
 use Rattle.rv_state.specs.CsrState.{at_reset}
 use Rattle.rv_state.specs.CsrTable.{csr_named, listing, reading, read_result}
-use Rattle.rv_bench.specs.Answer.{csr_reply, access_reply}
+use Rattle.rv_bench.specs.Answer.{csr_reply, dis_reply, access_reply}
 use Rattle.rv_memory.specs.Memory.{read}
 use Rattle.rv_pmp.specs.Covers.{covers}
 use Rattle.rv_pmp.specs.Entries.{Entries}
@@ -13,11 +14,14 @@ use Rattle.rv_pmp.specs.Verdicts.{decider, verdict}
 use Rattle.rv_pmp.specs.declared.access.Access.TheVariants.{Fetch, Read, Write}
 use Rattle.rv_pmp.specs.declared.verdict.Verdict.TheVariants.{Allowed, AllowedFree, Denied, DeniedPartial, DeniedFree}
 use Rattle.rv_word.specs.declared.width.Width.TheVariants.{Byte, Half, Word}
-use Rattle.rv_bench.specs.Digits.{hex_digits}
+use Rattle.rv_asm.specs.Digits.{hex_digits}
+use Rattle.rv_asm.specs.Spelling.{spelling, instr_text, line_text, word_text}
+use Rattle.rv_word.specs.Logic.{by_bits}
+use Rattle.rv_encoding.specs.Decoding.{decoded}
 use Rattle.rv_pmp.specs.declared.mode.Mode.TheVariants.{U, S, M}
 use Rattle.rv_state.specs.declared.cause.Cause.TheVariants.{Exception}
 use Rattle.rv_state.specs.declared.cause.Exception.TheVariants.{IllegalInstruction}
-use Rattle.rv_bench.specs.ReplyText.{trap_text, ran_text, register_text, registers_text, pc_text, ok_text, csr_text, memory_text, entry_text, pmp_text, verdict_text, denied_outside_text, no_csr_text}
+use Rattle.rv_bench.specs.ReplyText.{trap_text, ran_text, register_text, registers_text, pc_text, ok_text, csr_text, memory_text, dis_text, entry_text, pmp_text, verdict_text, denied_outside_text, no_csr_text, outside_text}
 
 -- a number of one digit or two, written so that it computes
 abbrev shown : ℕ → List ℕ
@@ -66,6 +70,18 @@ no_csr_text-example = refl
 pub memory_text-example : memory_text 0x8000000e (0xe2 ∷ 0 ∷ 0xff ∷ 0xff ∷ []) ≡ codes "8000000e: e2 00 ff ff\n"
 unfolding memory_text hex_digits
 memory_text-example = refl
+
+pub dis_text-examples : dis_text 0x8000000e 0xfff08093 ++ dis_text 0x80000000 0x8330000f ≡ codes "8000000e: fff08093 addi x1, x1, -1\n80000000: 8330000f .word 0x8330000f\n"
+unfolding dis_text spelling instr_text line_text word_text decoded digits hex_digits by_bits
+dis_text-examples = refl
+
+-- what `dis` answers over six bytes of memory: at any alignment, and outside where one of the four bytes is
+pub dis_reply-examples :
+    dis_reply (0 ∷ 0 ∷ 0x93 ∷ 0x80 ∷ 0xf0 ∷ 0xff ∷ []) 0x80000000 ++ dis_reply (0 ∷ 0 ∷ 0x93 ∷ 0x80 ∷ 0xf0 ∷ 0xff ∷ []) 0x80000002
+    ++ dis_reply (0 ∷ 0 ∷ 0x93 ∷ 0x80 ∷ 0xf0 ∷ 0xff ∷ []) 0x80000003 ++ dis_reply (0 ∷ 0 ∷ 0x93 ∷ 0x80 ∷ 0xf0 ∷ 0xff ∷ []) 0x7fffffff ≡
+    codes "80000000: 80930000 .word 0x80930000\n80000002: fff08093 addi x1, x1, -1\nerror outside\nerror outside\n"
+unfolding read dis_text outside_text spelling instr_text line_text word_text decoded digits hex_digits by_bits
+dis_reply-examples = refl
 
 pub pmp_text-example : pmp_text (record { cfgs = 0x17 ∷ (replicate 14 0 ++ 0x9f ∷ []); addrs = 0x20000040 ∷ (replicate 14 0 ++ 0xffffffff ∷ []) }) ≡
     codes "pmp 0 cfg=17 addr=20000040\npmp 1 cfg=00 addr=00000000\npmp 2 cfg=00 addr=00000000\npmp 3 cfg=00 addr=00000000\n"

@@ -1,7 +1,7 @@
 -- A run, line by line.
 use Rattle.std.proofs.Common.{◌≡◌, ℕ, Bool, false, List, [], ◌∷◌, ◌++◌, take, refl, sym, ◌∙◌, ap, subst, append_assoc, append-nil, lit≤}
 use Rattle.rv_bench.specs.Answer.{Answered, line_answer, replies, state_after}
-use Rattle.rv_bench.specs.Lines.{lines_of}
+use Rattle.rv_asm.specs.Lines.{lines_of}
 use Rattle.rv_bench.specs.LineText.{ReadsText, TakesLine, ReadsLines}
 use Rattle.rv_bench.specs.Run.{StopsAtRead, StopsAtWrite}
 use Rattle.rv_hart.specs.State.{State}

@@ -3,7 +3,8 @@ use Rattle.std.proofs.Common.{◌≡◌, ℕ, Bool, true, false, not, cond, ◌&
 use Rattle.std.proofs.lemmas.Bool.Decides.{nat_tests}
 use Rattle.std.specs.Prelude.{filter}
 use Rattle.std.specs.List.{slice_split, onto_first, list_all}
-use Rattle.rv_bench.specs.Words.{is_blank, is_filled, words_of}
+use Rattle.rv_asm.specs.LineText.{is_blank}
+use Rattle.rv_bench.specs.Words.{is_filled, words_of}
 
 abbrev joined : List (List ℕ) → List ℕ
 joined [] = []

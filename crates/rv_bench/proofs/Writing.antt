@@ -1,5 +1,5 @@
 -- A text that is written part by part.
-use Rattle.std.proofs.Common.{◌≡◌, ℕ, List, [], ◌++◌, take, drop, append_assoc, append-nil, refl, sym, ◌∙◌, ap, arith}
+use Rattle.std.proofs.Common.{◌≡◌, ℕ, List, [], ◌++◌, take, drop, append_assoc, append-nil, refl, sym, ◌∙◌, ap, subst, arith}
 use Rattle.std.proofs.lemmas.Grind.{common_steps}
 use Rattle.rv_bench.specs.Transfer.{WritesUpTo, WritesFront}
 
@@ -26,3 +26,30 @@ WritesFront-after old mid new done text others was (rest, (front, wrote, split))
     ap (λ t. done ++ (t ++ others)) split ∙ (ap (λ t. done ++ t) (append_assoc front rest others) ∙ sym (append_assoc done front (rest ++ others))),
   ),
 )
+
+-- what was gathered is written on, up to what is gathered now
+pub WritesUpTo-on : (old mid new text rest left : List ℕ) → WritesUpTo old mid text rest → WritesUpTo mid new rest left → WritesUpTo old new text left
+WritesUpTo-on old mid new text rest left (front, was, split) (more, wrote, others) = (
+  front ++ more,
+  wrote ∙ (ap (λ t. t ++ more) was ∙ append_assoc old front more),
+  split ∙ (ap (λ t. front ++ t) others ∙ sym (append_assoc front more left)),
+)
+
+-- one more line is gathered
+pub WritesUpTo-line : (old new text rest line whole gathered : List ℕ) → WritesUpTo old new text rest → whole ≡ text ++ line → gathered ≡ rest ++ line → WritesUpTo old new whole gathered
+WritesUpTo-line old new text rest line whole gathered (front, was, split) is_whole is_gathered = (
+  front,
+  was,
+  is_whole ∙ (ap (λ t. t ++ line) split ∙ (append_assoc front rest line ∙ ap (λ t. front ++ t) (sym is_gathered))),
+)
+
+-- the sink stops within what is gathered, and others were to follow
+pub WritesUpTo-stopped : (old mid new text rest others whole : List ℕ) → WritesUpTo old mid text rest → WritesFront mid new rest → whole ≡ text ++ others → WritesFront old new whole
+WritesUpTo-stopped old mid new text rest others whole (front, was, split) stops is_whole =
+    subst (λ t. WritesFront old new t) (sym (is_whole ∙ (ap (λ t. t ++ others) split ∙ append_assoc front rest others)))
+    (WritesFront-after old mid new front rest others was stops)
+
+-- all that was gathered is written
+pub WritesUpTo-all : (old mid new text rest : List ℕ) → WritesUpTo old mid text rest → new ≡ mid ++ rest → new ≡ old ++ text
+WritesUpTo-all old mid new text rest (front, was, split) wrote =
+    wrote ∙ (ap (λ t. t ++ rest) was ∙ (append_assoc old front rest ∙ ap (λ t. old ++ t) (sym split)))

@@ -5,7 +5,7 @@ use Rattle.rv_word.specs.Widths.{bytes_in}
 use Rattle.rv_word.specs.declared.width.Width.{Width}
 use Rattle.rv_bench.specs.Command.{parse_of}
 use Rattle.rv_memory.specs.Accesses.{verdict_on}
-use Rattle.rv_memory.specs.Memory.{read}
+use Rattle.rv_memory.specs.Memory.{read, number_of}
 use Rattle.rv_pmp.specs.Entries.{Entries}
 use Rattle.rv_pmp.specs.declared.access.Access.{Access as AccessKind}
 use Rattle.rv_pmp.specs.declared.mode.Mode.{Mode}
@@ -13,11 +13,11 @@ use Rattle.rv_pmp.specs.declared.mode.Mode.TheVariants.{M}
 use Rattle.rv_state.specs.CsrState.{CsrState}
 use Rattle.rv_state.specs.CsrTable.{read_result}
 use Rattle.rv_state.specs.Registers.{register, with_register}
-use Rattle.rv_bench.specs.ReplyText.{ran_text, register_text, registers_text, ok_text, csr_text, memory_text, pmp_text, verdict_text, denied_outside_text, fault_text, no_csr_text, outside_text}
+use Rattle.rv_bench.specs.ReplyText.{ran_text, register_text, registers_text, ok_text, csr_text, memory_text, dis_text, pmp_text, verdict_text, denied_outside_text, fault_text, no_csr_text, outside_text}
 use Rattle.rv_hart.specs.State.{State}
 use Rattle.rv_bench.specs.Steps.{AfterSteps, stepped}
 use Rattle.rv_bench.specs.declared.command.Command.{Command}
-use Rattle.rv_bench.specs.declared.command.Command.TheVariants.{Blank, Step, Reg, Regs, SetReg, Csr, Mem, Pmp, Access, Timer}
+use Rattle.rv_bench.specs.declared.command.Command.TheVariants.{Blank, Step, Reg, Regs, SetReg, Csr, Mem, Dis, Pmp, Access, Timer}
 use Rattle.rv_bench.specs.declared.command.CommandFault.{CommandFault}
 
 -- a state, and the text of a reply
@@ -37,6 +37,10 @@ csr_reply csrs number = result_case (read_result csrs number M) (csr_text number
 abbrev pub memory_reply : List ℕ → ℕ → ℕ → List ℕ
 memory_reply memory address count = option_case (read memory address count) outside_text (memory_text address)
 
+-- the word at an address, the lowest byte first, is shown where all of its bytes are in memory
+abbrev pub dis_reply : List ℕ → ℕ → List ℕ
+dis_reply memory address = option_case (read memory address 4) outside_text (λ bytes. dis_text address (number_of bytes))
+
 -- an access is told to be outside where a byte of it is; else what the entries say of it in the mode that is named
 abbrev pub access_reply : List ℕ → Entries → Mode → AccessKind → ℕ → Width → List ℕ
 access_reply memory entries mode access address width =
@@ -53,6 +57,7 @@ answer state (SetReg number value) =
     record { state = record state { hart = record state.hart { regs = with_register state.hart.regs number value } }; reply = ok_text }
 answer state (Csr number) = record { state = state; reply = csr_reply state.hart.csrs number }
 answer state (Mem address count) = record { state = state; reply = memory_reply state.memory address count }
+answer state (Dis address) = record { state = state; reply = dis_reply state.memory address }
 answer state Pmp = record { state = state; reply = pmp_text state.hart.csrs.pmp }
 answer state (Access mode access address width) =
     record { state = state; reply = access_reply state.memory state.hart.csrs.pmp mode access address width }

@@ -3,7 +3,8 @@ use Rattle.std.specs.Prelude.{ℕ, Bool, true, false, List, [], ◌∷◌, codes
 use Rattle.std.specs.Option.{ok_or}
 use Rattle.std.specs.List.{starts_with}
 use Rattle.std.specs.Str.{bytes_eq}
-use Rattle.rv_bench.specs.Words.{words_of, is_good_line}
+use Rattle.rv_asm.specs.LineText.{is_good_line}
+use Rattle.rv_bench.specs.Words.{words_of}
 use Rattle.rv_bench.specs.Numbers.{hexadecimal_of, csr_number_of, decimal_of}
 use Rattle.rv_bench.specs.Within.{within}
 use Rattle.rv_pmp.specs.declared.access.Access.{Access}
@@ -84,12 +85,13 @@ row_of keyword.Regs = record { spelling = codes "regs"; operands = none command.
 row_of keyword.SetReg = record { spelling = codes "setreg"; operands = two register_of hexadecimal_of command.SetReg }
 row_of keyword.Csr = record { spelling = codes "csr"; operands = one csr_number_of command.Csr }
 row_of keyword.Mem = record { spelling = codes "mem"; operands = two hexadecimal_of (decimal_within 1 64) command.Mem }
+row_of keyword.Dis = record { spelling = codes "dis"; operands = one hexadecimal_of command.Dis }
 row_of keyword.Pmp = record { spelling = codes "pmp"; operands = none command.Pmp }
 row_of keyword.Access = record { spelling = codes "access"; operands = four mode_of access_of hexadecimal_of width_of command.Access }
 row_of keyword.Timer = record { spelling = codes "timer"; operands = one switch_of command.Timer }
 
 abbrev pub keywords : List Keyword
-keywords = keyword.Step ∷ keyword.Reg ∷ keyword.Regs ∷ keyword.SetReg ∷ keyword.Csr ∷ keyword.Mem ∷ keyword.Pmp ∷ keyword.Access ∷ keyword.Timer ∷ []
+keywords = keyword.Step ∷ keyword.Reg ∷ keyword.Regs ∷ keyword.SetReg ∷ keyword.Csr ∷ keyword.Mem ∷ keyword.Dis ∷ keyword.Pmp ∷ keyword.Access ∷ keyword.Timer ∷ []
 
 abbrev pub spelling_of : Keyword → List ℕ
 spelling_of k = (row_of k).spelling

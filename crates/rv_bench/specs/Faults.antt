@@ -3,7 +3,7 @@ use Rattle.std.specs.Prelude.{ℕ}
 use Rattle.rv_bench.specs.declared.elf_fault.ElfFault.{ElfFault}
 use Rattle.rv_bench.specs.declared.elf_fault.ElfFault.TheVariants.{Truncated, NotElf, WrongClass, WrongType, WrongMachine, BadHeader, SegmentTruncated, SegmentSizes, SegmentOutside, SegmentOverlap, BadEntry}
 use Rattle.rv_bench.specs.declared.fault.BenchFault.{BenchFault}
-use Rattle.rv_bench.specs.declared.fault.BenchFault.TheVariants.{Image, Ram, Read, Write, Hex, TooLong, NoMemory}
+use Rattle.rv_bench.specs.declared.fault.BenchFault.TheVariants.{Image, Ram, Read, Write, Hex, TooLong, NoMemory, Asm}
 
 abbrev pub elf_fault_number : ElfFault → ℕ
 elf_fault_number Truncated = 1
@@ -26,3 +26,4 @@ bench_fault_number Write = 4
 bench_fault_number Hex = 5
 bench_fault_number TooLong = 6
 bench_fault_number NoMemory = 7
+bench_fault_number (Asm fault) = 8

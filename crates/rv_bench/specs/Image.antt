@@ -4,10 +4,11 @@ use Rattle.std.specs.List.{list_all}
 use Rattle.std.specs.Char.{is_digit, digit_value}
 use Rattle.std.specs.Str.{bytes_eq}
 use Rattle.rv_bench.specs.declared.fault.BenchFault.{BenchFault}
-use Rattle.rv_bench.specs.declared.fault.BenchFault.TheVariants.{Image, Ram, Read, Write, Hex, TooLong, NoMemory}
-use Rattle.rv_bench.specs.Lines.{lines_of, after_lines}
+use Rattle.rv_bench.specs.declared.fault.BenchFault.TheVariants.{Image, Ram, Read, Write, Hex, TooLong, NoMemory, Asm}
+use Rattle.rv_asm.specs.Lines.{lines_of, after_lines}
 use Rattle.rv_bench.specs.LineText.{ReadsText, ReadsLines}
-use Rattle.rv_bench.specs.Words.{is_good_line, words_of}
+use Rattle.rv_asm.specs.LineText.{is_good_line}
+use Rattle.rv_bench.specs.Words.{words_of}
 
 -- one word, or none, which is a word of no bytes
 abbrev pub only_word : List (List ℕ) → Option (List ℕ)
@@ -75,6 +76,7 @@ is_image_fault Write = false
 is_image_fault Hex = true
 is_image_fault TooLong = true
 is_image_fault NoMemory = true
+is_image_fault (Asm fault) = false
 
 -- the faults that the text of an image can have
 abbrev pub is_text_fault : BenchFault → Bool
@@ -85,6 +87,7 @@ is_text_fault Write = false
 is_text_fault Hex = true
 is_text_fault TooLong = true
 is_text_fault NoMemory = false
+is_text_fault (Asm fault) = false
 
 -- whole lines were read, up to the bytes that are left
 pub record LeavesLines (unread left : List ℕ) : Type 0 where

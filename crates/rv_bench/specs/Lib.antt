@@ -1,11 +1,12 @@
 pub mod Answer
+pub mod AssemblyText
 pub mod Command
 pub mod Device
-pub mod Digits
+pub mod DisassemblyText
 pub mod Faults
 pub mod Image
+pub mod Jobs
 pub mod LineText
-pub mod Lines
 pub mod Loaded
 pub mod MemoryStreams
 pub mod Numbers

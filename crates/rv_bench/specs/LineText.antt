@@ -2,7 +2,7 @@
 use Rattle.std.specs.Prelude.{◌≡◌, ℕ, Bool, true, false, ◌&&◌, ◌==◌, List, [], ◌∷◌, ◌++◌, take, length, Result, Ok, Err, if◌then◌else◌}
 use Rattle.rv_bench.specs.declared.line.Stop.{Stop}
 use Rattle.rv_bench.specs.declared.line.Stop.TheVariants.{LineFeed, End}
-use Rattle.rv_bench.specs.Lines.{has_feed, lines_of, through_last_feed, after_line, after_lines}
+use Rattle.rv_asm.specs.Lines.{has_feed, lines_of, through_last_feed, after_line, after_lines}
 
 -- of the unread bytes a text with no line feed was read, up to those that are left, and its first 122 bytes are kept
 pub record ReadsText (unread left kept : List ℕ) : Type 0 where
@@ -43,14 +43,3 @@ abbrev pub stops_at_end : {E : Type 0} → Result Stop E → Bool
 stops_at_end (Ok LineFeed) = false
 stops_at_end (Ok End) = true
 stops_at_end (Err e) = false
-
--- The rest is an aid of the proofs: a line is read byte by byte, and its carriage return is known once it has ended.
-
-abbrev pub is_empty : List ℕ → Bool
-is_empty [] = true
-is_empty (b ∷ bs) = false
-
--- the text before a line feed, without the carriage return at its end
-abbrev pub without_return : List ℕ → List ℕ
-without_return [] = []
-without_return (b ∷ bs) = if (b == 13) && is_empty bs then [] else b ∷ without_return bs

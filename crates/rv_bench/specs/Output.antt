@@ -1,13 +1,15 @@
 -- What the bench writes for an input: an image, the line `--`, and a script. (This project's own format.)
 use Rattle.std.specs.Prelude.{ℕ, Bool, true, false, List, Result, Ok, Err}
+use Rattle.rv_asm.specs.declared.fault.AsmFaultKind.{AsmFaultKind}
+use Rattle.rv_asm.specs.declared.fault.AsmFaultKind.TheVariants as asm
 use Rattle.rv_bench.specs.Answer.{replies}
 use Rattle.rv_word.specs.Cases.{result_case}
 use Rattle.rv_bench.specs.Image.{image_in, after_image}
-use Rattle.rv_bench.specs.Lines.{lines_of}
+use Rattle.rv_asm.specs.Lines.{lines_of}
 use Rattle.rv_bench.specs.Loaded.{started}
 use Rattle.rv_hart.specs.State.{State}
 use Rattle.rv_bench.specs.declared.fault.BenchFault.{BenchFault}
-use Rattle.rv_bench.specs.declared.fault.BenchFault.TheVariants.{Image, Ram, Read, Write, Hex, TooLong, NoMemory}
+use Rattle.rv_bench.specs.declared.fault.BenchFault.TheVariants.{Image, Ram, Read, Write, Hex, TooLong, NoMemory, Asm}
 use Rattle.rv_memory.specs.declared.ram_fault.RamFault.TheVariants.{BadSize, NoMemory as NoRamMemory}
 
 -- the replies of a machine that has started, or the fault
@@ -35,6 +37,18 @@ is_start_fault Write = false
 is_start_fault Hex = false
 is_start_fault TooLong = false
 is_start_fault NoMemory = false
+is_start_fault (Asm fault) = false
+
+-- the faults that an assembler text has by itself: all but that memory was refused
+abbrev pub is_asm_text_fault : AsmFaultKind → Bool
+is_asm_text_fault asm.BadText = true
+is_asm_text_fault asm.UnknownName = true
+is_asm_text_fault asm.BadOperand = true
+is_asm_text_fault asm.OutOfRange = true
+is_asm_text_fault asm.UnknownLabel = true
+is_asm_text_fault asm.LabelTwice = true
+is_asm_text_fault asm.TooLong = true
+is_asm_text_fault asm.NoMemory = false
 
 -- the faults that an input has by itself, whatever the devices and the memory do
 abbrev pub is_input_fault : BenchFault → Bool
@@ -46,6 +60,7 @@ is_input_fault Write = false
 is_input_fault Hex = true
 is_input_fault TooLong = true
 is_input_fault NoMemory = false
+is_input_fault (Asm fault) = is_asm_text_fault fault.kind
 
 -- the faults of the devices
 abbrev pub is_device_fault : BenchFault → Bool
@@ -56,3 +71,15 @@ is_device_fault Write = true
 is_device_fault Hex = false
 is_device_fault TooLong = false
 is_device_fault NoMemory = false
+is_device_fault (Asm fault) = false
+
+-- the faults of a run
+abbrev pub is_run_fault : BenchFault → Bool
+is_run_fault (Image fault) = true
+is_run_fault (Ram fault) = true
+is_run_fault Read = true
+is_run_fault Write = true
+is_run_fault Hex = true
+is_run_fault TooLong = true
+is_run_fault NoMemory = true
+is_run_fault (Asm fault) = false

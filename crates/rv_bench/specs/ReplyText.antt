@@ -10,7 +10,8 @@ use Rattle.rv_pmp.specs.declared.verdict.Verdict.TheVariants.{Allowed, AllowedFr
 use Rattle.rv_state.specs.Causes.{cause_code}
 use Rattle.rv_state.specs.Registers.{register}
 use Rattle.rv_hart.specs.declared.trap.Trap.{Trap}
-use Rattle.rv_bench.specs.Digits.{hex2, hex3, hex8}
+use Rattle.rv_asm.specs.Digits.{hex2, hex3, hex8}
+use Rattle.rv_asm.specs.Spelling.{spelling}
 use Rattle.rv_bench.specs.declared.command.CommandFault.{CommandFault}
 use Rattle.rv_bench.specs.declared.command.CommandFault.TheVariants.{BadLine, UnknownCommand, BadOperand}
 
@@ -50,6 +51,10 @@ csr_text number word = codes "csr " ++ hex3 number ++ codes "=" ++ hex8 word ++ 
 -- `hhhhhhhh:`, and for each byte a space and two digits
 unfoldable pub memory_text : ℕ → List ℕ → List ℕ
 memory_text address bytes = hex8 address ++ codes ":" ++ flat_map (λ byte. codes " " ++ hex2 byte) bytes ++ codes "\n"
+
+-- `hhhhhhhh: wwwwwwww text`
+unfoldable pub dis_text : ℕ → ℕ → List ℕ
+dis_text address word = hex8 address ++ codes ": " ++ hex8 word ++ codes " " ++ spelling word ++ codes "\n"
 
 -- `pmp I cfg=hh addr=hhhhhhhh`
 unfoldable pub entry_text : ℕ → ℕ → ℕ → List ℕ

@@ -2,18 +2,18 @@
 
 ghost use Rattle.std.specs.Prelude.{◌≡◌};
 ghost use Rattle.arrayvec.specs.ArrayVec.{array_vec_len};
-ghost use Rattle.rv_bench.specs.Answer.{answer, line_answer, csr_reply, memory_reply, access_reply};
+ghost use Rattle.rv_bench.specs.Answer.{answer, line_answer, csr_reply, memory_reply, dis_reply, access_reply};
 
 use crate::command::{ByteCount, Command, parse};
 use crate::reply::{
-    Reply, push_csr, push_denied_outside, push_fault, push_memory, push_no_csr, push_ok,
+    Reply, push_csr, push_denied_outside, push_dis, push_fault, push_memory, push_no_csr, push_ok,
     push_outside, push_pmp, push_ran, push_register, push_registers, push_verdict,
 };
 use crate::steps::run_steps;
 use rv_encoding::CsrNumber;
 use rv_hart::Machine;
 use rv_pmp::{Access, Mode};
-use rv_word::Width;
+use rv_word::{Width, le_word};
 
 /// Does one command, and puts its reply in place of what the buffer holds.
 #[tactic(auto, unfolding(crate::specs::Answer::answer))]
@@ -35,6 +35,7 @@ pub(crate) fn answer_command(machine: &mut Machine, command: Command, reply: &mu
         }
         Command::Csr(csr) => answer_csr(machine, csr, reply),
         Command::Mem(address, count) => answer_mem(machine, address, count, reply),
+        Command::Dis(address) => answer_dis(machine, address, reply),
         Command::Pmp => push_pmp(reply, machine.csrs().pmp()),
         Command::Access {
             mode,
@@ -70,6 +71,20 @@ fn answer_mem(machine: &Machine, address: u32, count: ByteCount, reply: &mut Rep
         return push_outside(reply);
     }
     push_memory(reply, address, ram.part(address, count.get()));
+}
+
+/// Shows the word at an address and its instruction, where all of its bytes are in memory.
+fn answer_dis(machine: &Machine, address: u32, reply: &mut Reply)
+    requires { array_vec_len reply.old ≡ 0 }
+    ensures { reply.new.items ≡ dis_reply machine.now.memory address }
+{
+    let ram = machine.ram();
+    if !ram.contains(address, 4) {
+        return push_outside(reply);
+    }
+    let mut bytes = [0; 4];
+    bytes.copy_from_slice(ram.part(address, 4));
+    push_dis(reply, address, le_word(&bytes));
 }
 
 /// Tells that an access is outside where a byte of it is, and else what the entries say of it in the mode that is named.

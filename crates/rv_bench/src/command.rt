@@ -6,7 +6,8 @@ ghost use Rattle.rv_bench.specs.Command.{register_of, switch_of, mode_of, access
 use crate::keyword::Keyword;
 use crate::numbers::{csr_number, decimal, hexadecimal};
 use crate::within::Within;
-use crate::words::{first_words, is_good_line};
+use crate::words::first_words;
+use rv_asm::is_good_line;
 use rv_encoding::CsrNumber;
 use rv_pmp::{Access, Mode};
 use rv_word::{Reg, Width};
@@ -34,6 +35,8 @@ pub(crate) enum Command {
     Csr(CsrNumber),
     /// `mem A N`: show so many bytes of memory from an address on.
     Mem(u32, ByteCount),
+    /// `dis A`: show the word at an address, of any alignment, and its instruction in assembly language.
+    Dis(u32),
     /// `pmp`: show the sixteen entries of physical memory protection.
     Pmp,
     /// `access M K A L`: tell whether an access would be permitted, and by which entry. It is judged in the mode that is
@@ -157,6 +160,7 @@ fn with_operands(keyword: Keyword, operands: &[&[u8]]) -> Option<Command>
             let count = ByteCount::new(decimal(count)?)?;
             Some(Command::Mem(address, count))
         }
+        (Keyword::Dis, [address]) => Some(Command::Dis(hexadecimal(address)?)),
         (Keyword::Pmp, []) => Some(Command::Pmp),
         (Keyword::Access, [letter, kind, address, length]) => {
             let mode = mode(letter)?;
@@ -220,6 +224,7 @@ mod tests {
             parse(b"mem 8000000e 4"),
             Ok(Command::Mem(0x8000_000e, four))
         );
+        assert_eq!(rt; parse(b"dis 0x8000000E"), Ok(Command::Dis(0x8000_000e)));
         assert_eq!(rt; parse(b"regs"), Ok(Command::Regs));
         assert_eq!(rt;
             parse(b"setreg 5 0x1F"),
@@ -304,6 +309,8 @@ mod tests {
         assert_eq!(rt; parse(b"setreg 32 0"), Err(CommandFault::BadOperand));
         assert_eq!(rt; parse(b"setreg 1 100000000"), Err(CommandFault::BadOperand));
         assert_eq!(rt; parse(b"csr 0x300"), Err(CommandFault::BadOperand));
+        assert_eq!(rt; parse(b"dis"), Err(CommandFault::BadOperand));
+        assert_eq!(rt; parse(b"dis 80000000 4"), Err(CommandFault::BadOperand));
         assert_eq!(rt; parse(b"timer maybe"), Err(CommandFault::BadOperand));
         assert_eq!(rt; parse(&[b'#'; 120]), Ok(Command::Blank));
         assert_eq!(rt; parse(&[b'#'; 121]), Err(CommandFault::BadLine));

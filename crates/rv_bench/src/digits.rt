@@ -1,27 +1,12 @@
 //! Numbers and words, written at the end of a reply.
 
 ghost use Rattle.std.specs.Prelude.{◌≡◌, ℕ, ◌+◌, ◌≤◌, ◌++◌, length, decimal};
-ghost use Rattle.arrayvec.specs.ArrayString.{array_string_len};
 ghost use Rattle.arrayvec.specs.ArrayVec.{array_vec_len};
-ghost use Rattle.rv_bench.specs.Digits.{hex_digits};
+ghost use Rattle.rv_asm.specs.Digits.{hex_digits};
 
 use crate::reply::Reply;
-use arrayvec::ArrayString;
 use itoa::Buffer;
-
-/// The last hexadecimal digits of a number, as many as there are places, in lower case.
-fn hex(value: u32, places: usize) -> ArrayString<8>
-    requires { places ≤ 8 }
-    ensures digits { result.bytes ≡ hex_digits places value }
-    ensures len { array_string_len result ≡ places }
-{
-    let mut text = ArrayString::new();
-    for written in 0..places {
-        let digit = (value >> (4 * (places - (written + 1)))) & 15;
-        text.push(char::from_digit(digit, 16).unwrap());
-    }
-    text
-}
+use rv_asm::hex;
 
 /// Writes a text at the end of a reply that has room for it.
 pub(crate) fn push_text(out: &mut Reply, text: &str)

@@ -3,6 +3,7 @@ ghost use Rattle.std.specs.Prelude.{◌≡◌};
 ghost use Rattle.rv_bench.specs.Faults.{bench_fault_number};
 
 use crate::elf_fault::ElfFault;
+use rv_asm::AsmFault;
 use rv_memory::RamFault;
 use thiserror::Error;
 
@@ -21,15 +22,19 @@ pub enum BenchFault {
     /// The sink failed, or took no byte of a part that was not empty.
     #[error("rvbench: write")]
     Write,
-    /// A line of the image's text is no line of hexadecimal digits, an even number of them.
+    /// A line of the image's text is no line of hexadecimal digits, an even number of them; or an image that is to be words
+    /// has a number of bytes that is not a multiple of 4.
     #[error("rvbench: hex")]
     Hex,
-    /// The image has more than 33554432 bytes.
+    /// The image has more than 33554432 bytes, or the assembler text more than 4194304.
     #[error("rvbench: too long")]
     TooLong,
     /// Memory was refused.
     #[error("rvbench: memory")]
     NoMemory,
+    /// The assembler text has a fault.
+    #[error("rvbench: line {} fault {}", .0.line, .0.kind.number())]
+    Asm(AsmFault),
 }
 
 impl BenchFault {
@@ -45,6 +50,7 @@ impl BenchFault {
             BenchFault::Hex => 5,
             BenchFault::TooLong => 6,
             BenchFault::NoMemory => 7,
+            BenchFault::Asm(_) => 8,
         }
     }
 }

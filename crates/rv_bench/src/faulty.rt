@@ -1,5 +1,5 @@
 //! A source and a sink over memory for tests: they move few bytes a call, and fail at a set call.
-ghost use Rattle.std.specs.Prelude.{◌≡◌, ◌<◌, [], true, length};
+ghost use Rattle.std.specs.Prelude.{◌≡◌, ◌<◌, [], true, false, length};
 ghost use Rattle.rv_bench.specs.MemoryStreams.{rest_of, bytes_of};
 
 use crate::device::{DeviceFault, Sink, Source};
@@ -152,5 +152,51 @@ impl<'a> Sink for FaultySink<'a> {
             return Err(DeviceFault);
         }
         Ok(())
+    }
+}
+
+/// A source of so many `#`, which takes no memory for them.
+#[derive(Drop)]
+pub(crate) struct FeedSource {
+    left: usize,
+    given: usize,
+    end_count: u64,
+}
+
+impl FeedSource {
+    pub(crate) fn new(left: usize) -> FeedSource {
+        FeedSource {
+            left,
+            given: 0,
+            end_count: 0,
+        }
+    }
+
+    /// How many bytes were given.
+    pub(crate) fn given(&self) -> usize {
+        self.given
+    }
+}
+
+impl Source for FeedSource {
+    ghost tells = { false };
+
+    ghost remaining = { λ _. [] };
+
+    ghost ends = { λ source. source.end_count };
+
+    ghost failures = { λ _. 0 };
+
+    ghost calls_left = { λ source. source.left };
+
+    fn read_some(&mut self, buffer: &mut [u8]) -> Result<usize, DeviceFault> {
+        let count = self.left.min(buffer.len());
+        buffer[..count].fill(b'#');
+        self.left -= count;
+        self.given = self.given.saturating_add(count);
+        if count == 0 && !buffer.is_empty() {
+            self.end_count = self.end_count.saturating_add(1);
+        }
+        Ok(count)
     }
 }

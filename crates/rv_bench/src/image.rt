@@ -1,5 +1,5 @@
 //! The image in a text of hexadecimal lines.
-ghost use Rattle.std.specs.Prelude.{◌≡◌, ◌≤◌, ◌++◌, codes, vec_len, length, IsTrue, IfOk, OnOk, OnErr, IfErr, IsSomeAnd, ◌⊎◌, Ok, Err, None, option_map, ◌<◌, ◌+◌};
+ghost use Rattle.std.specs.Prelude.{◌≡◌, ◌≤◌, ◌++◌, [], codes, vec_len, length, IsTrue, IfOk, OnOk, OnErr, IfErr, IsSomeAnd, ◌⊎◌, Ok, Err, None, option_map, ◌<◌, ◌+◌};
 ghost use Rattle.std.specs.Str.{bytes_eq};
 ghost use Rattle.rv_bench.specs.Device.{HasRisen};
 ghost use Rattle.rv_bench.specs.Unread.{held, unread, TellsEnd};
@@ -8,7 +8,8 @@ ghost use Rattle.rv_bench.specs.Image.{line_word, bytes_of_digits, image_in, aft
 use crate::device::Source;
 use crate::fault::BenchFault;
 use crate::lines::Lines;
-use crate::words::{MAX_LINE, first_words, is_good_line};
+use crate::words::first_words;
+use rv_asm::{MAX_LINE, is_good_line};
 use std::alloc::Global;
 
 /// The most bytes of an image.
@@ -98,6 +99,7 @@ pub fn read_image<S: Source>(alloc: Global, lines: &mut Lines<S>) -> Result<Vec<
     ensures no_memory { result ≡ Err BenchFault.NoMemory → IsTrue S.tells → ReadsFrontOfImage (unread lines.old) (unread lines.new) }
 
     ensures failures { OnOk result (S.failures lines.new.source ≡ S.failures lines.old.source) }
+    ensures emptied { OnOk result (held lines.new ≡ []) }
     ensures end { TellsEnd lines.old lines.new }
 {
     let mut image = Vec::new(alloc);

@@ -1,6 +1,6 @@
 //! The lines of a source.
 ghost use Rattle.std.specs.Prelude.{◌≡◌, ◌<◌, ◌≤◌, true, false, [], length, IsTrue};
-ghost use Rattle.rv_bench.specs.Lines.{has_feed};
+ghost use Rattle.rv_asm.specs.Lines.{has_feed};
 
 use crate::device::{DeviceFault, Source};
 use crate::line::{KEPT_MAX, Line, SHOWN_MAX, Stop, read_text, shown_len, take_front};
@@ -23,7 +23,7 @@ pub struct Lines<S: Source> {
 }
 
 impl<S: Source> Lines<S> {
-    ghost use Rattle.std.specs.Prelude.{◌≡◌, ◌<◌, true, false, [], IsTrue, IfOk, OnErr, IfSome, IfNone, OnSome, is_err};
+    ghost use Rattle.std.specs.Prelude.{◌≡◌, ◌<◌, true, false, [], IsTrue, IfOk, OnOk, OnErr, IfSome, IfNone, OnSome, is_err};
     ghost use Rattle.rv_bench.specs.Device.{counted};
     ghost use Rattle.rv_bench.specs.LineText.{ReadsText, TakesLine};
     ghost use Rattle.rv_bench.specs.Unread.{held, unread, calls_left, TellsEnd};
@@ -85,6 +85,7 @@ impl<S: Source> Lines<S> {
         ensures failures { S.failures self.new.source ≡ counted (is_err result) (S.failures self.old.source) }
         ensures err { OnErr result ((self.old.is_at_end ≡ false) × (self.new.is_at_end ≡ false)) }
         ensures kept { IsTrue S.tells → OnErr result (ReadsText (unread self.old) (S.remaining self.new.source) (held self.new)) }
+        ensures emptied { OnOk result (held self.new ≡ []) }
         ensures falls { IfOk result (λ found. OnSome found (calls_left self.new < calls_left self.old)) }
     {
         if self.is_at_end {

@@ -1,36 +1,17 @@
 //! Numbers that the operands of a command write.
 
-ghost use Rattle.std.specs.Prelude.{◌≡◌, ℕ, ◌^◌, ◌≤◌, ◌<◌, IfSome};
-ghost use Rattle.rv_bench.specs.Numbers.{number_of, hexadecimal_of, csr_number_of, decimal_of};
+ghost use Rattle.std.specs.Prelude.{◌≡◌};
+ghost use Rattle.rv_bench.specs.Numbers.{hexadecimal_of, csr_number_of, decimal_of};
 
+use rv_asm::digits;
 use rv_encoding::CsrNumber;
-
-/// The number that digits in the base write, where there are one to `most` of them and nothing else.
-#[tactic(auto, unfolding(crate::specs::Numbers::number_of))]
-fn number(text: &[u8], base: u32, most: usize) -> Option<u32>
-    requires low { 2 ≤ base }
-    requires high { base ≤ 36 }
-    requires fits { base ^ most ≤ 2 ^ 32 }
-    ensures value { result ≡ number_of base most text.now }
-    ensures below { IfSome result (λ value. value < base ^ most) }
-{
-    if text.is_empty() || text.len() > most {
-        return None;
-    }
-    let mut value = 0;
-    for byte in text {
-        let digit = char::from(*byte).to_digit(base)?;
-        value = value * base + digit;
-    }
-    Some(value)
-}
 
 /// The number that a hexadecimal operand writes: one to eight digits of either case, perhaps after `0x`.
 #[tactic(auto, unfolding(crate::specs::Numbers::hexadecimal_of))]
 pub(crate) fn hexadecimal(text: &[u8]) -> Option<u32>
     ensures { result ≡ hexadecimal_of text.now }
 {
-    number(text.strip_prefix(b"0x").unwrap_or(text), 16, 8)
+    digits(text.strip_prefix(b"0x").unwrap_or(text), 16, 8)
 }
 
 /// The register that an operand names by its number: one to three hexadecimal digits of either case, and no `0x`.
@@ -38,7 +19,7 @@ pub(crate) fn hexadecimal(text: &[u8]) -> Option<u32>
 pub(crate) fn csr_number(text: &[u8]) -> Option<CsrNumber>
     ensures { result ≡ csr_number_of text.now }
 {
-    let number = number(text, 16, 3)?;
+    let number = digits(text, 16, 3)?;
     Some(CsrNumber::new(number as u16))
 }
 
@@ -47,5 +28,5 @@ pub(crate) fn csr_number(text: &[u8]) -> Option<CsrNumber>
 pub(crate) fn decimal(text: &[u8]) -> Option<u32>
     ensures { result ≡ decimal_of text.now }
 {
-    number(text, 10, 7)
+    digits(text, 10, 7)
 }

@@ -2,11 +2,12 @@
 
 ghost use Rattle.std.specs.Prelude.{◌≡◌, ℕ, ◌+◌, ◌*◌, ◌≤◌, ◌++◌, length, codes, decimal};
 ghost use Rattle.arrayvec.specs.ArrayVec.{array_vec_len};
-ghost use Rattle.rv_bench.specs.ReplyText.{mode_text, ran_text, trap_text, register_text, registers_text, pc_text, ok_text, csr_text, memory_text, entry_text, pmp_text, verdict_text, denied_outside_text, fault_text, no_csr_text, outside_text};
+ghost use Rattle.rv_bench.specs.ReplyText.{mode_text, ran_text, trap_text, register_text, registers_text, pc_text, ok_text, csr_text, memory_text, dis_text, entry_text, pmp_text, verdict_text, denied_outside_text, fault_text, no_csr_text, outside_text};
 
 use crate::command::CommandFault;
 use crate::digits::{push_decimal, push_hex, push_text};
-use arrayvec::ArrayVec;
+use arrayvec::{ArrayString, ArrayVec};
+use rv_asm::disassemble;
 use rv_encoding::CsrNumber;
 use rv_hart::Trap;
 use rv_pmp::{Mode, Pmp, PmpIndex, Verdict};
@@ -141,6 +142,23 @@ pub(crate) fn push_memory(out: &mut Reply, address: u32, bytes: &[u8])
         push_text(out, " ");
         push_hex(out, u32::from(*byte), 2);
     }
+    push_text(out, "\n");
+}
+
+/// Writes a word and its instruction in assembly language.
+#[tactic(auto, unfolding(crate::specs::ReplyText::dis_text))]
+pub(crate) fn push_dis(out: &mut Reply, address: u32, word: u32)
+    requires room { array_vec_len out.old + 68 ≤ 2048 }
+    ensures items { out.new.items ≡ out.old.items ++ dis_text address word }
+    ensures len { array_vec_len out.new ≤ array_vec_len out.old + 68 }
+{
+    let mut text = ArrayString::new();
+    disassemble(word, &mut text);
+    push_hex(out, address, 8);
+    push_text(out, ": ");
+    push_hex(out, word, 8);
+    push_text(out, " ");
+    push_text(out, text.as_str());
     push_text(out, "\n");
 }
 
@@ -292,6 +310,17 @@ mod tests {
         assert_eq!(rt;
             out.as_slice(),
             b"x1=ffffffff\nx31=00000000\n8000000e: e2 00 ff ff\n".as_slice()
+        );
+    }
+
+    #[test]
+    fn prints_instructions(rt: HostRuntime) {
+        let mut out = Reply::new();
+        push_dis(&mut out, 0x8000_0000, 0xfff0_8093);
+        push_dis(&mut out, 0x8000_0002, 0xffff_ffff);
+        assert_eq!(rt;
+            out.as_slice(),
+            b"80000000: fff08093 addi x1, x1, -1\n80000002: ffffffff .word 0xffffffff\n".as_slice()
         );
     }
 

@@ -4,9 +4,9 @@ ghost use Rattle.std.specs.Prelude.{◌≡◌, ◌++◌, ◌⊎◌, ◌↔◌, [
 ghost use Rattle.rv_bench.specs.Answer.{replies};
 ghost use Rattle.rv_bench.specs.Device.{HasRisen};
 ghost use Rattle.rv_bench.specs.Image.{image_in, after_image, is_text_fault, LeavesLines, ReadsInImage, ReadsFrontOfImage, StopsAtFault};
-ghost use Rattle.rv_bench.specs.Lines.{lines_of};
+ghost use Rattle.rv_asm.specs.Lines.{lines_of};
 ghost use Rattle.rv_bench.specs.Loaded.{started};
-ghost use Rattle.rv_bench.specs.Output.{bench_output, machine_in, output, is_start_fault, is_input_fault, is_device_fault};
+ghost use Rattle.rv_bench.specs.Output.{bench_output, machine_in, output, is_start_fault, is_input_fault, is_device_fault, is_run_fault};
 ghost use Rattle.rv_memory.specs.Memory.{is_ram_size};
 ghost use Rattle.rv_bench.specs.Run.{StopsAtRead, StopsAtWrite};
 ghost use Rattle.rv_bench.specs.Transfer.{WritesFront};
@@ -18,9 +18,9 @@ use crate::fault::BenchFault;
 use crate::image::read_image;
 use crate::lines::Lines;
 use crate::reply::Reply;
-use crate::setup::Setup;
 use crate::start::start;
 use crate::transfer::write_all;
+use rv_command_line::Setup;
 use rv_hart::Machine;
 use rv_memory::RamFault;
 use std::alloc::Global;
@@ -140,6 +140,7 @@ pub fn run_stream<S: Source, W: Sink>(
 
     // A fault of the input is the one that it has; before the first reply nothing is written, whatever the refusal.
     ensures input { IsTrue S.tells → IfErr result (λ fault. IsTrue (is_input_fault fault) → output setup.now.ram (unread lines.old) ≡ Err fault) }
+    ensures faults { IfErr result (λ fault. IsTrue (is_run_fault fault)) }
     ensures unwritten { IfErr result (λ fault. is_device_fault fault ≡ false → sink.new ≡ sink.old) }
     ensures ram_size { result ≡ Err (BenchFault.Ram RamFault.BadSize) → is_ram_size setup.now.ram ≡ false }
     ensures ram_memory { result ≡ Err (BenchFault.Ram RamFault.NoMemory) →

@@ -6,7 +6,7 @@ use crate::lines::Lines;
 use crate::memory::{MemorySink, MemorySource};
 use crate::plan::plan_raw;
 use crate::run::{run_bench, run_stream};
-use crate::setup::Setup;
+use rv_command_line::Setup;
 use rv_memory::{Ram, RamFault};
 
 const INPUT: &[u8] = b"9300f0ff\n--\nstep 1\nreg 1\n";

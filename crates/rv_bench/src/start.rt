@@ -7,7 +7,7 @@ ghost use Rattle.rv_memory.specs.Memory.{is_ram_size};
 
 use crate::fault::BenchFault;
 use crate::plan::plan_raw;
-use crate::setup::Setup;
+use rv_command_line::Setup;
 use rv_hart::Machine;
 use rv_memory::{Ram, RamFault};
 use rv_pmp::Mode;

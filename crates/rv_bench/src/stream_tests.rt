@@ -8,6 +8,7 @@ use crate::lines::Lines;
 use crate::memory::{MemorySink, MemorySource};
 use crate::stdio::{StandardSink, StandardSource};
 use crate::transfer::write_all;
+use rv_asm::{AsmFault, AsmFaultKind};
 use rv_memory::RamFault;
 use std::collections::VecDeque;
 use std::test::Fail;
@@ -210,6 +211,14 @@ fn faults_show_their_lines(rt: HostRuntime) -> Result<(), Fail> {
         (BenchFault::Hex, 5, "rvbench: hex"),
         (BenchFault::TooLong, 6, "rvbench: too long"),
         (BenchFault::NoMemory, 7, "rvbench: memory"),
+        (
+            BenchFault::Asm(AsmFault {
+                line: 12,
+                kind: AsmFaultKind::LabelTwice,
+            }),
+            8,
+            "rvbench: line 12 fault 6",
+        ),
     ] {
         assert_eq!(rt; fault.number(), number);
         assert_eq!(rt; format!(in rt.alloc(); "{fault}")?.as_str(), line);

@@ -1,4 +1,5 @@
-//! The instruction that a word spells.
+//! The instruction that a word spells. All is inlined, so that during a hart's step no instruction stands in memory: where
+//! this is a call, a step takes half as long again.
 
 mod kinds;
 mod word_fields;
@@ -23,6 +24,7 @@ use word_fields::{
 };
 
 /// The instruction that a word spells: `None` exactly where no row of the listing spells it.
+#[inline(always)]
 #[tactic(auto, using(crate::proofs::DecodingLemmas::decoded_is, crate::proofs::DecodingLemmas::none_listed, crate::proofs::ListingLemmas::listing_of_samples))]
 pub fn decode(word: u32) -> Option<Instr>
     ensures value { result ≡ decoded word }
@@ -39,6 +41,7 @@ pub fn decode(word: u32) -> Option<Instr>
 }
 
 /// The instruction of a word, by its opcode.
+#[inline(always)]
 #[tactic(auto, using(crate::proofs::ReadingLemmas::only_read), unfolding(crate::specs::Rows::word_of))]
 fn read(word: u32) -> Option<Instr>
     ensures found { IfSome result (Spells word) }
@@ -70,6 +73,7 @@ fn read(word: u32) -> Option<Instr>
 }
 
 /// The instruction of a word of opcode 1100111.
+#[inline(always)]
 #[tactic(auto, using(crate::proofs::ReadingLemmas::only_jalr), unfolding(crate::specs::Rows::word_of))]
 fn jalr(word: u32) -> Option<Instr>
     requires { bits_of word 6 0 ≡ 0b1100111 }
@@ -87,6 +91,7 @@ fn jalr(word: u32) -> Option<Instr>
 }
 
 /// The instruction of a word of opcode 1100011.
+#[inline(always)]
 #[tactic(auto, using(crate::proofs::ReadingLemmas::only_branch), unfolding(crate::specs::Rows::word_of))]
 fn branch(word: u32) -> Option<Instr>
     requires { bits_of word 6 0 ≡ 0b1100011 }
@@ -103,6 +108,7 @@ fn branch(word: u32) -> Option<Instr>
 }
 
 /// The instruction of a word of opcode 0000011.
+#[inline(always)]
 #[tactic(auto, using(crate::proofs::ReadingLemmas::only_load), unfolding(crate::specs::Rows::word_of))]
 fn load(word: u32) -> Option<Instr>
     requires { bits_of word 6 0 ≡ 0b0000011 }
@@ -119,6 +125,7 @@ fn load(word: u32) -> Option<Instr>
 }
 
 /// The instruction of a word of opcode 0100011.
+#[inline(always)]
 #[tactic(auto, using(crate::proofs::ReadingLemmas::only_store), unfolding(crate::specs::Rows::word_of))]
 fn store(word: u32) -> Option<Instr>
     requires { bits_of word 6 0 ≡ 0b0100011 }
@@ -135,6 +142,7 @@ fn store(word: u32) -> Option<Instr>
 }
 
 /// The instruction of a word of opcode 0010011: a shift, of which funct7 is part, or an operation.
+#[inline(always)]
 #[tactic(auto, using(crate::proofs::ReadingLemmas::only_op_imm), unfolding(crate::specs::Rows::word_of))]
 fn op_imm(word: u32) -> Option<Instr>
     requires { bits_of word 6 0 ≡ 0b0010011 }
@@ -160,6 +168,7 @@ fn op_imm(word: u32) -> Option<Instr>
 }
 
 /// The instruction of a word of opcode 0110011.
+#[inline(always)]
 #[tactic(auto, using(crate::proofs::ReadingLemmas::only_op), unfolding(crate::specs::Rows::word_of))]
 fn op(word: u32) -> Option<Instr>
     requires { bits_of word 6 0 ≡ 0b0110011 }
@@ -176,6 +185,7 @@ fn op(word: u32) -> Option<Instr>
 }
 
 /// The instruction of a word of opcode 0001111.
+#[inline(always)]
 #[tactic(auto, using(crate::proofs::ReadingLemmas::only_fence), unfolding(crate::specs::Rows::word_of))]
 fn fence(word: u32) -> Option<Instr>
     requires { bits_of word 6 0 ≡ 0b0001111 }
@@ -195,6 +205,7 @@ fn fence(word: u32) -> Option<Instr>
 }
 
 /// The instruction of a word of opcode 1110011.
+#[inline(always)]
 #[tactic(auto, using(crate::proofs::ReadingLemmas::only_system), unfolding(crate::specs::Rows::word_of))]
 fn system(word: u32) -> Option<Instr>
     requires { bits_of word 6 0 ≡ 0b1110011 }
@@ -222,6 +233,7 @@ fn system(word: u32) -> Option<Instr>
 }
 
 /// The instruction of a word that is a row by itself, or sfence.vma.
+#[inline(always)]
 #[tactic(auto, using(crate::proofs::ReadingLemmas::only_whole), unfolding(crate::specs::Rows::word_of))]
 fn whole(word: u32) -> Option<Instr>
     requires opcode { bits_of word 6 0 ≡ 0b1110011 }

@@ -5,8 +5,8 @@ pub mod Exceptions
 pub mod Hart
 pub mod HartState
 pub mod Instructions
+pub mod Lending
+pub mod Permitted
 pub mod State
 pub mod Step
 pub mod StepLaws
-pub mod Lending
-pub mod Permitted

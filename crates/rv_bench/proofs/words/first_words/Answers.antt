@@ -3,7 +3,8 @@ use Rattle.std.proofs.lemmas.Iterator.Splits.{YieldsList-from_slice_split}
 use Rattle.std.proofs.lemmas.Iterator.Consumers.{YieldsList-at, YieldsList-from_filter, YieldsList-so_far, YieldsList-end}
 use Rattle.std.proofs.lemmas.Bool.Decides.{nat_tests}
 use Rattle.std.proofs.lemmas.Grind.{common_steps}
-use Rattle.rv_bench.specs.Words.{is_blank, is_filled, words_of}
+use Rattle.rv_asm.specs.LineText.{is_blank}
+use Rattle.rv_bench.specs.Words.{is_filled, words_of}
 use Rattle.rv_bench.proofs.words.first_words.Goals as goal
 
 pub returns-in-None : goal.returns-in-None

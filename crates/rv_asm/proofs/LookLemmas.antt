@@ -1,0 +1,39 @@
+-- The first look, line after line.
+use Rattle.std.proofs.Common.{◌≡◌, ◌∙◌, sym, ap, ℕ, ◌+◌, ◌≤◌, List, [], ◌∷◌, ◌++◌, length, length-append, Some, None, append_assoc, append-nil, map, arith}
+use Rattle.rv_word.specs.Cases.{option_case}
+use Rattle.rv_asm.specs.LineReading.{line_at}
+use Rattle.rv_asm.specs.Lines.{lines_of}
+use Rattle.rv_asm.specs.Looks.{HasRead}
+use Rattle.rv_asm.specs.Program.{Reading, readings, own_fault, first_fault}
+use Rattle.rv_asm.specs.declared.first_look.FirstLook.{FirstLook}
+use Rattle.rv_asm.specs.declared.fault.AsmFault.{AsmFault}
+use Rattle.rv_asm.proofs.LabelLemmas.{fault_after}
+
+-- Lines were read, none of them faulty by itself, and the rest is still to be read.
+pub record HasReadUpTo (look : FirstLook) (text rest : List ℕ) : Type 0 where
+  pub before : List Reading
+  pub read : HasRead look before
+  pub split : readings text ≡ before ++ readings rest
+  pub sound : first_fault own_fault [] (readings text) ≡ first_fault own_fault before (readings rest)
+
+pub reads_on : (look new : FirstLook) (text rest after line : List ℕ) → (has : HasReadUpTo look text rest) → lines_of rest ≡ line ∷ lines_of after → HasRead new (has.before ++ line_at line ∷ []) → own_fault has.before (line_at line) ≡ None → HasReadUpTo new text after
+reads_on look new text rest after line has is read sound = record {
+  before = has.before ++ line_at line ∷ [];
+  read = read;
+  split = has.split ∙ ap (λ lines. has.before ++ map line_at lines) is ∙ sym (append_assoc has.before (line_at line ∷ []) (readings after));
+  sound = has.sound ∙ ap (λ lines. first_fault own_fault has.before (map line_at lines)) is ∙ ap (λ o. option_case o (first_fault own_fault (has.before ++ line_at line ∷ []) (readings after)) (λ kind. Some (fault_after (length has.before) kind))) sound;
+}
+
+pub reads_all : (look : FirstLook) (text rest : List ℕ) → HasReadUpTo look text rest → lines_of rest ≡ [] → HasRead look (readings text) × (first_fault own_fault [] (readings text) ≡ None)
+reads_all look text rest has is =
+    let whole : readings text ≡ has.before = has.split ∙ ap (λ lines. has.before ++ map line_at lines) is ∙ append-nil has.before in
+    (rw whole has.read, has.sound ∙ ap (λ lines. first_fault own_fault has.before (map line_at lines)) is)
+
+pub faults_at : (look : FirstLook) (text rest after line : List ℕ) (fault : AsmFault) → (has : HasReadUpTo look text rest) → lines_of rest ≡ line ∷ lines_of after → fault.line ≡ length has.before + 1 → own_fault has.before (line_at line) ≡ Some fault.kind → first_fault own_fault [] (readings text) ≡ Some fault
+faults_at look text rest after line fault has is at own =
+    has.sound ∙ ap (λ lines. first_fault own_fault has.before (map line_at lines)) is ∙ ap (λ o. option_case o (first_fault own_fault (has.before ++ line_at line ∷ []) (readings after)) (λ kind. Some (fault_after (length has.before) kind))) own ∙ ap (λ n. Some (record { line = n; kind = fault.kind })) (sym at)
+
+pub is_line_of : (look : FirstLook) (text rest after line : List ℕ) → (has : HasReadUpTo look text rest) → lines_of rest ≡ line ∷ lines_of after → length has.before + 1 ≤ length (readings text)
+is_line_of look text rest after line has is =
+    let whole : readings text ≡ has.before ++ line_at line ∷ readings after = has.split ∙ ap (λ lines. has.before ++ map line_at lines) is in
+    rw whole (omega (arith, length-append has.before (line_at line ∷ readings after)))

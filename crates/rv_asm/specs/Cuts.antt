@@ -1,0 +1,67 @@
+-- How a line of an assembler text falls into pieces. (This project's own grammar.)
+use Rattle.std.specs.Prelude.{ℕ, Bool, false, ◌+◌, ◌==◌, ◌||◌, ◌&&◌, nat_le, nat_lt, List, [], ◌∷◌, length, take, drop, map, reverse, Option, Some, None, if◌then◌else◌}
+use Rattle.std.specs.List.{slice_split, position_or_len, list_all}
+use Rattle.rv_asm.specs.LineText.{is_blank}
+
+-- ---- blanks and commas
+
+-- the text without the blanks at its front
+abbrev pub after_blanks : List ℕ → List ℕ
+after_blanks [] = []
+after_blanks (b ∷ text) = if is_blank b then after_blanks text else b ∷ text
+
+-- the text up to the last byte that is no blank
+abbrev pub before_blanks : List ℕ → List ℕ
+before_blanks text = reverse (after_blanks (reverse text))
+
+unfoldable pub trimmed : List ℕ → List ℕ
+trimmed text = before_blanks (after_blanks text)
+
+-- what stands between the commas, without the blanks around it
+unfoldable pub fields_of : List ℕ → List (List ℕ)
+fields_of text = map trimmed (slice_split (λ b. b == 44) text)
+
+-- the operands: none where there are only blanks
+abbrev pub operands_of : List ℕ → List (List ℕ)
+operands_of text = if length (trimmed text) == 0 then [] else fields_of text
+
+-- ---- comment and label
+
+-- the line up to the first `#`
+abbrev pub before_comment : List ℕ → List ℕ
+before_comment line = take (position_or_len (λ b. b == 35) line) line
+
+abbrev pub colon : List ℕ → ℕ
+colon text = position_or_len (λ b. b == 58) text
+
+-- what stands before the first `:`, if there is one, without the blanks at its front
+unfoldable pub label_text : List ℕ → Option (List ℕ)
+label_text text = if nat_lt (colon text) (length text) then Some (after_blanks (take (colon text) text)) else None
+
+-- what stands after it, or all, without the blanks at its front
+unfoldable pub statement_text : List ℕ → List ℕ
+statement_text text = after_blanks (if nat_lt (colon text) (length text) then drop (colon text + 1) text else text)
+
+-- ---- mnemonic and operands
+
+-- a statement's bytes up to the first blank
+abbrev pub first_word : List ℕ → List ℕ
+first_word text = take (position_or_len is_blank text) text
+
+abbrev pub after_word : List ℕ → List ℕ
+after_word text = drop (position_or_len is_blank text) text
+
+-- ---- names
+
+-- a letter, `_` or `.`
+abbrev pub is_letter : ℕ → Bool
+is_letter b = nat_le 97 b && nat_le b 122 || nat_le 65 b && nat_le b 90 || b == 95 || b == 46
+
+-- or a digit
+unfoldable pub is_name_byte : ℕ → Bool
+is_name_byte b = is_letter b || nat_le 48 b && nat_le b 57
+
+-- at most 32 of these bytes, of which the first is no digit
+unfoldable pub is_name : List ℕ → Bool
+is_name [] = false
+is_name (b ∷ text) = is_letter b && list_all is_name_byte text && nat_lt (length text) 32

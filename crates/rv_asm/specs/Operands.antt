@@ -1,0 +1,57 @@
+-- What the operands of a statement write: RISC-V Unprivileged ISA 20191213, chapter 25 (the syntax of assembly programs),
+-- in this project's grammar. Each operand has one of these forms, or is a fault.
+use Rattle.std.specs.Prelude.{ℕ, ◌-◌, ◌==◌, List, length, take, drop, codes, nat_eq, Option, Some, None, option_and_then, Result, Ok, if◌then◌else◌}
+use Rattle.std.specs.Option.{ok_or, option_map}
+use Rattle.std.specs.List.{starts_with, ends_with, position_or_len}
+use Rattle.rv_word.specs.Cases.{option_case}
+use Rattle.rv_asm.specs.Tables.{looked_up}
+use Rattle.rv_asm.specs.Cuts.{is_name}
+use Rattle.rv_asm.specs.CsrNames.{csr_named}
+use Rattle.rv_asm.specs.FenceSets.{fence_sets}
+use Rattle.rv_asm.specs.Numbers.{written_number, plus}
+use Rattle.rv_asm.specs.RegisterNames.{register_named}
+use Rattle.rv_asm.specs.declared.number.Number.{Number}
+use Rattle.rv_asm.specs.declared.operand.Target.{Target}
+use Rattle.rv_asm.specs.declared.operand.Target.TheVariants.{Label, Offset}
+use Rattle.rv_asm.specs.declared.fault.AsmFaultKind.{AsmFaultKind}
+use Rattle.rv_asm.specs.declared.fault.AsmFaultKind.TheVariants.{BadOperand}
+
+-- an operand of some form, or a fault
+abbrev pub operand : {A : Type 0} → Option A → Result A AsmFaultKind
+operand read = ok_or read BadOperand
+
+abbrev pub register_at : List ℕ → Result ℕ AsmFaultKind
+register_at text = operand (register_named text)
+
+abbrev pub number_at : List ℕ → Result Number AsmFaultKind
+number_at text = operand (written_number text)
+
+-- a control and status register, by its name or its number
+abbrev pub csr_at : List ℕ → Result Number AsmFaultKind
+csr_at text = operand (option_case (csr_named text) (written_number text) (λ number. Some (plus number)))
+
+-- the register between `(` and `)`
+unfoldable pub base_of : List ℕ → Option ℕ
+base_of text =
+    if starts_with nat_eq text (codes "(")
+    then (if ends_with nat_eq (drop 1 text) (codes ")") then register_named (take (length (drop 1 text) - 1) (drop 1 text)) else None)
+    else None
+
+abbrev pub opening : List ℕ → ℕ
+opening text = position_or_len (λ b. b == 40) text
+
+-- `n(rs1)`, an offset and a base register
+unfoldable pub address_of : List ℕ → Option (Number × ℕ)
+address_of text =
+    option_and_then (λ offset. option_map (λ base. (offset, base)) (base_of (drop (opening text) text)))
+    (written_number (take (opening text) text))
+
+abbrev pub address_at : List ℕ → Result (Number × ℕ) AsmFaultKind
+address_at text = operand (address_of text)
+
+-- what has the form of a name is a label, whatever the name
+unfoldable pub target_at : List ℕ → Result Target AsmFaultKind
+target_at text = if is_name text then Ok (Label text) else operand (option_map Offset (written_number text))
+
+abbrev pub fence_set_at : List ℕ → Result ℕ AsmFaultKind
+fence_set_at text = operand (looked_up fence_sets text)

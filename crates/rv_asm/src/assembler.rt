@@ -1,0 +1,41 @@
+//! The words that an assembler text stands for.
+
+ghost use Rattle.std.specs.Prelude.{◌≡◌, ◌≢◌, ◌≤◌, ℕ, List, None, IfOk, IfErr, Ok, Err, length};
+ghost use Rattle.rv_asm.specs.Denotes.{Denotes};
+ghost use Rattle.rv_asm.specs.Lines.{lines_of};
+ghost use Rattle.rv_asm.specs.Program.{assembled, fault_in, readings};
+
+use crate::fault::{AsmFault, AsmFaultKind};
+use crate::first_look::FirstLook;
+use crate::second_look::words_of;
+use std::alloc::Global;
+
+/// The words that an assembler text stands for.
+///
+/// # Errors
+///
+/// The fault of the first line that has one of its own (`BadText`, `UnknownName`, `BadOperand`, `OutOfRange`, or
+/// `TooLong` where there are more than 65536 words with it); else `LabelTwice` at the first line whose label stood
+/// before; else `UnknownLabel` or `OutOfRange` at the first line that names a label which no line has or which is too
+/// far. `NoMemory` at the line in hand where memory was refused.
+#[tactic(auto, using(crate::proofs::Looked::own_decides, crate::proofs::Looked::twice_decides, crate::proofs::Looked::name_decides))]
+pub fn assemble(alloc: Global, text: &[u8]) -> Result<Vec<u32>, AsmFault>
+    ensures ok { IfOk result (λ words. assembled text.now ≡ Ok words.items) }
+    ensures few { IfOk result (λ words. length words.items ≤ 65536) }
+    ensures fault { IfErr result (λ fault. fault.kind ≢ AsmFaultKind.NoMemory → assembled text.now ≡ Err fault) }
+    // The fault's line is one of the text.
+    ensures line { IfErr result (λ fault. (1 ≤ fault.line) × (fault.line ≤ length (lines_of text.now))) }
+    // The words are those that the text denotes, ..
+    ensures denotes { IfOk result (λ words. Denotes text.now words.items) }
+    // .. and no others: where there is no fault, what the text denotes is what is answered.
+    ensures only { (words : List ℕ) → Denotes text.now words → fault_in (readings text.now) ≡ None → assembled text.now ≡ Ok words }
+{
+    let look = FirstLook::over(alloc, text)?;
+    if let Some(line) = look.repeated {
+        return Err(AsmFault {
+            line,
+            kind: AsmFaultKind::LabelTwice,
+        });
+    }
+    words_of(alloc, text, &look.labels)
+}

@@ -1,0 +1,156 @@
+//! The words of a statement.
+
+ghost use Rattle.std.specs.Prelude.{◌≡◌, ◌≤◌, ◌∷◌, [], IfOk, MatchResult, Ok, Err, length, map};
+ghost use Rattle.rv_word.specs.Cases.{option_case};
+ghost use Rattle.rv_encoding.specs.Rows.{word_of};
+ghost use Rattle.rv_asm.specs.LabelMap.{places_of};
+ghost use Rattle.rv_asm.specs.Program.{is_short as is_short_of, without_low_part as without_low_part_of, li_code, statement_size as size_of, distance as distance_of, statement_words as words_of};
+
+use crate::fault::AsmFaultKind;
+use crate::name::Name;
+use crate::number::Number;
+use crate::statement::Statement;
+use arrayvec::ArrayVec;
+use rv_encoding::{Imm12, Instr, OpImmKind, UpperImm, encode};
+use rv_word::{Reg, sext};
+use std::collections::BTreeMap;
+
+/// The places of labels, in words from the front of the text.
+pub(crate) type Labels = BTreeMap<ArrayVec<u8, 32>, u32>;
+
+/// The one or two words of a statement.
+pub(crate) type Words = ArrayVec<u32, 2>;
+
+/// Whether one addi loads the word: its signed value is from -2048 to 2047.
+fn is_short(value: u32) -> bool
+    ensures { result ≡ is_short_of value }
+{
+    value < 2048 || value >= 0xffff_f800
+}
+
+/// What a lui loads of the word: the word less its sign-extended low twelve bits.
+fn without_low_part(value: u32) -> UpperImm
+    ensures { result ≡ without_low_part_of value }
+{
+    UpperImm::new(value.wrapping_sub(sext(value, 12)))
+}
+
+/// The words that load a word into a register.
+#[tactic(auto, unfolding(crate::specs::Program::li_code))]
+fn load_words(rd: Reg, value: u32) -> Words
+    ensures words { result.items ≡ map word_of (li_code rd value) }
+    ensures len { length result.items ≡ length (li_code rd value) }
+{
+    let mut words = Words::new();
+    if is_short(value) {
+        words.push(encode(&Instr::OpImm {
+            kind: OpImmKind::Addi,
+            rd,
+            rs1: Reg::new(0),
+            imm: Imm12::new(value % 4096),
+        }));
+        return words;
+    }
+    words.push(encode(&Instr::Lui {
+        rd,
+        imm: without_low_part(value),
+    }));
+    if value % 4096 != 0 {
+        words.push(encode(&Instr::OpImm {
+            kind: OpImmKind::Addi,
+            rd,
+            rs1: rd,
+            imm: Imm12::new(value % 4096),
+        }));
+    }
+    words
+}
+
+/// How many words a statement stands for.
+#[tactic(auto, unfolding(crate::specs::Program::statement_size, crate::specs::Program::li_code))]
+pub(crate) fn statement_size(statement: &Statement) -> u32
+    ensures value { result ≡ size_of statement.now }
+    ensures small { result ≤ 2 }
+{
+    match statement {
+        Statement::Li { value, .. } if !is_short(*value) && *value % 4096 != 0 => 2,
+        _ => 1,
+    }
+}
+
+/// From one place to another, in bytes; places count words.
+fn distance(here: u32, there: u32) -> Number
+    ensures { result ≡ distance_of here there }
+{
+    if there < here {
+        Number::minus(4 * u64::from(here - there))
+    } else {
+        Number::plus(4 * u64::from(there - here))
+    }
+}
+
+/// The distance to a label.
+///
+/// # Errors
+///
+/// `UnknownLabel` where no line has it.
+fn distance_to(labels: &Labels, here: u32, label: &Name) -> Result<Number, AsmFaultKind>
+    ensures { result ≡ option_case (places_of labels.now label.now) (Err AsmFaultKind.UnknownLabel) (λ there. Ok (distance_of here there)) }
+{
+    match labels.get(label.bytes()) {
+        Some(there) => Ok(distance(here, *there)),
+        None => Err(AsmFaultKind::UnknownLabel),
+    }
+}
+
+/// One word.
+fn one(instruction: &Instr) -> Words
+    ensures { result.items ≡ word_of instruction.now ∷ [] }
+{
+    let mut words = Words::new();
+    words.push(encode(instruction));
+    words
+}
+
+/// The words of a statement at a place.
+///
+/// # Errors
+///
+/// `UnknownLabel` where no line has the label that it names, and then `OutOfRange` where the label is too far.
+#[tactic(auto, unfolding(crate::specs::Program::statement_words, crate::specs::Program::statement_size, crate::specs::Program::li_code))]
+pub(crate) fn statement_words(
+    labels: &Labels,
+    place: u32,
+    statement: &Statement,
+) -> Result<Words, AsmFaultKind>
+    ensures value { MatchResult result (λ words. words_of (places_of labels.now) place statement.now ≡ Ok words.items) (λ kind. words_of (places_of labels.now) place statement.now ≡ Err kind) }
+    ensures len { IfOk result (λ words. length words.items ≡ size_of statement.now) }
+{
+    match statement {
+        Statement::Instruction(instruction) => Ok(one(instruction)),
+        Statement::JumpTo { rd, label } => {
+            let offset = distance_to(labels, place, label)?.jump_offset()?;
+            Ok(one(&Instr::Jal { rd: *rd, offset }))
+        }
+        Statement::BranchTo {
+            kind,
+            rs1,
+            rs2,
+            label,
+        } => {
+            let offset = distance_to(labels, place, label)?.branch_offset()?;
+            Ok(one(&Instr::Branch {
+                kind: *kind,
+                rs1: *rs1,
+                rs2: *rs2,
+                offset,
+            }))
+        }
+        Statement::Li { rd, value } => Ok(load_words(*rd, *value)),
+        Statement::Word(word) => {
+            let mut words = Words::new();
+            words.push(*word);
+            Ok(words)
+        }
+    }
+}

@@ -1,0 +1,153 @@
+//! The mnemonics (Unprivileged ISA, chapter 24, and the listings of Privileged Architecture 20211203).
+
+ghost use Rattle.std.specs.Prelude.{◌≡◌, ◌≤◌, length};
+ghost use Rattle.rv_encoding.specs.Listing as listing;
+
+use rv_encoding::{BranchKind, CsrKind, Instr, LoadKind, OpImmKind, OpKind, ShiftKind, StoreKind};
+
+/// The mnemonic of an instruction, as in the listings.
+pub(super) fn mnemonic(instr: &Instr) -> &'static str
+    ensures name { result.now ≡ listing.name_of instr.now }
+    ensures short { length result.now ≤ 10 }
+{
+    match *instr {
+        Instr::Lui { .. } => "lui",
+        Instr::Auipc { .. } => "auipc",
+        Instr::Jal { .. } => "jal",
+        Instr::Jalr { .. } => "jalr",
+        Instr::Branch { kind, .. } => branch_name(kind),
+        Instr::Load { kind, .. } => load_name(kind),
+        Instr::Store { kind, .. } => store_name(kind),
+        Instr::OpImm { kind, .. } => op_imm_name(kind),
+        Instr::ShiftImm { kind, .. } => shift_name(kind),
+        Instr::Op { kind, .. } => op_name(kind),
+        Instr::Fence { .. } => "fence",
+        Instr::Csr { kind, .. } => csr_name(kind),
+        Instr::CsrImm { kind, .. } => csr_imm_name(kind),
+        Instr::Ecall => "ecall",
+        Instr::Ebreak => "ebreak",
+        Instr::Sret => "sret",
+        Instr::Mret => "mret",
+        Instr::Wfi => "wfi",
+        Instr::SfenceVma { .. } => "sfence.vma",
+    }
+}
+
+/// The mnemonic of a branch.
+fn branch_name(kind: BranchKind) -> &'static str
+    ensures name { result.now ≡ listing.branch_name kind }
+    ensures short { length result.now ≤ 10 }
+{
+    match kind {
+        BranchKind::Beq => "beq",
+        BranchKind::Bne => "bne",
+        BranchKind::Blt => "blt",
+        BranchKind::Bge => "bge",
+        BranchKind::Bltu => "bltu",
+        BranchKind::Bgeu => "bgeu",
+    }
+}
+
+/// The mnemonic of a load.
+fn load_name(kind: LoadKind) -> &'static str
+    ensures name { result.now ≡ listing.load_name kind }
+    ensures short { length result.now ≤ 10 }
+{
+    match kind {
+        LoadKind::Lb => "lb",
+        LoadKind::Lh => "lh",
+        LoadKind::Lw => "lw",
+        LoadKind::Lbu => "lbu",
+        LoadKind::Lhu => "lhu",
+    }
+}
+
+/// The mnemonic of a store.
+fn store_name(kind: StoreKind) -> &'static str
+    ensures name { result.now ≡ listing.store_name kind }
+    ensures short { length result.now ≤ 10 }
+{
+    match kind {
+        StoreKind::Sb => "sb",
+        StoreKind::Sh => "sh",
+        StoreKind::Sw => "sw",
+    }
+}
+
+/// The mnemonic of an operation on a register and an immediate.
+fn op_imm_name(kind: OpImmKind) -> &'static str
+    ensures name { result.now ≡ listing.op_imm_name kind }
+    ensures short { length result.now ≤ 10 }
+{
+    match kind {
+        OpImmKind::Addi => "addi",
+        OpImmKind::Slti => "slti",
+        OpImmKind::Sltiu => "sltiu",
+        OpImmKind::Xori => "xori",
+        OpImmKind::Ori => "ori",
+        OpImmKind::Andi => "andi",
+    }
+}
+
+/// The mnemonic of a shift by an immediate.
+fn shift_name(kind: ShiftKind) -> &'static str
+    ensures name { result.now ≡ listing.shift_name kind }
+    ensures short { length result.now ≤ 10 }
+{
+    match kind {
+        ShiftKind::Slli => "slli",
+        ShiftKind::Srli => "srli",
+        ShiftKind::Srai => "srai",
+    }
+}
+
+/// The mnemonic of an operation on two registers.
+fn op_name(kind: OpKind) -> &'static str
+    ensures name { result.now ≡ listing.op_name kind }
+    ensures short { length result.now ≤ 10 }
+{
+    match kind {
+        OpKind::Add => "add",
+        OpKind::Sub => "sub",
+        OpKind::Sll => "sll",
+        OpKind::Slt => "slt",
+        OpKind::Sltu => "sltu",
+        OpKind::Xor => "xor",
+        OpKind::Srl => "srl",
+        OpKind::Sra => "sra",
+        OpKind::Or => "or",
+        OpKind::And => "and",
+        OpKind::Mul => "mul",
+        OpKind::Mulh => "mulh",
+        OpKind::Mulhsu => "mulhsu",
+        OpKind::Mulhu => "mulhu",
+        OpKind::Div => "div",
+        OpKind::Divu => "divu",
+        OpKind::Rem => "rem",
+        OpKind::Remu => "remu",
+    }
+}
+
+/// The mnemonic of a change of a control and status register by a register.
+fn csr_name(kind: CsrKind) -> &'static str
+    ensures name { result.now ≡ listing.csr_name kind }
+    ensures short { length result.now ≤ 10 }
+{
+    match kind {
+        CsrKind::Write => "csrrw",
+        CsrKind::Set => "csrrs",
+        CsrKind::Clear => "csrrc",
+    }
+}
+
+/// The mnemonic of a change of a control and status register by an immediate.
+fn csr_imm_name(kind: CsrKind) -> &'static str
+    ensures name { result.now ≡ listing.csr_imm_name kind }
+    ensures short { length result.now ≤ 10 }
+{
+    match kind {
+        CsrKind::Write => "csrrwi",
+        CsrKind::Set => "csrrsi",
+        CsrKind::Clear => "csrrci",
+    }
+}

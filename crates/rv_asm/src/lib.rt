@@ -1,0 +1,48 @@
+//! The assembler and the disassembler of the bench: text to words and words to text (RISC-V Unprivileged ISA 20191213,
+//! chapters 24 and 25, in this project's own grammar). They are inverse as far as they can be: the disassembly of any word,
+//! assembled, is that word alone.
+//!
+//! What a script and an image share with an assembler text stands here too: the lines of a text, which of them are good,
+//! numbers of digits, and hexadecimal digits.
+//!
+//! ```text
+//! let words = assemble(alloc, b"loop: addi x1, x1, -1\nbne x1, x0, loop\n")?; // [0xfff0_8093, 0xfe00_9ee3]
+//! let mut text = ArrayString::new();
+//! disassemble(0xfe00_9ee3, &mut text); // bne x1, x0, -4
+//! ```
+#![tactic(auto)]
+
+mod assembler;
+mod code;
+mod csr_name;
+mod cuts;
+mod disassembler;
+mod fault;
+mod first_look;
+mod format;
+mod hexadecimal;
+mod line;
+mod line_text;
+mod mnemonic;
+mod name;
+mod number;
+mod operand;
+mod operand_range;
+mod reading;
+mod register_name;
+mod second_look;
+mod statement;
+mod tables;
+mod text_lines;
+
+pub use assembler::assemble;
+pub use disassembler::disassemble;
+pub use fault::{AsmFault, AsmFaultKind};
+pub use hexadecimal::hex;
+pub use line_text::{MAX_LINE, is_blank, is_good_line};
+pub use number::digits;
+
+#[cfg(test)]
+mod assembler_tests;
+#[cfg(test)]
+mod disassembler_tests;

@@ -1,0 +1,62 @@
+//! A line of an assembler text.
+
+ghost use Rattle.std.specs.Prelude.{◌≡◌, option_map};
+ghost use Rattle.rv_asm.specs.LineReading.{label_at, optional_statement_at, line_at};
+
+use crate::cuts::{before_comment, split_label};
+use crate::fault::AsmFaultKind;
+use crate::line_text::is_good_line;
+use crate::name::Name;
+use crate::reading::read_statement;
+use crate::statement::Statement;
+
+/// What a line says.
+#[derive(Debug, Drop)]
+pub(crate) struct Line {
+    /// The name before `:`.
+    pub(crate) label: Option<Name>,
+    /// What follows it.
+    pub(crate) statement: Option<Statement>,
+}
+
+/// The label of a line, if there is one.
+fn optional_label(text: Option<&[u8]>) -> Result<Option<Name>, AsmFaultKind>
+    ensures { result ≡ label_at (option_map (λ name. name.now) text.entry) }
+{
+    match text {
+        None => Ok(None),
+        Some(text) => match Name::new(text) {
+            Some(name) => Ok(Some(name)),
+            None => Err(AsmFaultKind::BadText),
+        },
+    }
+}
+
+/// The statement of a line, if there is one.
+fn optional_statement(text: &[u8]) -> Result<Option<Statement>, AsmFaultKind>
+    ensures { result ≡ optional_statement_at text.now }
+{
+    if text.is_empty() {
+        return Ok(None);
+    }
+    let statement = read_statement(text)?;
+    Ok(Some(statement))
+}
+
+/// What a line says.
+///
+/// # Errors
+///
+/// The first of its own faults: `BadText`, `UnknownName`, `BadOperand` or `OutOfRange`.
+#[tactic(auto, unfolding(crate::specs::LineReading::line_at))]
+pub(crate) fn read_line(text: &[u8]) -> Result<Line, AsmFaultKind>
+    ensures { result ≡ line_at text.now }
+{
+    if !is_good_line(text) {
+        return Err(AsmFaultKind::BadText);
+    }
+    let (label, statement) = split_label(before_comment(text));
+    let label = optional_label(label)?;
+    let statement = optional_statement(statement)?;
+    Ok(Line { label, statement })
+}

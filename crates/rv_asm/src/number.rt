@@ -1,0 +1,86 @@
+//! Numbers as texts write them.
+
+ghost use Rattle.std.specs.Prelude.{◌≡◌, ℕ, ◌^◌, ◌≤◌, ◌<◌, IfSome};
+ghost use Rattle.rv_asm.specs.Numbers.{number_of, plus, minus, decimal_digits as decimal_digits_of, written_number as written_number_of};
+
+/// The number that digits in the base write, where there are one to `most` of them and nothing else.
+#[tactic(auto, unfolding(crate::specs::Numbers::number_of))]
+pub fn digits(text: &[u8], base: u32, most: usize) -> Option<u32>
+    requires low { 2 ≤ base }
+    requires high { base ≤ 36 }
+    requires fits { base ^ most ≤ 2 ^ 32 }
+    ensures value { result ≡ number_of base most text.now }
+    ensures below { IfSome result (λ value. value < base ^ most) }
+{
+    if text.is_empty() || text.len() > most {
+        return None;
+    }
+    let mut value = 0;
+    for byte in text {
+        let digit = char::from(*byte).to_digit(base)?;
+        value = value * base + digit;
+    }
+    Some(value)
+}
+
+/// A number with its sign.
+#[derive(Clone, Copy, Debug, PartialEq, Eq)]
+pub(crate) struct Number {
+    /// Whether a `-` stands before it.
+    pub(crate) is_negative: bool,
+    /// Its absolute value; a larger one than a `u64` holds counts as the greatest `u64`.
+    pub(crate) magnitude: u64,
+}
+
+impl Number {
+    /// The number that is not negative.
+    pub(crate) const fn plus(magnitude: u64) -> Self
+        ensures { result ≡ plus magnitude }
+    {
+        Number {
+            is_negative: false,
+            magnitude,
+        }
+    }
+
+    /// The negative number.
+    pub(crate) const fn minus(magnitude: u64) -> Self
+        ensures { result ≡ minus magnitude }
+    {
+        Number {
+            is_negative: true,
+            magnitude,
+        }
+    }
+}
+
+/// The value of decimal digits, one or more and nothing else; a larger one than a `u64` holds counts as the greatest `u64`.
+#[tactic(auto, unfolding(crate::specs::Numbers::decimal_digits))]
+fn decimal_digits(text: &[u8]) -> Option<u64>
+    ensures { result ≡ decimal_digits_of text.now }
+{
+    if text.is_empty() {
+        return None;
+    }
+    let mut value: u64 = 0;
+    for byte in text {
+        let digit = char::from(*byte).to_digit(10)?;
+        value = value.saturating_mul(10).saturating_add(u64::from(digit));
+    }
+    Some(value)
+}
+
+/// The number that a text writes: `0x` and one to eight hexadecimal digits of either case, or decimal digits, perhaps
+/// after `-`.
+#[tactic(auto, unfolding(crate::specs::Numbers::written_number))]
+pub(crate) fn written_number(text: &[u8]) -> Option<Number>
+    ensures { result ≡ written_number_of text.now }
+{
+    if let Some(hexadecimal) = text.strip_prefix(b"0x") {
+        return Some(Number::plus(u64::from(digits(hexadecimal, 16, 8)?)));
+    }
+    if let Some(decimal) = text.strip_prefix(b"-") {
+        return Some(Number::minus(decimal_digits(decimal)?));
+    }
+    Some(Number::plus(decimal_digits(text)?))
+}

@@ -1,0 +1,139 @@
+//! What the operands of a statement write.
+
+ghost use Rattle.std.specs.Prelude.{◌≡◌};
+ghost use Rattle.rv_asm.specs.Operands.{register_at, number_at, csr_at, base_of, address_of, address_at, target_at, fence_set_at};
+
+use crate::csr_name::csr_named;
+use crate::cuts::position_of;
+use crate::fault::AsmFaultKind;
+use crate::name::Name;
+use crate::number::{Number, written_number};
+use crate::register_name::register_named;
+use crate::tables::looked_up;
+use rv_encoding::FenceSet;
+use rv_word::Reg;
+
+/// Where a jump or a branch goes.
+#[derive(Debug, Drop)]
+pub(crate) enum Target {
+    /// To the statement that follows the label.
+    Label(Name),
+    /// So many bytes further.
+    Offset(Number),
+}
+
+/// The sets of accesses, from none to all: device input, device output, memory reads, memory writes.
+const FENCE_SETS: [(&str, u8); 16] = [
+    ("0", 0),
+    ("w", 1),
+    ("r", 2),
+    ("rw", 3),
+    ("o", 4),
+    ("ow", 5),
+    ("or", 6),
+    ("orw", 7),
+    ("i", 8),
+    ("iw", 9),
+    ("ir", 10),
+    ("irw", 11),
+    ("io", 12),
+    ("iow", 13),
+    ("ior", 14),
+    ("iorw", 15),
+];
+
+/// The register that an operand names.
+///
+/// # Errors
+///
+/// `BadOperand` where it names none.
+pub(crate) fn register(text: &[u8]) -> Result<Reg, AsmFaultKind>
+    ensures { result ≡ register_at text.now }
+{
+    register_named(text).ok_or(AsmFaultKind::BadOperand)
+}
+
+/// The number that an operand writes.
+///
+/// # Errors
+///
+/// `BadOperand` where it is no number.
+pub(crate) fn number(text: &[u8]) -> Result<Number, AsmFaultKind>
+    ensures { result ≡ number_at text.now }
+{
+    written_number(text).ok_or(AsmFaultKind::BadOperand)
+}
+
+/// The number of the control and status register that an operand names or numbers.
+///
+/// # Errors
+///
+/// `BadOperand` where it is neither a known name nor a number.
+pub(crate) fn csr(text: &[u8]) -> Result<Number, AsmFaultKind>
+    ensures { result ≡ csr_at text.now }
+{
+    match csr_named(text) {
+        Some(csr) => Ok(Number::plus(u64::from(csr.number()))),
+        None => number(text),
+    }
+}
+
+/// The register between `(` and `)`.
+#[tactic(auto, unfolding(crate::specs::Operands::base_of))]
+fn base(text: &[u8]) -> Option<Reg>
+    ensures { result ≡ base_of text.now }
+{
+    let inner = text.strip_prefix(b"(")?;
+    let name = inner.strip_suffix(b")")?;
+    register_named(name)
+}
+
+/// The offset and the base register of `n(rs1)`.
+#[tactic(auto, unfolding(crate::specs::Operands::address_of))]
+fn offset_and_base(text: &[u8]) -> Option<(Number, Reg)>
+    ensures { result ≡ address_of text.now }
+{
+    let (offset, rest) = text.split_at(position_of(text, b'('));
+    let offset = written_number(offset)?;
+    let base = base(rest)?;
+    Some((offset, base))
+}
+
+/// The offset and the base register that an operand `n(rs1)` writes, without blanks.
+///
+/// # Errors
+///
+/// `BadOperand` where it has another form.
+pub(crate) fn address(text: &[u8]) -> Result<(Number, Reg), AsmFaultKind>
+    ensures { result ≡ address_at text.now }
+{
+    offset_and_base(text).ok_or(AsmFaultKind::BadOperand)
+}
+
+/// Where a jump or a branch goes.
+///
+/// # Errors
+///
+/// `BadOperand` where the operand is neither a name nor a number.
+#[tactic(auto, unfolding(crate::specs::Operands::target_at))]
+pub(crate) fn jump_target(text: &[u8]) -> Result<Target, AsmFaultKind>
+    ensures { result ≡ target_at text.now }
+{
+    if let Some(name) = Name::new(text) {
+        return Ok(Target::Label(name));
+    }
+    Ok(Target::Offset(number(text)?))
+}
+
+/// The set of accesses that an operand of fence writes.
+///
+/// # Errors
+///
+/// `BadOperand` where it is neither `0` nor letters of `iorw` in this order.
+#[tactic(auto, unfolding(crate::specs::FenceSets::fence_sets))]
+pub(crate) fn fence_set(text: &[u8]) -> Result<FenceSet, AsmFaultKind>
+    ensures { result ≡ fence_set_at text.now }
+{
+    let number = looked_up(&FENCE_SETS, text).ok_or(AsmFaultKind::BadOperand)?;
+    Ok(FenceSet::new(number))
+}

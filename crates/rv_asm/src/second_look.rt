@@ -1,0 +1,60 @@
+//! The second look at the lines of a text: their words, the labels being known.
+
+ghost use Rattle.std.specs.Prelude.{◌≡◌, ◌≢◌, ◌≤◌, ◌+◌, ◌++◌, [], None, Some, Ok, Err, IfOk, IfErr, OnOk, List, ℕ, length};
+ghost use Rattle.rv_asm.specs.LabelMap.{places_of};
+ghost use Rattle.rv_asm.specs.LineReading.{line_at};
+ghost use Rattle.rv_asm.specs.Program.{readings, own_fault, name_fault, first_fault, line_words, line_size, words_from};
+
+use crate::code::{Labels, statement_words};
+use crate::fault::{AsmFault, AsmFaultKind};
+use crate::line::{Line, read_line};
+use crate::text_lines::split_line;
+use std::alloc::Global;
+
+/// Adds the words of a line to those of the lines before it.
+///
+/// # Errors
+///
+/// Its own fault, or `UnknownLabel`, or `OutOfRange` where the label that it names is too far, or `NoMemory`.
+fn add_words(words: &mut Vec<u32>, labels: &Labels, text: &[u8]) -> Result<(), AsmFaultKind>
+    requires { length words.old.items ≤ 65536 }
+    ensures ok { OnOk result ((added : List ℕ) × (line_words (places_of labels.now) (length words.old.items) (line_at text.now) ≡ Ok added) × (words.new.items ≡ words.old.items ++ added)) }
+    ensures len { OnOk result (length words.new.items ≡ length words.old.items + line_size (line_at text.now)) }
+    ensures fault { IfErr result (λ kind. kind ≢ AsmFaultKind.NoMemory → line_words (places_of labels.now) (length words.old.items) (line_at text.now) ≡ Err kind) }
+{
+    let Line { statement, .. } = read_line(text)?;
+    let Some(statement) = statement else {
+        return Ok(());
+    };
+    let added = statement_words(labels, words.len() as u32, &statement)?;
+    match words.extend_from_slice(added.as_slice()) {
+        Ok(()) => Ok(()),
+        Err(_) => Err(AsmFaultKind::NoMemory),
+    }
+}
+
+/// The words of all lines of a text, none of which has a fault of its own.
+///
+/// # Errors
+///
+/// The fault of the first line that names a label which no line has, or which is too far, or `NoMemory` at the line in
+/// hand.
+pub(crate) fn words_of(alloc: Global, text: &[u8], labels: &Labels) -> Result<Vec<u32>, AsmFault>
+    requires { first_fault own_fault [] (readings text.now) ≡ None }
+    ensures ok { IfOk result (λ words. (words.items ≡ words_from (places_of labels.now) [] (readings text.now)) × (first_fault (name_fault (places_of labels.now)) [] (readings text.now) ≡ None)) }
+    ensures few { IfOk result (λ words. length words.items ≤ 65536) }
+    ensures fault { IfErr result (λ fault. fault.kind ≢ AsmFaultKind.NoMemory → first_fault (name_fault (places_of labels.now)) [] (readings text.now) ≡ Some fault) }
+    ensures line { IfErr result (λ fault. (1 ≤ fault.line) × (fault.line ≤ length (readings text.now))) }
+{
+    let mut words = Vec::new(alloc);
+    let mut lines = 0;
+    let mut rest = text;
+    while let Some((line, after)) = split_line(rest) {
+        lines += 1;
+        if let Err(kind) = add_words(&mut words, labels, line) {
+            return Err(AsmFault { line: lines, kind });
+        }
+        rest = after;
+    }
+    Ok(words)
+}

@@ -1,0 +1,119 @@
+//! From an assembler text to the bytes of its words.
+
+ghost use Rattle.std.specs.Prelude.{◌≡◌, ◌+◌, ◌≤◌, ◌++◌, ◌⊎◌, [], false, IsTrue, OnOk, OnErr, IfErr, IsOkAnd, Err};
+ghost use Rattle.arrayvec.specs.ArrayVec.{array_vec_len};
+ghost use Rattle.rv_bench.specs.AssemblyText.{word_line, asm_text, asm_output, is_asm_fault, is_reading_fault};
+ghost use Rattle.rv_bench.specs.Device.{HasRisen};
+ghost use Rattle.rv_bench.specs.Output.{is_input_fault};
+ghost use Rattle.rv_bench.specs.Transfer.{ReadsAtMost, WritesFront};
+
+use crate::device::{DeviceFault, Sink, Source};
+use crate::digits::{push_hex, push_text};
+use crate::fault::BenchFault;
+use crate::gathered::{make_room, write_last};
+use crate::reply::Reply;
+use crate::whole::read_whole;
+use rv_asm::assemble;
+use rv_word::le_bytes;
+use std::alloc::Global;
+
+/// How many bytes the line of a word has.
+const LINE_LEN: usize = 9;
+
+/// Writes the bytes of a word, the lowest first, at the end of a text that has room for them.
+#[tactic(auto, unfolding(crate::specs::AssemblyText::word_line))]
+fn push_word(out: &mut Reply, word: u32)
+    requires room { array_vec_len out.old + 9 ≤ 2048 }
+    ensures items { out.new.items ≡ out.old.items ++ word_line word }
+    ensures len { array_vec_len out.new ≡ array_vec_len out.old + 9 }
+{
+    let [first, second, third, fourth] = le_bytes(word);
+    push_hex(out, u32::from(first), 2);
+    push_hex(out, u32::from(second), 2);
+    push_hex(out, u32::from(third), 2);
+    push_hex(out, u32::from(fourth), 2);
+    push_text(out, "\n");
+}
+
+/// Writes a line for each word, and flushes the sink.
+///
+/// # Errors
+///
+/// Only where the sink failed in this call, or took no byte of a part that was not empty. A beginning of the lines is
+/// written then.
+fn write_words<W: Sink>(words: &[u32], sink: &mut W) -> Result<(), DeviceFault>
+    ensures written { OnOk result (IsTrue W.tells → W.taken sink.new ≡ W.taken sink.old ++ asm_text words.now) }
+    ensures front { IsTrue W.tells → WritesFront (W.taken sink.old) (W.taken sink.new) (asm_text words.now) }
+    ensures ok { OnOk result ((W.failures sink.new ≡ W.failures sink.old) × (W.refusals sink.new ≡ W.refusals sink.old)) }
+    ensures err { OnErr result (HasRisen (W.failures sink.old) (W.failures sink.new) ⊎ HasRisen (W.refusals sink.old) (W.refusals sink.new)) }
+{
+    let mut gathered = Reply::new();
+    for word in words {
+        make_room(&mut gathered, LINE_LEN, sink)?;
+        push_word(&mut gathered, *word);
+    }
+    write_last(&gathered, sink)
+}
+
+/// Reads an assembler text to the end of the source, and writes a line for each word that it stands for: the four bytes of
+/// the word in the order of memory, the lowest first, in two digits each.
+///
+/// # Errors
+///
+/// The first of these that is met; nothing is written at any but the last:
+/// - while the text is read: `Read` where the source failed in this call, `TooLong` where the text has more than
+///   `ASM_TEXT_MAX` bytes, `NoMemory` where memory for it was refused;
+/// - `Asm` with the first fault of the text, or with `NoMemory` where memory for the words was refused;
+/// - `Write` where the sink failed in this call, or took no byte of a part that was not empty: a beginning of the lines is
+///   written.
+pub fn run_asm<S: Source, W: Sink>(
+    alloc: Global,
+    source: &mut S,
+    sink: &mut W,
+) -> Result<(), BenchFault>
+    // At the end all was read, and just the output was written.
+    ensures read_to_end { OnOk result (HasRisen (S.ends source.old) (S.ends source.new)) }
+    ensures written { IsTrue S.tells → IsTrue W.tells → OnOk result
+        (IsOkAnd (asm_output (S.remaining source.old)) (λ text. W.taken sink.new ≡ W.taken sink.old ++ text)) }
+    ensures used_up { IsTrue S.tells → OnOk result (S.remaining source.new ≡ []) }
+    ensures sound { OnOk result ((S.failures source.new ≡ S.failures source.old)
+        × (W.failures sink.new ≡ W.failures sink.old) × (W.refusals sink.new ≡ W.refusals sink.old)) }
+
+    // A fault of the text is the one that it has; before the first line nothing is written, whatever the refusal.
+    ensures input { IsTrue S.tells → IfErr result (λ fault. IsTrue (is_input_fault fault) → asm_output (S.remaining source.old) ≡ Err fault) }
+    ensures faults { IfErr result (λ fault. IsTrue (is_asm_fault fault)) }
+    ensures unwritten { OnErr result ((result ≡ Err BenchFault.Write) ⊎ (sink.new ≡ sink.old)) }
+
+    // Each fault of a device comes only where that device failed in this call.
+    ensures read { result ≡ Err BenchFault.Read → HasRisen (S.failures source.old) (S.failures source.new) }
+    ensures write { result ≡ Err BenchFault.Write →
+        HasRisen (W.failures sink.old) (W.failures sink.new) ⊎ HasRisen (W.refusals sink.old) (W.refusals sink.new) }
+
+    // What was read then, and what was written. No end was answered before a fault of reading.
+    ensures most { IsTrue S.tells → OnErr result ((result ≡ Err BenchFault.TooLong) ⊎ ReadsAtMost 4194304 (S.remaining source.old) (S.remaining source.new)) }
+    ensures going { IfErr result (λ fault. IsTrue (is_reading_fault fault) → S.ends source.new ≡ S.ends source.old) }
+    ensures whole { IfErr result (λ fault. is_reading_fault fault ≡ false →
+        HasRisen (S.ends source.old) (S.ends source.new) × (IsTrue S.tells → S.remaining source.new ≡ [])) }
+    ensures front { result ≡ Err BenchFault.Write → IsTrue S.tells → IsTrue W.tells →
+        IsOkAnd (asm_output (S.remaining source.old)) (WritesFront (W.taken sink.old) (W.taken sink.new)) }
+{
+    let text = read_whole(alloc, source)?;
+    match assemble(alloc, text.as_slice()) {
+        Ok(words) => write_words(words.as_slice(), sink).map_err(|_| BenchFault::Write),
+        Err(fault) => Err(BenchFault::Asm(fault)),
+    }
+}
+
+#[cfg(test)]
+mod tests {
+    use super::*;
+    use crate::memory::MemorySink;
+
+    #[test]
+    fn writes_the_lowest_byte_first(rt: HostRuntime) {
+        let mut buffer = [0u8; 32];
+        let mut sink = MemorySink::new(&mut buffer);
+        assert!(rt; write_words(&[0xfff0_8093, 0xfe00_9ee3], &mut sink).is_ok());
+        assert_eq!(rt; sink.bytes(), b"9380f0ff\ne39e00fe\n".as_slice());
+    }
+}

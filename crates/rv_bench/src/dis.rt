@@ -1,0 +1,114 @@
+//! From an image to the disassembly of its words.
+
+ghost use Rattle.std.specs.Prelude.{◌≡◌, ◌+◌, ◌≤◌, ◌++◌, ◌⊎◌, [], map, IsTrue, OnOk, OnErr, IfErr, IsOk, IsOkAnd, Err};
+ghost use Rattle.arrayvec.specs.ArrayVec.{array_vec_len};
+ghost use Rattle.rv_word.specs.ByteOrder.{word_of_bytes};
+ghost use Rattle.rv_bench.specs.Device.{HasRisen};
+ghost use Rattle.rv_bench.specs.DisassemblyText.{dis_line, dis_text, dis_output, is_dis_fault};
+ghost use Rattle.rv_bench.specs.Image.{image_in, after_image, is_text_fault, ReadsInImage, ReadsFrontOfImage, StopsAtFault};
+ghost use Rattle.rv_bench.specs.Output.{is_input_fault};
+ghost use Rattle.rv_bench.specs.Transfer.{WritesFront};
+ghost use Rattle.rv_bench.specs.Unread.{held, unread, TellsEnd};
+
+use crate::device::{DeviceFault, Sink, Source};
+use crate::digits::{push_hex, push_text};
+use crate::fault::BenchFault;
+use crate::gathered::{make_room, write_last};
+use crate::image::read_image;
+use crate::lines::Lines;
+use crate::reply::Reply;
+use arrayvec::ArrayString;
+use rv_asm::disassemble;
+use rv_word::le_word;
+use std::alloc::Global;
+
+/// The most bytes of the line of a word.
+const LINE_MAX: usize = 58;
+
+/// Writes a word and its disassembly at the end of a text that has room for them.
+#[tactic(auto, unfolding(crate::specs::DisassemblyText::dis_line))]
+fn push_disassembly(out: &mut Reply, word: u32)
+    requires room { array_vec_len out.old + 58 ≤ 2048 }
+    ensures items { out.new.items ≡ out.old.items ++ dis_line word }
+    ensures len { array_vec_len out.new ≤ array_vec_len out.old + 58 }
+{
+    let mut spelling = ArrayString::new();
+    disassemble(word, &mut spelling);
+    push_hex(out, word, 8);
+    push_text(out, " ");
+    push_text(out, spelling.as_str());
+    push_text(out, "\n");
+}
+
+/// Writes a line for each word, which is given by its bytes, and flushes the sink.
+///
+/// # Errors
+///
+/// Only where the sink failed in this call, or took no byte of a part that was not empty. A beginning of the lines is
+/// written then.
+fn write_disassembly<W: Sink>(words: &[[u8; 4]], sink: &mut W) -> Result<(), DeviceFault>
+    ensures written { OnOk result (IsTrue W.tells → W.taken sink.new ≡ W.taken sink.old ++ dis_text (map word_of_bytes words.now)) }
+    ensures front { IsTrue W.tells → WritesFront (W.taken sink.old) (W.taken sink.new) (dis_text (map word_of_bytes words.now)) }
+    ensures ok { OnOk result ((W.failures sink.new ≡ W.failures sink.old) × (W.refusals sink.new ≡ W.refusals sink.old)) }
+    ensures err { OnErr result (HasRisen (W.failures sink.old) (W.failures sink.new) ⊎ HasRisen (W.refusals sink.old) (W.refusals sink.new)) }
+{
+    let mut gathered = Reply::new();
+    for bytes in words {
+        make_room(&mut gathered, LINE_MAX, sink)?;
+        push_disassembly(&mut gathered, le_word(bytes));
+    }
+    write_last(&gathered, sink)
+}
+
+/// Reads an image as `read_image` does, and writes a line for each word of it: the word in eight digits, a space, and its
+/// disassembly. What follows the line `--` is not read.
+///
+/// # Errors
+///
+/// The first of these that is met; nothing is written at any but the last:
+/// - while the image is read, in the order of its lines: `Read`, `Hex`, `TooLong` and `NoMemory`, as `read_image` has them;
+/// - `Hex` where the number of the image's bytes is not a multiple of 4;
+/// - `Write` where the sink failed in this call, or took no byte of a part that was not empty: a beginning of the lines is
+///   written.
+pub fn run_dis<S: Source, W: Sink>(
+    alloc: Global,
+    lines: &mut Lines<S>,
+    sink: &mut W,
+) -> Result<(), BenchFault>
+    // At the end the image was read, through the line `--` where there is one, and just the output was written.
+    ensures end { TellsEnd lines.old lines.new }
+    ensures written { IsTrue S.tells → IsTrue W.tells → OnOk result
+        (IsOkAnd (dis_output (unread lines.old)) (λ text. W.taken sink.new ≡ W.taken sink.old ++ text)) }
+    ensures rest { IsTrue S.tells → OnOk result (unread lines.new ≡ after_image (unread lines.old)) }
+    ensures emptied { OnOk result (held lines.new ≡ []) }
+    ensures sound { OnOk result ((S.failures lines.new.source ≡ S.failures lines.old.source)
+        × (W.failures sink.new ≡ W.failures sink.old) × (W.refusals sink.new ≡ W.refusals sink.old)) }
+
+    // A fault of the input is the one that it has; before the first line nothing is written, whatever the refusal.
+    ensures input { IsTrue S.tells → IfErr result (λ fault. IsTrue (is_input_fault fault) → dis_output (unread lines.old) ≡ Err fault) }
+    ensures faults { IfErr result (λ fault. IsTrue (is_dis_fault fault)) }
+    ensures unwritten { OnErr result ((result ≡ Err BenchFault.Write) ⊎ (sink.new ≡ sink.old)) }
+
+    // Each fault of a device comes only where that device failed in this call.
+    ensures read { result ≡ Err BenchFault.Read → HasRisen (S.failures lines.old.source) (S.failures lines.new.source) }
+    ensures write { result ≡ Err BenchFault.Write →
+        HasRisen (W.failures sink.old) (W.failures sink.new) ⊎ HasRisen (W.refusals sink.old) (W.refusals sink.new) }
+
+    // What was read then, and what was written. A fault of the text is that of the last line that was read, or else the
+    // whole image was read.
+    ensures after_read { result ≡ Err BenchFault.Read → IsTrue S.tells → ReadsInImage (unread lines.old) (S.remaining lines.new.source) (held lines.new) }
+    ensures no_memory { result ≡ Err BenchFault.NoMemory → IsTrue S.tells → ReadsFrontOfImage (unread lines.old) (unread lines.new) }
+    ensures at_fault { IsTrue S.tells → IfErr result (λ fault. IsTrue (is_text_fault fault) →
+        StopsAtFault (unread lines.old) (unread lines.new) fault
+        ⊎ (IsOk (image_in (unread lines.old)) × (unread lines.new ≡ after_image (unread lines.old)))) }
+    ensures after_write { result ≡ Err BenchFault.Write → IsTrue S.tells → unread lines.new ≡ after_image (unread lines.old) }
+    ensures front { result ≡ Err BenchFault.Write → IsTrue S.tells → IsTrue W.tells →
+        IsOkAnd (dis_output (unread lines.old)) (WritesFront (W.taken sink.old) (W.taken sink.new)) }
+{
+    let image = read_image(alloc, lines)?;
+    let (words, rest) = image.as_slice().as_chunks::<4>();
+    if !rest.is_empty() {
+        return Err(BenchFault::Hex);
+    }
+    write_disassembly(words, sink).map_err(|_| BenchFault::Write)
+}

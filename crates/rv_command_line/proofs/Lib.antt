@@ -1,0 +1,2 @@
+mod FaultKinds
+mod Numbers

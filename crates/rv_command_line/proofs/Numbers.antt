@@ -1,0 +1,43 @@
+-- What a typed getter of `clap` reads of an option's text.
+use Rattle.std.proofs.Common.{◌≡◌, ◌&&◌, ◌^◌, ℕ, Bool, true, false, List, [], ◌∷◌, length, Option, Some, None, refl, sym, ap, true≢false}
+use Rattle.std.specs.Prelude.{nat_lt, Result, Ok, Err}
+use Rattle.std.specs.List.{list_all}
+use Rattle.std.specs.Char.{digit_value}
+use Rattle.std.specs.Str.Parse.{AllDigits, ParsesUnsigned, digits_value, without_leading_plus}
+use Rattle.std.proofs.lemmas.Bool.{lt-ltb, ltb-true}
+use Rattle.clap.specs.ValueTests.{is_numeral}
+use Rattle.clap.specs.Words.{ReadsOne}
+use Rattle.rv_command_line.specs.Job.{number_of}
+
+both : (a b : Bool) → (a && b) ≡ true → (a ≡ true) × (b ≡ true)
+both true b e = (refl, e)
+both false b e = absurd (true≢false (sym e))
+
+digits_pass : (ds : List ℕ) → AllDigits 10 ds → list_all (λ d. nat_lt (digit_value d) 10) ds ≡ true
+digits_pass [] h = refl
+digits_pass (d ∷ ds) h = rw (lt-ltb (digit_value d) 10 h.0) (digits_pass ds h.1)
+
+digits_from : (ds : List ℕ) → list_all (λ d. nat_lt (digit_value d) 10) ds ≡ true → AllDigits 10 ds
+digits_from [] e = tt
+digits_from (d ∷ ds) e =
+    let parts = both _ _ e in
+    (ltb-true _ _ parts.0, digits_from ds parts.1)
+
+abbrev is_word : List ℕ → Bool
+is_word ds = is_numeral ds && nat_lt (digits_value 10 ds) (2 ^ 32)
+
+-- the value that `get_one::<u32>` reads of a text
+pub reads_number : (E : Type 0) (G : List ℕ → Result ℕ E → Type 0) (text : List ℕ) (r : Option ℕ) → ReadsOne G text r
+    → ((u : List ℕ) (x : Result ℕ E) → G u x → ParsesUnsigned 32 10 u x) → r ≡ number_of text
+reads_number E G text (Some n) read only =
+    let ds = without_leading_plus text in
+    let h = only text (Ok n) read in
+    rw (lt-ltb 0 (length ds) h.0.0.0, digits_pass ds h.0.0.1, lt-ltb (digits_value 10 ds) (2 ^ 32) h.0.1) (ap Some h.1)
+reads_number E G text None read only = go (is_word (without_leading_plus text)) refl
+  where
+    go : (b : Bool) → is_word (without_leading_plus text) ≡ b → None ≡ number_of text
+    go false t = rw t refl
+    go true t =
+        let outer = both _ _ t in
+        let inner = both _ _ outer.0 in
+        absurd (only text (Err read.0) read.1 ((ltb-true _ _ inner.0, digits_from (without_leading_plus text) inner.1), ltb-true _ _ outer.1))

@@ -1,0 +1,23 @@
+-- The faults of a command line, and their numbers.
+use Rattle.std.specs.Prelude.{◌≡◌, ⊤, ℕ, Bool, true, false, not}
+use Rattle.std.specs.List.{list_any}
+use Rattle.clap.specs.Kinds.{Kinds}
+use Rattle.clap.specs.declared.error.kind.ErrorKind.{ErrorKind}
+use Rattle.clap.specs.declared.error.kind.ErrorKind.TheVariants as kind
+use Rattle.rv_command_line.specs.declared.words_fault.WordsFault.{WordsFault}
+use Rattle.rv_command_line.specs.declared.words_fault.WordsFault.TheVariants as fault
+
+abbrev pub words_fault_number : WordsFault → ℕ
+words_fault_number fault.Refused = 1
+words_fault_number fault.NoMemory = 2
+words_fault_number (fault.Help text) = 3
+
+abbrev pub is_help : ErrorKind → Bool
+is_help kind.DisplayHelp = true
+is_help _ = false
+
+-- the fault is one that is among these: a mistake, or a request for help; memory may be refused at any words
+abbrev pub IsFaultOf : Kinds → WordsFault → Type 0
+IsFaultOf faults fault.Refused = list_any (λ fault. not (is_help fault)) faults ≡ true
+IsFaultOf faults fault.NoMemory = ⊤
+IsFaultOf faults (fault.Help text) = list_any is_help faults ≡ true

@@ -1,0 +1,32 @@
+-- The job that the words of a command line name.
+use Rattle.std.specs.Prelude.{◌&&◌, ◌^◌, ℕ, List, [], codes, nat_lt}
+use Rattle.std.specs.Prelude.{Option, Some, None, if◌then◌else◌, option_and_then, unwrap_or}
+use Rattle.std.specs.Str.{bytes_eq}
+use Rattle.std.specs.Str.Parse.{digits_value, without_leading_plus}
+use Rattle.clap.specs.ValueTests.{is_numeral}
+use Rattle.clap.specs.Words.{Row, Text, one_of, subcommand_of}
+use Rattle.rv_command_line.specs.CommandLine.{rvbench}
+use Rattle.rv_command_line.specs.declared.job.Job.{Job}
+use Rattle.rv_command_line.specs.declared.job.Job.TheVariants as job
+use Rattle.rv_command_line.specs.declared.setup.Setup.{Setup}
+
+-- the number of 32 bits that a text of decimal digits spells, after a plus or none
+abbrev pub number_of : Text → Option ℕ
+number_of text =
+    let digits = without_leading_plus text in
+    if is_numeral digits && nat_lt (digits_value 10 digits) (2 ^ 32) then Some (digits_value 10 digits) else None
+
+-- the setup that the options of `run` give
+abbrev pub setup_of : List Row → Setup
+setup_of options = record { ram = unwrap_or (option_and_then number_of (one_of (codes "ram") options)) 1048576 }
+
+-- the job of a subcommand with its options, or of none
+abbrev pub named_job : Option (Text × List Row) → Job
+named_job None = job.Run (setup_of [])
+named_job (Some (name, options)) =
+    if bytes_eq name (codes "asm") then job.Asm
+    else (if bytes_eq name (codes "dis") then job.Dis else job.Run (setup_of options))
+
+-- the job that the words name, the program's name first
+abbrev pub job_of : List Text → Job
+job_of words = named_job (subcommand_of rvbench words)

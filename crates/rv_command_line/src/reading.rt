@@ -1,0 +1,71 @@
+//! How words become a job.
+
+ghost use Rattle.std.specs.Prelude.{◌≡◌, IfErr, IfOk, OnOk, List, []};
+ghost use Rattle.clap.specs.Kinds.{HasKind, Kinds};
+ghost use Rattle.clap.specs.Walk.{texts};
+ghost use Rattle.clap.specs.Words.{found_of, rows_of, subcommand_rows_of};
+ghost use Rattle.rv_command_line.specs.CommandLine.{faults_of};
+ghost use Rattle.rv_command_line.specs.Faults.{IsFaultOf};
+ghost use Rattle.rv_command_line.specs.Job.{job_of, named_job, setup_of};
+
+use crate::command_line::rvbench_command;
+use crate::job::Job;
+use crate::setup::Setup;
+use crate::words_fault::WordsFault;
+use clap::error::ErrorKind;
+use clap::{ArgMatches, Error};
+use std::alloc::Global;
+
+/// The setup that the options of `run` give.
+fn matched_setup(matches: &ArgMatches<'_>) -> Setup
+    ensures { result ≡ setup_of (rows_of (found_of matches.now)) }
+{
+    let default = Setup::default();
+    Setup {
+        ram: matches.get_one::<u32>("ram").unwrap_or(default.ram),
+    }
+}
+
+/// The job of the subcommand that was met.
+fn matched_job(matches: &ArgMatches<'_>) -> Job
+    ensures { result ≡ named_job (subcommand_rows_of matches.now) }
+{
+    match matches.subcommand() {
+        Some(("asm", _)) => Job::Asm,
+        Some(("dis", _)) => Job::Dis,
+        Some((_, options)) => Job::Run(matched_setup(options)),
+        None => Job::Run(Setup::default()),
+    }
+}
+
+/// The fault that an error of `clap` is.
+fn fault(alloc: Global, error: &Error) -> WordsFault
+    ensures { (faults : Kinds) → HasKind faults error.now → IsFaultOf faults result }
+{
+    match error.kind() {
+        ErrorKind::OutOfMemory => WordsFault::NoMemory,
+        ErrorKind::DisplayHelp => match format!(in alloc; "{error}") {
+            Ok(text) => WordsFault::Help(text),
+            Err(_) => WordsFault::NoMemory,
+        },
+        _ => WordsFault::Refused,
+    }
+}
+
+/// The job that the words of a command line name, the program's name first.
+///
+/// Words that the command line takes give their job. Words that ask for help give its text, and any others are refused.
+/// Memory may be refused at any words.
+pub fn read_words<'a>(alloc: Global, words: &'a [&'a str]) -> Result<Job, WordsFault>
+    ensures taken { OnOk result (faults_of (texts words.entry.now) ≡ []) }
+    ensures job { IfOk result (λ job. job ≡ job_of (texts words.entry.now)) }
+    ensures fault { IfErr result (IsFaultOf (faults_of (texts words.entry.now))) }
+{
+    let Ok(command) = rvbench_command(alloc) else {
+        return Err(WordsFault::NoMemory);
+    };
+    match command.try_get_matches_from(words) {
+        Ok(matches) => Ok(matched_job(&matches)),
+        Err(error) => Err(fault(alloc, &error)),
+    }
+}
