@@ -15,3 +15,17 @@ expect "input that is closed" 1 $? "$scratch/wanted" "$scratch/out"
 : > "$scratch/wanted"
 printf -- '--\nreg 0\n' | "$program" >&- 2> "$scratch/out"
 expect "output that is closed" 1 $? "$scratch/wanted" "$scratch/out"
+
+# The assembler and the disassembler read all of their text before they write.
+for subcommand in asm dis; do
+  printf 'rvbench: read\n' > "$scratch/wanted"
+  "$program" "$subcommand" < / > "$scratch/out"
+  expect "$subcommand of a folder" 1 $? "$scratch/wanted" "$scratch/out"
+  "$program" "$subcommand" <&- > "$scratch/out"
+  expect "$subcommand of an input that is closed" 1 $? "$scratch/wanted" "$scratch/out"
+  : > "$scratch/wanted"
+  "$program" "$subcommand" < "$here/cases/$subcommand/loop/stdin" > /dev/full 2> "$scratch/out"
+  expect "$subcommand to a full device" 1 $? "$scratch/wanted" "$scratch/out"
+  "$program" "$subcommand" < "$here/cases/$subcommand/loop/stdin" >&- 2> "$scratch/out"
+  expect "$subcommand to an output that is closed" 1 $? "$scratch/wanted" "$scratch/out"
+done

@@ -1,5 +1,5 @@
 """Writes the folders of command-line cases that a script computes, or tells whether they are there as it computes them. A case
-has a topic, a name, and the texts of its files; all folders of its topic are the script's.
+has a topic, a name, and the texts of its files, a character a byte; all folders of its topic are the script's.
 """
 import os
 import shutil
@@ -23,7 +23,7 @@ def there(topics):
 
 def is_as_written(name, text):
     with open(os.path.join(CASES, name), "rb") as file:
-        return file.read() == text.encode()
+        return file.read() == text.encode("latin-1")
 
 
 def differing(topics, files):
@@ -38,14 +38,14 @@ def write(topics, files):
         shutil.rmtree(os.path.join(CASES, topic), ignore_errors=True)
     for name, text in files.items():
         os.makedirs(os.path.dirname(os.path.join(CASES, name)), exist_ok=True)
-        with open(os.path.join(CASES, name), "w", newline="") as file:
-            file.write(text)
+        with open(os.path.join(CASES, name), "wb") as file:
+            file.write(text.encode("latin-1"))
 
 
 def main(arguments, cases, words, usage):
     """What the script was asked for, and its status. Words of instructions stand by their texts, for --check-with-llvm."""
     files = {"%s/%s/%s" % (case.topic, case.name, name): text for case in cases for name, text in case.files().items()}
-    assert len(files) == 2 * len(cases), "two cases of one name"
+    assert len(files) == sum(len(case.files()) for case in cases), "two cases of one name"
     topics = {case.topic for case in cases}
     if arguments in (["--check"], ["--check-with-llvm"]):
         wrong, count = (differing(topics, files), len(files)) if arguments == ["--check"] else differing_from_llvm(words)

@@ -1,0 +1,22 @@
+# Adds the numbers from 100 down to 1 in a subroutine, stores the sum, and goes to a trap handler.
+start:  li    t0, 0x8000003c      # where the handler stands, 60 bytes on
+        csrrw zero, mtvec, t0
+        li    a0, 100
+        jal   ra, sum
+        li    t1, 0x80001000      # one lui, since its low twelve bits are 0
+        sw    a0, 0(t1)
+        ecall                     # cause 11: from mode M
+
+# a0: in the greatest number, out the sum
+sum:    addi  a1, a0, 0           # what is left to add
+        li    a0, 0
+next:   beq   a1, zero, done
+        add   a0, a0, a1
+        addi  a1, a1, -1
+        jal   zero, next
+done:   ret
+
+handler:
+        csrrs a2, mcause, zero
+        csrrs a3, mepc, zero
+stay:   jal   zero, stay

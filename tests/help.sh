@@ -1,0 +1,31 @@
+# Requests for help: the text of the command line, on standard output and with status 0. Only its main lines are looked at.
+
+# help_has LINE WORD...: the help that the words ask for has a line that begins so, and nothing is written elsewhere.
+help_has() {
+  local wanted=$1 status
+  shift
+  "$program" "$@" < /dev/null > "$scratch/out" 2> "$scratch/errors"
+  status=$?
+  if [ "$status" != 0 ]; then
+    fail "help by $*" "status $status"
+  elif ! grep -q "^$wanted" "$scratch/out"; then
+    fail "help by $*" "no line $wanted"
+  elif [ -s "$scratch/errors" ]; then
+    fail "help by $*" "something on standard error"
+  else
+    pass
+  fi
+}
+
+for word in --help -h help; do
+  help_has 'Usage: rvbench' "$word"
+  for subcommand in run asm dis help; do help_has " *$subcommand " "$word"; done
+done
+for subcommand in run asm dis; do
+  help_has "Usage: rvbench $subcommand" "$subcommand" --help
+  help_has "Usage: rvbench $subcommand" "$subcommand" -h
+  help_has "Usage: rvbench $subcommand" help "$subcommand"
+done
+help_has ' *--ram <BYTES>' run --help
+help_has ' *--ram <BYTES>' help run
+help_has 'Usage: rvbench run' run --ram 65536 --help
