@@ -25,6 +25,7 @@ pub(crate) struct FaultySource<'a> {
 }
 
 impl<'a> FaultySource<'a> {
+    /// A device that was not called yet.
     pub(crate) fn new(bytes: &'a [u8], most: usize, set_call: u64) -> FaultySource<'a>
         requires { 0 < most }
     {
@@ -87,6 +88,7 @@ pub(crate) struct FaultySink<'a> {
 }
 
 impl<'a> FaultySink<'a> {
+    /// A device that was not called yet.
     pub(crate) fn new(
         buffer: &'a mut [u8],
         most: usize,
@@ -164,6 +166,7 @@ pub(crate) struct FeedSource {
 }
 
 impl FeedSource {
+    /// A device that was not called yet.
     pub(crate) fn new(left: usize) -> FeedSource {
         FeedSource {
             left,
