@@ -1,1 +1,1 @@
-mod MemoryLaws
+pub mod MemoryLaws

@@ -1,0 +1,40 @@
+-- A file of one segment that can be followed by hand: addi x1, x0, -1 at address 80000000, and four zeros behind it.
+use Rattle.std.proofs.Common.{◌≡◌, ℕ, List, [], ◌∷◌, ◌++◌, take, Ok, Err, refl}
+use Rattle.rv_elf.specs.declared.elf_fault.ElfFault.TheVariants.{SegmentTruncated, SegmentOutside}
+use Rattle.rv_elf.specs.Faults.{header_faults, segment_faults, place_faults}
+use Rattle.rv_elf.specs.Plans.{file_plan}
+use Rattle.rv_elf.specs.Segments.{segments_of, occupying}
+
+-- e_ident, e_type and e_machine, e_version, e_entry, e_phoff, e_shoff and e_flags, the six halves behind them
+abbrev elf_header : List ℕ
+elf_header =
+    0x7f ∷ 0x45 ∷ 0x4c ∷ 0x46 ∷ 1 ∷ 1 ∷ 1 ∷ 0 ∷ 0 ∷ 0 ∷ 0 ∷ 0 ∷ 0 ∷ 0 ∷ 0 ∷ 0
+    ∷ 2 ∷ 0 ∷ 0xf3 ∷ 0 ∷ 1 ∷ 0 ∷ 0 ∷ 0 ∷ 0 ∷ 0 ∷ 0 ∷ 0x80 ∷ 52 ∷ 0 ∷ 0 ∷ 0 ∷ 0 ∷ 0 ∷ 0 ∷ 0 ∷ 0 ∷ 0 ∷ 0 ∷ 0
+    ∷ 52 ∷ 0 ∷ 32 ∷ 0 ∷ 1 ∷ 0 ∷ 40 ∷ 0 ∷ 0 ∷ 0 ∷ 0 ∷ 0 ∷ []
+
+-- p_type, p_offset, p_vaddr, p_paddr, p_filesz, p_memsz, p_flags, p_align
+abbrev program_header : List ℕ
+program_header =
+    1 ∷ 0 ∷ 0 ∷ 0 ∷ 84 ∷ 0 ∷ 0 ∷ 0 ∷ 0 ∷ 0 ∷ 0 ∷ 0x80 ∷ 0 ∷ 0 ∷ 0 ∷ 0x80
+    ∷ 4 ∷ 0 ∷ 0 ∷ 0 ∷ 8 ∷ 0 ∷ 0 ∷ 0 ∷ 5 ∷ 0 ∷ 0 ∷ 0 ∷ 4 ∷ 0 ∷ 0 ∷ 0 ∷ []
+
+abbrev file : List ℕ
+file = elf_header ++ program_header ++ 0x93 ∷ 0 ∷ 0xf0 ∷ 0xff ∷ []
+
+loads : file_plan file 1048576 ≡ Ok (record {
+  segments = record { offset = 84; address = 0x80000000; file_size = 4; memory_size = 8 } ∷ [];
+  entry = 0x80000000;
+  image_size = 88;
+  ram_size = 1048576;
+})
+unfolding header_faults segment_faults place_faults segments_of occupying
+loads = refl
+
+-- a byte of the file is missing; and the segment is larger than the RAM
+cut : file_plan (take 87 file) 1048576 ≡ Err SegmentTruncated
+unfolding header_faults segment_faults place_faults segments_of occupying
+cut = refl
+
+too_large : file_plan file 7 ≡ Err SegmentOutside
+unfolding header_faults segment_faults place_faults segments_of occupying
+too_large = refl

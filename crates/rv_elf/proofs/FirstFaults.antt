@@ -1,0 +1,93 @@
+-- The first of the faults whose condition holds, in parts of the table.
+use Rattle.std.proofs.Common.{◌≡◌, ℕ, suc, ◌≤◌, ◌&&◌, nat_lt, length, map, Bool, true, false, List, [], ◌∷◌, ◌++◌, Option, Some, None, Result, Ok, Err, refl, arith}
+use Rattle.std.proofs.lemmas.Grind.{common_steps}
+use Rattle.rv_elf.specs.declared.elf_fault.ElfFault.{ElfFault}
+use Rattle.std.specs.List.{list_any, range_with_len}
+use Rattle.std.specs.Result.{IfErr}
+use Rattle.rv_word.specs.Cases.{option_case}
+use Rattle.rv_elf.specs.Plans.{LoadPlan, file_plan, raw_plan}
+use Rattle.rv_elf.specs.declared.segment.Segment.{Segment}
+use Rattle.rv_elf.specs.Faults.{first_fault, IsLeast, elf_fault_number, header_faults, segment_faults, place_faults, file_fault, file_faults, raw_fault, raw_faults}
+use Rattle.rv_elf.specs.Fields.{e_entry}
+use Rattle.rv_elf.specs.Segments.{segments_of, occupying, raw_segments}
+use Rattle.rv_memory.specs.Memory.{ram_base}
+
+-- where no fault of the first part is there, it is that of the second
+pub none_before : (rows others : List (Bool × ElfFault)) → first_fault rows ≡ None → first_fault (rows ++ others) ≡ first_fault others
+none_before [] others none = refl
+none_before ((true, fault) ∷ rows) others none = absurd (grind arith)
+none_before ((false, fault) ∷ rows) others none = none_before rows others none
+
+-- a fault of the first part is that of all
+pub some_before : (rows others : List (Bool × ElfFault)) (fault : ElfFault) → first_fault rows ≡ Some fault → first_fault (rows ++ others) ≡ Some fault
+some_before [] others fault some = absurd (grind arith)
+some_before ((true, first) ∷ rows) others fault some = some
+some_before ((false, first) ∷ rows) others fault some = some_before rows others fault some
+
+-- where there is no fault, no condition holds
+pub first_is_false : (condition : Bool) (fault : ElfFault) (rows : List (Bool × ElfFault)) → first_fault ((condition, fault) ∷ rows) ≡ None → condition ≡ false
+first_is_false true fault rows none = absurd (grind arith)
+first_is_false false fault rows none = refl
+
+pub rest_has_none : (condition : Bool) (fault : ElfFault) (rows : List (Bool × ElfFault)) → first_fault ((condition, fault) ∷ rows) ≡ None → first_fault rows ≡ None
+rest_has_none true fault rows none = absurd (grind arith)
+rest_has_none false fault rows none = none
+
+-- the rows are numbered one after another, the first by this number
+abbrev AreNumbered : ℕ → List (Bool × ElfFault) → Type 0
+AreNumbered n rows = map (λ row. elf_fault_number row.1) rows ≡ range_with_len n (length rows)
+
+-- none of them has a lesser number than the first
+none_lesser : (rows : List (Bool × ElfFault)) (n least : ℕ) → AreNumbered n rows → least ≤ n
+    → list_any (λ row. row.0 && nat_lt (elf_fault_number row.1) least) rows ≡ false
+none_lesser [] n least numbered low = refl
+none_lesser ((condition, fault) ∷ rows) n least numbered low =
+    let rest = none_lesser rows (suc n) least (grind arith) (omega arith) in
+    let first : elf_fault_number fault ≡ n = grind arith in
+    grind (arith, common_steps)
+
+-- so the first whose condition holds has the least number
+least_first : (rows : List (Bool × ElfFault)) (n : ℕ) (fault : ElfFault) → AreNumbered n rows → first_fault rows ≡ Some fault → IsLeast rows fault
+least_first [] n fault numbered some = absurd (grind arith)
+least_first ((true, first) ∷ rows) n fault numbered some =
+    let rest = none_lesser rows (suc n) n (grind arith) (omega arith) in
+    let is_n : elf_fault_number first ≡ n = grind arith in
+    let same : first ≡ fault = grind arith in
+    (grind (arith, common_steps), grind (arith, common_steps))
+least_first ((false, first) ∷ rows) n fault numbered some =
+    least_first rows (suc n) fault (grind arith) some
+
+-- the rows of the table stand in the order of their numbers
+in_order : (file : List ℕ) (ram_size len entry : ℕ) (segments others : List Segment)
+    → AreNumbered 1 (header_faults file ++ segment_faults len segments ++ place_faults ram_size others entry)
+unfolding header_faults segment_faults place_faults
+in_order file ram_size len entry segments others = refl
+
+places_in_order : (ram_size entry : ℕ) (segments : List Segment) → AreNumbered 9 (place_faults ram_size segments entry)
+unfolding place_faults
+places_in_order ram_size entry segments = refl
+
+-- the fault with which an ELF file, or a raw image, is refused has the least number
+file_least : (file : List ℕ) (ram_size : ℕ) (fault : ElfFault) → file_fault file ram_size ≡ Some fault → IsLeast (file_faults file ram_size) fault
+file_least file ram_size fault some =
+    least_first (file_faults file ram_size) 1 fault
+    (in_order file ram_size (length file) (e_entry file) (segments_of file) (occupying (segments_of file)))
+    some
+
+raw_least : (len ram_size : ℕ) (fault : ElfFault) → raw_fault len ram_size ≡ Some fault → IsLeast (raw_faults len ram_size) fault
+raw_least len ram_size fault some =
+    least_first (raw_faults len ram_size) 9 fault (places_in_order ram_size ram_base (raw_segments len)) some
+
+-- so it is of every answer that is the plan or that fault
+refused_least : (rows : List (Bool × ElfFault)) (found : Option ElfFault) (plan : LoadPlan) (result : Result LoadPlan ElfFault)
+    → ((fault : ElfFault) → found ≡ Some fault → IsLeast rows fault) → result ≡ option_case found (Ok plan) Err → IfErr result (λ fault. IsLeast rows fault)
+refused_least rows None plan result least is = rw is tt
+refused_least rows (Some fault) plan result least is = rw is (least fault refl)
+
+pub file_plan_least : (file : List ℕ) (ram_size : ℕ) (result : Result LoadPlan ElfFault) → result ≡ file_plan file ram_size
+    → IfErr result (λ fault. IsLeast (file_faults file ram_size) fault)
+file_plan_least file ram_size result is = refused_least (file_faults file ram_size) (file_fault file ram_size) _ result (file_least file ram_size) is
+
+pub raw_plan_least : (len ram_size : ℕ) (result : Result LoadPlan ElfFault) → result ≡ raw_plan len ram_size
+    → IfErr result (λ fault. IsLeast (raw_faults len ram_size) fault)
+raw_plan_least len ram_size result is = refused_least (raw_faults len ram_size) (raw_fault len ram_size) _ result (raw_least len ram_size) is

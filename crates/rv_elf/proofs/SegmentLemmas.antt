@@ -1,0 +1,54 @@
+-- The segments of a file, read one header after the other.
+use Rattle.std.proofs.Common.{◌≡◌, ◌≢◌, ◌∙◌, ℕ, ◌+◌, ◌*◌, ◌<◌, not, take, length, slice_index_or, arith, List, [], ◌∷◌, ◌++◌, map, cond, refl}
+use Rattle.std.specs.List.{filter, range_with_len}
+use Rattle.std.proofs.lemmas.Bool.{eq-eqb, ne_eqb}
+use Rattle.std.proofs.lemmas.List.{map-append, append-nil}
+use Rattle.std.proofs.lemmas.List.Elements.{filter_more}
+use Rattle.std.proofs.lemmas.List.FromFn.{filter_of_map_range_with_len_more}
+use Rattle.rv_elf.specs.declared.segment.Segment.{Segment}
+use Rattle.rv_elf.specs.Fields.{e_phoff, p_type}
+use Rattle.rv_elf.specs.Segments.{is_load, segment_at, is_empty, occupying}
+
+-- the place of a header
+abbrev pub place_of : List ℕ → ℕ → ℕ
+place_of file k = e_phoff file + 32 * k
+
+-- the segments of the first headers
+unfoldable pub first_segments : List ℕ → ℕ → List Segment
+first_segments file count = map (segment_at file) (filter (is_load file) (map (place_of file) (range_with_len 0 count)))
+
+-- with one header more
+more : (file : List ℕ) (count : ℕ) → first_segments file (count + 1)
+    ≡ first_segments file count ++ map (segment_at file) (cond (is_load file (place_of file count)) (place_of file count ∷ []) [])
+unfolding first_segments
+more file count =
+    rw (
+      filter_of_map_range_with_len_more (is_load file) (place_of file) 0 count count (omega arith),
+      map-append (segment_at file) (filter (is_load file) (map (place_of file) (range_with_len 0 count))) (cond (is_load file (place_of file count)) (place_of file count ∷ []) []),
+    ) refl
+
+-- which is that of a segment to load, or is not
+pub with_load : (file : List ℕ) (count : ℕ) → p_type file (place_of file count) ≡ 1
+    → first_segments file (count + 1) ≡ first_segments file count ++ segment_at file (place_of file count) ∷ []
+with_load file count is = more file count ∙ rw (eq-eqb (p_type file (place_of file count)) 1 is) refl
+
+pub without_load : (file : List ℕ) (count : ℕ) → p_type file (place_of file count) ≢ 1 → first_segments file (count + 1) ≡ first_segments file count
+without_load file count other = more file count ∙ rw (ne_eqb (p_type file (place_of file count)) 1 other) (append-nil (first_segments file count))
+
+-- those of the first segments that take memory, with one that does, or does not
+pub with_occupying : (segments : List Segment) (i : ℕ) (default : Segment) → i < length segments → (slice_index_or segments i default).memory_size ≢ 0
+    → occupying (take (i + 1) segments) ≡ occupying (take i segments) ++ slice_index_or segments i default ∷ []
+unfolding occupying
+with_occupying segments i default inside takes =
+    filter_more (λ segment. not (is_empty segment)) segments i default inside ∙ rw (ne_eqb (slice_index_or segments i default).memory_size 0 takes) refl
+
+pub without_occupying : (segments : List Segment) (i : ℕ) (default : Segment) → i < length segments → (slice_index_or segments i default).memory_size ≡ 0
+    → occupying (take (i + 1) segments) ≡ occupying (take i segments)
+unfolding occupying
+without_occupying segments i default inside none =
+    filter_more (λ segment. not (is_empty segment)) segments i default inside
+    ∙ rw (eq-eqb (slice_index_or segments i default).memory_size 0 none) (append-nil (filter (λ segment. not (is_empty segment)) (take i segments)))
+
+pub occupying_none : occupying [] ≡ []
+unfolding occupying
+occupying_none = refl

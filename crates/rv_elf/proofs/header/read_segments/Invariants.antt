@@ -1,0 +1,9 @@
+use Rattle.std.proofs.Common.{◌≡◌, ◌≤◌, length}
+use Rattle.rv_elf.proofs.SegmentLemmas.{first_segments}
+use Rattle.rv_elf.proofs.header.read_segments.Given as goal
+
+abbrev pub invariant-loop-index : goal.invariant-loop-index
+invariant-loop-index l = record {
+  read : l.segments.items ≡ first_segments l.file l.index;
+  few : length l.segments.items ≤ l.index;
+}

@@ -1,0 +1,9 @@
+use Rattle.std.proofs.Common.{◌≡◌, ◌≤◌, length, take}
+use Rattle.rv_elf.specs.Segments.{occupying}
+use Rattle.rv_elf.proofs.planning.occupying.Given as goal
+
+abbrev pub invariant-loop-segment : goal.invariant-loop-segment
+invariant-loop-segment l = record {
+  taken : l.taken.items ≡ occupying (take l.segment-index l.segments);
+  few : length l.taken.items ≤ l.segment-index;
+}

@@ -1,0 +1,91 @@
+-- Why an image can not be loaded: the table of the faults, in the order of their numbers. The conditions are those of the System V
+-- gABI, chapters 4 and 5, for a 32-bit RISC-V executable (RISC-V ELF psABI: EM_RISCV is 243). (No public standard numbers
+-- the faults.)
+use Rattle.std.specs.Prelude.{◌≡◌, ℕ, ◌+◌, ◌*◌, ◌%◌, ◌==◌, Bool, true, false, not, ◌&&◌, ◌||◌, nat_lt, List, [], ◌∷◌, ◌++◌, length, take, Option, Some, None}
+use Rattle.std.specs.List.{list_any}
+use Rattle.std.specs.Str.{bytes_eq}
+use Rattle.rv_memory.specs.Memory.{ram_base}
+use Rattle.rv_elf.specs.declared.elf_fault.ElfFault.{ElfFault}
+use Rattle.rv_elf.specs.declared.elf_fault.ElfFault.TheVariants.{Truncated, NotElf, WrongClass, WrongType, WrongMachine, BadHeader, SegmentTruncated, SegmentSizes, SegmentOutside, SegmentOverlap, BadEntry}
+use Rattle.rv_elf.specs.declared.segment.Segment.{Segment}
+use Rattle.rv_elf.specs.Fields.{magic, et_exec, em_riscv, class_data_version, ei_class_data_version, e_type, e_machine, e_entry, e_phoff, e_phentsize, e_phnum}
+use Rattle.rv_elf.specs.Segments.{segments_of, occupying, raw_segments, is_truncated, is_oversized, is_outside, has_overlap, lies_inside}
+
+abbrev pub elf_fault_number : ElfFault → ℕ
+elf_fault_number Truncated = 1
+elf_fault_number NotElf = 2
+elf_fault_number WrongClass = 3
+elf_fault_number WrongType = 4
+elf_fault_number WrongMachine = 5
+elf_fault_number BadHeader = 6
+elf_fault_number SegmentTruncated = 7
+elf_fault_number SegmentSizes = 8
+elf_fault_number SegmentOutside = 9
+elf_fault_number SegmentOverlap = 10
+elf_fault_number BadEntry = 11
+
+-- there are over 64 program headers, or some, of another size than 32 bytes, or that end past the file's end
+abbrev pub has_bad_table : List ℕ → Bool
+has_bad_table file =
+    nat_lt 64 (e_phnum file)
+    || not (e_phnum file == 0) && (not (e_phentsize file == 32) || nat_lt (length file) (e_phoff file + 32 * e_phnum file))
+
+-- execution can not begin there: it is no multiple of 4, or the four bytes of the first instruction are not inside RAM
+abbrev pub is_bad_entry : ℕ → ℕ → Bool
+is_bad_entry ram_size entry = not (entry % 4 == 0) || not (lies_inside ram_size entry 4)
+
+-- The table: each fault with the condition under which an image has it. The rows of the ELF header, of the segments, and of places
+-- in RAM stand apart, since a raw image has only the last.
+unfoldable pub header_faults : List ℕ → List (Bool × ElfFault)
+header_faults file =
+    (nat_lt (length file) 52, Truncated)
+    ∷ (not (bytes_eq (take 4 file) magic), NotElf)
+    ∷ (not (bytes_eq (ei_class_data_version file) class_data_version), WrongClass)
+    ∷ (not (e_type file == et_exec), WrongType)
+    ∷ (not (e_machine file == em_riscv), WrongMachine)
+    ∷ (has_bad_table file, BadHeader)
+    ∷ []
+
+unfoldable pub segment_faults : ℕ → List Segment → List (Bool × ElfFault)
+segment_faults len segments =
+    (list_any (is_truncated len) segments, SegmentTruncated)
+    ∷ (list_any is_oversized segments, SegmentSizes)
+    ∷ []
+
+unfoldable pub place_faults : ℕ → List Segment → ℕ → List (Bool × ElfFault)
+place_faults ram_size segments entry =
+    (list_any (is_outside ram_size) segments, SegmentOutside)
+    ∷ (has_overlap segments, SegmentOverlap)
+    ∷ (is_bad_entry ram_size entry, BadEntry)
+    ∷ []
+
+-- the whole table for an ELF file in a RAM of this size, in the order of the numbers
+abbrev pub file_faults : List ℕ → ℕ → List (Bool × ElfFault)
+file_faults file ram_size =
+    header_faults file
+    ++ segment_faults (length file) (segments_of file)
+    ++ place_faults ram_size (occupying (segments_of file)) (e_entry file)
+
+-- the table for a raw image of so many bytes, which begins at the first address of RAM
+abbrev pub raw_faults : ℕ → ℕ → List (Bool × ElfFault)
+raw_faults len ram_size = place_faults ram_size (raw_segments len) ram_base
+
+-- the first fault whose condition holds
+abbrev pub first_fault : List (Bool × ElfFault) → Option ElfFault
+first_fault [] = None
+first_fault ((true, fault) ∷ rows) = Some fault
+first_fault ((false, fault) ∷ rows) = first_fault rows
+
+-- its condition holds in the table, and that of no fault with a lesser number does
+abbrev pub IsLeast : List (Bool × ElfFault) → ElfFault → Type 0
+IsLeast rows fault =
+    (list_any (λ row. row.0 && elf_fault_number row.1 == elf_fault_number fault) rows ≡ true)
+    × (list_any (λ row. row.0 && nat_lt (elf_fault_number row.1) (elf_fault_number fault)) rows ≡ false)
+
+-- the fault of an ELF file in a RAM of this size
+abbrev pub file_fault : List ℕ → ℕ → Option ElfFault
+file_fault file ram_size = first_fault (file_faults file ram_size)
+
+-- the fault of a raw image of so many bytes
+abbrev pub raw_fault : ℕ → ℕ → Option ElfFault
+raw_fault len ram_size = first_fault (raw_faults len ram_size)

@@ -1,0 +1,75 @@
+-- The fields of an ELF32 file, each at its place and with its lowest byte first: System V gABI, chapter 4, ELF header, and
+-- chapter 5, program header.
+use Rattle.std.specs.Prelude.{ℕ, ◌+◌, ◌*◌, List, [], ◌∷◌, take, drop, map}
+use Rattle.std.specs.List.{range_with_len}
+use Rattle.rv_memory.specs.Memory.{number_of}
+
+-- the numbers of 2 and of 4 bytes at a place
+abbrev pub half_at : List ℕ → ℕ → ℕ
+half_at file place = number_of (take 2 (drop place file))
+
+abbrev pub word_at : List ℕ → ℕ → ℕ
+word_at file place = number_of (take 4 (drop place file))
+
+-- what an ELF file begins with: 7F, E, L, F
+abbrev pub magic : List ℕ
+magic = 0x7f ∷ 0x45 ∷ 0x4c ∷ 0x46 ∷ []
+
+-- the class, the data encoding and the version of a file of 32 bits, lowest bytes first, of version 1: ELFCLASS32, ELFDATA2LSB
+-- and EV_CURRENT
+abbrev pub class_data_version : List ℕ
+class_data_version = 1 ∷ 1 ∷ 1 ∷ []
+
+-- the type of an executable file
+abbrev pub et_exec : ℕ
+et_exec = 2
+
+-- the machine RISC-V
+abbrev pub em_riscv : ℕ
+em_riscv = 243
+
+-- the type of a program header whose segment is to be loaded
+abbrev pub pt_load : ℕ
+pt_load = 1
+
+-- the fields of the ELF header; of the first of them, e_ident, the bytes EI_CLASS, EI_DATA and EI_VERSION
+abbrev pub ei_class_data_version : List ℕ → List ℕ
+ei_class_data_version file = take 3 (drop 4 file)
+
+abbrev pub e_type : List ℕ → ℕ
+e_type file = half_at file 16
+
+abbrev pub e_machine : List ℕ → ℕ
+e_machine file = half_at file 18
+
+abbrev pub e_entry : List ℕ → ℕ
+e_entry file = word_at file 24
+
+abbrev pub e_phoff : List ℕ → ℕ
+e_phoff file = word_at file 28
+
+abbrev pub e_phentsize : List ℕ → ℕ
+e_phentsize file = half_at file 42
+
+abbrev pub e_phnum : List ℕ → ℕ
+e_phnum file = half_at file 44
+
+-- the fields of the program header at a place
+abbrev pub p_type : List ℕ → ℕ → ℕ
+p_type file place = word_at file place
+
+abbrev pub p_offset : List ℕ → ℕ → ℕ
+p_offset file place = word_at file (place + 4)
+
+abbrev pub p_paddr : List ℕ → ℕ → ℕ
+p_paddr file place = word_at file (place + 12)
+
+abbrev pub p_filesz : List ℕ → ℕ → ℕ
+p_filesz file place = word_at file (place + 16)
+
+abbrev pub p_memsz : List ℕ → ℕ → ℕ
+p_memsz file place = word_at file (place + 20)
+
+-- the places of the program headers, 32 bytes each
+abbrev pub header_places : List ℕ → List ℕ
+header_places file = map (λ k. e_phoff file + 32 * k) (range_with_len 0 (e_phnum file))

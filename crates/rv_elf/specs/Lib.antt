@@ -1,0 +1,5 @@
+pub mod Faults
+pub mod Fields
+pub mod Loaded
+pub mod Plans
+pub mod Segments

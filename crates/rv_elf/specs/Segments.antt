@@ -1,0 +1,64 @@
+-- The segments of an image, and what each of them asks of the file and of the RAM: System V gABI, chapter 5, program header and
+-- program loading.
+use Rattle.std.specs.Prelude.{ℕ, ◌+◌, ◌==◌, Bool, false, not, ◌&&◌, ◌||◌, nat_le, nat_lt, List, [], ◌∷◌, map}
+use Rattle.std.specs.List.{filter, list_any, range_with_len}
+use Rattle.rv_memory.specs.Memory.{ram_base}
+use Rattle.rv_elf.specs.declared.segment.Segment.{Segment}
+use Rattle.rv_elf.specs.Fields.{header_places, pt_load, p_type, p_offset, p_paddr, p_filesz, p_memsz}
+
+-- the segment of the program header at a place
+abbrev pub segment_at : List ℕ → ℕ → Segment
+segment_at file place = record {
+  offset = p_offset file place;
+  address = p_paddr file place;
+  file_size = p_filesz file place;
+  memory_size = p_memsz file place;
+}
+
+-- the headers of type PT_LOAD are those of segments to load
+abbrev pub is_load : List ℕ → ℕ → Bool
+is_load file place = p_type file place == pt_load
+
+-- the segments to load, in the order of their headers
+unfoldable pub segments_of : List ℕ → List Segment
+segments_of file = map (segment_at file) (filter (is_load file) (header_places file))
+
+-- the segment takes no memory
+abbrev pub is_empty : Segment → Bool
+is_empty segment = segment.memory_size == 0
+
+-- those that take memory: the others are skipped
+unfoldable pub occupying : List Segment → List Segment
+occupying segments = filter (λ segment. not (is_empty segment)) segments
+
+-- a raw image of so many bytes: one segment at the first address of RAM, or none where it has no byte
+abbrev pub raw_segments : ℕ → List Segment
+raw_segments len = occupying (record { offset = 0; address = ram_base; file_size = len; memory_size = len } ∷ [])
+
+-- its part of a file of so many bytes ends past the file's end
+abbrev pub is_truncated : ℕ → Segment → Bool
+is_truncated len segment = not (segment.file_size == 0) && nat_lt len (segment.offset + segment.file_size)
+
+-- it has more bytes in the file than in memory
+abbrev pub is_oversized : Segment → Bool
+is_oversized segment = nat_lt segment.memory_size segment.file_size
+
+-- so many bytes from an address on lie inside a RAM of this size
+abbrev pub lies_inside : ℕ → ℕ → ℕ → Bool
+lies_inside ram_size address count = nat_le ram_base address && nat_le (address + count) (ram_base + ram_size)
+
+abbrev pub is_outside : ℕ → Segment → Bool
+is_outside ram_size segment = not (lies_inside ram_size segment.address segment.memory_size)
+
+-- the byte at an address is one of the segment's
+abbrev pub covers : ℕ → Segment → Bool
+covers address segment = nat_le segment.address address && nat_lt address (segment.address + segment.memory_size)
+
+-- a byte of one segment is a byte of the other
+unfoldable pub share_a_byte : Segment → Segment → Bool
+share_a_byte one other = list_any (λ address. covers address other) (range_with_len one.address one.memory_size)
+
+-- two of them share a byte
+abbrev pub has_overlap : List Segment → Bool
+has_overlap [] = false
+has_overlap (segment ∷ others) = list_any (share_a_byte segment) others || has_overlap others

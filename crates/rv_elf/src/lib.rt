@@ -1,0 +1,36 @@
+//! Images: what is loaded where, and where execution begins (System V gABI, chapter 4, ELF header, and chapter 5, program
+//! header and program loading; RISC-V ELF psABI).
+//!
+//! An image is an ELF file of 32 bits for RISC-V, or the raw bytes of the memory. `plan` and `plan_raw` find the segments, or
+//! the fault of the least number; `load` puts them into a RAM. None of them takes memory.
+//!
+//! ```text
+//! let plan = plan(file, 1_048_576)?;
+//! load(&plan, file, &mut ram);
+//! plan.entry(); // 0x8000_0000
+//! ```
+#![tactic(auto)]
+
+mod elf_fault;
+mod fields;
+mod header;
+mod load_plan;
+mod loading;
+mod planning;
+mod segment;
+
+pub use elf_fault::ElfFault;
+pub use fields::is_elf;
+pub use load_plan::Plan;
+pub use loading::load;
+pub use planning::{plan, plan_raw};
+pub use segment::Segment;
+
+#[cfg(test)]
+mod company;
+#[cfg(test)]
+mod files;
+#[cfg(test)]
+mod loading_tests;
+#[cfg(test)]
+mod tests;

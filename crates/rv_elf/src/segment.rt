@@ -1,0 +1,81 @@
+//! A segment of an image.
+
+ghost use Rattle.std.specs.Prelude.{◌≡◌, ◌+◌, ◌≤◌, length, false};
+ghost use Rattle.rv_elf.specs.Segments.{segment_at as segment_at_of, is_truncated as is_truncated_of, is_oversized as is_oversized_of, is_outside as is_outside_of, lies_inside as lies_inside_of, share_a_byte};
+
+use crate::fields::word_at;
+use rv_memory::RAM_BASE;
+
+/// A part of an image that is to be loaded: the bytes of the file that go to memory, and zeros behind them (System V gABI,
+/// chapter 5, PT_LOAD).
+#[derive(Clone, Copy, Debug, Default, PartialEq, Eq)]
+pub struct Segment {
+    /// Where its first byte stands in the file.
+    pub offset: u32,
+    /// The address of its first byte in memory.
+    pub address: u32,
+    /// How many bytes it has in the file.
+    pub file_size: u32,
+    /// How many bytes it has in memory: those of the file, then zeros.
+    pub memory_size: u32,
+}
+
+/// Whether so many bytes from an address on lie inside a RAM of this size.
+pub(crate) fn lies_inside(ram_size: u32, address: u32, count: u32) -> bool
+    ensures { result ≡ lies_inside_of ram_size address count }
+{
+    address >= RAM_BASE
+        && u64::from(address) + u64::from(count) <= u64::from(RAM_BASE) + u64::from(ram_size)
+}
+
+impl Segment {
+    /// The segment of the program header at a place of a file (gABI, chapter 5, program header).
+    pub(crate) fn at(file: &[u8], place: usize) -> Segment
+        requires { place + 32 ≤ length file.now }
+        ensures { result ≡ segment_at_of file.now place }
+    {
+        Segment {
+            offset: word_at(file, place + 4),
+            address: word_at(file, place + 12),
+            file_size: word_at(file, place + 16),
+            memory_size: word_at(file, place + 20),
+        }
+    }
+
+    /// Whether its part of a file of so many bytes ends past the file's end.
+    pub(crate) fn is_truncated(&self, len: usize) -> bool
+        ensures { result ≡ is_truncated_of len self.now }
+    {
+        self.file_size != 0 && self.offset as usize + self.file_size as usize > len
+    }
+
+    /// Whether it has more bytes in the file than in memory.
+    pub(crate) fn is_oversized(&self) -> bool
+        ensures { result ≡ is_oversized_of self.now }
+    {
+        self.file_size > self.memory_size
+    }
+
+    /// Whether a byte of it is outside a RAM of this size.
+    pub(crate) fn is_outside(&self, ram_size: u32) -> bool
+        ensures { result ≡ is_outside_of ram_size self.now }
+    {
+        !lies_inside(ram_size, self.address, self.memory_size)
+    }
+
+    /// The address behind its last byte.
+    fn end(&self) -> u64
+        ensures { result ≡ self.now.address + self.now.memory_size }
+    {
+        u64::from(self.address) + u64::from(self.memory_size)
+    }
+
+    /// Whether the two have a byte in common.
+    #[tactic(auto, using(crate::proofs::SharedBytes::shared, crate::proofs::SharedBytes::unshared))]
+    pub(crate) fn shares_a_byte(&self, other: &Segment) -> bool
+        ensures { result ≡ share_a_byte self.now other.now }
+    {
+        let start = u64::from(self.address.max(other.address));
+        start < self.end().min(other.end())
+    }
+}
