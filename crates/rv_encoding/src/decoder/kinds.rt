@@ -6,6 +6,7 @@ ghost use Rattle.rv_encoding.specs.Codes.{branch_funct3, load_funct3, store_func
 use crate::kind::{BranchKind, CsrKind, LoadKind, OpImmKind, OpKind, ShiftKind, StoreKind};
 
 /// The branch of this funct3.
+#[inline(always)]
 pub(super) const fn branch_kind(funct3: u32) -> Option<BranchKind>
     ensures exact { result ≡ branch_kind_of funct3 }
     ensures found { IfSome result (λ kind. branch_funct3 kind ≡ funct3) }
@@ -22,6 +23,7 @@ pub(super) const fn branch_kind(funct3: u32) -> Option<BranchKind>
 }
 
 /// The load of this funct3.
+#[inline(always)]
 pub(super) const fn load_kind(funct3: u32) -> Option<LoadKind>
     ensures exact { result ≡ load_kind_of funct3 }
     ensures found { IfSome result (λ kind. load_funct3 kind ≡ funct3) }
@@ -37,6 +39,7 @@ pub(super) const fn load_kind(funct3: u32) -> Option<LoadKind>
 }
 
 /// The store of this funct3.
+#[inline(always)]
 pub(super) const fn store_kind(funct3: u32) -> Option<StoreKind>
     ensures exact { result ≡ store_kind_of funct3 }
     ensures found { IfSome result (λ kind. store_funct3 kind ≡ funct3) }
@@ -50,6 +53,7 @@ pub(super) const fn store_kind(funct3: u32) -> Option<StoreKind>
 }
 
 /// The operation with an immediate of this funct3.
+#[inline(always)]
 pub(super) const fn op_imm_kind(funct3: u32) -> Option<OpImmKind>
     ensures exact { result ≡ op_imm_kind_of funct3 }
     ensures found { IfSome result (λ kind. op_imm_funct3 kind ≡ funct3) }
@@ -66,6 +70,7 @@ pub(super) const fn op_imm_kind(funct3: u32) -> Option<OpImmKind>
 }
 
 /// The change by a register of this funct3.
+#[inline(always)]
 pub(super) const fn csr_kind(funct3: u32) -> Option<CsrKind>
     ensures exact { result ≡ csr_kind_of funct3 }
     ensures found { IfSome result (λ kind. csr_funct3 kind ≡ funct3) }
@@ -79,6 +84,7 @@ pub(super) const fn csr_kind(funct3: u32) -> Option<CsrKind>
 }
 
 /// The change by an immediate of this funct3.
+#[inline(always)]
 pub(super) const fn csr_imm_kind(funct3: u32) -> Option<CsrKind>
     ensures exact { result ≡ csr_imm_kind_of funct3 }
     ensures found { IfSome result (λ kind. csr_imm_funct3 kind ≡ funct3) }
@@ -92,6 +98,7 @@ pub(super) const fn csr_imm_kind(funct3: u32) -> Option<CsrKind>
 }
 
 /// The shift by an immediate of this funct3 and funct7.
+#[inline(always)]
 pub(super) const fn shift_kind(funct3: u32, funct7: u32) -> Option<ShiftKind>
     ensures exact { result ≡ shift_kind_of funct3 funct7 }
     ensures found_funct3 { IfSome result (λ kind. (shift_codes kind).0 ≡ funct3) }
@@ -106,6 +113,7 @@ pub(super) const fn shift_kind(funct3: u32, funct7: u32) -> Option<ShiftKind>
 }
 
 /// The operation on registers of this funct3 and funct7.
+#[inline(always)]
 pub(super) const fn op_kind(funct3: u32, funct7: u32) -> Option<OpKind>
     ensures exact { result ≡ op_kind_of funct3 funct7 }
     ensures found_funct3 { IfSome result (λ kind. (op_codes kind).0 ≡ funct3) }

@@ -1,0 +1,31 @@
+-- What is in a set of addresses once one was put in, or taken out.
+use Rattle.std.proofs.Common.{◌≡◌, ℕ, ◌==◌, ltb, Bool, true, false, not, cond, ◌&&◌, ◌||◌, List, [], ◌∷◌, filter, refl, sym, ◌∙◌, ap, arith}
+use Rattle.std.proofs.lemmas.Bool.Decides.{nat_tests}
+use Rattle.std.proofs.lemmas.List.Folds.{list_any-append}
+use Rattle.rv_debug.specs.Addresses.{is_among, with_address, without_address}
+
+no_and : (b : Bool) → false ≡ (b && false)
+no_and true = refl
+no_and false = refl
+
+among-filter : (p : ℕ → Bool) (x : ℕ) (xs : List ℕ) → is_among x (filter p xs) ≡ (p x && is_among x xs)
+among-filter p x [] = no_and (p x)
+among-filter p x (y ∷ ys) = go (p y) refl (y == x) refl (among-filter p x ys) where
+  go : (kept : Bool) → p y ≡ kept → (same : Bool) → (y == x) ≡ same → is_among x (filter p ys) ≡ (p x && is_among x ys)
+      → is_among x (cond kept (y ∷ filter p ys) (filter p ys)) ≡ (p x && (same || is_among x ys))
+  go true passes true is more = let e : y ≡ x = grind arith in let px : p x ≡ true = sym (ap p e) ∙ passes in rw (is, px) refl
+  go true passes false is more = rw is more
+  go false fails true is more = let e : y ≡ x = grind arith in let px : p x ≡ false = sym (ap p e) ∙ fails in rw px (rw px at more)
+  go false fails false is more = more
+
+-- the address that was put in, and those that were there
+pub among-with : (x address : ℕ) (xs : List ℕ) → is_among x (with_address address xs) ≡ ((address == x) || is_among x xs)
+among-with x address xs =
+    list_any-append (λ a. a == x) (filter (λ a. ltb a address) xs) (address ∷ filter (λ a. ltb address a) xs)
+    ∙ rw (among-filter (λ a. ltb a address) x xs, among-filter (λ a. ltb address a) x xs) (joined (is_among x xs)) where
+      joined : (there : Bool) → ((ltb x address && there) || ((address == x) || (ltb address x && there))) ≡ ((address == x) || there)
+      joined there = grind (arith, nat_tests)
+
+-- those that were there, but the address that was taken out
+pub among-without : (x address : ℕ) (xs : List ℕ) → is_among x (without_address address xs) ≡ (not (x == address) && is_among x xs)
+among-without x address xs = among-filter (λ a. not (a == address)) x xs

@@ -1,0 +1,242 @@
+-- Sets of addresses as lists that rise.
+use Rattle.std.proofs.Common.{◌≡◌, ◌≢◌, ℕ, zero, suc, ◌+◌, ◌<◌, ◌≤◌, ◌==◌, ltb, Bool, true, false, cond, ◌||◌, List, [], ◌∷◌, ◌++◌, length, take, drop, filter, get_or, Option, Some, None, Result, Ok, Err, MatchResult, refl, sym, ◌∙◌, ap, arith, inl, inr}
+use Rattle.std.specs.Prelude.{min}
+use Rattle.std.proofs.lemmas.Bool.{cases_lt}
+use Rattle.std.proofs.lemmas.Bool.Decides.{nat_tests}
+use Rattle.std.proofs.lemmas.List.Folds.{list_any_at}
+use Rattle.std.proofs.lemmas.List.Sorted.{searched}
+use Rattle.std.specs.List.Sorted.{IsBinarySearchResult}
+use Rattle.std.specs.Ordering.{nat_cmp}
+use Rattle.std.specs.Result.{is_ok}
+use Rattle.std.specs.List.{find, insert, remove}
+use Rattle.rv_debug.specs.Addresses.{RisesAbove, Rises, HasPlace, is_among, with_address, without_address, with_room_for}
+use Rattle.rv_debug.specs.Stops.{is_between, is_in, lower, lowest}
+
+pub rises_above-weaker : (a b : ℕ) (xs : List ℕ) → a ≤ b → RisesAbove b xs → RisesAbove a xs
+rises_above-weaker a b [] le all = tt
+rises_above-weaker a b (x ∷ xs) le all = let first : b < x = all.0 in (omega arith, all.1)
+
+rises_above-is : (a : ℕ) (xs : List ℕ) → RisesAbove a xs → Rises xs
+rises_above-is a [] all = tt
+rises_above-is a (x ∷ xs) all = all.1
+
+rises_above-at : (a : ℕ) (xs : List ℕ) (k : ℕ) → RisesAbove a xs → k < length xs → a < get_or xs k 0
+rises_above-at a [] k all inside = absurd (omega arith)
+rises_above-at a (x ∷ xs) zero all inside = all.0
+rises_above-at a (x ∷ xs) (suc k) all inside =
+    let first : a < x = all.0 in
+    let more : x < get_or xs k 0 = rises_above-at x xs k all.1 (omega arith) in
+    omega arith
+
+-- each is above those before it
+pub rises-at : (xs : List ℕ) → Rises xs → (i j : ℕ) → i < j → j < length xs → get_or xs i 0 < get_or xs j 0
+rises-at [] all i j lt inside = absurd (omega arith)
+rises-at (x ∷ xs) all i zero lt inside = absurd (omega arith)
+rises-at (x ∷ xs) all zero (suc j) lt inside = rises_above-at x xs j all (omega arith)
+rises-at (x ∷ xs) all (suc i) (suc j) lt inside = rises-at xs (rises_above-is x xs all) i j (omega arith) (omega arith)
+
+-- and so a binary search of them finds
+pub rises-le : (xs : List ℕ) → Rises xs → (i j : ℕ) → i ≤ j → j < length xs → get_or xs i 0 ≤ get_or xs j 0
+rises-le xs all i j le inside = elim (cases_lt i j) [
+  | inl lt ↦ let up : get_or xs i 0 < get_or xs j 0 = rises-at xs all i j lt inside in omega arith
+  | inr ge ↦ let same : i ≡ j = omega arith in let e : get_or xs i 0 ≡ get_or xs j 0 = ap (λ k. get_or xs k 0) same in omega arith
+]
+
+-- what a binary search of them gives
+pub searched-place : (xs : List ℕ) (x : ℕ) (r : Result ℕ ℕ) → Rises xs → IsBinarySearchResult (λ y. nat_cmp y x) xs r
+    → MatchResult r (λ i. (i < length xs) × (get_or xs i 0 ≡ x)) (HasPlace xs x)
+searched-place xs x r all is = go r (searched xs x r is (rises-le xs all)) where
+  go : (r : Result ℕ ℕ) → MatchResult r (λ i. (i < length xs) × (get_or xs i 0 ≡ x)) (λ i. (i ≤ length xs) × ((k : ℕ) → k < i → get_or xs k 0 < x) × ((k : ℕ) → i ≤ k → k < length xs → x < get_or xs k 0))
+      → MatchResult r (λ i. (i < length xs) × (get_or xs i 0 ≡ x)) (HasPlace xs x)
+  go (Ok i) found = found
+  go (Err i) (within, below, above) = record { within = within; below = below; above = above }
+
+-- no address has its place beside one that is there already
+pub not_there : (x : ℕ) (xs : List ℕ) (i : ℕ) → HasPlace xs x i → (k : ℕ) → k < length xs → get_or xs k 0 ≢ x
+not_there x xs i place k inside same = elim (cases_lt k i) [
+  | inl lt ↦ let down : get_or xs k 0 < x = place.below k lt in absurd (omega arith)
+  | inr ge ↦ let up : x < get_or xs k 0 = place.above k ge inside in absurd (omega arith)
+]
+
+-- ---- an address among others
+
+pub among-found : (x : ℕ) (xs : List ℕ) (i : ℕ) → i < length xs → get_or xs i 0 ≡ x → is_among x xs ≡ true
+among-found x xs i inside is = list_any_at (λ a. a == x) xs i 0 inside (grind arith)
+
+pub among-absent : (x : ℕ) (xs : List ℕ) → ((k : ℕ) → k < length xs → get_or xs k 0 ≢ x) → is_among x xs ≡ false
+among-absent x [] none = refl
+among-absent x (y ∷ ys) none =
+    let no : (y == x) ≡ false = let other = none 0 (omega arith) in grind arith in
+    rw no (among-absent x ys (λ k inside. none (suc k) (omega arith)))
+
+pub among-not : (x : ℕ) (xs : List ℕ) (i : ℕ) → HasPlace xs x i → is_among x xs ≡ false
+among-not x xs i place = among-absent x xs (not_there x xs i place)
+
+-- what a search of them tells
+pub found-is : (x : ℕ) (xs : List ℕ) (r : Result ℕ ℕ) → MatchResult r (λ i. (i < length xs) × (get_or xs i 0 ≡ x)) (HasPlace xs x) → is_ok r ≡ is_among x xs
+found-is x xs (Ok i) found = sym (among-found x xs i found.0 found.1)
+found-is x xs (Err i) place = sym (among-not x xs i place)
+
+-- ---- an address put in at its place: these below it, those above it
+
+filter_below : (x : ℕ) (xs : List ℕ) (i : ℕ) → i ≤ length xs → ((k : ℕ) → k < i → get_or xs k 0 < x) → ((k : ℕ) → i ≤ k → k < length xs → x < get_or xs k 0) → filter (λ a. ltb a x) xs ≡ take i xs
+filter_below x [] zero within below above = refl
+filter_below x [] (suc i) within below above = absurd (omega arith)
+filter_below x (y ∷ ys) zero within below above =
+    let up : x < y = above 0 (omega arith) (omega arith) in
+    let no : ltb y x ≡ false = grind (arith, nat_tests) in
+    rw no (filter_below x ys zero (omega arith) (λ k lt. absurd (omega arith)) (λ k le inside. above (suc k) (omega arith) (omega arith)))
+filter_below x (y ∷ ys) (suc i) within below above =
+    let down : y < x = below 0 (omega arith) in
+    let yes : ltb y x ≡ true = grind (arith, nat_tests) in
+    rw yes (ap (λ t. y ∷ t) (filter_below x ys i (omega arith) (λ k lt. below (suc k) (omega arith)) (λ k le inside. above (suc k) (omega arith) (omega arith))))
+
+filter_above : (x : ℕ) (xs : List ℕ) (i : ℕ) → i ≤ length xs → ((k : ℕ) → k < i → get_or xs k 0 < x) → ((k : ℕ) → i ≤ k → k < length xs → x < get_or xs k 0) → filter (λ a. ltb x a) xs ≡ drop i xs
+filter_above x [] zero within below above = refl
+filter_above x [] (suc i) within below above = absurd (omega arith)
+filter_above x (y ∷ ys) zero within below above =
+    let up : x < y = above 0 (omega arith) (omega arith) in
+    let yes : ltb x y ≡ true = grind (arith, nat_tests) in
+    rw yes (ap (λ t. y ∷ t) (filter_above x ys zero (omega arith) (λ k lt. absurd (omega arith)) (λ k le inside. above (suc k) (omega arith) (omega arith))))
+filter_above x (y ∷ ys) (suc i) within below above =
+    let down : y < x = below 0 (omega arith) in
+    let no : ltb x y ≡ false = grind (arith, nat_tests) in
+    rw no (filter_above x ys i (omega arith) (λ k lt. below (suc k) (omega arith)) (λ k le inside. above (suc k) (omega arith) (omega arith)))
+
+pub insert-is : (x : ℕ) (xs : List ℕ) (i : ℕ) → HasPlace xs x i → insert xs i x ≡ with_address x xs
+insert-is x xs i place =
+    ap (λ t. t ++ x ∷ drop i xs) (sym (filter_below x xs i place.within place.below place.above)) ∙ ap (λ t. filter (λ a. ltb a x) xs ++ x ∷ t) (sym (filter_above x xs i place.within place.below place.above))
+
+rises_above-insert : (low x : ℕ) (xs : List ℕ) (i : ℕ) → RisesAbove low xs → low < x → i ≤ length xs → ((k : ℕ) → k < i → get_or xs k 0 < x) → ((k : ℕ) → i ≤ k → k < length xs → x < get_or xs k 0) → RisesAbove low (insert xs i x)
+rises_above-insert low x [] zero all up within below above = (up, tt)
+rises_above-insert low x [] (suc i) all up within below above = absurd (omega arith)
+rises_above-insert low x (y ∷ ys) zero all up within below above = (up, (above 0 (omega arith) (omega arith), all.1))
+rises_above-insert low x (y ∷ ys) (suc i) all up within below above =
+    (all.0, rises_above-insert y x ys i all.1 (below 0 (omega arith)) (omega arith) (λ k lt. below (suc k) (omega arith)) (λ k le inside. above (suc k) (omega arith) (omega arith)))
+
+rises-inserted : (x : ℕ) (xs : List ℕ) (i : ℕ) → Rises xs → i ≤ length xs → ((k : ℕ) → k < i → get_or xs k 0 < x) → ((k : ℕ) → i ≤ k → k < length xs → x < get_or xs k 0) → Rises (insert xs i x)
+rises-inserted x [] zero all within below above = tt
+rises-inserted x [] (suc i) all within below above = absurd (omega arith)
+rises-inserted x (y ∷ ys) zero all within below above = (above 0 (omega arith) (omega arith), all)
+rises-inserted x (y ∷ ys) (suc i) all within below above =
+    rises_above-insert y x ys i all (below 0 (omega arith)) (omega arith) (λ k lt. below (suc k) (omega arith)) (λ k le inside. above (suc k) (omega arith) (omega arith))
+
+pub rises-insert : (x : ℕ) (xs : List ℕ) (i : ℕ) → Rises xs → HasPlace xs x i → Rises (insert xs i x)
+rises-insert x xs i all place = rises-inserted x xs i all place.within place.below place.above
+
+pub no_room : (x : ℕ) (xs : List ℕ) (i : ℕ) → HasPlace xs x i → length xs ≡ 32 → None ≡ with_room_for x xs
+unfolding with_room_for
+no_room x xs i place full = let no : ltb (length xs) 32 ≡ false = grind (arith, nat_tests) in rw (among-not x xs i place, no) refl
+
+pub room : (x : ℕ) (xs : List ℕ) (i : ℕ) → HasPlace xs x i → length xs < 32 → Some (insert xs i x) ≡ with_room_for x xs
+unfolding with_room_for
+room x xs i place few = let yes : ltb (length xs) 32 ≡ true = grind (arith, nat_tests) in rw (among-not x xs i place, yes) (ap Some (insert-is x xs i place))
+
+-- ---- an address taken out
+
+without-absent : (x : ℕ) (xs : List ℕ) → ((k : ℕ) → k < length xs → get_or xs k 0 ≢ x) → without_address x xs ≡ xs
+without-absent x [] none = refl
+without-absent x (y ∷ ys) none =
+    let no : (y == x) ≡ false = let other = none 0 (omega arith) in grind arith in
+    rw no (ap (λ t. y ∷ t) (without-absent x ys (λ k inside. none (suc k) (omega arith))))
+
+pub remove-is : (x : ℕ) (xs : List ℕ) (i : ℕ) → Rises xs → i < length xs → get_or xs i 0 ≡ x → remove xs i ≡ without_address x xs
+remove-is x [] i all inside is = absurd (omega arith)
+remove-is x (y ∷ ys) zero all inside is =
+    let yes : (y == x) ≡ true = grind arith in
+    let others = λ (k : ℕ) (h : k < length ys) (same : get_or ys k 0 ≡ x). let up : y < get_or ys k 0 = rises_above-at y ys k all h in let e : y ≡ x = is in absurd (omega arith) in
+    rw yes (sym (without-absent x ys others))
+remove-is x (y ∷ ys) (suc i) all inside is =
+    let up : y < get_or ys i 0 = rises_above-at y ys i all (omega arith) in
+    let at : get_or ys i 0 ≡ x = is in
+    let no : (y == x) ≡ false = grind arith in
+    rw no (ap (λ t. y ∷ t) (remove-is x ys i (rises_above-is y ys all) (omega arith) at))
+
+pub keep-is : (x : ℕ) (xs : List ℕ) (i : ℕ) → HasPlace xs x i → xs ≡ without_address x xs
+keep-is x xs i place = sym (without-absent x xs (not_there x xs i place))
+
+rises_above-filter : (p : ℕ → Bool) (low : ℕ) (xs : List ℕ) → RisesAbove low xs → RisesAbove low (filter p xs)
+rises_above-filter p low [] all = tt
+rises_above-filter p low (x ∷ xs) all = go (p x) (rises_above-filter p x xs all.1) where
+  go : (b : Bool) → RisesAbove x (filter p xs) → RisesAbove low (cond b (x ∷ filter p xs) (filter p xs))
+  go true more = (all.0, more)
+  go false more = let first : low < x = all.0 in rises_above-weaker low x (filter p xs) (omega arith) more
+
+pub rises-filter : (p : ℕ → Bool) (xs : List ℕ) → Rises xs → Rises (filter p xs)
+rises-filter p [] all = tt
+rises-filter p (x ∷ xs) all = go (p x) (rises_above-filter p x xs all) where
+  go : (b : Bool) → RisesAbove x (filter p xs) → Rises (cond b (x ∷ filter p xs) (filter p xs))
+  go true more = more
+  go false more = rises_above-is x (filter p xs) more
+
+-- ---- the first address that passes a test
+
+find-first : (p : ℕ → Bool) (xs : List ℕ) (i : ℕ) → ((k : ℕ) → k < i → p (get_or xs k 0) ≡ false) → i < length xs → p (get_or xs i 0) ≡ true → find p xs ≡ Some (get_or xs i 0)
+find-first p [] i none inside is = absurd (omega arith)
+find-first p (x ∷ xs) zero none inside is = rw is refl
+find-first p (x ∷ xs) (suc i) none inside is = rw (none 0 (omega arith)) (find-first p xs i (λ k lt. none (suc k) (omega arith)) (omega arith) is)
+
+find-none : (p : ℕ → Bool) (xs : List ℕ) → ((k : ℕ) → k < length xs → p (get_or xs k 0) ≡ false) → find p xs ≡ None
+find-none p [] none = refl
+find-none p (x ∷ xs) none = rw (none 0 (omega arith)) (find-none p xs (λ k inside. none (suc k) (omega arith)))
+
+find-above : (p : ℕ → Bool) (low : ℕ) (xs : List ℕ) (a : ℕ) → RisesAbove low xs → find p xs ≡ Some a → low < a
+find-above p low [] a all is = cc
+find-above p low (x ∷ xs) a all is = go (p x) is (find-above p x xs a all.1) where
+  go : (b : Bool) → cond b (Some x) (find p xs) ≡ Some a → (find p xs ≡ Some a → x < a) → low < a
+  go true e more = let same : x ≡ a = cc in let up : low < x = all.0 in omega arith
+  go false e more = let up : low < x = all.0 in let higher : x < a = more e in omega arith
+
+lower-before : (x : ℕ) (found : Option ℕ) → ((a : ℕ) → found ≡ Some a → x < a) → lower (Some x) found ≡ Some x
+lower-before x None above = refl
+lower-before x (Some a) above = let up : x < a = above a refl in let e : min x a ≡ x = omega arith in ap Some e
+
+lower-after : (x : ℕ) (found : Option ℕ) → ((a : ℕ) → found ≡ Some a → x < a) → lower found (Some x) ≡ Some x
+lower-after x None above = refl
+lower-after x (Some a) above = let up : x < a = above a refl in let e : min a x ≡ x = omega arith in ap Some e
+
+-- the first that passes either of two tests is the lower of the first of each
+pub find-either : (p q : ℕ → Bool) (xs : List ℕ) → Rises xs → lower (find p xs) (find q xs) ≡ find (λ x. p x || q x) xs
+find-either p q [] all = refl
+find-either p q (x ∷ xs) all = go (p x) (q x) (find-either p q xs (rises_above-is x xs all)) where
+  go : (b c : Bool) → lower (find p xs) (find q xs) ≡ find (λ x. p x || q x) xs
+      → lower (cond b (Some x) (find p xs)) (cond c (Some x) (find q xs)) ≡ cond (b || c) (Some x) (find (λ x. p x || q x) xs)
+  go true true more = let e : min x x ≡ x = omega arith in ap Some e
+  go true false more = lower-before x (find q xs) (λ a. find-above q x xs a all)
+  go false true more = lower-after x (find p xs) (λ a. find-above p x xs a all)
+  go false false more = more
+
+-- the lowest that passes a test is the first
+pub lowest-is : (p : ℕ → Bool) (xs : List ℕ) → Rises xs → find p xs ≡ lowest (filter p xs)
+lowest-is p [] all = refl
+lowest-is p (x ∷ xs) all = go (p x) (lowest-is p xs (rises_above-is x xs all)) where
+  go : (b : Bool) → find p xs ≡ lowest (filter p xs) → cond b (Some x) (find p xs) ≡ lowest (cond b (x ∷ filter p xs) (filter p xs))
+  go true more = sym (ap (lower (Some x)) (sym more) ∙ lower-before x (find p xs) (λ a. find-above p x xs a all))
+  go false more = more
+
+-- the first of so many addresses from one on: that one,
+pub find-here : (x count : ℕ) (xs : List ℕ) (i : ℕ) → Rises xs → 0 < count → i < length xs → get_or xs i 0 ≡ x → Some x ≡ find (is_between x count) xs
+find-here x count xs i all some inside is =
+    let yes : is_between x count (get_or xs i 0) ≡ true = grind (arith, nat_tests) in
+    let before = λ (k : ℕ) (lt : k < i). let down : get_or xs k 0 < get_or xs i 0 = rises-at xs all k i lt inside in let no : is_between x count (get_or xs k 0) ≡ false = grind (arith, nat_tests) in no in
+    ap Some (sym is) ∙ sym (find-first (is_between x count) xs i before inside yes)
+
+-- or the one at its place, where that is near enough
+pub find-near : (x count : ℕ) (xs : List ℕ) (i : ℕ) → HasPlace xs x i → i < length xs → get_or xs i 0 < x + count → Some (get_or xs i 0) ≡ find (is_between x count) xs
+find-near x count xs i place inside near =
+    let here : x < get_or xs i 0 = place.above i (omega arith) inside in
+    let yes : is_between x count (get_or xs i 0) ≡ true = grind (arith, nat_tests) in
+    let before = λ (k : ℕ) (lt : k < i). let down : get_or xs k 0 < x = place.below k lt in let no : is_between x count (get_or xs k 0) ≡ false = grind (arith, nat_tests) in no in
+    sym (find-first (is_between x count) xs i before inside yes)
+
+pub find-far : (x count : ℕ) (xs : List ℕ) (i : ℕ) → Rises xs → HasPlace xs x i → (i < length xs → x + count ≤ get_or xs i 0) → None ≡ find (is_between x count) xs
+find-far x count xs i all place far = sym (find-none (is_between x count) xs each) where
+  each : (k : ℕ) → k < length xs → is_between x count (get_or xs k 0) ≡ false
+  each k inside = elim (cases_lt k i) [
+    | inl lt ↦ let down : get_or xs k 0 < x = place.below k lt in grind (arith, nat_tests)
+    | inr ge ↦ let first : x + count ≤ get_or xs i 0 = far (omega arith) in let up : get_or xs i 0 ≤ get_or xs k 0 = rises-le xs all i k ge inside in grind (arith, nat_tests)
+  ]
+
+-- no address is in no span
+pub find-no_span : (xs : List ℕ) → None ≡ find (is_in None) xs
+find-no_span xs = sym (find-none (is_in None) xs (λ k inside. refl))

@@ -1,0 +1,12 @@
+use Rattle.std.proofs.Common.{◌≡◌, arith}
+use Rattle.std.proofs.lemmas.Bool.Decides.{nat_tests}
+use Rattle.rv_debug.specs.Words.{words_of}
+use Rattle.rv_debug.specs.Command.{parse_of, meaning_of}
+use Rattle.rv_debug.proofs.Commands.{meaning_of-take}
+use Rattle.rv_debug.proofs.command.parse.Goals as goal
+
+pub returns : goal.returns
+unfolding parse_of
+returns c =
+    let meaning : c.meaning.result ≡ meaning_of (words_of c.args.line.now) = rw (c.meaning.ensures, c.as_slice.ensures.value, c.first_words.ensures, meaning_of-take) in
+    grind (arith, nat_tests)

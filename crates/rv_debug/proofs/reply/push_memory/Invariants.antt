@@ -1,0 +1,11 @@
+use Rattle.std.proofs.Common.{◌≡◌, ◌+◌, ◌*◌, ◌++◌, length, take}
+use Rattle.std.specs.List.{flat_map}
+use Rattle.std.specs.Prelude.{codes}
+use Rattle.rv_asm.specs.Digits.{hex_digits}
+use Rattle.rv_debug.proofs.reply.push_memory.Given as goal
+
+abbrev pub invariant-loop-byte : goal.invariant-loop-byte
+invariant-loop-byte l = record {
+  items : l.out.items ≡ l.fn.out.items ++ hex_digits 8 l.address ++ codes ":" ++ flat_map (λ byte. codes " " ++ hex_digits 2 byte) (take l.byte-index l.bytes);
+  len : length l.out.items ≡ length l.fn.out.items + (9 + 3 * l.byte-index);
+}

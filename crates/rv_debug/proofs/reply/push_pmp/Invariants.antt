@@ -1,0 +1,12 @@
+use Rattle.std.proofs.Common.{◌≡◌, ◌+◌, ◌*◌, ◌≤◌, ◌++◌, length}
+use Rattle.std.specs.List.{flat_map, range_with_len}
+use Rattle.rv_pmp.specs.Entries.{cfg_of, addr_of}
+use Rattle.rv_debug.specs.ReplyText.{entry_text}
+use Rattle.rv_debug.proofs.reply.push_pmp.Given as goal
+
+-- the lines so far
+abbrev pub invariant-loop-number : goal.invariant-loop-number
+invariant-loop-number l = record {
+  items : l.out.items ≡ l.fn.out.items ++ flat_map (λ number. entry_text number (cfg_of l.pmp number) (addr_of l.pmp number)) (range_with_len 0 l.number);
+  len : length l.out.items ≤ length l.fn.out.items + 36 * l.number;
+}

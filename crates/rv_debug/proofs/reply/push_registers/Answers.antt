@@ -1,0 +1,11 @@
+use Rattle.std.proofs.Common.{arith, length-append}
+use Rattle.rv_debug.proofs.RegisterLines.{flat_map-range_more, length-register_text}
+use Rattle.rv_debug.proofs.reply.push_registers.Goals as goal
+
+pub loop-number-preserved : goal.loop-number-preserved
+loop-number-preserved c =
+    let line = length-register_text c.loop-number.number c.get.result (omega arith) in
+    record {
+      items = rw (c.push_register.ensures.items, c.loop-number.invariant.items, c.get.ensures.value, c.new-register.ensures) (flat_map-range_more _ c.args.out.now.items c.loop-number.number);
+      len = rw c.push_register.ensures.items (simp length-append (rw (c.new-register.ensures) (omega (arith, line))));
+    }

@@ -1,0 +1,12 @@
+use Rattle.std.proofs.Common.{◌≡◌, ◌+◌, ◌-◌, ◌*◌, ◌≤◌, ◌++◌, length}
+use Rattle.std.specs.List.{flat_map, range_with_len}
+use Rattle.rv_state.specs.Registers.{register}
+use Rattle.rv_debug.specs.ReplyText.{register_text}
+use Rattle.rv_debug.proofs.reply.push_registers.Given as goal
+
+-- the lines so far: of twelve bytes each, and from x10 on of thirteen
+abbrev pub invariant-loop-number : goal.invariant-loop-number
+invariant-loop-number l = record {
+  items : l.out.items ≡ l.fn.out.items ++ flat_map (λ number. register_text number (register l.regs number)) (range_with_len 0 l.number);
+  len : length l.out.items ≤ length l.fn.out.items + (12 * l.number + (l.number - 10));
+}

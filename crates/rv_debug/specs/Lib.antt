@@ -1,0 +1,10 @@
+pub mod Addresses
+pub mod Answer
+pub mod BenchState
+pub mod Command
+pub mod Numbers
+pub mod ReplyText
+pub mod Steps
+pub mod Stops
+pub mod Within
+pub mod Words

@@ -1,0 +1,110 @@
+-- The lines that answer commands: ASCII, ISO/IEC 646, each ended by a line feed; hexadecimal in lower case, with leading
+-- zeros. (This project's own replies.)
+use Rattle.std.specs.Prelude.{ℕ, List, ◌++◌, Option, Some, None, codes, decimal}
+use Rattle.std.specs.List.{flat_map, range_with_len}
+use Rattle.rv_pmp.specs.Entries.{Entries, cfg_of, addr_of}
+use Rattle.rv_pmp.specs.declared.mode.Mode.{Mode}
+use Rattle.rv_pmp.specs.declared.mode.Mode.TheVariants.{U, S, M}
+use Rattle.rv_pmp.specs.declared.verdict.Verdict.{Verdict}
+use Rattle.rv_pmp.specs.declared.verdict.Verdict.TheVariants.{Allowed, AllowedFree, Denied, DeniedPartial, DeniedFree}
+use Rattle.rv_state.specs.Causes.{cause_code}
+use Rattle.rv_state.specs.Registers.{register}
+use Rattle.rv_hart.specs.declared.trap.Trap.{Trap}
+use Rattle.rv_asm.specs.Digits.{hex2, hex3, hex8}
+use Rattle.rv_asm.specs.Spelling.{spelling}
+use Rattle.rv_debug.specs.declared.steps.Ran.{Ran}
+use Rattle.rv_debug.specs.declared.steps.Stop.{Stop}
+use Rattle.rv_debug.specs.declared.steps.Stop.TheVariants.{Done, Break, Watch}
+use Rattle.rv_debug.specs.declared.command.CommandFault.{CommandFault}
+use Rattle.rv_debug.specs.declared.command.CommandFault.TheVariants.{BadLine, UnknownCommand, BadOperand}
+
+-- `-`, or `cause:tval`
+unfoldable pub trap_text : Option Trap → List ℕ
+trap_text None = codes "-"
+trap_text (Some trap) = hex8 (cause_code trap.cause) ++ codes ":" ++ hex8 trap.tval
+
+-- the letter of a mode
+abbrev pub mode_text : Mode → List ℕ
+mode_text U = codes "U"
+mode_text S = codes "S"
+mode_text M = codes "M"
+
+-- `done`, `break`, or `watch:hhhhhhhh`
+unfoldable pub stop_text : Stop → List ℕ
+stop_text Done = codes "done"
+stop_text Break = codes "break"
+stop_text (Watch address) = codes "watch:" ++ hex8 address
+
+-- `ran S pc=hhhhhhhh mode=m world=bare why=r trap=t`
+unfoldable pub ran_text : ℕ → Mode → Ran → List ℕ
+ran_text pc mode ran =
+    codes "ran " ++ decimal ran.steps ++ codes " pc=" ++ hex8 pc ++ codes " mode=" ++ mode_text mode
+    ++ codes " world=bare why=" ++ stop_text ran.stop ++ codes " trap=" ++ trap_text ran.trap ++ codes "\n"
+
+-- `xN=hhhhhhhh`
+unfoldable pub register_text : ℕ → ℕ → List ℕ
+register_text number value = codes "x" ++ decimal number ++ codes "=" ++ hex8 value ++ codes "\n"
+
+-- `pc=hhhhhhhh`
+unfoldable pub pc_text : ℕ → List ℕ
+pc_text pc = codes "pc=" ++ hex8 pc ++ codes "\n"
+
+-- the 32 registers in their order, and pc
+unfoldable pub registers_text : List ℕ → ℕ → List ℕ
+registers_text regs pc =
+    flat_map (λ number. register_text number (register regs number)) (range_with_len 0 32) ++ pc_text pc
+
+-- `csr ccc=hhhhhhhh`
+unfoldable pub csr_text : ℕ → ℕ → List ℕ
+csr_text number word = codes "csr " ++ hex3 number ++ codes "=" ++ hex8 word ++ codes "\n"
+
+-- `hhhhhhhh:`, and for each byte a space and two digits
+unfoldable pub memory_text : ℕ → List ℕ → List ℕ
+memory_text address bytes = hex8 address ++ codes ":" ++ flat_map (λ byte. codes " " ++ hex2 byte) bytes ++ codes "\n"
+
+-- `hhhhhhhh: wwwwwwww text`
+unfoldable pub dis_text : ℕ → ℕ → List ℕ
+dis_text address word = hex8 address ++ codes ": " ++ hex8 word ++ codes " " ++ spelling word ++ codes "\n"
+
+-- `pmp I cfg=hh addr=hhhhhhhh`
+unfoldable pub entry_text : ℕ → ℕ → ℕ → List ℕ
+entry_text number cfg addr = codes "pmp " ++ decimal number ++ codes " cfg=" ++ hex2 cfg ++ codes " addr=" ++ hex8 addr ++ codes "\n"
+
+-- the sixteen entries in their order
+unfoldable pub pmp_text : Entries → List ℕ
+pmp_text entries =
+    flat_map (λ number. entry_text number (cfg_of entries number) (addr_of entries number)) (range_with_len 0 16)
+
+-- the verdict on an access, with the entry that decides, or `free` where none does
+unfoldable pub verdict_text : Verdict → List ℕ
+verdict_text (Allowed number) = codes "allowed entry " ++ decimal number ++ codes "\n"
+verdict_text AllowedFree = codes "allowed free\n"
+verdict_text (Denied number) = codes "denied entry " ++ decimal number ++ codes "\n"
+verdict_text (DeniedPartial number) = codes "denied partial " ++ decimal number ++ codes "\n"
+verdict_text DeniedFree = codes "denied free\n"
+
+-- a byte of the access is outside RAM
+unfoldable pub denied_outside_text : List ℕ
+denied_outside_text = codes "denied outside\n"
+
+-- it is done
+unfoldable pub ok_text : List ℕ
+ok_text = codes "ok\n"
+
+-- there is no room for one more address
+unfoldable pub full_text : List ℕ
+full_text = codes "error full\n"
+
+-- the fault of a line
+abbrev pub fault_text : CommandFault → List ℕ
+fault_text BadLine = codes "error line\n"
+fault_text UnknownCommand = codes "error command\n"
+fault_text BadOperand = codes "error operand\n"
+
+-- there is no control and status register of the number
+unfoldable pub no_csr_text : List ℕ
+no_csr_text = codes "error csr\n"
+
+-- a byte that was asked for is outside RAM
+unfoldable pub outside_text : List ℕ
+outside_text = codes "error outside\n"

@@ -1,0 +1,34 @@
+-- What stops a run: the bytes that an instruction accesses. (This project's own debugger; what a step touches is said of the
+-- instruction's accesses, RISC-V Unprivileged ISA 20191213, section 1.4.)
+use Rattle.std.specs.Prelude.{ℕ, ◌+◌, Bool, false, ◌&&◌, ◌||◌, nat_le, nat_lt, min, List, [], ◌∷◌, filter, Option, Some, None}
+use Rattle.rv_word.specs.Widths.{bytes_in}
+use Rattle.rv_memory.specs.declared.touched.Span.{Span}
+use Rattle.rv_memory.specs.declared.touched.Touched.{Touched}
+
+-- the address is one of so many from this one on
+abbrev pub is_between : ℕ → ℕ → ℕ → Bool
+is_between first count address = nat_le first address && nat_lt address (first + count)
+
+-- the byte at the address is one of these
+abbrev pub is_in : Option Span → ℕ → Bool
+is_in None address = false
+is_in (Some span) address = is_between span.addr (bytes_in span.len) address
+
+-- the instruction loaded or stored the byte at the address; what was fetched does not count
+abbrev pub is_accessed : Touched → ℕ → Bool
+is_accessed touched address = is_in touched.loaded address || is_in touched.stored address
+
+-- the lower of two addresses, of which either may be missing
+abbrev pub lower : Option ℕ → Option ℕ → Option ℕ
+lower None second = second
+lower (Some first) None = Some first
+lower (Some first) (Some second) = Some (min first second)
+
+-- the lowest of some addresses
+abbrev pub lowest : List ℕ → Option ℕ
+lowest [] = None
+lowest (address ∷ addresses) = lower (Some address) (lowest addresses)
+
+-- the lowest of some addresses that was accessed
+unfoldable pub lowest_accessed : List ℕ → Touched → Option ℕ
+lowest_accessed addresses touched = lowest (filter (is_accessed touched) addresses)

@@ -1,0 +1,102 @@
+//! The bench: a machine and the debugger's state.
+
+use crate::addresses::Addresses;
+use crate::answer::{
+    answer_access, answer_csr, answer_dis, answer_mem, answer_poke, answer_removal, answer_run,
+    answer_setreg, answer_timer,
+};
+use crate::command::{Command, parse};
+use crate::reply::{Reply, push_fault, push_pmp, push_register, push_registers, push_set};
+use rv_hart::Machine;
+use std::marker::Model;
+
+/// A machine under a debugger.
+#[derive(Drop, Debug)]
+pub struct Bench {
+    machine: Machine,
+    breaks: Addresses,
+    watches: Addresses,
+}
+
+impl Model for Bench {
+    ghost use Rattle.rv_debug.specs.BenchState.{BenchState};
+
+    ghost Value = { BenchState };
+
+    ghost view = { λ bench. record { machine = bench.machine; breaks = bench.breaks; watches = bench.watches } };
+}
+
+impl Bench {
+    ghost use Rattle.std.specs.Prelude.{◌≡◌};
+    ghost use Rattle.rv_debug.specs.Answer.{answer, line_answer};
+    ghost use Rattle.rv_debug.specs.BenchState.{bare};
+
+    /// A bench over a machine as it is, with no break and no watch.
+    pub fn bare(machine: Machine) -> Self
+        ensures { result ≡ bare machine }
+    {
+        Bench {
+            machine,
+            breaks: Addresses::new(),
+            watches: Addresses::new(),
+        }
+    }
+
+    /// Does one command, and puts its reply in place of what the buffer holds. A refused command changes nothing of the bench.
+    ///
+    /// The answer has bit k set where enclave k was entered: it is 0, since there are no enclaves.
+    #[tactic(auto, unfolding(crate::specs::Answer::answer))]
+    pub fn command(&mut self, command: &Command, out: &mut Reply) -> u16
+        ensures answer { answer self.old command.now ≡ record { state = self.new; reply = out.new.items } }
+        ensures entered { result ≡ 0 }
+    {
+        out.clear();
+        match *command {
+            Command::Blank | Command::Enclaves => {}
+            Command::Step(count) => {
+                let none = Addresses::new();
+                answer_run(&mut self.machine, count, &none, &none, out);
+            }
+            Command::Run(count) => {
+                answer_run(&mut self.machine, count, &self.breaks, &self.watches, out);
+            }
+            Command::Break(address) => push_set(out, self.breaks.insert(address)),
+            Command::Clear(address) => answer_removal(&mut self.breaks, address, out),
+            Command::Watch(address) => push_set(out, self.watches.insert(address)),
+            Command::Unwatch(address) => answer_removal(&mut self.watches, address, out),
+            Command::Reg(reg) => push_register(out, reg, self.machine.regs().get(reg)),
+            Command::Regs => push_registers(out, self.machine.regs(), self.machine.pc()),
+            Command::SetReg(reg, value) => answer_setreg(&mut self.machine, reg, value, out),
+            Command::Csr(csr) => answer_csr(&self.machine, csr, out),
+            Command::Mem(address, count) => answer_mem(&self.machine, address, count, out),
+            Command::Poke(address, byte) => answer_poke(&mut self.machine, address, byte, out),
+            Command::Dis(address) => answer_dis(&self.machine, address, out),
+            Command::Pmp => push_pmp(out, self.machine.csrs().pmp()),
+            Command::Access {
+                mode,
+                access,
+                address,
+                width,
+            } => answer_access(&self.machine, mode, access, address, width, out),
+            Command::Timer(raised) => answer_timer(&mut self.machine, raised, out),
+        }
+        0
+    }
+
+    /// Does what a line says, given without its ending, or replies with its first fault, and then nothing changes. What the
+    /// buffer holds gives place to the reply. The answer is that of `command`, and 0 at a fault.
+    #[tactic(auto, unfolding(crate::specs::Answer::line_answer))]
+    pub fn answer_line(&mut self, line: &[u8], out: &mut Reply) -> u16
+        ensures answer { line_answer self.old line.now ≡ record { state = self.new; reply = out.new.items } }
+        ensures entered { result ≡ 0 }
+    {
+        match parse(line) {
+            Ok(command) => self.command(&command, out),
+            Err(fault) => {
+                out.clear();
+                push_fault(out, fault);
+                0
+            }
+        }
+    }
+}

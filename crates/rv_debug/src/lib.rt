@@ -1,0 +1,34 @@
+//! The commands of the bench: how a line is read as one, what each changes, and the text of its reply.
+//!
+//! In the specs `Command` is the table of the commands and their operands, `Answer` what each leaves and replies, `ReplyText`
+//! the texts, `Steps` what steps do one after another, and `BenchState` the state that commands show and change.
+//!
+//! ```text
+//! let mut bench = Bench::bare(machine);
+//! let mut reply = Reply::new();
+//! bench.answer_line(b"step 1", &mut reply);
+//! // ran 1 pc=80000004 mode=M world=bare why=done trap=-
+//! ```
+#![tactic(auto)]
+
+mod addresses;
+mod answer;
+mod bench;
+mod command;
+mod digits;
+mod keyword;
+mod numbers;
+mod reply;
+mod steps;
+mod within;
+mod words;
+
+pub use bench::Bench;
+pub use command::{ByteCount, Command, CommandFault, StepCount, parse};
+pub use digits::{push_hex, push_text};
+pub use reply::Reply;
+pub use within::Within;
+pub use words::{MOST_WORDS, first_words};
+
+#[cfg(test)]
+mod bench_tests;

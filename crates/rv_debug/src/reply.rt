@@ -1,0 +1,480 @@
+//! The lines that answer commands.
+
+ghost use Rattle.std.specs.Prelude.{◌≡◌, ℕ, ◌+◌, ◌*◌, ◌≤◌, ◌++◌, length, codes, decimal, if◌then◌else◌};
+ghost use Rattle.arrayvec.specs.ArrayVec.{array_vec_len};
+ghost use Rattle.rv_debug.specs.ReplyText.{mode_text, stop_text, ran_text, trap_text, register_text, registers_text, pc_text, ok_text, csr_text, memory_text, dis_text, entry_text, pmp_text, verdict_text, denied_outside_text, full_text, fault_text, no_csr_text, outside_text};
+
+use crate::command::CommandFault;
+use crate::digits::{push_decimal, push_hex, push_text};
+use crate::steps::{Ran, Stop};
+use arrayvec::{ArrayString, ArrayVec};
+use rv_asm::disassemble;
+use rv_encoding::CsrNumber;
+use rv_hart::Trap;
+use rv_pmp::{Mode, Pmp, PmpIndex, Verdict};
+use rv_state::Regs;
+use rv_word::Reg;
+
+/// The bytes that answer one command.
+pub type Reply = ArrayVec<u8, 2048>;
+
+/// Writes the trap of a run: its cause and value, or `-` where there was none.
+#[tactic(auto, unfolding(crate::specs::ReplyText::trap_text))]
+fn push_trap(out: &mut Reply, trap: Option<Trap>)
+    requires room { array_vec_len out.old + 17 ≤ 2048 }
+    ensures items { out.new.items ≡ out.old.items ++ trap_text trap }
+    ensures len { array_vec_len out.new ≤ array_vec_len out.old + 17 }
+{
+    match trap {
+        None => push_text(out, "-"),
+        Some(Trap { cause, tval }) => {
+            push_hex(out, cause.code(), 8);
+            push_text(out, ":");
+            push_hex(out, tval, 8);
+        }
+    }
+}
+
+/// Writes the letter of a mode.
+fn push_mode(out: &mut Reply, mode: Mode)
+    requires room { array_vec_len out.old + 1 ≤ 2048 }
+    ensures items { out.new.items ≡ out.old.items ++ mode_text mode }
+    ensures len { array_vec_len out.new ≤ array_vec_len out.old + 1 }
+{
+    match mode {
+        Mode::U => push_text(out, "U"),
+        Mode::S => push_text(out, "S"),
+        Mode::M => push_text(out, "M"),
+    }
+}
+
+/// Writes why steps ended.
+#[tactic(auto, unfolding(crate::specs::ReplyText::stop_text))]
+fn push_stop(out: &mut Reply, stop: Stop)
+    requires room { array_vec_len out.old + 14 ≤ 2048 }
+    ensures items { out.new.items ≡ out.old.items ++ stop_text stop }
+    ensures len { array_vec_len out.new ≤ array_vec_len out.old + 14 }
+{
+    match stop {
+        Stop::Done => push_text(out, "done"),
+        Stop::Break => push_text(out, "break"),
+        Stop::Watch(address) => {
+            push_text(out, "watch:");
+            push_hex(out, address, 8);
+        }
+    }
+}
+
+/// Writes what steps did: how many they were, the pc and the mode after them, why they ended, and the last trap in them.
+#[tactic(auto, unfolding(crate::specs::ReplyText::ran_text))]
+pub(crate) fn push_ran(out: &mut Reply, pc: u32, mode: Mode, ran: Ran)
+    requires room { array_vec_len out.old + 90 ≤ 2048 }
+    ensures items { out.new.items ≡ out.old.items ++ ran_text pc mode ran }
+    ensures len { array_vec_len out.new ≤ array_vec_len out.old + 90 }
+{
+    push_text(out, "ran ");
+    push_decimal(out, ran.steps);
+    push_text(out, " pc=");
+    push_hex(out, pc, 8);
+    push_text(out, " mode=");
+    push_mode(out, mode);
+    push_text(out, " world=bare why=");
+    push_stop(out, ran.stop);
+    push_text(out, " trap=");
+    push_trap(out, ran.trap);
+    push_text(out, "\n");
+}
+
+/// Writes what a register has.
+#[tactic(auto, unfolding(crate::specs::ReplyText::register_text))]
+pub(crate) fn push_register(out: &mut Reply, register: Reg, value: u32)
+    requires room { array_vec_len out.old + 21 ≤ 2048 }
+    ensures items { out.new.items ≡ out.old.items ++ register_text register value }
+    ensures len { array_vec_len out.new ≤ array_vec_len out.old + 21 }
+{
+    push_text(out, "x");
+    push_decimal(out, u32::from(register.number()));
+    push_text(out, "=");
+    push_hex(out, value, 8);
+    push_text(out, "\n");
+}
+
+/// Writes the address of the next instruction.
+#[tactic(auto, unfolding(crate::specs::ReplyText::pc_text))]
+fn push_pc(out: &mut Reply, pc: u32)
+    requires room { array_vec_len out.old + 12 ≤ 2048 }
+    ensures items { out.new.items ≡ out.old.items ++ pc_text pc }
+    ensures len { array_vec_len out.new ≡ array_vec_len out.old + 12 }
+{
+    push_text(out, "pc=");
+    push_hex(out, pc, 8);
+    push_text(out, "\n");
+}
+
+/// Writes what each register has, from x0 on, and then pc.
+#[tactic(auto, unfolding(crate::specs::ReplyText::registers_text))]
+pub(crate) fn push_registers(out: &mut Reply, regs: &Regs, pc: u32)
+    requires room { array_vec_len out.old + 418 ≤ 2048 }
+    ensures items { out.new.items ≡ out.old.items ++ registers_text regs.now pc }
+    ensures len { array_vec_len out.new ≤ array_vec_len out.old + 418 }
+{
+    for number in 0..32 {
+        let register = Reg::new(number);
+        push_register(out, register, regs.get(register));
+    }
+    push_pc(out, pc);
+}
+
+/// Writes that a command is done.
+#[tactic(auto, unfolding(crate::specs::ReplyText::ok_text))]
+pub(crate) fn push_ok(out: &mut Reply)
+    requires room { array_vec_len out.old + 3 ≤ 2048 }
+    ensures items { out.new.items ≡ out.old.items ++ ok_text }
+    ensures len { array_vec_len out.new ≡ array_vec_len out.old + 3 }
+{
+    push_text(out, "ok\n");
+}
+
+/// Writes that an address was put into a set, or that there is no room for it.
+#[tactic(auto, unfolding(crate::specs::ReplyText::full_text, crate::specs::ReplyText::ok_text))]
+pub(crate) fn push_set(out: &mut Reply, set: bool)
+    requires room { array_vec_len out.old + 11 ≤ 2048 }
+    ensures items { out.new.items ≡ out.old.items ++ (if set then ok_text else full_text) }
+    ensures len { array_vec_len out.new ≤ array_vec_len out.old + 11 }
+{
+    if set {
+        push_text(out, "ok\n");
+    } else {
+        push_text(out, "error full\n");
+    }
+}
+
+/// Writes what a control and status register reads.
+#[tactic(auto, unfolding(crate::specs::ReplyText::csr_text))]
+pub(crate) fn push_csr(out: &mut Reply, csr: CsrNumber, word: u32)
+    requires room { array_vec_len out.old + 17 ≤ 2048 }
+    ensures items { out.new.items ≡ out.old.items ++ csr_text csr word }
+    ensures len { array_vec_len out.new ≡ array_vec_len out.old + 17 }
+{
+    push_text(out, "csr ");
+    push_hex(out, u32::from(csr.number()), 3);
+    push_text(out, "=");
+    push_hex(out, word, 8);
+    push_text(out, "\n");
+}
+
+/// Writes bytes of memory, of which the first is at the address.
+#[tactic(auto, unfolding(crate::specs::ReplyText::memory_text))]
+pub(crate) fn push_memory(out: &mut Reply, address: u32, bytes: &[u8])
+    requires room { array_vec_len out.old + (10 + 3 * length bytes.now) ≤ 2048 }
+    ensures items { out.new.items ≡ out.old.items ++ memory_text address bytes.now }
+    ensures len { array_vec_len out.new ≡ array_vec_len out.old + (10 + 3 * length bytes.now) }
+{
+    push_hex(out, address, 8);
+    push_text(out, ":");
+    for byte in bytes {
+        push_text(out, " ");
+        push_hex(out, u32::from(*byte), 2);
+    }
+    push_text(out, "\n");
+}
+
+/// Writes a word and its instruction in assembly language.
+#[tactic(auto, unfolding(crate::specs::ReplyText::dis_text))]
+pub(crate) fn push_dis(out: &mut Reply, address: u32, word: u32)
+    requires room { array_vec_len out.old + 68 ≤ 2048 }
+    ensures items { out.new.items ≡ out.old.items ++ dis_text address word }
+    ensures len { array_vec_len out.new ≤ array_vec_len out.old + 68 }
+{
+    let mut text = ArrayString::new();
+    disassemble(word, &mut text);
+    push_hex(out, address, 8);
+    push_text(out, ": ");
+    push_hex(out, word, 8);
+    push_text(out, " ");
+    push_text(out, text.as_str());
+    push_text(out, "\n");
+}
+
+/// Writes an entry of physical memory protection: its number, cfg byte and pmpaddr value.
+#[tactic(auto, unfolding(crate::specs::ReplyText::entry_text))]
+fn push_entry(out: &mut Reply, index: PmpIndex, cfg: u8, addr: u32)
+    requires room { array_vec_len out.old + 36 ≤ 2048 }
+    ensures items { out.new.items ≡ out.old.items ++ entry_text index cfg addr }
+    ensures len { array_vec_len out.new ≤ array_vec_len out.old + 36 }
+{
+    push_text(out, "pmp ");
+    push_decimal(out, u32::from(index.number()));
+    push_text(out, " cfg=");
+    push_hex(out, u32::from(cfg), 2);
+    push_text(out, " addr=");
+    push_hex(out, addr, 8);
+    push_text(out, "\n");
+}
+
+/// Writes the entries of physical memory protection, from entry 0 on.
+#[tactic(auto, unfolding(crate::specs::ReplyText::pmp_text))]
+pub(crate) fn push_pmp(out: &mut Reply, pmp: &Pmp)
+    requires room { array_vec_len out.old + 576 ≤ 2048 }
+    ensures items { out.new.items ≡ out.old.items ++ pmp_text pmp.now }
+    ensures len { array_vec_len out.new ≤ array_vec_len out.old + 576 }
+{
+    for number in 0..16 {
+        let index = PmpIndex::new(number);
+        push_entry(out, index, pmp.cfg(index), pmp.addr(index));
+    }
+}
+
+/// Writes a word or two and the number of the entry that decides.
+fn push_decider(out: &mut Reply, words: &str, index: PmpIndex)
+    requires room { array_vec_len out.old + (length words.now + 11) ≤ 2048 }
+    ensures items { out.new.items ≡ out.old.items ++ (words.now ++ decimal index ++ codes "\n") }
+    ensures len { array_vec_len out.new ≤ array_vec_len out.old + (length words.now + 11) }
+{
+    push_text(out, words);
+    push_decimal(out, u32::from(index.number()));
+    push_text(out, "\n");
+}
+
+/// Writes the verdict on an access.
+#[tactic(auto, unfolding(crate::specs::ReplyText::verdict_text))]
+pub(crate) fn push_verdict(out: &mut Reply, verdict: Verdict)
+    requires room { array_vec_len out.old + 26 ≤ 2048 }
+    ensures items { out.new.items ≡ out.old.items ++ verdict_text verdict }
+    ensures len { array_vec_len out.new ≤ array_vec_len out.old + 26 }
+{
+    match verdict {
+        Verdict::Allowed(index) => push_decider(out, "allowed entry ", index),
+        Verdict::AllowedFree => push_text(out, "allowed free\n"),
+        Verdict::Denied(index) => push_decider(out, "denied entry ", index),
+        Verdict::DeniedPartial(index) => push_decider(out, "denied partial ", index),
+        Verdict::DeniedFree => push_text(out, "denied free\n"),
+    }
+}
+
+/// Writes that a byte of an access is outside RAM.
+#[tactic(auto, unfolding(crate::specs::ReplyText::denied_outside_text))]
+pub(crate) fn push_denied_outside(out: &mut Reply)
+    requires room { array_vec_len out.old + 15 ≤ 2048 }
+    ensures items { out.new.items ≡ out.old.items ++ denied_outside_text }
+    ensures len { array_vec_len out.new ≡ array_vec_len out.old + 15 }
+{
+    push_text(out, "denied outside\n");
+}
+
+/// Writes the fault of a line.
+pub(crate) fn push_fault(out: &mut Reply, fault: CommandFault)
+    requires room { array_vec_len out.old + 14 ≤ 2048 }
+    ensures items { out.new.items ≡ out.old.items ++ fault_text fault }
+    ensures len { array_vec_len out.new ≤ array_vec_len out.old + 14 }
+{
+    match fault {
+        CommandFault::BadLine => push_text(out, "error line\n"),
+        CommandFault::UnknownCommand => push_text(out, "error command\n"),
+        CommandFault::BadOperand => push_text(out, "error operand\n"),
+    }
+}
+
+/// Writes that there is no control and status register of the number that was asked for.
+#[tactic(auto, unfolding(crate::specs::ReplyText::no_csr_text))]
+pub(crate) fn push_no_csr(out: &mut Reply)
+    requires room { array_vec_len out.old + 10 ≤ 2048 }
+    ensures items { out.new.items ≡ out.old.items ++ no_csr_text }
+    ensures len { array_vec_len out.new ≡ array_vec_len out.old + 10 }
+{
+    push_text(out, "error csr\n");
+}
+
+/// Writes that a byte that was asked for is outside RAM.
+#[tactic(auto, unfolding(crate::specs::ReplyText::outside_text))]
+pub(crate) fn push_outside(out: &mut Reply)
+    requires room { array_vec_len out.old + 14 ≤ 2048 }
+    ensures items { out.new.items ≡ out.old.items ++ outside_text }
+    ensures len { array_vec_len out.new ≤ array_vec_len out.old + 14 }
+{
+    push_text(out, "error outside\n");
+}
+
+#[cfg(test)]
+mod tests {
+    use super::*;
+    use rv_state::{Cause, Exception};
+
+    #[test]
+    fn prints_what_steps_did(rt: HostRuntime) {
+        let illegal = Trap {
+            cause: Cause::Exception(Exception::IllegalInstruction),
+            tval: 0xffff_ffff,
+        };
+        let cases: [(Stop, Option<Trap>, &[u8]); 4] = [
+            (Stop::Done, None, b"why=done trap=-\n"),
+            (
+                Stop::Done,
+                Some(illegal),
+                b"why=done trap=00000002:ffffffff\n",
+            ),
+            (Stop::Break, None, b"why=break trap=-\n"),
+            (
+                Stop::Watch(0xa),
+                Some(illegal),
+                b"why=watch:0000000a trap=00000002:ffffffff\n",
+            ),
+        ];
+        for (stop, trap, end) in cases {
+            let mut out = Reply::new();
+            let steps = 1_000_000;
+            push_ran(&mut out, 0x8000_0004, Mode::M, Ran { steps, trap, stop });
+            let front = b"ran 1000000 pc=80000004 mode=M world=bare ".as_slice();
+            assert_eq!(rt; &out.as_slice()[..front.len().min(out.len())], front);
+            assert_eq!(rt; &out.as_slice()[front.len().min(out.len())..], end);
+        }
+    }
+
+    #[test]
+    fn prints_modes(rt: HostRuntime) {
+        let mut out = Reply::new();
+        let ran = Ran {
+            steps: 1,
+            trap: None,
+            stop: Stop::Done,
+        };
+        push_ran(&mut out, 0x8000_0004, Mode::U, ran);
+        push_ran(&mut out, 0x8000_0004, Mode::S, ran);
+        assert_eq!(rt;
+            out.as_slice(),
+            b"ran 1 pc=80000004 mode=U world=bare why=done trap=-\n\
+              ran 1 pc=80000004 mode=S world=bare why=done trap=-\n"
+                .as_slice(),
+        );
+    }
+
+    #[test]
+    fn prints_registers_and_memory(rt: HostRuntime) {
+        let mut out = Reply::new();
+        push_register(&mut out, Reg::new(1), 0xffff_ffff);
+        push_register(&mut out, Reg::new(31), 0);
+        push_memory(&mut out, 0x8000_000e, &[0xe2, 0x00, 0xff, 0xff]);
+        assert_eq!(rt;
+            out.as_slice(),
+            b"x1=ffffffff\nx31=00000000\n8000000e: e2 00 ff ff\n".as_slice()
+        );
+    }
+
+    #[test]
+    fn prints_instructions(rt: HostRuntime) {
+        let mut out = Reply::new();
+        push_dis(&mut out, 0x8000_0000, 0xfff0_8093);
+        push_dis(&mut out, 0x8000_0002, 0xffff_ffff);
+        assert_eq!(rt;
+            out.as_slice(),
+            b"80000000: fff08093 addi x1, x1, -1\n80000002: ffffffff .word 0xffffffff\n".as_slice()
+        );
+    }
+
+    #[test]
+    fn prints_all_registers(rt: HostRuntime) {
+        let mut regs = Regs::new();
+        regs.set(Reg::new(0), 1);
+        regs.set(Reg::new(7), 0xabcd);
+        regs.set(Reg::new(31), 0xffff_ffff);
+        let mut out = Reply::new();
+        push_registers(&mut out, &regs, 0x8000_0004);
+        assert_eq!(rt; out.len(), 418);
+        assert_eq!(rt;
+            out.as_slice(),
+            b"x0=00000000\nx1=00000000\nx2=00000000\nx3=00000000\n\
+              x4=00000000\nx5=00000000\nx6=00000000\nx7=0000abcd\n\
+              x8=00000000\nx9=00000000\nx10=00000000\nx11=00000000\n\
+              x12=00000000\nx13=00000000\nx14=00000000\nx15=00000000\n\
+              x16=00000000\nx17=00000000\nx18=00000000\nx19=00000000\n\
+              x20=00000000\nx21=00000000\nx22=00000000\nx23=00000000\n\
+              x24=00000000\nx25=00000000\nx26=00000000\nx27=00000000\n\
+              x28=00000000\nx29=00000000\nx30=00000000\nx31=ffffffff\n\
+              pc=80000004\n"
+                .as_slice(),
+        );
+    }
+
+    #[test]
+    fn prints_csrs(rt: HostRuntime) {
+        let mut out = Reply::new();
+        push_csr(&mut out, CsrNumber::new(0x341), 0x8000_0004);
+        push_csr(&mut out, CsrNumber::new(0x1), u32::MAX);
+        push_no_csr(&mut out);
+        assert_eq!(rt;
+            out.as_slice(),
+            b"csr 341=80000004\ncsr 001=ffffffff\nerror csr\n".as_slice()
+        );
+    }
+
+    #[test]
+    fn prints_entries(rt: HostRuntime) {
+        let mut pmp = Pmp::new();
+        pmp.write_addr(PmpIndex::new(0), 0x2000_0040);
+        pmp.write_cfg(PmpIndex::new(0), 0x17);
+        pmp.write_addr(PmpIndex::new(1), 0xffff_ffff);
+        pmp.write_addr(PmpIndex::new(15), 1);
+        pmp.write_cfg(PmpIndex::new(15), 0x9f);
+        let mut out = Reply::new();
+        push_pmp(&mut out, &pmp);
+        assert_eq!(rt;
+            out.as_slice(),
+            b"pmp 0 cfg=17 addr=20000040\n\
+              pmp 1 cfg=00 addr=ffffffff\n\
+              pmp 2 cfg=00 addr=00000000\n\
+              pmp 3 cfg=00 addr=00000000\n\
+              pmp 4 cfg=00 addr=00000000\n\
+              pmp 5 cfg=00 addr=00000000\n\
+              pmp 6 cfg=00 addr=00000000\n\
+              pmp 7 cfg=00 addr=00000000\n\
+              pmp 8 cfg=00 addr=00000000\n\
+              pmp 9 cfg=00 addr=00000000\n\
+              pmp 10 cfg=00 addr=00000000\n\
+              pmp 11 cfg=00 addr=00000000\n\
+              pmp 12 cfg=00 addr=00000000\n\
+              pmp 13 cfg=00 addr=00000000\n\
+              pmp 14 cfg=00 addr=00000000\n\
+              pmp 15 cfg=9f addr=00000001\n"
+                .as_slice(),
+        );
+    }
+
+    #[test]
+    fn prints_verdicts(rt: HostRuntime) {
+        let mut out = Reply::new();
+        push_verdict(&mut out, Verdict::Allowed(PmpIndex::new(0)));
+        push_verdict(&mut out, Verdict::AllowedFree);
+        push_verdict(&mut out, Verdict::Denied(PmpIndex::new(15)));
+        push_verdict(&mut out, Verdict::DeniedPartial(PmpIndex::new(9)));
+        push_verdict(&mut out, Verdict::DeniedFree);
+        push_denied_outside(&mut out);
+        assert_eq!(rt;
+            out.as_slice(),
+            b"allowed entry 0\nallowed free\ndenied entry 15\ndenied partial 9\n\
+              denied free\ndenied outside\n"
+                .as_slice(),
+        );
+    }
+
+    #[test]
+    fn prints_that_it_is_done(rt: HostRuntime) {
+        let mut out = Reply::new();
+        push_ok(&mut out);
+        push_set(&mut out, true);
+        push_set(&mut out, false);
+        assert_eq!(rt; out.as_slice(), b"ok\nok\nerror full\n".as_slice());
+    }
+
+    #[test]
+    fn prints_faults(rt: HostRuntime) {
+        let mut out = Reply::new();
+        push_fault(&mut out, CommandFault::BadOperand);
+        push_fault(&mut out, CommandFault::UnknownCommand);
+        push_outside(&mut out);
+        push_fault(&mut out, CommandFault::BadLine);
+        assert_eq!(rt;
+            out.as_slice(),
+            b"error operand\nerror command\nerror outside\nerror line\n".as_slice(),
+        );
+    }
+}
