@@ -27,5 +27,7 @@ for subcommand in run asm dis; do
   help_has "Usage: rvbench $subcommand" help "$subcommand"
 done
 help_has ' *--ram <BYTES>' run --help
+help_has ' *--kind <' run --help
 help_has ' *--ram <BYTES>' help run
+help_has ' *--kind <' help run
 help_has 'Usage: rvbench run' run --ram 65536 --help

@@ -1,6 +1,6 @@
-"""The words of the instructions that corner_values.py, csr_table.py, traps.py and pmp.py use, by the tables of opcode, funct3
-and funct7 of the RISC-V Unprivileged ISA 20191213, sections 2.2, 2.3 and chapter 24, and of the Privileged Architecture
-20211203. Nothing of the bench is used. differing_from_llvm compares them with LLVM's assembler.
+"""The words of the instructions that corner_values.py, csr_table.py, traps.py, pmp.py and debugger.py use, by the tables of
+opcode, funct3 and funct7 of the RISC-V Unprivileged ISA 20191213, sections 2.2, 2.3 and chapter 24, and of the Privileged
+Architecture 20211203. Nothing of the bench is used. differing_from_llvm compares them with LLVM's assembler.
 """
 import re
 import subprocess

@@ -59,3 +59,28 @@ expect "an image of a byte more than a RAM of 65536 bytes" 1 $? "$scratch/wanted
 printf 'rvbench: ram 1\n' > "$scratch/wanted"
 image 65537 | "$program" run --ram 65535 > "$scratch/out"
 expect "an unlawful RAM, and an image of a byte more" 1 $? "$scratch/wanted" "$scratch/out"
+
+# elf_file FILESZ COUNT: the text of an ELF file with one segment at the first byte of RAM, whose p_filesz and p_memsz stand here
+# as they stand in the file, of COUNT bytes behind the headers, and of the script above.
+elf_file() {
+  printf '7f454c460101010000000000000000000200f3000100000000000080340000000000000000000000340020000100280000000000\n'
+  printf '01000000540000000000008000000080%s%s0500000004000000\n' "$1" "$1"
+  image "$2"
+}
+
+# A segment that the file fills the whole RAM with, whatever the file has behind it; a byte more than that; a byte too little of
+# the file; and the most bytes that an image may have, or one more.
+printf '800fffff: 11\n' > "$scratch/wanted"
+elf_file 00001000 1048576 | "$program" > "$scratch/out"
+expect "an ELF file that fills the RAM" 0 $? "$scratch/wanted" "$scratch/out"
+elf_file 00001000 33554348 | "$program" > "$scratch/out"
+expect "an ELF file of the most bytes" 0 $? "$scratch/wanted" "$scratch/out"
+printf 'rvbench: image 9\n' > "$scratch/wanted"
+elf_file 01001000 1048577 | "$program" > "$scratch/out"
+expect "an ELF file with a segment of a byte more than the RAM" 1 $? "$scratch/wanted" "$scratch/out"
+printf 'rvbench: image 7\n' > "$scratch/wanted"
+elf_file 00001000 1048575 | "$program" > "$scratch/out"
+expect "an ELF file that is a byte short" 1 $? "$scratch/wanted" "$scratch/out"
+printf 'rvbench: too long\n' > "$scratch/wanted"
+elf_file 00001000 33554349 | "$program" > "$scratch/out"
+expect "an ELF file of a byte more than the most" 1 $? "$scratch/wanted" "$scratch/out"

@@ -2,7 +2,7 @@
 use Rattle.std.proofs.Common.{◌≡◌, [], ◌∷◌, codes, Ok, Err, refl}
 use Rattle.rv_bench.specs.declared.fault.BenchFault.TheVariants.{Hex}
 use Rattle.rv_asm.specs.LineText.{is_text}
-use Rattle.rv_bench.specs.Words.{words_of}
+use Rattle.rv_debug.specs.Words.{words_of}
 use Rattle.rv_asm.specs.Lines.{lines_of}
 use Rattle.rv_bench.specs.Image.{line_word, bytes_of_digits, image_in, after_image}
 

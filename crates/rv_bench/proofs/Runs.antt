@@ -1,22 +1,24 @@
 -- A run, line by line.
 use Rattle.std.proofs.Common.{◌≡◌, ℕ, Bool, false, List, [], ◌∷◌, ◌++◌, take, refl, sym, ◌∙◌, ap, subst, append_assoc, append-nil, lit≤}
-use Rattle.rv_bench.specs.Answer.{Answered, line_answer, replies, state_after}
+use Rattle.rv_debug.proofs.Answers.{line_answer-cut}
+use Rattle.rv_debug.specs.Answer.{Answered, line_answer}
+use Rattle.rv_debug.specs.BenchState.{BenchState}
+use Rattle.rv_bench.specs.Replies.{replies, state_after}
 use Rattle.rv_asm.specs.Lines.{lines_of}
 use Rattle.rv_bench.specs.LineText.{ReadsText, TakesLine, ReadsLines}
 use Rattle.rv_bench.specs.Run.{StopsAtRead, StopsAtWrite}
-use Rattle.rv_hart.specs.State.{State}
 use Rattle.rv_bench.specs.Transfer.{WritesFront}
-use Rattle.rv_bench.proofs.Answers.{replies-append, state_after-append, replies-more, line_answer-cut}
+use Rattle.rv_bench.proofs.RepliesLemmas.{replies-append, state_after-append, replies-more}
 use Rattle.rv_bench.proofs.LineTextLemmas.{ReadsLines-none, ReadsLines-more}
 
 -- The lines that were taken have their replies.
-pub record AnswersLines (start : State) (unread old : List ℕ) (now : State) (left : List ℕ) (is_at_end : Bool) (new : List ℕ) : Type 0 where
+pub record AnswersLines (start : BenchState) (unread old : List ℕ) (now : BenchState) (left : List ℕ) (is_at_end : Bool) (new : List ℕ) : Type 0 where
   pub lines : List (List ℕ)
   pub reads : ReadsLines unread left is_at_end lines
   pub state : now ≡ state_after start lines
   pub written : new ≡ old ++ replies start lines
 
-pub AnswersLines-none : (start : State) (unread old : List ℕ) (is_at_end : Bool) → AnswersLines start unread old start unread is_at_end old
+pub AnswersLines-none : (start : BenchState) (unread old : List ℕ) (is_at_end : Bool) → AnswersLines start unread old start unread is_at_end old
 AnswersLines-none start unread old is_at_end = record {
   lines = [];
   reads = ReadsLines-none unread is_at_end;
@@ -25,18 +27,18 @@ AnswersLines-none start unread old is_at_end = record {
 }
 
 -- what the machine answers to the shown front of a line is the answer to the line
-shown-answer : (now : State) (shown line : List ℕ) (answered : Answered) → shown ≡ take 121 line → line_answer now shown ≡ answered → line_answer now line ≡ answered
+shown-answer : (now : BenchState) (shown line : List ℕ) (answered : Answered) → shown ≡ take 121 line → line_answer now shown ≡ answered → line_answer now line ≡ answered
 shown-answer now shown line answered front is = sym (line_answer-cut now line) ∙ (ap (line_answer now) (sym front) ∙ is)
 
 -- the machine after the lines so far answers the next line
-next-answer : (start : State) (unread old : List ℕ) (now : State) (left mid rest : List ℕ) (ends : Bool) (shown : List ℕ) (answered : Answered)
+next-answer : (start : BenchState) (unread old : List ℕ) (now : BenchState) (left mid rest : List ℕ) (ends : Bool) (shown : List ℕ) (answered : Answered)
     → (so_far : AnswersLines start unread old now left false mid) → (takes : TakesLine left rest ends shown) → line_answer now shown ≡ answered
     → line_answer (state_after start so_far.lines) takes.line ≡ answered
 next-answer start unread old now left mid rest ends shown answered so_far takes is =
     ap (λ s. line_answer s takes.line) (sym so_far.state) ∙ shown-answer now shown takes.line answered takes.front is
 
 -- one more line is answered
-pub AnswersLines-more : (start : State) (unread old : List ℕ) (now : State) (left mid : List ℕ) (after : State) (rest : List ℕ) (ends : Bool) (new shown reply : List ℕ)
+pub AnswersLines-more : (start : BenchState) (unread old : List ℕ) (now : BenchState) (left mid : List ℕ) (after : BenchState) (rest : List ℕ) (ends : Bool) (new shown reply : List ℕ)
     → AnswersLines start unread old now left false mid → TakesLine left rest ends shown
     → line_answer now shown ≡ record { state = after; reply = reply } → new ≡ mid ++ reply → AnswersLines start unread old after rest ends new
 AnswersLines-more start unread old now left mid after rest ends new shown reply so_far takes is wrote =
@@ -54,7 +56,7 @@ AnswersLines-more start unread old now left mid after rest ends new shown reply 
     }
 
 -- the source fails within a line
-pub AnswersLines-read : (start : State) (unread old : List ℕ) (now : State) (left new rest kept : List ℕ)
+pub AnswersLines-read : (start : BenchState) (unread old : List ℕ) (now : BenchState) (left new rest kept : List ℕ)
     → AnswersLines start unread old now left false new → ReadsText left rest kept → StopsAtRead start unread rest kept old new
 AnswersLines-read start unread old now left new rest kept so_far begun = record {
   text = so_far.reads.text;
@@ -67,7 +69,7 @@ AnswersLines-read start unread old now left new rest kept so_far begun = record 
 }
 
 -- the sink fails once the lines have their replies
-pub AnswersLines-written : (start : State) (unread old : List ℕ) (now : State) (left : List ℕ) (is_at_end : Bool) (new : List ℕ)
+pub AnswersLines-written : (start : BenchState) (unread old : List ℕ) (now : BenchState) (left : List ℕ) (is_at_end : Bool) (new : List ℕ)
     → AnswersLines start unread old now left is_at_end new → StopsAtWrite start unread left old new
 AnswersLines-written start unread old now left is_at_end new so_far = record {
   text = so_far.reads.text;
@@ -81,7 +83,7 @@ AnswersLines-written start unread old now left is_at_end new so_far = record {
 }
 
 -- the sink stops within the reply to one more line
-pub AnswersLines-stopped : (start : State) (unread old : List ℕ) (now : State) (left mid : List ℕ) (after : State) (rest : List ℕ) (ends : Bool) (new shown reply : List ℕ)
+pub AnswersLines-stopped : (start : BenchState) (unread old : List ℕ) (now : BenchState) (left mid : List ℕ) (after : BenchState) (rest : List ℕ) (ends : Bool) (new shown reply : List ℕ)
     → AnswersLines start unread old now left false mid → TakesLine left rest ends shown
     → line_answer now shown ≡ record { state = after; reply = reply } → WritesFront mid new reply → StopsAtWrite start unread rest old new
 unfolding AnswersLines-more
@@ -100,14 +102,14 @@ AnswersLines-stopped start unread old now left mid after rest ends new shown rep
     }
 
 -- at the end every line has its reply
-pub AnswersLines-all : (start : State) (unread old : List ℕ) (now : State) (left : List ℕ) (is_at_end : Bool) (new : List ℕ)
+pub AnswersLines-all : (start : BenchState) (unread old : List ℕ) (now : BenchState) (left : List ℕ) (is_at_end : Bool) (new : List ℕ)
     → AnswersLines start unread old now left is_at_end new → left ≡ [] → new ≡ old ++ replies start (lines_of unread)
 AnswersLines-all start unread old now left is_at_end new so_far none =
     let every : lines_of unread ≡ so_far.lines = so_far.reads.all ∙ (ap (λ t. so_far.lines ++ lines_of t) none ∙ append-nil so_far.lines) in
     so_far.written ∙ ap (λ lines. old ++ replies start lines) (sym every)
 
 -- what is written then is a beginning of all replies
-pub StopsAtWrite-front : (start : State) (unread left old new : List ℕ) → StopsAtWrite start unread left old new → WritesFront old new (replies start (lines_of unread))
+pub StopsAtWrite-front : (start : BenchState) (unread left old new : List ℕ) → StopsAtWrite start unread left old new → WritesFront old new (replies start (lines_of unread))
 StopsAtWrite-front start unread left old new stops =
     let more = stops.written.0 in
     let front = stops.written.1.0 in
@@ -126,5 +128,5 @@ StopsAtWrite-front start unread left old new stops =
     )
 
 -- lines that go on are not at their end
-pub going_on : {start : State} {unread old : List ℕ} {now : State} {left : List ℕ} {is_at_end : Bool} {new : List ℕ} → is_at_end ≡ false → AnswersLines start unread old now left is_at_end new → AnswersLines start unread old now left false new
+pub going_on : {start : BenchState} {unread old : List ℕ} {now : BenchState} {left : List ℕ} {is_at_end : Bool} {new : List ℕ} → is_at_end ≡ false → AnswersLines start unread old now left is_at_end new → AnswersLines start unread old now left false new
 going_on {start} {unread} {old} {now} {left} {is_at_end} {new} going so_far = subst (λ b. AnswersLines start unread old now left b new) going so_far

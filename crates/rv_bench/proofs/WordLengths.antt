@@ -3,7 +3,7 @@ use Rattle.std.proofs.Common.{◌≡◌, ℕ, ◌+◌, ◌≤◌, leb, Bool, tru
 use Rattle.std.proofs.lemmas.Bool.Decides.{nat_tests}
 use Rattle.std.specs.List.{slice_split, onto_first, list_all}
 use Rattle.rv_asm.specs.LineText.{is_blank, is_text, is_good_line}
-use Rattle.rv_bench.specs.Words.{is_filled, words_of}
+use Rattle.rv_debug.specs.Words.{is_filled, words_of}
 use Rattle.rv_bench.specs.Image.{only_word, line_word}
 
 -- each part has at most n bytes

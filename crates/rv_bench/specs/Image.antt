@@ -8,7 +8,7 @@ use Rattle.rv_bench.specs.declared.fault.BenchFault.TheVariants.{Image, Ram, Rea
 use Rattle.rv_asm.specs.Lines.{lines_of, after_lines}
 use Rattle.rv_bench.specs.LineText.{ReadsText, ReadsLines}
 use Rattle.rv_asm.specs.LineText.{is_good_line}
-use Rattle.rv_bench.specs.Words.{words_of}
+use Rattle.rv_debug.specs.Words.{words_of}
 
 -- one word, or none, which is a word of no bytes
 abbrev pub only_word : List (List ℕ) → Option (List ℕ)

@@ -1,5 +1,6 @@
 -- What each job writes for an input, and how it stops. (This project's own jobs.)
 use Rattle.std.specs.Prelude.{◌≡◌, ℕ, Bool, true, false, not, List, [], ◌⊎◌, Result, IsOkAnd}
+use Rattle.rv_debug.specs.BenchState.{bare}
 use Rattle.rv_memory.specs.Memory.{is_ram_size}
 use Rattle.rv_bench.specs.AssemblyText.{asm_output, is_asm_fault}
 use Rattle.rv_bench.specs.DisassemblyText.{dis_output, is_dis_fault}
@@ -9,11 +10,12 @@ use Rattle.rv_bench.specs.Run.{StopsAtRead}
 use Rattle.rv_bench.specs.Transfer.{ReadsAtMost}
 use Rattle.rv_bench.specs.declared.fault.BenchFault.{BenchFault}
 use Rattle.rv_command_line.specs.declared.job.Job.{Job}
+use Rattle.rv_command_line.specs.declared.setup.Setup.{Setup}
 use Rattle.rv_command_line.specs.declared.job.Job.TheVariants.{Run, Asm, Dis}
 
 -- what a job writes for an input, or its fault
 abbrev pub job_output : Job → List ℕ → Result (List ℕ) BenchFault
-job_output (Run setup) input = output setup.ram input
+job_output (Run setup) input = output setup input
 job_output Asm input = asm_output input
 job_output Dis input = dis_output input
 
@@ -48,13 +50,13 @@ has_fault Asm fault = is_asm_fault fault
 has_fault Dis fault = is_dis_fault fault
 
 -- The source failed in a run: in the image, or else in a line after it, when the lines before have their replies.
-abbrev pub RunStopsAtRead : ℕ → List ℕ → List ℕ → List ℕ → List ℕ → List ℕ → Type 0
-RunStopsAtRead ram_size unread left kept old new =
+abbrev pub RunStopsAtRead : Setup → List ℕ → List ℕ → List ℕ → List ℕ → List ℕ → Type 0
+RunStopsAtRead setup unread left kept old new =
     (ReadsInImage unread left kept × (new ≡ old))
-    ⊎ IsOkAnd (machine_in ram_size unread) (λ state. StopsAtRead state (after_image unread) left kept old new)
+    ⊎ IsOkAnd (machine_in setup unread) (λ state. StopsAtRead (bare state) (after_image unread) left kept old new)
 
 -- The source failed: the bytes that were read, up to those that are left, and those that were written.
 abbrev pub JobStopsAtRead : Job → List ℕ → List ℕ → List ℕ → List ℕ → Type 0
-JobStopsAtRead (Run setup) unread left old new = (kept : List ℕ) × RunStopsAtRead setup.ram unread left kept old new
+JobStopsAtRead (Run setup) unread left old new = (kept : List ℕ) × RunStopsAtRead setup unread left kept old new
 JobStopsAtRead Asm unread left old new = ReadsAtMost 4194304 unread left × (new ≡ old)
 JobStopsAtRead Dis unread left old new = (kept : List ℕ) × (ReadsInImage unread left kept × (new ≡ old))

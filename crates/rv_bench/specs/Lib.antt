@@ -1,6 +1,4 @@
-pub mod Answer
 pub mod AssemblyText
-pub mod Command
 pub mod Device
 pub mod DisassemblyText
 pub mod Faults
@@ -9,13 +7,8 @@ pub mod Jobs
 pub mod LineText
 pub mod Loaded
 pub mod MemoryStreams
-pub mod Numbers
 pub mod Output
-pub mod Plans
-pub mod ReplyText
+pub mod Replies
 pub mod Run
-pub mod Steps
 pub mod Transfer
 pub mod Unread
-pub mod Within
-pub mod Words

@@ -1,5 +1,5 @@
 -- What reading the bytes of one line does. (This project's own streams.)
-use Rattle.std.specs.Prelude.{◌≡◌, ℕ, Bool, true, false, ◌&&◌, ◌==◌, List, [], ◌∷◌, ◌++◌, take, length, Result, Ok, Err, if◌then◌else◌}
+use Rattle.std.specs.Prelude.{◌≡◌, ℕ, Bool, true, false, List, [], ◌∷◌, ◌++◌, take, length, Result, Ok, Err}
 use Rattle.rv_bench.specs.declared.line.Stop.{Stop}
 use Rattle.rv_bench.specs.declared.line.Stop.TheVariants.{LineFeed, End}
 use Rattle.rv_asm.specs.Lines.{has_feed, lines_of, through_last_feed, after_line, after_lines}

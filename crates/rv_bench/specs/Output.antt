@@ -2,11 +2,13 @@
 use Rattle.std.specs.Prelude.{ℕ, Bool, true, false, List, Result, Ok, Err}
 use Rattle.rv_asm.specs.declared.fault.AsmFaultKind.{AsmFaultKind}
 use Rattle.rv_asm.specs.declared.fault.AsmFaultKind.TheVariants as asm
-use Rattle.rv_bench.specs.Answer.{replies}
+use Rattle.rv_bench.specs.Replies.{replies}
 use Rattle.rv_word.specs.Cases.{result_case}
 use Rattle.rv_bench.specs.Image.{image_in, after_image}
 use Rattle.rv_asm.specs.Lines.{lines_of}
 use Rattle.rv_bench.specs.Loaded.{started}
+use Rattle.rv_command_line.specs.declared.setup.Setup.{Setup}
+use Rattle.rv_debug.specs.BenchState.{bare}
 use Rattle.rv_hart.specs.State.{State}
 use Rattle.rv_bench.specs.declared.fault.BenchFault.{BenchFault}
 use Rattle.rv_bench.specs.declared.fault.BenchFault.TheVariants.{Image, Ram, Read, Write, Hex, TooLong, NoMemory, Asm}
@@ -14,19 +16,19 @@ use Rattle.rv_memory.specs.declared.ram_fault.RamFault.TheVariants.{BadSize, NoM
 
 -- the replies of a machine that has started, or the fault
 abbrev pub replies_of : Result State BenchFault → List (List ℕ) → Result (List ℕ) BenchFault
-replies_of machine script = result_case machine (λ state. Ok (replies state script)) Err
+replies_of machine script = result_case machine (λ state. Ok (replies (bare state) script)) Err
 
 -- the replies to a script over an image, or the fault of the setup or the image
-abbrev pub bench_output : ℕ → List ℕ → List (List ℕ) → Result (List ℕ) BenchFault
-bench_output ram_size image script = replies_of (started image ram_size) script
+abbrev pub bench_output : Setup → List ℕ → List (List ℕ) → Result (List ℕ) BenchFault
+bench_output setup image script = replies_of (started image setup) script
 
 -- the machine that the front of an input starts, or the first fault: of the image's text, the RAM's size or the image
-abbrev pub machine_in : ℕ → List ℕ → Result State BenchFault
-machine_in ram_size input = result_case (image_in input) (λ image. started image ram_size) Err
+abbrev pub machine_in : Setup → List ℕ → Result State BenchFault
+machine_in setup input = result_case (image_in input) (λ image. started image setup) Err
 
 -- the replies to the script in an input, or the fault
-abbrev pub output : ℕ → List ℕ → Result (List ℕ) BenchFault
-output ram_size input = replies_of (machine_in ram_size input) (lines_of (after_image input))
+abbrev pub output : Setup → List ℕ → Result (List ℕ) BenchFault
+output setup input = replies_of (machine_in setup input) (lines_of (after_image input))
 
 -- the faults of a setup and an image: no reply is written then
 abbrev pub is_start_fault : BenchFault → Bool

@@ -8,12 +8,11 @@ ghost use Rattle.rv_bench.specs.Output.{is_input_fault};
 ghost use Rattle.rv_bench.specs.Transfer.{ReadsAtMost, WritesFront};
 
 use crate::device::{DeviceFault, Sink, Source};
-use crate::digits::{push_hex, push_text};
 use crate::fault::BenchFault;
 use crate::gathered::{make_room, write_last};
-use crate::reply::Reply;
 use crate::whole::read_whole;
 use rv_asm::assemble;
+use rv_debug::{Reply, push_hex, push_text};
 use rv_word::le_bytes;
 use std::alloc::Global;
 

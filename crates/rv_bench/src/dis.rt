@@ -11,14 +11,13 @@ ghost use Rattle.rv_bench.specs.Transfer.{WritesFront};
 ghost use Rattle.rv_bench.specs.Unread.{held, unread, TellsEnd};
 
 use crate::device::{DeviceFault, Sink, Source};
-use crate::digits::{push_hex, push_text};
 use crate::fault::BenchFault;
 use crate::gathered::{make_room, write_last};
 use crate::image::read_image;
 use crate::lines::Lines;
-use crate::reply::Reply;
 use arrayvec::ArrayString;
 use rv_asm::disassemble;
+use rv_debug::{Reply, push_hex, push_text};
 use rv_word::le_word;
 use std::alloc::Global;
 

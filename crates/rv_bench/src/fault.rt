@@ -2,8 +2,8 @@
 ghost use Rattle.std.specs.Prelude.{◌≡◌};
 ghost use Rattle.rv_bench.specs.Faults.{bench_fault_number};
 
-use crate::elf_fault::ElfFault;
 use rv_asm::AsmFault;
+use rv_elf::ElfFault;
 use rv_memory::RamFault;
 use thiserror::Error;
 

@@ -6,8 +6,8 @@ ghost use Rattle.rv_bench.specs.Device.{HasRisen};
 ghost use Rattle.rv_bench.specs.Transfer.{WritesUpTo, WritesFront};
 
 use crate::device::{DeviceFault, Sink};
-use crate::reply::Reply;
 use crate::transfer::write_all;
+use rv_debug::Reply;
 
 /// Writes what is gathered, and gathers anew, where there is no room for so many bytes more.
 ///

@@ -120,7 +120,10 @@ fn does_a_disassembly(rt: HostRuntime) {
 fn refuses_a_setup(rt: HostRuntime) {
     let mut buffer = [0u8; 64];
     let mut sink = MemorySink::new(&mut buffer);
-    let job = Job::Run(Setup { ram: 1 });
+    let job = Job::Run(Setup {
+        ram: 1,
+        ..Setup::default()
+    });
     let (_, outcome) = run_job(rt.alloc(), &job, MemorySource::new(INPUT), &mut sink);
     assert_eq!(rt; outcome, Err(BenchFault::Ram(RamFault::BadSize)));
     assert!(rt; sink.bytes().is_empty());

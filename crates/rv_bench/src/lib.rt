@@ -1,9 +1,9 @@
 //! The bench from bytes to bytes: an image and a script come in through a [`Source`], and the replies go out through a
 //! [`Sink`]. The same way a text is assembled, and an image disassembled.
 //!
-//! The machine behind it is that of the crate `rv_hart`, the assembler that of `rv_asm`. The specs name what each part means:
-//! `Jobs` what each job writes for an input, `Output` what a run does, `AssemblyText` and `DisassemblyText` the other jobs,
-//! `Answer` what a command answers, `Steps` what steps do one after another.
+//! What a line of a script does is the business of the crate `rv_debug`, the assembler that of `rv_asm`. The specs name what each
+//! part means: `Jobs` what each job writes for an input, `Output` what a run does, `Replies` what a bench answers to the lines of
+//! a script, `AssemblyText` and `DisassemblyText` the other jobs.
 //!
 //! ```text
 //! let mut lines = Lines::new(MemorySource::new(b"9300f0ff\n--\nstep 1\nreg 1\n"));
@@ -14,51 +14,41 @@
 //! ```
 #![tactic(auto)]
 
-mod answer;
 mod asm;
-mod command;
 mod device;
-mod digits;
 mod dis;
-mod elf_fault;
 mod fault;
 mod gathered;
 mod image;
 mod job;
-mod keyword;
 mod line;
 mod lines;
 mod memory;
-mod numbers;
-mod plan;
-mod reply;
 mod run;
 mod start;
 mod stdio;
-mod steps;
 mod transfer;
 mod whole;
-mod within;
-mod words;
 
 pub use asm::run_asm;
 pub use device::{DeviceFault, Sink, Source};
 pub use dis::run_dis;
-pub use elf_fault::ElfFault;
 pub use fault::BenchFault;
 pub use image::{IMAGE_MAX, read_image};
 pub use job::run_job;
 pub use line::Line;
 pub use lines::Lines;
 pub use memory::{MemorySink, MemorySource};
-pub use plan::{Plan, plan_raw};
 pub use run::{run_bench, run_stream};
-pub use rv_command_line::{Job, Setup, WordsFault, read_words};
+pub use rv_command_line::{ImageKind, Job, Setup, WordsFault, read_words};
+pub use rv_elf::ElfFault;
 pub use stdio::{StandardSink, StandardSource};
 pub use whole::ASM_TEXT_MAX;
 
 #[cfg(test)]
 mod faulty;
+#[cfg(test)]
+mod image_tests;
 #[cfg(test)]
 mod job_tests;
 #[cfg(test)]

@@ -1,8 +1,9 @@
 //! From lines read to replies written.
 
 ghost use Rattle.std.specs.Prelude.{◌≡◌, ◌++◌, ◌⊎◌, ◌↔◌, [], true, false, IsTrue, OnOk, IfErr, IsOk, IsOkAnd};
-ghost use Rattle.rv_bench.specs.Answer.{replies};
+ghost use Rattle.rv_bench.specs.Replies.{replies};
 ghost use Rattle.rv_bench.specs.Device.{HasRisen};
+ghost use Rattle.rv_debug.specs.BenchState.{bare};
 ghost use Rattle.rv_bench.specs.Image.{image_in, after_image, is_text_fault, LeavesLines, ReadsInImage, ReadsFrontOfImage, StopsAtFault};
 ghost use Rattle.rv_asm.specs.Lines.{lines_of};
 ghost use Rattle.rv_bench.specs.Loaded.{started};
@@ -12,29 +13,27 @@ ghost use Rattle.rv_bench.specs.Run.{StopsAtRead, StopsAtWrite};
 ghost use Rattle.rv_bench.specs.Transfer.{WritesFront};
 ghost use Rattle.rv_bench.specs.Unread.{held, unread, HasEnded, TellsEnd};
 
-use crate::answer::answer_line;
 use crate::device::{Sink, Source};
 use crate::fault::BenchFault;
 use crate::image::read_image;
 use crate::lines::Lines;
-use crate::reply::Reply;
 use crate::start::start;
 use crate::transfer::write_all;
 use rv_command_line::Setup;
-use rv_hart::Machine;
+use rv_debug::{Bench, Reply};
 use rv_memory::RamFault;
 use std::alloc::Global;
 
 /// Writes the reply to each line, until the source answers its end. It takes no memory.
 fn run_lines<S: Source, W: Sink>(
-    machine: &mut Machine,
+    bench: &mut Bench,
     lines: &mut Lines<S>,
     sink: &mut W,
 ) -> Result<(), BenchFault>
     ensures read_to_end { OnOk result (lines.new.is_at_end ≡ true) }
     ensures end { TellsEnd lines.old lines.new }
     ensures written { IsTrue S.tells → IsTrue W.tells → OnOk result
-        (W.taken sink.new ≡ W.taken sink.old ++ replies machine.old (lines_of (unread lines.old))) }
+        (W.taken sink.new ≡ W.taken sink.old ++ replies bench.old (lines_of (unread lines.old))) }
     ensures used_up { IsTrue S.tells → OnOk result (unread lines.new ≡ []) }
     ensures sound { OnOk result ((S.failures lines.new.source ≡ S.failures lines.old.source)
         × (W.failures sink.new ≡ W.failures sink.old) × (W.refusals sink.new ≡ W.refusals sink.old)) }
@@ -45,15 +44,15 @@ fn run_lines<S: Source, W: Sink>(
         HasRisen (W.failures sink.old) (W.failures sink.new) ⊎ HasRisen (W.refusals sink.old) (W.refusals sink.new) }
 
     ensures after_read { result ≡ Err BenchFault.Read → IsTrue S.tells → IsTrue W.tells →
-        StopsAtRead machine.old (unread lines.old) (S.remaining lines.new.source) (held lines.new) (W.taken sink.old) (W.taken sink.new) }
+        StopsAtRead bench.old (unread lines.old) (S.remaining lines.new.source) (held lines.new) (W.taken sink.old) (W.taken sink.new) }
     ensures after_write { result ≡ Err BenchFault.Write → IsTrue S.tells → IsTrue W.tells →
-        StopsAtWrite machine.old (unread lines.old) (unread lines.new) (W.taken sink.old) (W.taken sink.new) }
+        StopsAtWrite bench.old (unread lines.old) (unread lines.new) (W.taken sink.old) (W.taken sink.new) }
     ensures front { result ≡ Err BenchFault.Write → IsTrue S.tells → IsTrue W.tells →
-        WritesFront (W.taken sink.old) (W.taken sink.new) (replies machine.old (lines_of (unread lines.old))) }
+        WritesFront (W.taken sink.old) (W.taken sink.new) (replies bench.old (lines_of (unread lines.old))) }
 {
     let mut reply = Reply::new();
     while let Some(line) = lines.next_line().map_err(|_| BenchFault::Read)? {
-        answer_line(machine, line.as_slice(), &mut reply);
+        bench.answer_line(line.as_slice(), &mut reply);
         write_all(sink, reply.as_slice()).map_err(|_| BenchFault::Write)?;
     }
     sink.flush().map_err(|_| BenchFault::Write)
@@ -82,7 +81,7 @@ pub fn run_bench<S: Source, W: Sink>(
     // At the end all was read, and just the replies were written.
     ensures read_to_end { OnOk result (HasEnded lines.old lines.new) }
     ensures written { IsTrue S.tells → IsTrue W.tells → OnOk result
-        (IsOkAnd (bench_output setup.now.ram image.now (lines_of (unread lines.old))) (λ text. W.taken sink.new ≡ W.taken sink.old ++ text)) }
+        (IsOkAnd (bench_output setup.now image.now (lines_of (unread lines.old))) (λ text. W.taken sink.new ≡ W.taken sink.old ++ text)) }
     ensures used_up { IsTrue S.tells → OnOk result (unread lines.new ≡ []) }
     ensures at_end { OnOk result (lines.new.is_at_end ≡ true) }
     ensures sound { OnOk result ((S.failures lines.new.source ≡ S.failures lines.old.source)
@@ -90,7 +89,7 @@ pub fn run_bench<S: Source, W: Sink>(
 
     // A fault of the setup or the image is the one that they have, and then nothing was read or written.
     ensures ram_size { (result ≡ Err (BenchFault.Ram RamFault.BadSize)) ↔ (is_ram_size setup.now.ram ≡ false) }
-    ensures image { IfErr result (λ fault. IsTrue (is_input_fault fault) → started image.now setup.now.ram ≡ Err fault) }
+    ensures image { IfErr result (λ fault. IsTrue (is_input_fault fault) → started image.now setup.now ≡ Err fault) }
     ensures faults { IfErr result (λ fault. IsTrue (is_start_fault fault) ⊎ IsTrue (is_device_fault fault)) }
     ensures unchanged { IfErr result (λ fault. IsTrue (is_start_fault fault) → (lines.new ≡ lines.old) × (sink.new ≡ sink.old)) }
 
@@ -101,15 +100,15 @@ pub fn run_bench<S: Source, W: Sink>(
 
     // What was written then, and what a later call goes on from.
     ensures after_read { result ≡ Err BenchFault.Read → IsTrue S.tells → IsTrue W.tells →
-        IsOkAnd (started image.now setup.now.ram) (λ state. StopsAtRead state (unread lines.old) (S.remaining lines.new.source) (held lines.new) (W.taken sink.old) (W.taken sink.new)) }
+        IsOkAnd (started image.now setup.now) (λ state. StopsAtRead (bare state) (unread lines.old) (S.remaining lines.new.source) (held lines.new) (W.taken sink.old) (W.taken sink.new)) }
     ensures after_write { result ≡ Err BenchFault.Write → IsTrue S.tells → IsTrue W.tells →
-        IsOkAnd (started image.now setup.now.ram) (λ state. StopsAtWrite state (unread lines.old) (unread lines.new) (W.taken sink.old) (W.taken sink.new)) }
+        IsOkAnd (started image.now setup.now) (λ state. StopsAtWrite (bare state) (unread lines.old) (unread lines.new) (W.taken sink.old) (W.taken sink.new)) }
     ensures front { result ≡ Err BenchFault.Write → IsTrue S.tells → IsTrue W.tells →
-        IsOkAnd (bench_output setup.now.ram image.now (lines_of (unread lines.old))) (WritesFront (W.taken sink.old) (W.taken sink.new)) }
+        IsOkAnd (bench_output setup.now image.now (lines_of (unread lines.old))) (WritesFront (W.taken sink.old) (W.taken sink.new)) }
     ensures end { TellsEnd lines.old lines.new }
 {
-    let mut machine = start(alloc, image, setup)?;
-    run_lines(&mut machine, lines, sink)
+    let mut bench = Bench::bare(start(alloc, image, setup)?);
+    run_lines(&mut bench, lines, sink)
 }
 
 /// Reads an image, and then runs the lines after it as `run_bench` does.
@@ -132,14 +131,14 @@ pub fn run_stream<S: Source, W: Sink>(
     // At the end all was read, and just the output was written.
     ensures read_to_end { OnOk result (HasEnded lines.old lines.new) }
     ensures written { IsTrue S.tells → IsTrue W.tells → OnOk result
-        (IsOkAnd (output setup.now.ram (unread lines.old)) (λ text. W.taken sink.new ≡ W.taken sink.old ++ text)) }
+        (IsOkAnd (output setup.now (unread lines.old)) (λ text. W.taken sink.new ≡ W.taken sink.old ++ text)) }
     ensures used_up { IsTrue S.tells → OnOk result (unread lines.new ≡ []) }
     ensures at_end { OnOk result (lines.new.is_at_end ≡ true) }
     ensures sound { OnOk result ((S.failures lines.new.source ≡ S.failures lines.old.source)
         × (W.failures sink.new ≡ W.failures sink.old) × (W.refusals sink.new ≡ W.refusals sink.old)) }
 
     // A fault of the input is the one that it has; before the first reply nothing is written, whatever the refusal.
-    ensures input { IsTrue S.tells → IfErr result (λ fault. IsTrue (is_input_fault fault) → output setup.now.ram (unread lines.old) ≡ Err fault) }
+    ensures input { IsTrue S.tells → IfErr result (λ fault. IsTrue (is_input_fault fault) → output setup.now (unread lines.old) ≡ Err fault) }
     ensures faults { IfErr result (λ fault. IsTrue (is_run_fault fault)) }
     ensures unwritten { IfErr result (λ fault. is_device_fault fault ≡ false → sink.new ≡ sink.old) }
     ensures ram_size { result ≡ Err (BenchFault.Ram RamFault.BadSize) → is_ram_size setup.now.ram ≡ false }
@@ -158,13 +157,13 @@ pub fn run_stream<S: Source, W: Sink>(
     // What was written then, and what a later call goes on from.
     ensures after_read { result ≡ Err BenchFault.Read → IsTrue S.tells →
         (ReadsInImage (unread lines.old) (S.remaining lines.new.source) (held lines.new) × (sink.new ≡ sink.old))
-        ⊎ (IsTrue W.tells → IsOkAnd (machine_in setup.now.ram (unread lines.old)) (λ state.
-        StopsAtRead state (after_image (unread lines.old)) (S.remaining lines.new.source) (held lines.new) (W.taken sink.old) (W.taken sink.new))) }
+        ⊎ (IsTrue W.tells → IsOkAnd (machine_in setup.now (unread lines.old)) (λ state.
+        StopsAtRead (bare state) (after_image (unread lines.old)) (S.remaining lines.new.source) (held lines.new) (W.taken sink.old) (W.taken sink.new))) }
     ensures after_write { result ≡ Err BenchFault.Write → IsTrue S.tells → IsTrue W.tells →
-        IsOkAnd (machine_in setup.now.ram (unread lines.old)) (λ state.
-        StopsAtWrite state (after_image (unread lines.old)) (unread lines.new) (W.taken sink.old) (W.taken sink.new)) }
+        IsOkAnd (machine_in setup.now (unread lines.old)) (λ state.
+        StopsAtWrite (bare state) (after_image (unread lines.old)) (unread lines.new) (W.taken sink.old) (W.taken sink.new)) }
     ensures front { result ≡ Err BenchFault.Write → IsTrue S.tells → IsTrue W.tells →
-        IsOkAnd (output setup.now.ram (unread lines.old)) (WritesFront (W.taken sink.old) (W.taken sink.new)) }
+        IsOkAnd (output setup.now (unread lines.old)) (WritesFront (W.taken sink.old) (W.taken sink.new)) }
 {
     let image = read_image(alloc, lines)?;
     run_bench(alloc, image.as_slice(), setup, lines, sink)

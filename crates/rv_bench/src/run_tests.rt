@@ -1,12 +1,11 @@
 //! Whole runs over memory, and over devices that move few bytes a call and fail at each call in turn.
-use crate::elf_fault::ElfFault;
 use crate::fault::BenchFault;
 use crate::faulty::{AtSetCall, FaultySink, FaultySource};
 use crate::lines::Lines;
 use crate::memory::{MemorySink, MemorySource};
-use crate::plan::plan_raw;
 use crate::run::{run_bench, run_stream};
 use rv_command_line::Setup;
+use rv_elf::ElfFault;
 use rv_memory::{Ram, RamFault};
 
 const INPUT: &[u8] = b"9300f0ff\n--\nstep 1\nreg 1\n";
@@ -164,10 +163,26 @@ fn stops_at_a_full_sink(rt: HostRuntime) {
 
 #[test]
 fn refuses_in_order(rt: HostRuntime) {
-    let lawful = Setup { ram: 65536 };
-    let unlawful = Setup { ram: 1000 };
-    let cases: [(&[u8], Setup, BenchFault); 4] = [
+    let lawful = Setup {
+        ram: 65536,
+        ..Setup::default()
+    };
+    let unlawful = Setup {
+        ram: 1000,
+        ..Setup::default()
+    };
+    let cases: [(&[u8], Setup, BenchFault); 6] = [
         (b"abc\n--\nreg 0\n", unlawful, BenchFault::Hex),
+        (
+            b"7f454c46\n--\nreg 0\n",
+            unlawful,
+            BenchFault::Ram(RamFault::BadSize),
+        ),
+        (
+            b"7f454c46\n--\nreg 0\n",
+            lawful,
+            BenchFault::Image(ElfFault::Truncated),
+        ),
         (
             b"00\n--\nreg 0\n",
             unlawful,
@@ -190,7 +205,10 @@ fn refuses_in_order(rt: HostRuntime) {
 
 #[test]
 fn refuses_an_image_past_the_ram(rt: HostRuntime) {
-    let setup = Setup { ram: 65536 };
+    let setup = Setup {
+        ram: 65536,
+        ..Setup::default()
+    };
     let image = [0x11u8; 65537];
     for (len, want) in [
         (65536usize, Ok(())),
@@ -204,18 +222,6 @@ fn refuses_an_image_past_the_ram(rt: HostRuntime) {
         let written: &[u8] = if want.is_ok() { b"8000ffff: 11\n" } else { b"" };
         assert_eq!(rt; sink.bytes(), written);
     }
-}
-
-#[test]
-fn plans_raw_images(rt: HostRuntime) {
-    assert_eq!(rt;
-        plan_raw(4, 65536).map(|plan| plan.entry()),
-        Ok(0x8000_0000)
-    );
-    assert_eq!(rt; plan_raw(0, 4).map(|plan| plan.entry()), Ok(0x8000_0000));
-    assert_eq!(rt; plan_raw(65537, 65536), Err(ElfFault::SegmentOutside));
-    assert_eq!(rt; plan_raw(0, 3), Err(ElfFault::BadEntry));
-    assert_eq!(rt; plan_raw(4, 3), Err(ElfFault::SegmentOutside));
 }
 
 #[test]

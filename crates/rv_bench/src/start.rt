@@ -1,33 +1,60 @@
 //! The machine that an image starts.
 
-ghost use Rattle.std.specs.Prelude.{◌≡◌, ◌↔◌, false, IsTrue, IfOk, IfErr, Ok};
-ghost use Rattle.rv_bench.specs.Loaded.{started};
+ghost use Rattle.std.specs.Prelude.{◌≡◌, ◌↔◌, length, false, IsTrue, IfOk, IfErr, Ok};
+ghost use Rattle.rv_bench.specs.Loaded.{is_read_as_elf as is_read_as_elf_of, planned as planned_of, started};
 ghost use Rattle.rv_bench.specs.Output.{is_start_fault, is_input_fault};
 ghost use Rattle.rv_memory.specs.Memory.{is_ram_size};
 
 use crate::fault::BenchFault;
-use crate::plan::plan_raw;
-use rv_command_line::Setup;
+use rv_command_line::{ImageKind, Setup};
+use rv_elf::{ElfFault, Plan, is_elf, load, plan, plan_raw};
 use rv_hart::Machine;
 use rv_memory::{Ram, RamFault};
 use rv_pmp::Mode;
 use std::alloc::Global;
 
+/// Whether the image is read as an ELF file: by its first four bytes, where the kind leaves that open.
+fn is_read_as_elf(kind: ImageKind, image: &[u8]) -> bool
+    ensures { result ≡ is_read_as_elf_of kind image.now }
+{
+    match kind {
+        ImageKind::Auto => is_elf(image),
+        ImageKind::Raw => false,
+        ImageKind::Elf => true,
+    }
+}
+
+/// What of the image is loaded where.
+///
+/// # Errors
+///
+/// The fault of the least number that the image has.
+fn planned(image: &[u8], setup: &Setup) -> Result<Plan, ElfFault>
+    ensures value { result ≡ planned_of image.now setup.now }
+    ensures of_these { IfOk result (λ plan. (plan.image_size ≡ length image.now) × (plan.ram_size ≡ setup.now.ram)) }
+{
+    if is_read_as_elf(setup.kind, image) {
+        plan(image, setup.ram)
+    } else {
+        plan_raw(image.len(), setup.ram)
+    }
+}
+
 /// The machine at reset, with the image in its RAM.
-#[tactic(auto, unfolding(crate::specs::Loaded::started))]
+#[tactic(auto, using(crate::proofs::Starts::no_ram))]
 pub(crate) fn start(alloc: Global, image: &[u8], setup: &Setup) -> Result<Machine, BenchFault>
-    ensures machine { IfOk result (λ machine. started image.now setup.now.ram ≡ Ok machine) }
+    ensures machine { IfOk result (λ machine. started image.now setup.now ≡ Ok machine) }
     ensures ram_size { (result ≡ Err (BenchFault.Ram RamFault.BadSize)) ↔ (is_ram_size setup.now.ram ≡ false) }
-    ensures image { IfErr result (λ fault. IsTrue (is_input_fault fault) → started image.now setup.now.ram ≡ Err fault) }
+    ensures image { IfErr result (λ fault. IsTrue (is_input_fault fault) → started image.now setup.now ≡ Err fault) }
     ensures faults { IfErr result (λ fault. IsTrue (is_start_fault fault)) }
 {
     let mut ram = match Ram::new(alloc, setup.ram) {
         Ok(ram) => ram,
         Err(fault) => return Err(BenchFault::Ram(fault)),
     };
-    match plan_raw(image.len(), setup.ram) {
+    match planned(image, setup) {
         Ok(plan) => {
-            plan.load(image, &mut ram);
+            load(&plan, image, &mut ram);
             Ok(Machine::new(ram, plan.entry(), Mode::M))
         }
         Err(fault) => Err(BenchFault::Image(fault)),

@@ -1,6 +1,5 @@
 //! Lines, texts and images over devices that move few bytes a call and fail.
 use crate::device::{DeviceFault, Sink, Source};
-use crate::elf_fault::ElfFault;
 use crate::fault::BenchFault;
 use crate::faulty::{AtSetCall, FaultySink, FaultySource};
 use crate::image::read_image;
@@ -9,6 +8,7 @@ use crate::memory::{MemorySink, MemorySource};
 use crate::stdio::{StandardSink, StandardSource};
 use crate::transfer::write_all;
 use rv_asm::{AsmFault, AsmFaultKind};
+use rv_elf::ElfFault;
 use rv_memory::RamFault;
 use std::collections::VecDeque;
 use std::test::Fail;

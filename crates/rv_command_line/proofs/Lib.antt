@@ -1,2 +1,4 @@
 mod FaultKinds
+mod Given
 mod Numbers
+mod Places

@@ -1,5 +1,5 @@
 -- What a typed getter of `clap` reads of an option's text.
-use Rattle.std.proofs.Common.{◌≡◌, ◌&&◌, ◌^◌, ℕ, Bool, true, false, List, [], ◌∷◌, length, Option, Some, None, refl, sym, ap, true≢false}
+use Rattle.std.proofs.Common.{cond, ◌≡◌, ◌&&◌, ◌^◌, ℕ, Bool, true, false, List, [], ◌∷◌, length, Option, Some, None, refl, sym, ap, true≢false}
 use Rattle.std.specs.Prelude.{nat_lt, Result, Ok, Err}
 use Rattle.std.specs.List.{list_all}
 use Rattle.std.specs.Char.{digit_value}
@@ -41,3 +41,19 @@ reads_number E G text None read only = go (is_word (without_leading_plus text)) 
         let outer = both _ _ t in
         let inner = both _ _ outer.0 in
         absurd (only text (Err read.0) read.1 ((ltb-true _ _ inner.0, digits_from (without_leading_plus text) inner.1), ltb-true _ _ outer.1))
+
+-- which number it is, as a fact of a text
+pub number_reads : (text : List ℕ) → ReadsOne {E = Bool} (λ u x. ParsesUnsigned 32 10 u x) text (number_of text)
+number_reads text = go (is_word (without_leading_plus text)) refl
+  where
+    go : (b : Bool) → is_word (without_leading_plus text) ≡ b
+        → ReadsOne {E = Bool} (λ u x. ParsesUnsigned 32 10 u x) text (cond b (Some (digits_value 10 (without_leading_plus text))) None)
+    go true t =
+        let outer = both _ _ t in
+        let inner = both _ _ outer.0 in
+        (((ltb-true _ _ inner.0, digits_from (without_leading_plus text) inner.1), ltb-true _ _ outer.1), refl)
+    go false t = (
+      true,
+      λ h. absurd (true≢false
+          (rw (lt-ltb 0 (length (without_leading_plus text)) h.0.0, digits_pass (without_leading_plus text) h.0.1, lt-ltb (digits_value 10 (without_leading_plus text)) (2 ^ 32) h.1) at t)),
+    )

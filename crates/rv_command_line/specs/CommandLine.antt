@@ -1,8 +1,30 @@
 -- The command line of the program, and which words it takes, as the crate `clap` defines it of a command.
-use Rattle.std.specs.Prelude.{List, codes, Some, pos}
+use Rattle.std.specs.Prelude.{List, [], ◌∷◌, codes, map, Some, pos}
+use Rattle.std.specs.Borrow.{Bor}
 use Rattle.clap.specs.Kinds.{Kinds}
 use Rattle.clap.specs.Words.{App, Rule, Text, fault_of, new_app, new_rule, with_rule, with_subcommand}
 use Rattle.clap.specs.declared.builder.value_parser.ValueParser.TheVariants as parser
+use Rattle.rv_command_line.specs.declared.image_kind.ImageKind.{ImageKind}
+use Rattle.rv_command_line.specs.declared.image_kind.ImageKind.TheVariants as image
+
+-- the kinds of image, and what the command line calls them
+abbrev pub kinds : List (Text × ImageKind)
+kinds = (codes "auto", image.Auto) ∷ (codes "raw", image.Raw) ∷ (codes "elf", image.Elf) ∷ []
+
+abbrev pub kind_names : List Text
+kind_names = map (λ row. row.0) kinds
+
+-- names that lie somewhere in memory
+abbrev pub Names : Type 0
+Names = Bor (List (Bor Text))
+
+-- `--kind NAME`: one of the names
+abbrev pub kind : Names → Rule
+kind names = record (new_rule (codes "kind")) {
+  long = Some (codes "kind");
+  value_names = 1;
+  parser = Some (parser.Names names);
+}
 
 -- `--ram BYTES`: one number of 32 bits
 abbrev pub ram : Rule
@@ -12,8 +34,8 @@ ram = record (new_rule (codes "ram")) {
   parser = Some (parser.Signed (pos 0) (pos 4294967295));
 }
 
-abbrev pub run : App
-run = with_rule (new_app (codes "run")) ram
+abbrev pub run : Names → App
+run names = with_rule (with_rule (new_app (codes "run")) (kind names)) ram
 
 abbrev pub asm : App
 asm = new_app (codes "asm")
@@ -22,8 +44,16 @@ abbrev pub dis : App
 dis = new_app (codes "dis")
 
 -- the program with its subcommands
+abbrev pub program : Names → App
+program names = with_subcommand (with_subcommand (with_subcommand (new_app (codes "rvbench")) (run names).top) asm.top) dis.top
+
+-- what lies at the first address: a command line reads names alike wherever they lie
+abbrev pub lent : {X : Type 0} → X → Bor X
+lent x = record { ref_ptr = (0, 0); now = x }
+
+-- the program, whose option has the names of the kinds
 abbrev pub rvbench : App
-rvbench = with_subcommand (with_subcommand (with_subcommand (new_app (codes "rvbench")) run.top) asm.top) dis.top
+rvbench = program (lent (map lent kind_names))
 
 -- why it does not take the words, the program's name first: the list is empty where it takes them, and has the request for
 -- help where they make it

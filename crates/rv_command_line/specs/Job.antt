@@ -1,14 +1,21 @@
 -- The job that the words of a command line name.
-use Rattle.std.specs.Prelude.{◌&&◌, ◌^◌, ℕ, List, [], codes, nat_lt}
-use Rattle.std.specs.Prelude.{Option, Some, None, if◌then◌else◌, option_and_then, unwrap_or}
+use Rattle.std.specs.Prelude.{◌&&◌, ◌^◌, ℕ, Bool, true, List, [], codes, find, is_some, nat_lt}
+use Rattle.std.specs.Prelude.{Option, Some, None, if◌then◌else◌, option_and_then, option_map, unwrap_or}
+use Rattle.std.specs.Option.{option_map_or}
 use Rattle.std.specs.Str.{bytes_eq}
 use Rattle.std.specs.Str.Parse.{digits_value, without_leading_plus}
 use Rattle.clap.specs.ValueTests.{is_numeral}
-use Rattle.clap.specs.Words.{Row, Text, one_of, subcommand_of}
-use Rattle.rv_command_line.specs.CommandLine.{rvbench}
+use Rattle.clap.specs.Words.{Row, Text, first_of, one_of, subcommand_of}
+use Rattle.rv_command_line.specs.CommandLine.{kinds, rvbench}
+use Rattle.rv_command_line.specs.declared.image_kind.ImageKind.{ImageKind}
+use Rattle.rv_command_line.specs.declared.image_kind.ImageKind.TheVariants as image
 use Rattle.rv_command_line.specs.declared.job.Job.{Job}
 use Rattle.rv_command_line.specs.declared.job.Job.TheVariants as job
 use Rattle.rv_command_line.specs.declared.setup.Setup.{Setup}
+
+-- the kind of a name
+abbrev pub kind_of : Text → Option ImageKind
+kind_of name = option_map (λ row. row.1) (find (λ row. bytes_eq row.0 name) kinds)
 
 -- the number of 32 bits that a text of decimal digits spells, after a plus or none
 abbrev pub number_of : Text → Option ℕ
@@ -18,7 +25,15 @@ number_of text =
 
 -- the setup that the options of `run` give
 abbrev pub setup_of : List Row → Setup
-setup_of options = record { ram = unwrap_or (option_and_then number_of (one_of (codes "ram") options)) 1048576 }
+setup_of options = record {
+  kind = unwrap_or (option_and_then kind_of (first_of (codes "kind") options)) image.Auto;
+  ram = unwrap_or (option_and_then number_of (one_of (codes "ram") options)) 1048576;
+}
+
+-- each of them that is given has a value that is read, so that a default stands only for one that is not given
+abbrev pub are_read : List Row → Bool
+are_read options = option_map_or (λ text. is_some (kind_of text)) (first_of (codes "kind") options) true
+    && option_map_or (λ text. is_some (number_of text)) (one_of (codes "ram") options) true
 
 -- the job of a subcommand with its options, or of none
 abbrev pub named_job : Option (Text × List Row) → Job
@@ -26,6 +41,10 @@ named_job None = job.Run (setup_of [])
 named_job (Some (name, options)) =
     if bytes_eq name (codes "asm") then job.Asm
     else (if bytes_eq name (codes "dis") then job.Dis else job.Run (setup_of options))
+
+-- the options of `run` that the words give
+abbrev pub run_options : List Text → List Row
+run_options words = option_map_or (λ met. if bytes_eq met.0 (codes "run") then met.1 else []) (subcommand_of rvbench words) []
 
 -- the job that the words name, the program's name first
 abbrev pub job_of : List Text → Job

@@ -1,10 +1,11 @@
 //! The command line, as `clap` is told of it: the subcommands and their options, and the texts of their help.
 
-ghost use Rattle.std.specs.Prelude.{◌≡◌, false, IfOk};
-ghost use Rattle.clap.specs.Words.{app_of, rule_of};
+ghost use Rattle.std.specs.Prelude.{◌≡◌, false, IfOk, List, true};
+ghost use Rattle.clap.specs.Words.{Text, app_of, fault_of, is_simple, is_simple_and_free, rule_of, subcommand_of};
 ghost use Rattle.clap.specs.declared.builder.command.Command.TheViews.{out-Command as fields_of};
-ghost use Rattle.rv_command_line.specs.CommandLine.{asm, dis, ram, run, rvbench};
+ghost use Rattle.rv_command_line.specs.CommandLine.{asm, dis, faults_of, kind, program, ram, run, rvbench};
 
+use crate::image_kind::KIND_NAMES;
 use clap::{Arg, Command, value_parser};
 use std::alloc::{AllocError, Global};
 
@@ -12,6 +13,20 @@ use std::alloc::{AllocError, Global};
 const FIRST_EXAMPLE: &str =
     "Example: one instruction, addi x1, x0, -1, and a script of two commands:\n  \
     printf '9300f0ff\\n--\\nstep 1\\nreg 1\\n' | rvbench";
+
+/// `--kind NAME` with these names, by default what `Setup::default` has.
+fn kind_option<'a>(alloc: Global, names: &'a [&'a str]) -> Arg<'a>
+    ensures rule { rule_of result ≡ kind names.entry }
+    ensures local { result.global ≡ false }
+{
+    Arg::new(alloc, "kind")
+        .long("kind")
+        .value_name("KIND")
+        .value_parser(names)
+        .help(
+            "How the image is read; auto: as ELF where its first bytes are 7F 45 4C 46, else raw [default: auto]",
+        )
+}
 
 /// `--ram BYTES`, by default what `Setup::default` has.
 fn ram_option<'a>(alloc: Global) -> Arg<'a>
@@ -26,14 +41,16 @@ fn ram_option<'a>(alloc: Global) -> Arg<'a>
 }
 
 /// `run`: the bench itself.
-fn run_command<'a>(alloc: Global) -> Result<Command<'a>, AllocError>
-    ensures app { IfOk result (λ command. app_of command ≡ run) }
+fn run_command<'a>(alloc: Global, kind_names: &'a [&'a str]) -> Result<Command<'a>, AllocError>
+    ensures app { IfOk result (λ command. app_of command ≡ run kind_names.entry) }
     ensures local { IfOk result (λ command. (fields_of command).has_globals ≡ false) }
 {
     let command = Command::new(alloc, "run").about(
         "Read an image in hexadecimal, a line -- and a script, and write the replies (the default)",
     );
-    command.arg(ram_option(alloc))
+    command
+        .arg(kind_option(alloc, kind_names))?
+        .arg(ram_option(alloc))
 }
 
 /// `asm`: the assembler.
@@ -54,14 +71,26 @@ fn dis_command<'a>(alloc: Global) -> Command<'a>
     )
 }
 
-/// The command line of the program.
-pub(crate) fn rvbench_command<'a>(alloc: Global) -> Result<Command<'a>, AllocError>
-    ensures { IfOk result (λ command. app_of command ≡ rvbench) }
+/// The program with its subcommands.
+fn program_command<'a>(alloc: Global, kind_names: &'a [&'a str]) -> Result<Command<'a>, AllocError>
+    ensures { IfOk result (λ command. app_of command ≡ program kind_names.entry) }
 {
     let command = Command::new(alloc, "rvbench")
         .about("An instruction-exact bench for one RISC-V hart, driven by a script of commands")
         .after_help(FIRST_EXAMPLE);
-    let command = command.subcommand(run_command(alloc)?)?;
+    let command = command.subcommand(run_command(alloc, kind_names)?)?;
     let command = command.subcommand(asm_command(alloc))?;
     command.subcommand(dis_command(alloc))
+}
+
+/// The command line of the program.
+pub(crate) fn rvbench_command<'a>(alloc: Global) -> Result<Command<'a>, AllocError>
+    ensures simple { IfOk result (λ command. is_simple (app_of command) ≡ true) }
+    ensures free { IfOk result (λ command. is_simple_and_free (app_of command) ≡ true) }
+    ensures faults { IfOk result (λ command. (words : List Text)
+        → fault_of (app_of command) words ≡ faults_of words) }
+    ensures subcommand { IfOk result (λ command. (words : List Text)
+        → subcommand_of (app_of command) words ≡ subcommand_of rvbench words) }
+{
+    program_command(alloc, KIND_NAMES)
 }

@@ -1,14 +1,15 @@
 //! How words become a job.
 
-ghost use Rattle.std.specs.Prelude.{◌≡◌, IfErr, IfOk, OnOk, List, []};
+ghost use Rattle.std.specs.Prelude.{◌≡◌, IfErr, IfOk, OnOk, List, [], codes, option_and_then, true};
 ghost use Rattle.clap.specs.Kinds.{HasKind, Kinds};
 ghost use Rattle.clap.specs.Walk.{texts};
-ghost use Rattle.clap.specs.Words.{found_of, rows_of, subcommand_rows_of};
+ghost use Rattle.clap.specs.Words.{first_value, found_of, rows_of, subcommand_rows_of};
 ghost use Rattle.rv_command_line.specs.CommandLine.{faults_of};
 ghost use Rattle.rv_command_line.specs.Faults.{IsFaultOf};
-ghost use Rattle.rv_command_line.specs.Job.{job_of, named_job, setup_of};
+ghost use Rattle.rv_command_line.specs.Job.{are_read, job_of, kind_of, named_job, run_options, setup_of};
 
 use crate::command_line::rvbench_command;
+use crate::image_kind::ImageKind;
 use crate::job::Job;
 use crate::setup::Setup;
 use crate::words_fault::WordsFault;
@@ -16,12 +17,20 @@ use clap::error::ErrorKind;
 use clap::{ArgMatches, Error};
 use std::alloc::Global;
 
+/// The kind of image that the options of `run` name, if they name one.
+fn matched_kind(matches: &ArgMatches<'_>) -> Option<ImageKind>
+    ensures { result ≡ option_and_then kind_of (first_value (found_of matches.now) (codes "kind")) }
+{
+    ImageKind::named(matches.get_str("kind")?)
+}
+
 /// The setup that the options of `run` give.
 fn matched_setup(matches: &ArgMatches<'_>) -> Setup
     ensures { result ≡ setup_of (rows_of (found_of matches.now)) }
 {
     let default = Setup::default();
     Setup {
+        kind: matched_kind(matches).unwrap_or(default.kind),
         ram: matches.get_one::<u32>("ram").unwrap_or(default.ram),
     }
 }
@@ -54,11 +63,14 @@ fn fault(alloc: Global, error: &Error) -> WordsFault
 
 /// The job that the words of a command line name, the program's name first.
 ///
-/// Words that the command line takes give their job. Words that ask for help give its text, and any others are refused.
+/// Words that the command line takes give their job, where a default stands only for an option that is not given. Words that
+/// ask for help give its text, and any others are refused.
 /// Memory may be refused at any words.
+#[tactic(auto, using(crate::proofs::Given::taken_read))]
 pub fn read_words<'a>(alloc: Global, words: &'a [&'a str]) -> Result<Job, WordsFault>
     ensures taken { OnOk result (faults_of (texts words.entry.now) ≡ []) }
     ensures job { IfOk result (λ job. job ≡ job_of (texts words.entry.now)) }
+    ensures read { OnOk result (are_read (run_options (texts words.entry.now)) ≡ true) }
     ensures fault { IfErr result (IsFaultOf (faults_of (texts words.entry.now))) }
 {
     let Ok(command) = rvbench_command(alloc) else {

@@ -2,18 +2,26 @@
 
 ghost use Rattle.std.specs.Prelude.{◌≡◌};
 
+use crate::image_kind::ImageKind;
+
 /// The setup of a bench.
 #[derive(Clone, Copy, Debug, PartialEq, Eq)]
 pub struct Setup {
+    /// How the image is read.
+    pub kind: ImageKind,
     /// The size of the RAM in bytes.
     pub ram: u32,
 }
 
 impl Default for Setup {
-    /// A RAM of 1048576 bytes.
+    /// The kind `Auto`, and a RAM of 1048576 bytes.
     fn default() -> Self
-        ensures { result.ram ≡ 1048576 }
+        ensures kind { result.kind ≡ ImageKind.Auto }
+        ensures ram { result.ram ≡ 1048576 }
     {
-        Setup { ram: 1_048_576 }
+        Setup {
+            kind: ImageKind::default(),
+            ram: 1_048_576,
+        }
     }
 }

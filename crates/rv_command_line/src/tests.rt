@@ -1,5 +1,5 @@
 //! The command line, word by word.
-use crate::{Job, Setup, WordsFault, read_words};
+use crate::{ImageKind, Job, Setup, WordsFault, read_words};
 use std::test::Fail;
 
 /// What words are answered with; the text of help apart.
@@ -29,9 +29,14 @@ fn help(rt: &HostRuntime, words: &[&str]) -> Result<String, Fail> {
     }
 }
 
+/// A run with an image of this kind and so much RAM.
+fn run_with(kind: ImageKind, ram: u32) -> Answer {
+    Answer::Named(Job::Run(Setup { kind, ram }))
+}
+
 /// A run with so much RAM.
 fn run(ram: u32) -> Answer {
-    Answer::Named(Job::Run(Setup { ram }))
+    run_with(ImageKind::Auto, ram)
 }
 
 #[test]
@@ -55,6 +60,61 @@ fn names_jobs(rt: HostRuntime) -> Result<(), Fail> {
     ];
     for (words, want) in cases {
         assert_eq!(rt; answer_to(&rt, words)?, want, "at {words:?}");
+    }
+    Ok(())
+}
+
+#[test]
+fn names_kinds(rt: HostRuntime) -> Result<(), Fail> {
+    let cases: [(&str, &str, ImageKind); 3] = [
+        ("auto", "--kind=auto", ImageKind::Auto),
+        ("raw", "--kind=raw", ImageKind::Raw),
+        ("elf", "--kind=elf", ImageKind::Elf),
+    ];
+    for (name, word, kind) in cases {
+        let alone = run_with(kind, 1_048_576);
+        let both = run_with(kind, 65_536);
+        let lines: [(&[&str], Answer); 6] = [
+            (&["rvbench", "run", "--kind", name], alone),
+            (&["rvbench", "run", word], alone),
+            (&["rvbench", "run", "--kind", name, "--ram", "65536"], both),
+            (&["rvbench", "run", "--ram", "65536", "--kind", name], both),
+            (&["rvbench", "run", word, "--ram=65536"], both),
+            (&["rvbench", "run", "--ram=65536", word], both),
+        ];
+        for (words, want) in lines {
+            assert_eq!(rt; answer_to(&rt, words)?, want, "at {words:?}");
+        }
+    }
+    Ok(())
+}
+
+#[test]
+fn refuses_kinds(rt: HostRuntime) -> Result<(), Fail> {
+    let cases: [&[&str]; 20] = [
+        &["rvbench", "run", "--kind"],
+        &["rvbench", "run", "--kind="],
+        &["rvbench", "run", "--kind", ""],
+        &["rvbench", "run", "--kind", "x"],
+        &["rvbench", "run", "--kind=x"],
+        &["rvbench", "run", "--kind", "ELF"],
+        &["rvbench", "run", "--kind", "Raw"],
+        &["rvbench", "run", "--kind", "au"],
+        &["rvbench", "run", "--kind", "autos"],
+        &["rvbench", "run", "--kind", " raw"],
+        &["rvbench", "run", "--kind", "--ram", "65536"],
+        &["rvbench", "run", "--kind", "raw", "raw"],
+        &["rvbench", "run", "--kind", "raw", "--kind", "raw"],
+        &["rvbench", "run", "--kind=raw", "--kind=elf"],
+        &["rvbench", "run", "-k", "raw"],
+        &["rvbench", "run", "--kin", "raw"],
+        &["rvbench", "run", "raw"],
+        &["rvbench", "--kind", "raw"],
+        &["rvbench", "asm", "--kind", "raw"],
+        &["rvbench", "dis", "--kind=raw"],
+    ];
+    for words in cases {
+        assert_eq!(rt; answer_to(&rt, words)?, Answer::Refused, "at {words:?}");
     }
     Ok(())
 }
@@ -85,12 +145,13 @@ fn refuses_values(rt: HostRuntime) -> Result<(), Fail> {
 
 #[test]
 fn refuses_other_words(rt: HostRuntime) -> Result<(), Fail> {
-    let cases: [&[&str]; 16] = [
+    let cases: [&[&str]; 17] = [
         &["rvbench", "fly"],
         &["rvbench", ""],
         &["rvbench", "RUN"],
         &["rvbench", "--ram", "65536"],
         &["rvbench", "--ram=65536", "run"],
+        &["rvbench", "--kind=raw", "run"],
         &["rvbench", "--version"],
         &["rvbench", "-V"],
         &["rvbench", "--fly"],
@@ -111,7 +172,7 @@ fn refuses_other_words(rt: HostRuntime) -> Result<(), Fail> {
 
 #[test]
 fn gives_help(rt: HostRuntime) -> Result<(), Fail> {
-    let cases: [&[&str]; 10] = [
+    let cases: [&[&str]; 11] = [
         &["rvbench", "--help"],
         &["rvbench", "-h"],
         &["rvbench", "help"],
@@ -120,6 +181,7 @@ fn gives_help(rt: HostRuntime) -> Result<(), Fail> {
         &["rvbench", "run", "--help"],
         &["rvbench", "run", "-h"],
         &["rvbench", "run", "--ram", "65536", "--help"],
+        &["rvbench", "run", "--kind", "raw", "--help"],
         &["rvbench", "asm", "--help"],
         &["rvbench", "help", "dis"],
     ];
@@ -142,7 +204,15 @@ fn help_shows_a_first_input(rt: HostRuntime) -> Result<(), Fail> {
         assert!(rt; program.contains(part), "at {part}");
     }
     let run = help(&rt, &["rvbench", "run", "--help"])?;
-    for part in ["--ram <BYTES>", "65536", "16777216", "1048576"] {
+    for part in [
+        "--kind <KIND>",
+        "[default: auto]",
+        "[possible values: auto, raw, elf]",
+        "--ram <BYTES>",
+        "65536",
+        "16777216",
+        "[default: 1048576]",
+    ] {
         assert!(rt; run.contains(part), "at {part}");
     }
     Ok(())

@@ -1,6 +1,6 @@
 use Rattle.std.proofs.Common.{rules, ◌++◌, ◌∙◌, refl, sym, ap, subst, Ok}
 use Rattle.std.proofs.lemmas.Result.{IfOk-at_ok, IfErr-at_err}
-use Rattle.rv_bench.specs.Answer.{line_answer}
+use Rattle.rv_debug.specs.Answer.{line_answer}
 use Rattle.rv_bench.specs.Transfer.{WritesFront}
 use Rattle.rv_bench.proofs.Ends.{TellsEnd-none, TellsEnd-more}
 use Rattle.rv_bench.proofs.Mapped.{ok_mapped, err_mapped}
@@ -32,7 +32,7 @@ loop-line-preserved g c =
           AnswersLines-more _ _ _ _ _ _ _ _ _ _ _ _
           (going_on (IfOk-at_ok _ found c.next_line.ensures.going) (c.loop-line.invariant.answered source_tells sink_tells))
           (IfOk-at_ok _ found (c.next_line.ensures.line source_tells))
-          (ap (line_answer c.loop-line.machine) (sym c.as_slice.ensures.value) ∙ c.answer_line.ensures)
+          (ap (line_answer c.loop-line.bench) (sym c.as_slice.ensures.value) ∙ c.answer_line.ensures.answer)
           (IfOk-at_ok _ wrote c.write_all.ensures.written sink_tells ∙ ap (λ t. g.W.Sink.taken c.loop-line.sink ++ t) c.as_slice-in-Some.ensures.value);
       end = TellsEnd-more _ _ _ c.loop-line.invariant.end c.next_line.ensures.end;
       source_failures = search rules;
@@ -46,7 +46,7 @@ returns-in_err-map_err-clause-after_write g c = λ _ source_tells sink_tells.
     AnswersLines-stopped _ _ _ _ _ _ _ _ _ _ _ _
     (going_on (IfOk-at_ok _ found c.next_line.ensures.going) (c.loop-line.invariant.answered source_tells sink_tells))
     (IfOk-at_ok _ found (c.next_line.ensures.line source_tells))
-    (ap (line_answer c.loop-line.machine) (sym c.as_slice.ensures.value) ∙ c.answer_line.ensures)
+    (ap (line_answer c.loop-line.bench) (sym c.as_slice.ensures.value) ∙ c.answer_line.ensures.answer)
     (subst (λ t. WritesFront (g.W.Sink.taken c.loop-line.sink) (g.W.Sink.taken c.write_all.new.sink) t) c.as_slice-in-Some.ensures.value (c.write_all.ensures.front sink_tells))
 
 pub returns-in_err-map_err-clause-front : goal.returns-in_err-map_err-clause-front

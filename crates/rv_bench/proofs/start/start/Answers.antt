@@ -1,8 +1,12 @@
-use Rattle.std.proofs.Common.{rules}
-use Rattle.rv_bench.proofs.Starts.{started-ok}
+use Rattle.std.proofs.Common.{rules, sym}
+use Rattle.rv_bench.proofs.Starts.{started_ok, started_err}
 use Rattle.rv_bench.proofs.start.start.Goals as goal
 
-pub returns-in-Ok-plan_raw-clause-machine : goal.returns-in-Ok-plan_raw-clause-machine
-returns-in-Ok-plan_raw-clause-machine c =
-    started-ok _ _ _ _ _ _ _ c.in-Ok.ensures.ok_size c.in-Ok-plan_raw.ensures.0 (search rules) c.in-Ok.ensures.made c.in-Ok-plan_raw.ensures.1
-    c.load.ensures c.entry.ensures.value c.new-in-Ok-plan_raw.ensures
+pub returns-in-Ok-planned-clause-machine : goal.returns-in-Ok-planned-clause-machine
+returns-in-Ok-planned-clause-machine c =
+    started_ok _ _ c.in-Ok-planned.plan _ _ _ _ c.in-Ok.ensures.ok_size (sym c.in-Ok-planned.ensures.value) c.in-Ok.ensures.made c.load.ensures.memory
+    c.entry.ensures.value c.new-in-Ok-planned.ensures
+
+pub returns-in-Err-planned-clause-image : goal.returns-in-Err-planned-clause-image
+returns-in-Err-planned-clause-image c _ =
+    started_err _ _ c.in-Err-planned.fault (search rules) (sym c.in-Err-planned.ensures.value)

@@ -1,6 +1,0 @@
--- Numbers in a range. (No standard's: a way of writing.)
-use Rattle.std.specs.Prelude.{ℕ, ◌&&◌, Option, Some, None, nat_le, if◌then◌else◌}
-
--- the number, where it is in the range
-abbrev pub within : ℕ → ℕ → ℕ → Option ℕ
-within low high n = if nat_le low n && nat_le n high then Some n else None
