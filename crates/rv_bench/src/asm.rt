@@ -2,7 +2,7 @@
 
 ghost use Rattle.std.specs.Prelude.{◌≡◌, ◌+◌, ◌≤◌, ◌++◌, ◌⊎◌, [], false, IsTrue, OnOk, OnErr, IfErr, IsOkAnd, Err};
 ghost use Rattle.arrayvec.specs.ArrayVec.{array_vec_len};
-ghost use Rattle.rv_bench.specs.AssemblyText.{word_line, asm_text, asm_output, is_asm_fault, is_reading_fault};
+ghost use Rattle.rv_bench.specs.AssemblyText.{IsAtLine, word_line, asm_text, asm_output, is_asm_fault, is_reading_fault};
 ghost use Rattle.rv_bench.specs.Device.{HasRisen};
 ghost use Rattle.rv_bench.specs.Output.{is_input_fault};
 ghost use Rattle.rv_bench.specs.Transfer.{ReadsAtMost, WritesFront};
@@ -81,6 +81,7 @@ pub fn run_asm<S: Source, W: Sink>(
     // A fault of the text is the one that it has; before the first line nothing is written, whatever the refusal.
     ensures input { IsTrue S.tells → IfErr result (λ fault. IsTrue (is_input_fault fault) → asm_output (S.remaining source.old) ≡ Err fault) }
     ensures faults { IfErr result (λ fault. IsTrue (is_asm_fault fault)) }
+    ensures line { IsTrue S.tells → IfErr result (λ fault. IsAtLine (S.remaining source.old) fault) }
     ensures unwritten { OnErr result ((result ≡ Err BenchFault.Write) ⊎ (sink.new ≡ sink.old)) }
 
     // Each fault of a device comes only where that device failed in this call.

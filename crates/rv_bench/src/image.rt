@@ -89,12 +89,12 @@ pub fn read_image<S: Source>(alloc: Global, lines: &mut Lines<S>) -> Result<Vec<
     ensures fault { IfErr result (λ fault. IsTrue (is_image_fault fault)) }
     ensures len { IfOk result (λ image. vec_len image ≤ 33554432) }
 
-    // After a failed read only sound lines of the image were read, and the front of a line; after another fault whole lines.
+    // After a failed read only faultless lines of the image were read, and the front of a line; after another fault whole lines.
     ensures read { result ≡ Err BenchFault.Read → HasRisen (S.failures lines.old.source) (S.failures lines.new.source) }
     ensures after_read { result ≡ Err BenchFault.Read → IsTrue S.tells → ReadsInImage (unread lines.old) (S.remaining lines.new.source) (held lines.new) }
     ensures after_fault { IsTrue S.tells → OnErr result ((result ≡ Err BenchFault.Read) ⊎ LeavesLines (unread lines.old) (unread lines.new)) }
 
-    // A fault of the text is that of the last line that was read; memory is refused only at a sound line, which is read.
+    // A fault of the text is that of the last line that was read; memory is refused only at a faultless line, which is read.
     ensures at_fault { IsTrue S.tells → IfErr result (λ fault. IsTrue (is_text_fault fault) → StopsAtFault (unread lines.old) (unread lines.new) fault) }
     ensures no_memory { result ≡ Err BenchFault.NoMemory → IsTrue S.tells → ReadsFrontOfImage (unread lines.old) (unread lines.new) }
 

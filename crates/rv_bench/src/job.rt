@@ -1,9 +1,11 @@
 //! What the program is asked to do.
 
-ghost use Rattle.std.specs.Prelude.{◌≡◌, ◌++◌, ◌⊎◌, false, IsTrue, OnOk, IfErr, IsOkAnd, Err};
+ghost use Rattle.std.specs.Prelude.{ℕ, List, ◌≡◌, ◌++◌, ◌⊎◌, false, IsTrue, OnOk, IfErr, IsOk, IsOkAnd, Err};
+ghost use Rattle.rv_bench.specs.AssemblyText.{IsAtLine};
 ghost use Rattle.rv_bench.specs.Device.{HasRisen};
-ghost use Rattle.rv_bench.specs.Jobs.{job_output, left_after, reads_to_end, reads_first, wants_no_ram, has_fault, JobStopsAtRead};
-ghost use Rattle.rv_bench.specs.Output.{is_input_fault, is_device_fault};
+ghost use Rattle.rv_bench.specs.Image.{after_image, image_in, is_text_fault};
+ghost use Rattle.rv_bench.specs.Jobs.{job_output, left_after, reads_to_end, reads_first, wants_ram, wants_no_ram, has_fault, JobStopsAtFault, JobStopsAtMemory, JobStopsAtRead, JobStopsAtWrite};
+ghost use Rattle.rv_bench.specs.Output.{is_input_fault, is_start_fault, is_device_fault};
 ghost use Rattle.rv_bench.specs.Transfer.{WritesFront};
 
 use crate::asm::run_asm;
@@ -43,7 +45,15 @@ pub fn run_job<S: Source, W: Sink>(
     ensures faults { IfErr result.1 (λ fault. IsTrue (has_fault job.now fault)) }
     ensures unwritten { IfErr result.1 (λ fault. is_device_fault fault ≡ false → sink.new ≡ sink.old) }
     ensures unwritten_at_read { result.1 ≡ Err BenchFault.Read → IsTrue (reads_first job.now) → sink.new ≡ sink.old }
+    ensures line { IsTrue S.tells → IfErr result.1 (λ fault. IsAtLine (S.remaining source) fault) }
+
+    // A RAM is made where one is wanted, before anything is written; want of memory comes where the input so far has no fault.
     ensures ram_size { result.1 ≡ Err (BenchFault.Ram RamFault.BadSize) → IsTrue (wants_no_ram job.now) }
+    ensures ram { OnOk result.1 (wants_no_ram job.now ≡ false) }
+    ensures ram_first { result.1 ≡ Err BenchFault.Write → wants_no_ram job.now ≡ false }
+    ensures ram_memory { result.1 ≡ Err (BenchFault.Ram RamFault.NoMemory) →
+        IsTrue (wants_ram job.now) × (IsTrue S.tells → IsOk (image_in (S.remaining source))) }
+    ensures no_memory { result.1 ≡ Err BenchFault.NoMemory → IsTrue S.tells → JobStopsAtMemory job.now (S.remaining source) (S.remaining result.0) }
 
     // Each fault of a device comes only where that device failed in this call.
     ensures read { result.1 ≡ Err BenchFault.Read → HasRisen (S.failures source) (S.failures result.0) }
@@ -53,6 +63,12 @@ pub fn run_job<S: Source, W: Sink>(
     // What was read and written then.
     ensures after_read { result.1 ≡ Err BenchFault.Read → IsTrue S.tells → IsTrue W.tells →
         JobStopsAtRead job.now (S.remaining source) (S.remaining result.0) (W.taken sink.old) (W.taken sink.new) }
+    ensures after_write { result.1 ≡ Err BenchFault.Write → IsTrue S.tells → IsTrue W.tells →
+        JobStopsAtWrite job.now (S.remaining source) (S.remaining result.0) (W.taken sink.old) (W.taken sink.new) }
+    ensures at_fault { IsTrue S.tells → IfErr result.1 (λ fault. IsTrue (is_text_fault fault) →
+        JobStopsAtFault job.now (S.remaining source) (S.remaining result.0) fault) }
+    ensures after_image { IsTrue S.tells → IfErr result.1 (λ fault. IsTrue (is_start_fault fault) →
+        (kept : List ℕ) × (kept ++ S.remaining result.0 ≡ after_image (S.remaining source))) }
     ensures front { result.1 ≡ Err BenchFault.Write → IsTrue S.tells → IsTrue W.tells →
         IsOkAnd (job_output job.now (S.remaining source)) (WritesFront (W.taken sink.old) (W.taken sink.new)) }
 {

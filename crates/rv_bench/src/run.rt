@@ -66,7 +66,7 @@ fn run_lines<S: Source, W: Sink>(
 /// In this order, and nothing is read or written at the first three:
 /// - `Ram(BadSize)` exactly where the RAM's size is not a multiple of 65536, from 65536 to 16777216;
 /// - `Ram(NoMemory)` where memory for the RAM was refused;
-/// - `Image` where the image does not fit;
+/// - `Image` where the image does not load, with the fault of the least number that it has;
 /// - `Read` where the source failed in this call: the lines that were complete have their replies, and the line that was
 ///   begun is kept in `lines`;
 /// - `Write` where the sink failed in this call, or took no byte of a part that was not empty: a beginning of the replies
@@ -92,6 +92,9 @@ pub fn run_bench<S: Source, W: Sink>(
     ensures image { IfErr result (λ fault. IsTrue (is_input_fault fault) → started image.now setup.now ≡ Err fault) }
     ensures faults { IfErr result (λ fault. IsTrue (is_start_fault fault) ⊎ IsTrue (is_device_fault fault)) }
     ensures unchanged { IfErr result (λ fault. IsTrue (is_start_fault fault) → (lines.new ≡ lines.old) × (sink.new ≡ sink.old)) }
+    // Without such a fault the image loads, whatever the devices tell.
+    ensures loads { OnOk result (IsOk (started image.now setup.now)) }
+    ensures loads_first { IfErr result (λ fault. IsTrue (is_device_fault fault) → IsOk (started image.now setup.now)) }
 
     // Each fault of a device comes only where that device failed in this call.
     ensures read { result ≡ Err BenchFault.Read → HasRisen (S.failures lines.old.source) (S.failures lines.new.source) }
@@ -142,6 +145,8 @@ pub fn run_stream<S: Source, W: Sink>(
     ensures faults { IfErr result (λ fault. IsTrue (is_run_fault fault)) }
     ensures unwritten { IfErr result (λ fault. is_device_fault fault ≡ false → sink.new ≡ sink.old) }
     ensures ram_size { result ≡ Err (BenchFault.Ram RamFault.BadSize) → is_ram_size setup.now.ram ≡ false }
+    ensures ram { OnOk result (is_ram_size setup.now.ram ≡ true) }
+    ensures ram_first { result ≡ Err BenchFault.Write → is_ram_size setup.now.ram ≡ true }
     ensures ram_memory { result ≡ Err (BenchFault.Ram RamFault.NoMemory) →
         (is_ram_size setup.now.ram ≡ true) × (IsTrue S.tells → IsOk (image_in (unread lines.old))) }
     ensures after_image { IsTrue S.tells → IfErr result (λ fault. IsTrue (is_start_fault fault) → unread lines.new ≡ after_image (unread lines.old)) }

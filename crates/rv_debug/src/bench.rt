@@ -44,7 +44,7 @@ impl Bench {
 
     /// Does one command, and puts its reply in place of what the buffer holds. A refused command changes nothing of the bench.
     ///
-    /// The answer has bit k set where enclave k was entered: it is 0, since there are no enclaves.
+    /// Returns a number with bit k set where enclave k was entered: 0, since there are no enclaves.
     #[tactic(auto, unfolding(crate::specs::Answer::answer))]
     pub fn command(&mut self, command: &Command, out: &mut Reply) -> u16
         ensures answer { answer self.old command.now ≡ record { state = self.new; reply = out.new.items } }
@@ -83,8 +83,8 @@ impl Bench {
         0
     }
 
-    /// Does what a line says, given without its ending, or replies with its first fault, and then nothing changes. What the
-    /// buffer holds gives place to the reply. The answer is that of `command`, and 0 at a fault.
+    /// Does what a line says, given without its ending, or replies with its first fault, and then nothing changes. The reply
+    /// is put in place of what the buffer holds. Returns what `command` returns, and 0 at a fault.
     #[tactic(auto, unfolding(crate::specs::Answer::line_answer))]
     pub fn answer_line(&mut self, line: &[u8], out: &mut Reply) -> u16
         ensures answer { line_answer self.old line.now ≡ record { state = self.new; reply = out.new.items } }
