@@ -2,7 +2,7 @@
 use Rattle.std.proofs.Common.{◌≡◌, ◌∙◌, sym, ap, ℕ, ◌+◌, ◌≤◌, List, [], ◌∷◌, ◌++◌, length, length-append, Some, None, append_assoc, append-nil, map, arith}
 use Rattle.rv_word.specs.Cases.{option_case}
 use Rattle.rv_asm.specs.LineReading.{line_at}
-use Rattle.rv_asm.specs.Lines.{lines_of}
+use Rattle.rv_text.specs.Lines.{lines_of}
 use Rattle.rv_asm.specs.Looks.{HasRead}
 use Rattle.rv_asm.specs.Program.{Reading, readings, own_fault, first_fault}
 use Rattle.rv_asm.specs.declared.first_look.FirstLook.{FirstLook}

@@ -4,7 +4,7 @@ use Rattle.std.proofs.lemmas.List.{length-map}
 use Rattle.rv_word.specs.Cases.{option_case}
 use Rattle.rv_asm.specs.LabelMap.{places_of}
 use Rattle.rv_asm.specs.LineReading.{line_at}
-use Rattle.rv_asm.specs.Lines.{lines_of}
+use Rattle.rv_text.specs.Lines.{lines_of}
 use Rattle.rv_asm.specs.Looks.{HasRead, label_twice}
 use Rattle.rv_asm.specs.Program.{Reading, readings, own_fault, label_fault, name_fault, first_fault, place_in, words_from, words_of, assembled}
 use Rattle.rv_asm.specs.declared.first_look.FirstLook.{FirstLook}

@@ -10,7 +10,7 @@ use Rattle.std.proofs.lemmas.List.{reverse-reverse, length-reverse}
 use Rattle.std.proofs.lemmas.List.Folds.{list_all-append}
 use Rattle.std.proofs.lemmas.List.Splits.{slice_split_none, slice_split_at}
 use Rattle.std.proofs.lemmas.List.Sums.{AllPass-from_list_all}
-use Rattle.rv_asm.specs.LineText.{is_blank}
+use Rattle.rv_text.specs.GoodLines.{is_blank}
 use Rattle.rv_asm.specs.Cuts.{after_blanks, before_blanks, trimmed, fields_of, operands_of}
 
 -- a letter of lower case, a digit, a parenthesis, `-` or `.`, or one of `*`, `+` and `/`

@@ -8,8 +8,8 @@ use Rattle.std.proofs.lemmas.Bool.Decides.{nat_tests}
 use Rattle.rv_encoding.specs.Rows.{word_of}
 use Rattle.rv_encoding.specs.declared.instr.Instr.{Instr}
 use Rattle.rv_asm.specs.Cuts.{before_comment, label_text, statement_text, colon}
-use Rattle.rv_asm.specs.Lines.{lines_of, onto_first}
-use Rattle.rv_asm.specs.LineText.{is_text, is_good_line}
+use Rattle.rv_text.specs.Lines.{lines_of, onto_first}
+use Rattle.rv_text.specs.GoodLines.{is_text, is_good_line}
 use Rattle.rv_asm.specs.LineReading.{line_at}
 use Rattle.rv_asm.specs.Statements.{statement_at}
 use Rattle.rv_asm.specs.Program.{assembled, statement_size, statement_words}

@@ -9,11 +9,12 @@ use Rattle.std.proofs.lemmas.Bool.{and_from}
 use Rattle.std.proofs.lemmas.Bool.Decides.{nat_tests}
 use Rattle.std.proofs.lemmas.Fmt.{decimal_is_IsNumeral}
 use Rattle.rv_asm.specs.declared.number.Number.{Number}
-use Rattle.rv_asm.specs.Digits.{hex_digits}
-use Rattle.rv_asm.specs.Numbers.{plus, minus, number_of, decimal_digits, written_number}
+use Rattle.rv_text.specs.Digits.{hex_digits}
+use Rattle.rv_asm.specs.Numbers.{plus, minus, decimal_digits, written_number}
+use Rattle.rv_text.specs.Numbers.{number_of_digits}
 use Rattle.rv_asm.specs.OperandRanges.{immediate_of, upper_immediate_of, five_bits_of, csr_number_of, branch_offset_of, jump_offset_of, word_of_number}
 use Rattle.rv_asm.specs.Spelling.{signed_text, hex_text}
-use Rattle.rv_asm.proofs.HexDigits.{length-hex_digits, AllDigits-hex_digits, digits_value-hex_digits}
+use Rattle.rv_text.proofs.HexDigits.{length-hex_digits, AllDigits-hex_digits, digits_value-hex_digits}
 use Rattle.rv_asm.proofs.HexTexts.{one_digit, two_digits, three_digits, four_digits, five_digits}
 
 -- ---- digits
@@ -108,7 +109,7 @@ upper-plus imm small whole = grind (arith, nat_tests)
 -- ---- hexadecimal numbers
 
 pub written-hex : (places n : ℕ) → 0 < places → places ≤ 8 → n < 16 ^ places → written_number (48 ∷ 120 ∷ hex_digits places n) ≡ Some (plus n)
-unfolding written_number number_of
+unfolding written_number number_of_digits
 written-hex places n some few small =
     let all = list_all-digits 16 (hex_digits places n) (AllDigits-hex_digits places n) in
     let value = digits_value-hex_digits places n small in

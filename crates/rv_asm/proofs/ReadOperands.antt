@@ -10,7 +10,7 @@ use Rattle.std.proofs.lemmas.Bool.{and_parts, and_from}
 use Rattle.std.proofs.lemmas.Bool.Decides.{nat_tests}
 use Rattle.std.proofs.lemmas.Fmt.{decimal_is_IsNumeral, length-decimal-le}
 use Rattle.std.proofs.lemmas.List.Folds.{list_all-append}
-use Rattle.rv_asm.specs.Digits.{hex_digits}
+use Rattle.rv_text.specs.Digits.{hex_digits}
 use Rattle.rv_asm.specs.CsrNames.{csrs}
 use Rattle.rv_asm.specs.Cuts.{is_name}
 use Rattle.rv_asm.specs.FenceSets.{fence_sets}
@@ -19,7 +19,7 @@ use Rattle.rv_asm.specs.Operands.{register_at, number_at, csr_at, base_of, addre
 use Rattle.rv_asm.specs.declared.operand.Target.TheVariants.{Offset}
 use Rattle.rv_asm.specs.Numbers.{plus, written_number}
 use Rattle.rv_asm.specs.Spelling.{register_text, hex_text, csr_text, signed_text, address_text, accesses_text}
-use Rattle.rv_asm.proofs.HexDigits.{length-hex_digits}
+use Rattle.rv_text.proofs.HexDigits.{length-hex_digits}
 use Rattle.rv_asm.proofs.HexTexts.{one_digit, two_digits, three_digits, four_digits, five_digits}
 use Rattle.rv_asm.proofs.Plain.{is_plain, is_piece, IsPiece, IsPiece-from_test}
 use Rattle.rv_asm.proofs.ReadNumbers.{digit_between, signed_number, written-signed, written-hex, written-hex_text, written-decimal}

@@ -17,10 +17,10 @@ use Rattle.rv_encoding.specs.declared.kind.CsrKind.{CsrKind}
 use Rattle.rv_encoding.specs.declared.instr.Instr.{Instr}
 use Rattle.rv_encoding.specs.declared.instr.Instr.TheVariants.{Lui, Auipc, Jal, Jalr, Branch, Load, Store, OpImm, ShiftImm, Op, Fence, Csr, CsrImm, Ecall, Ebreak, Sret, Mret, Wfi, SfenceVma}
 use Rattle.rv_asm.specs.Cuts.{is_name, is_name_byte, label_text, statement_text, trimmed, operands_of}
-use Rattle.rv_asm.specs.Digits.{hex_digits}
-use Rattle.rv_asm.specs.Lines.{lines_of}
+use Rattle.rv_text.specs.Digits.{hex_digits}
+use Rattle.rv_text.specs.Lines.{lines_of}
 use Rattle.rv_asm.specs.LineReading.{line_at}
-use Rattle.rv_asm.specs.LineText.{is_text}
+use Rattle.rv_text.specs.GoodLines.{is_text}
 use Rattle.rv_asm.specs.Mnemonics.{mnemonics}
 use Rattle.rv_asm.specs.Program.{assembled}
 use Rattle.rv_asm.specs.Statements.{statement_at, statement_of}

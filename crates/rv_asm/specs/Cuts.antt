@@ -1,7 +1,7 @@
 -- How a line of an assembler text falls into pieces. (This project's own grammar.)
 use Rattle.std.specs.Prelude.{ℕ, Bool, false, ◌+◌, ◌==◌, ◌||◌, ◌&&◌, nat_le, nat_lt, List, [], ◌∷◌, length, take, drop, map, reverse, Option, Some, None, if◌then◌else◌}
 use Rattle.std.specs.List.{slice_split, position_or_len, list_all}
-use Rattle.rv_asm.specs.LineText.{is_blank}
+use Rattle.rv_text.specs.GoodLines.{is_blank}
 
 -- ---- blanks and commas
 

@@ -1,13 +1,10 @@
 pub mod CsrNames
 pub mod Cuts
 pub mod Denotes
-pub mod Digits
 pub mod Faults
 pub mod FenceSets
 pub mod LabelMap
 pub mod LineReading
-pub mod LineText
-pub mod Lines
 pub mod Looks
 pub mod Mnemonics
 pub mod Numbers

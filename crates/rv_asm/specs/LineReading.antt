@@ -2,7 +2,7 @@
 -- grammar; RISC-V Unprivileged ISA 20191213, chapter 25, for the statements.)
 use Rattle.std.specs.Prelude.{ℕ, ◌==◌, List, length, Option, Some, None, Result, Ok, Err, if◌then◌else◌}
 use Rattle.rv_asm.specs.Cuts.{before_comment, label_text, statement_text, is_name}
-use Rattle.rv_asm.specs.LineText.{is_good_line}
+use Rattle.rv_text.specs.GoodLines.{is_good_line}
 use Rattle.rv_asm.specs.Statements.{◌>>=◌, statement_at}
 use Rattle.rv_asm.specs.declared.line.Line.{Line}
 use Rattle.rv_asm.specs.declared.statement.Statement.{Statement}

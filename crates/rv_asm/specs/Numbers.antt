@@ -1,20 +1,11 @@
--- Numbers as texts write them, in the digits of ASCII, ISO/IEC 646.
-use Rattle.std.specs.Prelude.{ℕ, ◌-◌, ◌^◌, Bool, true, false, ◌&&◌, List, length, drop, min, codes, nat_eq, Option, Some, None, nat_lt, nat_le, if◌then◌else◌}
+-- Numbers as an assembler text writes them, in the digits of ASCII, ISO/IEC 646.
+use Rattle.std.specs.Prelude.{ℕ, ◌-◌, ◌^◌, Bool, true, false, ◌&&◌, List, length, drop, min, codes, nat_eq, Option, Some, None, nat_lt, if◌then◌else◌}
 use Rattle.std.specs.List.{list_all, starts_with}
 use Rattle.std.specs.Option.{option_map}
 use Rattle.std.specs.Char.{is_digit}
 use Rattle.std.specs.Str.Parse.{digits_value}
+use Rattle.rv_text.specs.Numbers.{number_of_digits}
 use Rattle.rv_asm.specs.declared.number.Number.{Number}
-
--- one digit of the base or more, at most so many, and nothing else
-abbrev pub is_number : ℕ → ℕ → List ℕ → Bool
-is_number base most text = nat_lt 0 (length text) && nat_le (length text) most && list_all (λ c. is_digit c base) text
-
--- the number that digits of the base write, at most so many
-unfoldable pub number_of : ℕ → ℕ → List ℕ → Option ℕ
-number_of base most text = if is_number base most text then Some (digits_value base text) else None
-
--- ---- the numbers of an assembler text
 
 -- the sign and the absolute value of a number
 abbrev pub plus : ℕ → Number
@@ -31,6 +22,6 @@ decimal_digits text =
 -- `0x` and one to eight hexadecimal digits of either case, or decimal digits, perhaps after `-`
 unfoldable pub written_number : List ℕ → Option Number
 written_number text =
-    if starts_with nat_eq text (codes "0x") then option_map plus (number_of 16 8 (drop 2 text))
+    if starts_with nat_eq text (codes "0x") then option_map plus (number_of_digits 16 8 (drop 2 text))
     else (if starts_with nat_eq text (codes "-") then option_map minus (decimal_digits (drop 1 text))
     else option_map plus (decimal_digits text))

@@ -10,7 +10,7 @@ use Rattle.rv_encoding.specs.declared.kind.OpImmKind.TheVariants.{Addi}
 use Rattle.rv_encoding.specs.declared.instr.Instr.{Instr}
 use Rattle.rv_encoding.specs.declared.instr.Instr.TheVariants.{Lui, Jal, Branch, OpImm}
 use Rattle.rv_asm.specs.LineReading.{line_at}
-use Rattle.rv_asm.specs.Lines.{lines_of}
+use Rattle.rv_text.specs.Lines.{lines_of}
 use Rattle.rv_asm.specs.Numbers.{plus, minus}
 use Rattle.rv_asm.specs.OperandRanges.{jump_offset_of, branch_offset_of}
 use Rattle.rv_asm.specs.Statements.{◌>>=◌}

@@ -9,7 +9,7 @@ use Rattle.rv_encoding.specs.Decoding.{decoded}
 use Rattle.rv_encoding.specs.Listing.{name_of}
 use Rattle.rv_encoding.specs.declared.instr.Instr.{Instr}
 use Rattle.rv_encoding.specs.declared.instr.Instr.TheVariants.{Lui, Auipc, Jal, Jalr, Branch, Load, Store, OpImm, ShiftImm, Op, Fence, Csr, CsrImm, Ecall, Ebreak, Sret, Mret, Wfi, SfenceVma}
-use Rattle.rv_asm.specs.Digits.{hex3, hex8}
+use Rattle.rv_text.specs.Digits.{hex3, hex8}
 
 -- ---- operands
 

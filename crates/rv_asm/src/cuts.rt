@@ -2,11 +2,11 @@
 
 ghost use Rattle.std.specs.Prelude.{◌≡◌, ◌==◌, ◌≤◌, length, map, take, option_map};
 ghost use Rattle.std.specs.List.{position_or_len, list_all};
-ghost use Rattle.rv_asm.specs.LineText.{is_blank as is_blank_of};
+ghost use Rattle.rv_text.specs.GoodLines.{is_blank as is_blank_of};
 ghost use Rattle.rv_asm.specs.Cuts.{after_blanks as after_blanks_of, before_blanks as before_blanks_of, trimmed as trimmed_of, fields_of, operands_of, before_comment as before_comment_of, label_text, statement_text, is_letter as is_letter_of, is_name_byte as is_name_byte_of, is_name as is_name_of};
 
-use crate::line_text::is_blank;
 use arrayvec::ArrayVec;
+use rv_text::{is_blank, position_of};
 
 /// How many operands are read of a statement: one more than any has.
 pub(crate) const MOST_OPERANDS: usize = 4;
@@ -43,16 +43,6 @@ fn trimmed(text: &[u8]) -> &[u8]
     ensures { result.now ≡ trimmed_of text.now }
 {
     before_blanks(after_blanks(text))
-}
-
-/// Where the byte first stands, or the length.
-pub(crate) fn position_of(text: &[u8], wanted: u8) -> usize
-    ensures value { result ≡ position_or_len (λ b. b == wanted) text.now }
-    ensures within { result ≤ length text.now }
-{
-    text.iter()
-        .position(|byte| *byte == wanted)
-        .unwrap_or(text.len())
 }
 
 /// Where the first blank stands, or the length.

@@ -8,7 +8,6 @@ ghost use Rattle.std.specs.Prelude.{◌≡◌, [], ◌∷◌, Ok};
 ghost use Rattle.rv_asm.specs.Program.{assembled};
 ghost use Rattle.rv_asm.specs.Spelling.{is_told_by_operands, instr_text, word_text, spelling};
 
-use crate::hexadecimal::hex;
 use arrayvec::ArrayString;
 use instruction_text::{
     put_address, put_csr, put_csr_imm, put_fence, put_jump, put_name, put_shift, put_signed,
@@ -17,6 +16,7 @@ use instruction_text::{
 use mnemonic::mnemonic;
 use operand::Line;
 use rv_encoding::{Instr, decode};
+use rv_text::hex;
 
 /// Puts the text of a word in place of what `out` held: its instruction in assembly language (Unprivileged ISA, chapters
 /// 24 and 25), or `.word` and its number where it is none.

@@ -1,8 +1,9 @@
 //! Words that another assembler wrote (llvm-mc of LLVM 14, riscv32 with the M extension) from these texts: one of each row
 //! of the listings, extreme immediates and sets of fences; and, by hand, words that are shown by their number.
 
-use crate::{disassemble, hex};
+use crate::disassemble;
 use arrayvec::ArrayString;
+use rv_text::hex;
 use std::process::Abort;
 
 /// Asserts the texts of words, each written over the one before.

@@ -11,7 +11,7 @@ use crate::fault::{AsmFault, AsmFaultKind};
 use crate::line::{Line, read_line};
 use crate::name::Name;
 use crate::statement::Statement;
-use crate::text_lines::split_line;
+use rv_text::split_line;
 use std::alloc::{AllocError, Global};
 
 /// How many words a text may stand for.

@@ -1,25 +1,8 @@
-//! Numbers in hexadecimal.
+//! Hexadecimal numbers without leading zeros.
 
 ghost use Rattle.std.specs.Prelude.{◌≡◌, ℕ, ◌^◌, ◌<◌, ◌≤◌, false};
 ghost use Rattle.std.specs.Fmt.{digits};
-ghost use Rattle.arrayvec.specs.ArrayString.{array_string_len};
-ghost use Rattle.rv_asm.specs.Digits.{hex_digits};
-
-use arrayvec::ArrayString;
-
-/// The last hexadecimal digits of a number, as many as there are places, in lower case.
-pub fn hex(value: u32, places: usize) -> ArrayString<8>
-    requires { places ≤ 8 }
-    ensures digits { result.bytes ≡ hex_digits places value }
-    ensures len { array_string_len result ≡ places }
-{
-    let mut text = ArrayString::new();
-    for written in 0..places {
-        let digit = (value >> (4 * (places - (written + 1)))) & 15;
-        text.push(char::from_digit(digit, 16).unwrap());
-    }
-    text
-}
+ghost use Rattle.rv_text.specs.Digits.{hex_digits};
 
 /// How many hexadecimal digits write a number of at most 20 bits without leading zeros.
 #[tactic(auto, using(crate::proofs::HexTexts::hex_texts))]

@@ -2,9 +2,6 @@
 //! chapters 24 and 25, in this project's own grammar). They are inverse as far as they can be: the disassembly of any word,
 //! assembled, is that word alone.
 //!
-//! What a script and an image share with an assembler text stands here too: the lines of a text, which of them are good,
-//! numbers of digits, and hexadecimal digits.
-//!
 //! ```text
 //! let words = assemble(alloc, b"loop: addi x1, x1, -1\nbne x1, x0, loop\n")?; // [0xfff0_8093, 0xfe00_9ee3]
 //! let mut text = ArrayString::new();
@@ -22,7 +19,6 @@ mod first_look;
 mod format;
 mod hexadecimal;
 mod line;
-mod line_text;
 mod mnemonic;
 mod name;
 mod number;
@@ -33,14 +29,10 @@ mod register_name;
 mod second_look;
 mod statement;
 mod tables;
-mod text_lines;
 
 pub use assembler::assemble;
 pub use disassembler::disassemble;
 pub use fault::{AsmFault, AsmFaultKind};
-pub use hexadecimal::hex;
-pub use line_text::{MAX_LINE, is_blank, is_good_line};
-pub use number::digits;
 
 #[cfg(test)]
 mod assembler_tests;

@@ -5,10 +5,10 @@ ghost use Rattle.rv_asm.specs.LineReading.{label_at, optional_statement_at, line
 
 use crate::cuts::{before_comment, split_label};
 use crate::fault::AsmFaultKind;
-use crate::line_text::is_good_line;
 use crate::name::Name;
 use crate::reading::read_statement;
 use crate::statement::Statement;
+use rv_text::is_good_line;
 
 /// What a line says.
 #[derive(Debug, Drop)]

@@ -1,27 +1,9 @@
 //! Numbers as texts write them.
 
-ghost use Rattle.std.specs.Prelude.{◌≡◌, ℕ, ◌^◌, ◌≤◌, ◌<◌, IfSome};
-ghost use Rattle.rv_asm.specs.Numbers.{number_of, plus, minus, decimal_digits as decimal_digits_of, written_number as written_number_of};
+ghost use Rattle.std.specs.Prelude.{◌≡◌, ℕ};
+ghost use Rattle.rv_asm.specs.Numbers.{plus, minus, decimal_digits as decimal_digits_of, written_number as written_number_of};
 
-/// The number that digits in the base write, where there are one to `most` of them and nothing else.
-#[tactic(auto, unfolding(crate::specs::Numbers::number_of))]
-pub fn digits(text: &[u8], base: u32, most: usize) -> Option<u32>
-    requires low { 2 ≤ base }
-    requires high { base ≤ 36 }
-    requires fits { base ^ most ≤ 2 ^ 32 }
-    ensures value { result ≡ number_of base most text.now }
-    ensures below { IfSome result (λ value. value < base ^ most) }
-{
-    if text.is_empty() || text.len() > most {
-        return None;
-    }
-    let mut value = 0;
-    for byte in text {
-        let digit = char::from(*byte).to_digit(base)?;
-        value = value * base + digit;
-    }
-    Some(value)
-}
+use rv_text::digits;
 
 /// A number with its sign.
 #[derive(Clone, Copy, Debug, PartialEq, Eq)]

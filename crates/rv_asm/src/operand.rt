@@ -4,13 +4,13 @@ ghost use Rattle.std.specs.Prelude.{◌≡◌};
 ghost use Rattle.rv_asm.specs.Operands.{register_at, number_at, csr_at, base_of, address_of, address_at, target_at, fence_set_at};
 
 use crate::csr_name::csr_named;
-use crate::cuts::position_of;
 use crate::fault::AsmFaultKind;
 use crate::name::Name;
 use crate::number::{Number, written_number};
 use crate::register_name::register_named;
 use crate::tables::looked_up;
 use rv_encoding::FenceSet;
+use rv_text::position_of;
 use rv_word::Reg;
 
 /// Where a jump or a branch goes.

@@ -8,7 +8,7 @@ ghost use Rattle.rv_asm.specs.Program.{readings, own_fault, name_fault, first_fa
 use crate::code::{Labels, statement_words};
 use crate::fault::{AsmFault, AsmFaultKind};
 use crate::line::{Line, read_line};
-use crate::text_lines::split_line;
+use rv_text::split_line;
 use std::alloc::Global;
 
 /// Adds the words of a line to those of the lines before it.

@@ -1,9 +1,9 @@
 -- Lines and images that can be followed by hand.
 use Rattle.std.proofs.Common.{◌≡◌, [], ◌∷◌, codes, Ok, Err, refl}
 use Rattle.rv_bench.specs.declared.fault.BenchFault.TheVariants.{Hex}
-use Rattle.rv_asm.specs.LineText.{is_text}
-use Rattle.rv_debug.specs.Words.{words_of}
-use Rattle.rv_asm.specs.Lines.{lines_of}
+use Rattle.rv_text.specs.GoodLines.{is_text}
+use Rattle.rv_text.specs.Words.{words_of}
+use Rattle.rv_text.specs.Lines.{lines_of}
 use Rattle.rv_bench.specs.Image.{line_word, bytes_of_digits, image_in, after_image}
 
 lines_of-example : lines_of (codes "a\r\n\nb\rc\nd\r") ≡ codes "a" ∷ [] ∷ codes "b\rc" ∷ codes "d\r" ∷ []

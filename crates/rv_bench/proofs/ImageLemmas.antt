@@ -10,12 +10,12 @@ use Rattle.std.specs.Option.{IsSomeAnd, is_some, unwrap_or, option_and_then}
 use Rattle.std.specs.Str.{bytes_eq}
 use Rattle.rv_bench.specs.declared.fault.BenchFault.{BenchFault}
 use Rattle.rv_bench.specs.declared.fault.BenchFault.TheVariants.{Image, Ram, Read, Write, Hex, TooLong, NoMemory, Asm}
-use Rattle.rv_asm.specs.Lines.{lines_of, after_line, after_lines}
+use Rattle.rv_text.specs.Lines.{lines_of, after_line, after_lines}
 use Rattle.rv_bench.specs.LineText.{ReadsText, TakesLine, ReadsLines}
-use Rattle.rv_debug.specs.Words.{words_of}
+use Rattle.rv_text.specs.Words.{words_of}
 use Rattle.rv_bench.specs.Image.{only_word, line_word, bytes_of_digits, is_dashes, is_marker, line_bytes, is_image_line, bytes_of_lines, image_of, image_lines, image_in, after_image, is_text_fault, LeavesLines, ReadsInImage, ReadsUnmarked, ReadsFrontOfImage, StopsAtFault}
-use Rattle.rv_debug.proofs.CutLines.{if_good-take}
-use Rattle.rv_asm.proofs.LineLemmas.{after_lines-more}
+use Rattle.rv_text.proofs.CutLines.{if_good-take}
+use Rattle.rv_text.proofs.LineLemmas.{after_lines-more}
 use Rattle.rv_bench.proofs.LineTextLemmas.{ReadsLines-none, ReadsLines-more}
 
 -- a line of which 121 bytes are shown has the word of those

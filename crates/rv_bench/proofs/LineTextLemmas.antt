@@ -1,10 +1,10 @@
 -- The bytes of a line, read one by one, and the line that they are.
 use Rattle.std.proofs.Common.{◌≡◌, ◌≢◌, ℕ, ◌+◌, ◌<◌, ◌≤◌, Bool, true, false, List, [], ◌∷◌, ◌++◌, length, take, min, refl, sym, ◌∙◌, ap, arith, append_assoc, append-nil, add-one}
 use Rattle.std.proofs.lemmas.List.{take-append-le, take_all, take-take, length-take, length-append}
-use Rattle.rv_asm.specs.Lines.{has_feed, lines_of, through_last_feed, after_line, after_lines}
+use Rattle.rv_text.specs.Lines.{has_feed, lines_of, through_last_feed, after_line, after_lines}
 use Rattle.rv_bench.specs.LineText.{ReadsText, TakesLine, ReadsLines}
-use Rattle.rv_asm.specs.Lines.{without_return}
-use Rattle.rv_asm.proofs.LineLemmas.{has_feed-append, eq_false, through_last_feed-append_feed, lines_of-line, lines_of-last, cut-kept, lines_of-append, after_line-feed, after_line-open, after_lines-more, through_last_feed-append, through_last_feed-append_open}
+use Rattle.rv_text.specs.Lines.{without_return}
+use Rattle.rv_text.proofs.LineLemmas.{has_feed-append, eq_false, through_last_feed-append_feed, lines_of-line, lines_of-last, cut-kept, lines_of-append, after_line-feed, after_line-open, after_lines-more, through_last_feed-append, through_last_feed-append_open}
 
 -- what is held is read already
 pub ReadsText-none : (held left : List ℕ) → length held ≤ 122 → has_feed held ≡ false → ReadsText (held ++ left) left held

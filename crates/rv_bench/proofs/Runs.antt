@@ -4,7 +4,7 @@ use Rattle.rv_debug.proofs.Answers.{line_answer-cut}
 use Rattle.rv_debug.specs.Answer.{Answered, line_answer}
 use Rattle.rv_debug.specs.BenchState.{BenchState}
 use Rattle.rv_bench.specs.Replies.{replies, state_after}
-use Rattle.rv_asm.specs.Lines.{lines_of}
+use Rattle.rv_text.specs.Lines.{lines_of}
 use Rattle.rv_bench.specs.LineText.{ReadsText, TakesLine, ReadsLines}
 use Rattle.rv_bench.specs.Run.{StopsAtRead, StopsAtWrite}
 use Rattle.rv_bench.specs.Transfer.{WritesFront}

@@ -2,8 +2,8 @@
 use Rattle.std.proofs.Common.{◌≡◌, ℕ, ◌+◌, ◌≤◌, leb, Bool, true, false, cond, ◌&&◌, List, [], ◌∷◌, length, Some, None, filter, arith, refl, subst}
 use Rattle.std.proofs.lemmas.Bool.Decides.{nat_tests}
 use Rattle.std.specs.List.{slice_split, onto_first, list_all}
-use Rattle.rv_asm.specs.LineText.{is_blank, is_text, is_good_line}
-use Rattle.rv_debug.specs.Words.{is_filled, words_of}
+use Rattle.rv_text.specs.GoodLines.{is_blank, is_text, is_good_line}
+use Rattle.rv_text.specs.Words.{is_filled, words_of}
 use Rattle.rv_bench.specs.Image.{only_word, line_word}
 
 -- each part has at most n bytes

@@ -2,9 +2,9 @@
 use Rattle.std.specs.Prelude.{ℕ, ◌≤◌, ⊤, nat_lt, Bool, true, false, List, length, ◌++◌, codes, flat_map, Result, Ok, Err, if◌then◌else◌}
 use Rattle.rv_word.specs.ByteOrder.{byte_of}
 use Rattle.rv_word.specs.Cases.{result_case}
-use Rattle.rv_asm.specs.Lines.{lines_of}
+use Rattle.rv_text.specs.Lines.{lines_of}
 use Rattle.rv_asm.specs.Program.{assembled}
-use Rattle.rv_asm.specs.Digits.{hex2}
+use Rattle.rv_text.specs.Digits.{hex2}
 use Rattle.rv_bench.specs.declared.fault.BenchFault.{BenchFault}
 use Rattle.rv_bench.specs.declared.fault.BenchFault.TheVariants.{Image, Ram, Read, Write, Hex, TooLong, NoMemory, Asm}
 

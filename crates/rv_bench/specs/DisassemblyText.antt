@@ -4,7 +4,7 @@ use Rattle.std.specs.Simd.{first_chunks}
 use Rattle.rv_word.specs.ByteOrder.{word_of_bytes}
 use Rattle.rv_word.specs.Cases.{result_case}
 use Rattle.rv_asm.specs.Spelling.{spelling}
-use Rattle.rv_asm.specs.Digits.{hex8}
+use Rattle.rv_text.specs.Digits.{hex8}
 use Rattle.rv_bench.specs.Image.{image_in}
 use Rattle.rv_bench.specs.declared.fault.BenchFault.{BenchFault}
 use Rattle.rv_bench.specs.declared.fault.BenchFault.TheVariants.{Image, Ram, Read, Write, Hex, TooLong, NoMemory, Asm}

@@ -5,10 +5,10 @@ use Rattle.std.specs.Char.{is_digit, digit_value}
 use Rattle.std.specs.Str.{bytes_eq}
 use Rattle.rv_bench.specs.declared.fault.BenchFault.{BenchFault}
 use Rattle.rv_bench.specs.declared.fault.BenchFault.TheVariants.{Image, Ram, Read, Write, Hex, TooLong, NoMemory, Asm}
-use Rattle.rv_asm.specs.Lines.{lines_of, after_lines}
+use Rattle.rv_text.specs.Lines.{lines_of, after_lines}
 use Rattle.rv_bench.specs.LineText.{ReadsText, ReadsLines}
-use Rattle.rv_asm.specs.LineText.{is_good_line}
-use Rattle.rv_debug.specs.Words.{words_of}
+use Rattle.rv_text.specs.GoodLines.{is_good_line}
+use Rattle.rv_text.specs.Words.{words_of}
 
 -- one word, or none, which is a word of no bytes
 abbrev pub only_word : List (List ℕ) → Option (List ℕ)

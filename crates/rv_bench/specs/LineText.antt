@@ -2,7 +2,7 @@
 use Rattle.std.specs.Prelude.{◌≡◌, ℕ, Bool, true, false, List, [], ◌∷◌, ◌++◌, take, length, Result, Ok, Err}
 use Rattle.rv_bench.specs.declared.line.Stop.{Stop}
 use Rattle.rv_bench.specs.declared.line.Stop.TheVariants.{LineFeed, End}
-use Rattle.rv_asm.specs.Lines.{has_feed, lines_of, through_last_feed, after_line, after_lines}
+use Rattle.rv_text.specs.Lines.{has_feed, lines_of, through_last_feed, after_line, after_lines}
 
 -- of the unread bytes a text with no line feed was read, up to those that are left, and its first 122 bytes are kept
 pub record ReadsText (unread left kept : List ℕ) : Type 0 where

@@ -5,7 +5,7 @@ use Rattle.rv_asm.specs.declared.fault.AsmFaultKind.TheVariants as asm
 use Rattle.rv_bench.specs.Replies.{replies}
 use Rattle.rv_word.specs.Cases.{result_case}
 use Rattle.rv_bench.specs.Image.{image_in, after_image}
-use Rattle.rv_asm.specs.Lines.{lines_of}
+use Rattle.rv_text.specs.Lines.{lines_of}
 use Rattle.rv_bench.specs.Loaded.{started}
 use Rattle.rv_command_line.specs.declared.setup.Setup.{Setup}
 use Rattle.rv_debug.specs.BenchState.{bare}

@@ -1,7 +1,7 @@
 -- What a run has done where it stops early. (This project's own streams.)
 use Rattle.std.specs.Prelude.{◌≡◌, ℕ, ◌≤◌, false, List, ◌++◌, length, take}
 use Rattle.rv_bench.specs.Replies.{replies, state_after}
-use Rattle.rv_asm.specs.Lines.{has_feed, lines_of, through_last_feed}
+use Rattle.rv_text.specs.Lines.{has_feed, lines_of, through_last_feed}
 use Rattle.rv_debug.specs.BenchState.{BenchState}
 use Rattle.rv_bench.specs.Transfer.{WritesFront}
 

@@ -12,7 +12,7 @@ use crate::fault::BenchFault;
 use crate::gathered::{make_room, write_last};
 use crate::whole::read_whole;
 use rv_asm::assemble;
-use rv_debug::{Reply, push_hex, push_text};
+use rv_text::{Reply, push_hex, push_text};
 use rv_word::le_bytes;
 use std::alloc::Global;
 

@@ -17,7 +17,7 @@ use crate::image::read_image;
 use crate::lines::Lines;
 use arrayvec::ArrayString;
 use rv_asm::disassemble;
-use rv_debug::{Reply, push_hex, push_text};
+use rv_text::{Reply, push_hex, push_text};
 use rv_word::le_word;
 use std::alloc::Global;
 

@@ -7,7 +7,7 @@ ghost use Rattle.rv_bench.specs.Transfer.{WritesUpTo, WritesFront};
 
 use crate::device::{DeviceFault, Sink};
 use crate::transfer::write_all;
-use rv_debug::Reply;
+use rv_text::Reply;
 
 /// Writes what is gathered, and gathers anew, where there is no room for so many bytes more.
 ///

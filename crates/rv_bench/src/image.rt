@@ -8,8 +8,7 @@ ghost use Rattle.rv_bench.specs.Image.{line_word, bytes_of_digits, image_in, aft
 use crate::device::Source;
 use crate::fault::BenchFault;
 use crate::lines::Lines;
-use rv_asm::{MAX_LINE, is_good_line};
-use rv_debug::first_words;
+use rv_text::{MAX_LINE, first_words, is_good_line};
 use std::alloc::Global;
 
 /// The most bytes of an image.

@@ -1,9 +1,9 @@
 //! The bytes of one line, read one by one.
 ghost use Rattle.std.specs.Prelude.{◌≡◌, ◌+◌, ◌<◌, ◌≤◌, false, [], ◌++◌, take, length, IsTrue, is_err};
 ghost use Rattle.rv_bench.specs.Device.{counted};
-ghost use Rattle.rv_asm.specs.Lines.{has_feed};
+ghost use Rattle.rv_text.specs.Lines.{has_feed};
 ghost use Rattle.rv_bench.specs.LineText.{ReadsText, left_from, stops_at_end};
-ghost use Rattle.rv_asm.specs.Lines.{without_return};
+ghost use Rattle.rv_text.specs.Lines.{without_return};
 
 use crate::device::{DeviceFault, Source};
 use crate::transfer::read_byte;

@@ -1,6 +1,6 @@
 //! The lines of a source.
 ghost use Rattle.std.specs.Prelude.{◌≡◌, ◌<◌, ◌≤◌, true, false, [], length, IsTrue};
-ghost use Rattle.rv_asm.specs.Lines.{has_feed};
+ghost use Rattle.rv_text.specs.Lines.{has_feed};
 
 use crate::device::{DeviceFault, Source};
 use crate::line::{KEPT_MAX, Line, SHOWN_MAX, Stop, read_text, shown_len, take_front};

@@ -5,7 +5,7 @@ ghost use Rattle.rv_bench.specs.Replies.{replies};
 ghost use Rattle.rv_bench.specs.Device.{HasRisen};
 ghost use Rattle.rv_debug.specs.BenchState.{bare};
 ghost use Rattle.rv_bench.specs.Image.{image_in, after_image, is_text_fault, LeavesLines, ReadsInImage, ReadsFrontOfImage, StopsAtFault};
-ghost use Rattle.rv_asm.specs.Lines.{lines_of};
+ghost use Rattle.rv_text.specs.Lines.{lines_of};
 ghost use Rattle.rv_bench.specs.Loaded.{started};
 ghost use Rattle.rv_bench.specs.Output.{bench_output, machine_in, output, is_start_fault, is_input_fault, is_device_fault, is_run_fault};
 ghost use Rattle.rv_memory.specs.Memory.{is_ram_size};
@@ -20,8 +20,9 @@ use crate::lines::Lines;
 use crate::start::start;
 use crate::transfer::write_all;
 use rv_command_line::Setup;
-use rv_debug::{Bench, Reply};
+use rv_debug::Bench;
 use rv_memory::RamFault;
+use rv_text::Reply;
 use std::alloc::Global;
 
 /// Writes the reply to each line, until the source answers its end. It takes no memory.

@@ -1,10 +1,10 @@
 -- What some lines are.
 use Rattle.std.proofs.Common.{◌≡◌, ℕ, true, false, List, [], ◌∷◌, Result, Ok, Err, map, refl}
 use Rattle.std.specs.Prelude.{codes}
-use Rattle.rv_asm.specs.LineText.{is_text}
-use Rattle.rv_debug.specs.Words.{words_of}
+use Rattle.rv_text.specs.GoodLines.{is_text}
+use Rattle.rv_text.specs.Words.{words_of}
 use Rattle.rv_debug.specs.Numbers.{decimal_of, hexadecimal_of, csr_number_of, byte_of_text}
-use Rattle.rv_asm.specs.Numbers.{number_of}
+use Rattle.rv_text.specs.Numbers.{number_of_digits}
 use Rattle.rv_debug.specs.declared.command.Command.{Command}
 use Rattle.rv_debug.specs.declared.command.Command.TheVariants.{Blank, Step, Run, Break, Clear, Watch, Unwatch, Reg, Regs, SetReg, Csr, Mem, Poke, Dis, Pmp, Enclaves, Access, Timer}
 use Rattle.rv_pmp.specs.declared.access.Access.TheVariants.{Fetch, Read, Write}
@@ -158,7 +158,7 @@ examples =
     ∷ []
 
 pub examples_hold : map (λ e. parse_of e.0) examples ≡ map (λ e. e.1) examples
-unfolding parse_of meaning_of keyword_of words_of is_text number_of decimal_of hexadecimal_of csr_number_of byte_of_text
+unfolding parse_of meaning_of keyword_of words_of is_text number_of_digits decimal_of hexadecimal_of csr_number_of byte_of_text
 examples_hold = refl
 
 pub words_of-example : words_of (codes " mem\t0  64 ") ≡ codes "mem" ∷ codes "0" ∷ codes "64" ∷ []

@@ -7,9 +7,9 @@ use Rattle.rv_debug.specs.declared.command.Command.TheVariants.{Blank}
 use Rattle.rv_debug.specs.declared.keyword.Keyword.{Keyword}
 use Rattle.rv_debug.specs.declared.keyword.Keyword.TheVariants.{Step, Run, Break, Clear, Watch, Unwatch, Reg, Regs, SetReg, Csr, Mem, Poke, Dis, Pmp, Enclaves, Access, Timer}
 use Rattle.rv_debug.specs.Command.{none, one, two, four, operands_of, keyword_of, named, meaning_of, parse_of}
-use Rattle.rv_debug.specs.Words.{words_of}
+use Rattle.rv_text.specs.Words.{words_of}
 use Rattle.rv_debug.specs.declared.command.CommandFault.TheVariants.{BadLine}
-use Rattle.rv_debug.proofs.CutLines.{if_good-take}
+use Rattle.rv_text.proofs.CutLines.{if_good-take}
 
 none-take : (command : Command) (operands : List (List ℕ)) → none command (take 5 operands) ≡ none command operands
 none-take command [] = refl

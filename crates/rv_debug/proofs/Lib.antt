@@ -3,9 +3,7 @@ pub mod AddressLemmas
 pub mod Answers
 mod CommandExamples
 mod Commands
-pub mod CutLines
 mod Keywords
 mod RegisterLines
 mod ReplyExamples
 mod Stepping
-mod WordLaws

@@ -3,8 +3,8 @@ use Rattle.std.specs.Prelude.{ℕ, Bool, true, false, List, [], ◌∷◌, codes
 use Rattle.std.specs.Option.{ok_or}
 use Rattle.std.specs.List.{starts_with}
 use Rattle.std.specs.Str.{bytes_eq}
-use Rattle.rv_asm.specs.LineText.{is_good_line}
-use Rattle.rv_debug.specs.Words.{words_of}
+use Rattle.rv_text.specs.GoodLines.{is_good_line}
+use Rattle.rv_text.specs.Words.{words_of}
 use Rattle.rv_debug.specs.Numbers.{hexadecimal_of, csr_number_of, byte_of_text, decimal_of}
 use Rattle.rv_debug.specs.Within.{within}
 use Rattle.rv_pmp.specs.declared.access.Access.{Access}

@@ -7,4 +7,3 @@ pub mod ReplyText
 pub mod Steps
 pub mod Stops
 pub mod Within
-pub mod Words

@@ -10,7 +10,7 @@ use Rattle.rv_pmp.specs.declared.verdict.Verdict.TheVariants.{Allowed, AllowedFr
 use Rattle.rv_state.specs.Causes.{cause_code}
 use Rattle.rv_state.specs.Registers.{register}
 use Rattle.rv_hart.specs.declared.trap.Trap.{Trap}
-use Rattle.rv_asm.specs.Digits.{hex2, hex3, hex8}
+use Rattle.rv_text.specs.Digits.{hex2, hex3, hex8}
 use Rattle.rv_asm.specs.Spelling.{spelling}
 use Rattle.rv_debug.specs.declared.steps.Ran.{Ran}
 use Rattle.rv_debug.specs.declared.steps.Stop.{Stop}

@@ -10,13 +10,14 @@ ghost use Rattle.rv_debug.specs.Steps.{no_steps, run};
 use crate::addresses::Addresses;
 use crate::command::{ByteCount, StepCount};
 use crate::reply::{
-    Reply, push_csr, push_denied_outside, push_dis, push_memory, push_no_csr, push_ok,
-    push_outside, push_ran, push_verdict,
+    push_csr, push_denied_outside, push_dis, push_memory, push_no_csr, push_ok, push_outside,
+    push_ran, push_verdict,
 };
 use crate::steps::run_steps;
 use rv_encoding::CsrNumber;
 use rv_hart::Machine;
 use rv_pmp::{Access, Mode};
+use rv_text::Reply;
 use rv_word::{Reg, Width, le_word};
 
 /// Does so many steps, or fewer, where a watch or a break ends them, and tells what they did.

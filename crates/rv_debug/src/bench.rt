@@ -6,8 +6,9 @@ use crate::answer::{
     answer_setreg, answer_timer,
 };
 use crate::command::{Command, parse};
-use crate::reply::{Reply, push_fault, push_pmp, push_register, push_registers, push_set};
+use crate::reply::{push_fault, push_pmp, push_register, push_registers, push_set};
 use rv_hart::Machine;
+use rv_text::Reply;
 use std::marker::Model;
 
 /// A machine under a debugger.

@@ -1,9 +1,10 @@
 //! Lines and commands of a bench, over small programs.
 
-use crate::{Bench, Command, Reply, StepCount, Within};
+use crate::{Bench, Command, StepCount, Within};
 use rv_hart::Machine;
 use rv_memory::{RAM_BASE, Ram};
 use rv_pmp::Mode;
+use rv_text::Reply;
 use rv_word::{Reg, le_bytes};
 use std::process::Abort;
 use std::test::Fail;

@@ -6,10 +6,9 @@ ghost use Rattle.rv_debug.specs.Command.{register_of, switch_of, mode_of, access
 use crate::keyword::Keyword;
 use crate::numbers::{byte, csr_number, decimal, hexadecimal};
 use crate::within::Within;
-use crate::words::first_words;
-use rv_asm::is_good_line;
 use rv_encoding::CsrNumber;
 use rv_pmp::{Access, Mode};
+use rv_text::{first_words, is_good_line};
 use rv_word::{Reg, Width};
 
 /// How many steps one command makes: 1 to 1000000.

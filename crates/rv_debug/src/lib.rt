@@ -15,20 +15,15 @@ mod addresses;
 mod answer;
 mod bench;
 mod command;
-mod digits;
 mod keyword;
 mod numbers;
 mod reply;
 mod steps;
 mod within;
-mod words;
 
 pub use bench::Bench;
 pub use command::{ByteCount, Command, CommandFault, StepCount, parse};
-pub use digits::{push_hex, push_text};
-pub use reply::Reply;
 pub use within::Within;
-pub use words::{MOST_WORDS, first_words};
 
 #[cfg(test)]
 mod bench_tests;

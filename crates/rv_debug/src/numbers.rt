@@ -3,8 +3,8 @@
 ghost use Rattle.std.specs.Prelude.{◌≡◌};
 ghost use Rattle.rv_debug.specs.Numbers.{hexadecimal_of, csr_number_of, byte_of_text, decimal_of};
 
-use rv_asm::digits;
 use rv_encoding::CsrNumber;
+use rv_text::digits;
 
 /// The number that a hexadecimal operand writes: one to eight digits of either case, perhaps after `0x`.
 #[tactic(auto, unfolding(crate::specs::Numbers::hexadecimal_of))]

@@ -5,18 +5,15 @@ ghost use Rattle.arrayvec.specs.ArrayVec.{array_vec_len};
 ghost use Rattle.rv_debug.specs.ReplyText.{mode_text, stop_text, ran_text, trap_text, register_text, registers_text, pc_text, ok_text, csr_text, memory_text, dis_text, entry_text, pmp_text, verdict_text, denied_outside_text, full_text, fault_text, no_csr_text, outside_text};
 
 use crate::command::CommandFault;
-use crate::digits::{push_decimal, push_hex, push_text};
 use crate::steps::{Ran, Stop};
-use arrayvec::{ArrayString, ArrayVec};
+use arrayvec::ArrayString;
 use rv_asm::disassemble;
 use rv_encoding::CsrNumber;
 use rv_hart::Trap;
 use rv_pmp::{Mode, Pmp, PmpIndex, Verdict};
 use rv_state::Regs;
+use rv_text::{Reply, push_decimal, push_hex, push_text};
 use rv_word::Reg;
-
-/// The bytes that answer one command.
-pub type Reply = ArrayVec<u8, 2048>;
 
 /// Writes the trap of a run: its cause and value, or `-` where there was none.
 #[tactic(auto, unfolding(crate::specs::ReplyText::trap_text))]

@@ -4,10 +4,11 @@ ghost use Rattle.std.specs.Prelude.{◌≡◌, ℕ, ◌+◌, ◌^◌, ◌<◌, �
 ghost use Rattle.arrayvec.specs.ArrayString.{array_string_len};
 ghost use Rattle.rv_asm.specs.Spelling.{register_text, hex_text, csr_text, signed_text, address_text, letter_text, accesses_text};
 
-use crate::hexadecimal::{digit_count, hex};
+use crate::hexadecimal::digit_count;
 use arrayvec::ArrayString;
 use itoa::Buffer;
 use rv_encoding::{CsrNumber, FenceSet, Imm12};
+use rv_text::hex;
 use rv_word::Reg;
 
 /// A line of the disassembler.

@@ -3,8 +3,8 @@ use Rattle.std.specs.List.{position_or_len}
 use Rattle.std.proofs.lemmas.Iterator.{YieldsList-from_slice}
 use Rattle.std.proofs.lemmas.Iterator.Search.{position_from_yields_List}
 use Rattle.std.proofs.lemmas.List.Sums.{prefix_len-le-length}
-use Rattle.rv_asm.specs.LineText.{is_blank}
-use Rattle.rv_asm.proofs.Positions.{unwrap_or-position}
+use Rattle.rv_text.specs.GoodLines.{is_blank}
+use Rattle.rv_text.proofs.Positions.{unwrap_or-position}
 use Rattle.rv_asm.proofs.cuts.blank_position.Goals as goal
 
 pub returns-clause-value : goal.returns-clause-value

@@ -1,7 +1,7 @@
 use Rattle.std.proofs.Common.{arith, ◌≡◌, get_or}
 use Rattle.std.proofs.lemmas.Grind.{common_steps}
 use Rattle.std.proofs.lemmas.Int.Digits.{digits_value_more}
-use Rattle.rv_asm.proofs.DigitValues.{all_digits_more}
+use Rattle.rv_text.proofs.DigitValues.{all_digits_more}
 use Rattle.rv_asm.proofs.number.decimal_digits.Goals as goal
 
 pub loop-byte-preserved : goal.loop-byte-preserved

@@ -1,5 +1,5 @@
 use Rattle.std.proofs.Common.{◌≡◌, ◌+◌, ◌≤◌, ◌++◌, false, length, IsTrue}
-use Rattle.rv_asm.specs.Lines.{has_feed}
+use Rattle.rv_text.specs.Lines.{has_feed}
 use Rattle.rv_bench.specs.LineText.{ReadsText}
 use Rattle.rv_bench.proofs.line.read_text.Given as goal
 

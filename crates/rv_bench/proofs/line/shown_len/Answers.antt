@@ -1,4 +1,4 @@
-use Rattle.rv_asm.proofs.LineLemmas.{shown-return, shown-other, shown-empty}
+use Rattle.rv_text.proofs.LineLemmas.{shown-return, shown-other, shown-empty}
 use Rattle.std.proofs.Common.{◌++◌, ◌∷◌, [], ◌∙◌, ap}
 use Rattle.rv_bench.proofs.line.shown_len.Goals as goal
 use Rattle.rv_bench.proofs.line.shown_len.Goals.{in_default-via-in-Some+else-last-eq-CARRIAGE_RETURN, in_default-via-in_default}

@@ -1,7 +1,0 @@
-use Rattle.std.proofs.Common.{◌≡◌, ◌-◌, ◌*◌, ◌/◌, ◌^◌}
-use Rattle.rv_asm.specs.Digits.{hex_digits}
-use Rattle.rv_asm.proofs.hexadecimal.hex.Given as goal
-
-abbrev pub invariant-loop-written : goal.invariant-loop-written
-invariant-loop-written l =
-    l.text.bytes ≡ hex_digits l.written (l.value / 2 ^ (4 * (l.places - l.written)))

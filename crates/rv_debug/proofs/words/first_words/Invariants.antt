@@ -1,5 +1,0 @@
-use Rattle.std.proofs.Common.{◌≡◌, ◌≤◌, length}
-use Rattle.rv_debug.proofs.words.first_words.Given as goal
-
-abbrev pub invariant-loop-word : goal.invariant-loop-word
-invariant-loop-word l = record { kept : l.words.items ≡ l.yielded; few : length l.words.items ≤ 6 }

@@ -1,0 +1,55 @@
+-- The first line of a text.
+use Rattle.std.proofs.Common.{◌≡◌, ◌≢◌, ◌==◌, ◌||◌, ℕ, ◌+◌, ◌<◌, Bool, true, false, not, cond, sym, List, [], ◌∷◌, ◌++◌, length, take, get_or, refl, ap, ◌∙◌, arith, append_assoc, suc}
+use Rattle.std.proofs.lemmas.List.{take_all}
+use Rattle.std.specs.List.{position_or_len, before_first, after_first, prefix_len}
+use Rattle.std.proofs.lemmas.Bool.Decides.{nat_tests}
+use Rattle.std.proofs.lemmas.List.Sums.{split_at_first, passes_at_first}
+use Rattle.rv_text.specs.Lines.{has_feed, lines_of, through_last_feed, without_return}
+use Rattle.rv_text.proofs.LineLemmas.{lines_of-append, lines_of-line, lines_of-last, without_return-other, through_last_feed-append_feed}
+
+abbrev is_feed : ℕ → Bool
+is_feed b = b == 10
+
+take-one_more : (n x : ℕ) (xs : List ℕ) → take (1 + n) (x ∷ xs) ≡ x ∷ take n xs
+take-one_more n x xs = let one_more : 1 + n ≡ suc n = omega arith in rw one_more refl
+
+no_feed-step : (b : Bool) (n x : ℕ) (xs : List ℕ) → is_feed x ≡ b → has_feed (take n xs) ≡ false → has_feed (take (cond (not b) (1 + n) 0) (x ∷ xs)) ≡ false
+no_feed-step true n x xs is more = refl
+no_feed-step false n x xs is more =
+    ap has_feed (take-one_more n x xs) ∙ ap (λ b. b || has_feed (take n xs)) is ∙ more
+
+no_feed : (xs : List ℕ) → has_feed (before_first is_feed xs) ≡ false
+no_feed [] = refl
+no_feed (x ∷ xs) = no_feed-step (is_feed x) (prefix_len (λ y. not (is_feed y)) xs) x xs refl (no_feed xs)
+
+ten : (n : ℕ) → is_feed n ≡ true → n ≡ 10
+ten n is = grind (arith, nat_tests)
+
+whole_line : (front : List ℕ) → through_last_feed (front ++ 10 ∷ []) ≡ front ++ 10 ∷ []
+whole_line front = through_last_feed-append_feed front (10 ∷ []) refl
+
+cut : (front rest : List ℕ) → has_feed front ≡ false → lines_of (front ++ 10 ∷ rest) ≡ without_return front ∷ lines_of rest
+cut front rest none =
+    ap lines_of (sym (append_assoc front (10 ∷ []) rest)) ∙ lines_of-append (front ++ 10 ∷ []) rest (whole_line front) ∙ ap (λ ls. ls ++ lines_of rest) (lines_of-line front none)
+
+pub lines-cut : (text : List ℕ) → position_or_len is_feed text < length text → lines_of text ≡ without_return (before_first is_feed text) ∷ lines_of (after_first is_feed text)
+lines-cut text within =
+    let feed : get_or text (position_or_len is_feed text) 0 ≡ 10 = ten _ (passes_at_first is_feed text 0 within) in
+    let parts : text ≡ before_first is_feed text ++ 10 ∷ after_first is_feed text = rw feed at (split_at_first is_feed text 0 within) in
+    ap lines_of parts ∙ cut (before_first is_feed text) (after_first is_feed text) (no_feed text)
+
+all_taken : (text : List ℕ) → position_or_len is_feed text ≡ length text → has_feed text ≡ false
+all_taken text is =
+    let whole : take (length text) text ≡ text = take_all (length text) text (omega arith) in
+    sym (ap has_feed whole) ∙ rw is at (no_feed text)
+
+pub lines-whole : (text : List ℕ) → 0 < length text → position_or_len is_feed text ≡ length text → lines_of text ≡ text ∷ []
+lines-whole [] some is = absurd (omega arith)
+lines-whole (x ∷ xs) some is = lines_of-last x xs (all_taken (x ∷ xs) is)
+
+pub no_return-other : (line front : List ℕ) (last : ℕ) → line ≡ front ++ last ∷ [] → last ≢ 13 → line ≡ without_return line
+no_return-other line front last is other = rw is (sym (without_return-other front last other))
+
+pub no_return-empty : (line : List ℕ) → length line ≡ 0 → line ≡ without_return line
+no_return-empty [] none = refl
+no_return-empty (x ∷ xs) none = absurd (omega (arith, none))

@@ -1,0 +1,219 @@
+-- The lines of a text that is read byte by byte.
+use Rattle.std.proofs.Common.{◌≡◌, ◌≢◌, ℕ, suc, zero, inl, inr, ◌<◌, ◌≤◌, nat_eq, Bool, true, false, ◌&&◌, ◌||◌, cond, List, [], ◌∷◌, ◌++◌, length, take, drop, min, refl, sym, ◌∙◌, ap, arith, append-nil}
+use Rattle.std.proofs.lemmas.List.{take-append-le, take_all, take-take, length-take, length-append}
+use Rattle.std.proofs.lemmas.Bool.{cases_lt}
+use Rattle.rv_text.specs.Lines.{has_feed, starts_with_feed, onto_first, lines_of, through_last_feed, after_line, after_lines}
+use Rattle.rv_text.specs.Lines.{without_return}
+
+or_assoc : (a b c : Bool) → a || (b || c) ≡ (a || b) || c
+or_assoc true b c = refl
+or_assoc false b c = refl
+
+pub has_feed-append : (xs ys : List ℕ) → has_feed (xs ++ ys) ≡ has_feed xs || has_feed ys
+has_feed-append [] ys = refl
+has_feed-append (x ∷ xs) ys = rw (has_feed-append xs ys) (or_assoc (nat_eq x 10) (has_feed xs) (has_feed ys))
+
+-- a text with no line feed has no finished line
+pub through_last_feed-open : (xs : List ℕ) → has_feed xs ≡ false → through_last_feed xs ≡ []
+through_last_feed-open [] h = refl
+through_last_feed-open (x ∷ xs) h = rw h refl
+
+or_false : (a b : Bool) → b ≡ false → a || b ≡ a
+or_false true b h = refl
+or_false false b h = h
+
+or_true : (a b : Bool) → b ≡ true → a || b ≡ true
+or_true true b h = refl
+or_true false b h = h
+
+-- what follows with no line feed finishes no line
+pub through_last_feed-append_open : (xs ys : List ℕ) → has_feed ys ≡ false → through_last_feed (xs ++ ys) ≡ through_last_feed xs
+through_last_feed-append_open [] ys h = through_last_feed-open ys h
+through_last_feed-append_open (x ∷ xs) ys h =
+    rw (has_feed-append xs ys, or_false (has_feed xs) (has_feed ys) h, through_last_feed-append_open xs ys h) refl
+
+-- what follows with a line feed finishes all before it
+pub through_last_feed-append_feed : (xs ys : List ℕ) → has_feed ys ≡ true → through_last_feed (xs ++ ys) ≡ xs ++ through_last_feed ys
+through_last_feed-append_feed [] ys h = refl
+through_last_feed-append_feed (x ∷ xs) ys h =
+    rw (has_feed-append xs ys, or_true (has_feed xs) (has_feed ys) h, or_true (nat_eq x 10) true refl, through_last_feed-append_feed xs ys h) refl
+
+through_last_feed-cons : (x : ℕ) (xs : List ℕ) → through_last_feed (x ∷ xs) ≡ x ∷ xs → (nat_eq x 10 || has_feed xs ≡ true) × (through_last_feed xs ≡ xs)
+through_last_feed-cons x xs = go (nat_eq x 10 || has_feed xs) where
+  go : (b : Bool) → cond b (x ∷ through_last_feed xs) [] ≡ x ∷ xs → (b ≡ true) × (through_last_feed xs ≡ xs)
+  go true e = (refl, cc)
+  go false e = cc
+
+or_false-right : (a b : Bool) → a || b ≡ true → a ≡ false → b ≡ true
+or_false-right true b h e = cc
+or_false-right false b h e = h
+
+onto_first-some : (x : ℕ) (ls : List (List ℕ)) → onto_first x ls ≡ [] → ⊥
+onto_first-some x [] e = cc
+onto_first-some x (l ∷ ls) e = cc
+
+-- a text with a line feed has a line
+pub lines_of-some : (xs : List ℕ) → has_feed xs ≡ true → lines_of xs ≡ [] → ⊥
+lines_of-some [] h e = cc
+lines_of-some (x ∷ xs) h e = go (nat_eq x 10) (nat_eq x 13 && starts_with_feed xs) (lines_of-some xs) h e where
+  go : (b c : Bool) → (has_feed xs ≡ true → lines_of xs ≡ [] → ⊥) → b || has_feed xs ≡ true → cond b ([] ∷ lines_of xs) (cond c (lines_of xs) (onto_first x (lines_of xs))) ≡ [] → ⊥
+  go true c more h e = cc
+  go false true more h e = more h e
+  go false false more h e = onto_first-some x (lines_of xs) e
+
+branch : (b c : Bool) (x : ℕ) (ms ls zs : List (List ℕ)) → ms ≡ ls ++ zs → (b ≡ false → ls ≡ [] → ⊥)
+    → cond b ([] ∷ ms) (cond c ms (onto_first x ms)) ≡ cond b ([] ∷ ls) (cond c ls (onto_first x ls)) ++ zs
+branch true c x ms ls zs e some = ap (λ (t : List (List ℕ)). [] ∷ t) e
+branch false true x ms ls zs e some = e
+branch false false x ms [] zs e some = absurd (some refl refl)
+branch false false x ms (l ∷ ls) zs e some = ap (onto_first x) e
+
+starts_with_feed-append : (xs ys : List ℕ) → has_feed xs ≡ true → starts_with_feed (xs ++ ys) ≡ starts_with_feed xs
+starts_with_feed-append [] ys h = cc
+starts_with_feed-append (x ∷ xs) ys h = refl
+
+-- the lines of a text of finished lines, and those of what follows
+pub lines_of-append : (xs ys : List ℕ) → through_last_feed xs ≡ xs → lines_of (xs ++ ys) ≡ lines_of xs ++ lines_of ys
+lines_of-append [] ys h = refl
+lines_of-append (x ∷ xs) ys h =
+    let parts = through_last_feed-cons x xs h in
+    go (nat_eq x 10) (lines_of-append xs ys parts.1) parts.0 where
+      go : (b : Bool) → lines_of (xs ++ ys) ≡ lines_of xs ++ lines_of ys → b || has_feed xs ≡ true
+          → cond b ([] ∷ lines_of (xs ++ ys)) (cond (nat_eq x 13 && starts_with_feed (xs ++ ys)) (lines_of (xs ++ ys)) (onto_first x (lines_of (xs ++ ys)))) ≡ cond b ([] ∷ lines_of xs) (cond (nat_eq x 13 && starts_with_feed xs) (lines_of xs) (onto_first x (lines_of xs))) ++ lines_of ys
+      go true more some = ap (λ (t : List (List ℕ)). [] ∷ t) more
+      go false more some = rw (starts_with_feed-append xs ys some) (branch false (nat_eq x 13 && starts_with_feed xs) x _ _ _ more (λ _. lines_of-some xs some))
+
+or_none : (a b : Bool) → a || b ≡ false → (a ≡ false) × (b ≡ false)
+or_none true b h = cc
+or_none false b h = (refl, h)
+
+and_false : (b : Bool) → b && false ≡ false
+and_false true = refl
+and_false false = refl
+
+-- finished texts make a finished text
+pub through_last_feed-append : (xs ys : List ℕ) → through_last_feed xs ≡ xs → through_last_feed ys ≡ ys → through_last_feed (xs ++ ys) ≡ xs ++ ys
+through_last_feed-append xs [] h e = through_last_feed-append_open xs [] refl ∙ (h ∙ sym (append-nil xs))
+through_last_feed-append xs (y ∷ ys) h e = through_last_feed-append_feed xs (y ∷ ys) ((through_last_feed-cons y ys e).0) ∙ ap (λ t. xs ++ t) e
+
+without_return-cons : (x y : ℕ) (ys : List ℕ) → without_return (x ∷ y ∷ ys) ≡ x ∷ without_return (y ∷ ys)
+without_return-cons x y ys = rw (and_false (nat_eq x 13)) refl
+
+one_more : (b c d : Bool) (x : ℕ) (line : List ℕ) (ms : List (List ℕ)) → ms ≡ line ∷ [] → b ≡ false → d ≡ false → cond b ([] ∷ ms) (cond (c && d) ms (onto_first x ms)) ≡ (x ∷ line) ∷ []
+one_more true c d x line ms e h k = cc
+one_more false c true x line ms e h k = cc
+one_more false c false x line ms e h k = rw (and_false c) (ap (onto_first x) e)
+
+-- with no line feed in them, the bytes before one are one line
+pub lines_of-line : (xs : List ℕ) → has_feed xs ≡ false → lines_of (xs ++ 10 ∷ []) ≡ without_return xs ∷ []
+lines_of-line [] h = refl
+lines_of-line (x ∷ []) h = rw ((or_none (nat_eq x 10) false h).0) (go (nat_eq x 13)) where
+  go : (b : Bool) → cond (b && true) ([] ∷ []) ((x ∷ []) ∷ []) ≡ cond (b && true) [] (x ∷ []) ∷ []
+  go true = refl
+  go false = refl
+lines_of-line (x ∷ y ∷ ys) h =
+    let first = or_none (nat_eq x 10) (has_feed (y ∷ ys)) h in
+    let second = or_none (nat_eq y 10) (has_feed ys) first.1 in
+    one_more (nat_eq x 10) (nat_eq x 13) (nat_eq y 10) x (without_return (y ∷ ys)) (lines_of (y ∷ ys ++ 10 ∷ [])) (lines_of-line (y ∷ ys) first.1) first.0 second.0
+    ∙ sym (ap (λ (t : List ℕ). t ∷ []) (without_return-cons x y ys))
+
+-- with no line feed in them, the last bytes are one line
+pub lines_of-last : (x : ℕ) (xs : List ℕ) → has_feed (x ∷ xs) ≡ false → lines_of (x ∷ xs) ≡ (x ∷ xs) ∷ []
+lines_of-last x [] h = rw ((or_none (nat_eq x 10) false h).0, and_false (nat_eq x 13)) refl
+lines_of-last x (y ∷ ys) h =
+    let first = or_none (nat_eq x 10) (has_feed (y ∷ ys)) h in
+    let second = or_none (nat_eq y 10) (has_feed ys) first.1 in
+    one_more (nat_eq x 10) (nat_eq x 13) (nat_eq y 10) x (y ∷ ys) (lines_of (y ∷ ys)) (lines_of-last y ys first.1) first.0 second.0
+
+pub without_return-return : (xs : List ℕ) → without_return (xs ++ 13 ∷ []) ≡ xs
+without_return-return [] = refl
+without_return-return (x ∷ []) = rw (and_false (nat_eq x 13)) refl
+without_return-return (x ∷ y ∷ ys) = rw (and_false (nat_eq x 13)) (ap (λ (t : List ℕ). x ∷ t) (without_return-return (y ∷ ys)))
+
+pub eq_false : (x y : ℕ) → x ≢ y → nat_eq x y ≡ false
+eq_false x y h = grind arith
+
+pub without_return-other : (xs : List ℕ) (x : ℕ) → x ≢ 13 → without_return (xs ++ x ∷ []) ≡ xs ++ x ∷ []
+without_return-other [] x h = rw (eq_false x 13 h) refl
+without_return-other (y ∷ []) x h = rw (and_false (nat_eq y 13)) (ap (λ (t : List ℕ). y ∷ t) (without_return-other [] x h))
+without_return-other (y ∷ z ∷ zs) x h = rw (and_false (nat_eq y 13)) (ap (λ (t : List ℕ). y ∷ t) (without_return-other (z ∷ zs) x h))
+
+-- all but the last byte of a line are kept
+pub take-without_return : (n : ℕ) (xs : List ℕ) → n < length xs → take n (without_return xs) ≡ take n xs
+take-without_return zero xs h = refl
+take-without_return (suc n) [] h = refl
+take-without_return (suc n) (x ∷ []) h = absurd (omega arith)
+take-without_return (suc n) (x ∷ y ∷ ys) h =
+    rw (and_false (nat_eq x 13)) (ap (λ (t : List ℕ). x ∷ t) (take-without_return n (y ∷ ys) (omega arith)))
+
+-- the front that is kept of a line shows as much as the line
+pub cut-kept : (xs : List ℕ) → take 121 (without_return (take 122 xs)) ≡ take 121 (without_return xs)
+cut-kept xs = elim (cases_lt 122 (length xs)) [
+  | inl more ↦
+      let long : 121 < length (take 122 xs) = rw (length-take 122 xs) (omega arith) in
+      let short : 121 < length xs = omega arith in
+      take-without_return 121 (take 122 xs) long ∙ (take-take 121 122 xs (omega arith) ∙ sym (take-without_return 121 xs short))
+  | inr all ↦ rw (take_all 122 xs all) refl
+]
+
+take-min : (n : ℕ) (xs : List ℕ) → take (min (length xs) n) xs ≡ take n xs
+take-min n xs = elim (cases_lt n (length xs)) [
+  | inl more ↦ let e : min (length xs) n ≡ n = omega arith in rw e refl
+  | inr all ↦ let e : min (length xs) n ≡ length xs = omega arith in rw (e, take_all (length xs) xs (omega arith), take_all n xs all) refl
+]
+
+-- a carriage return at the end is not shown
+pub shown-return : (text front : List ℕ) → text ≡ front ++ 13 ∷ [] → length text ≤ 122 → take (length front) text ≡ take 121 (without_return text)
+shown-return text front e h =
+    let short : length front ≤ 121 = omega (arith, simp length-append at (ap length e)) in
+    rw (e, without_return-return front, take-append-le (length front) front (13 ∷ []) (omega arith), take_all (length front) front (omega arith), take_all 121 front short) refl
+
+-- any other end is
+pub shown-other : (text front : List ℕ) (last : ℕ) → text ≡ front ++ last ∷ [] → last ≢ 13 → take (min (length text) 121) text ≡ take 121 (without_return text)
+shown-other text front last e h = take-min 121 text ∙ ap (take 121) (e ∙ (sym (without_return-other front last h) ∙ ap without_return (sym e)))
+
+pub shown-empty : (text : List ℕ) → length text ≡ 0 → take (min (length text) 121) text ≡ take 121 (without_return text)
+shown-empty [] h = refl
+shown-empty (x ∷ xs) h = absurd (omega arith)
+
+-- what follows a text with no line feed and a line feed
+pub after_line-feed : (xs ys : List ℕ) → has_feed xs ≡ false → after_line (xs ++ 10 ∷ ys) ≡ ys
+after_line-feed [] ys h = refl
+after_line-feed (x ∷ xs) ys h =
+    let parts = or_none (nat_eq x 10) (has_feed xs) h in
+    rw parts.0 (after_line-feed xs ys parts.1)
+
+-- nothing follows a text with no line feed
+pub after_line-open : (xs : List ℕ) → has_feed xs ≡ false → after_line xs ≡ []
+after_line-open [] h = refl
+after_line-open (x ∷ xs) h =
+    let parts = or_none (nat_eq x 10) (has_feed xs) h in
+    rw parts.0 (after_line-open xs parts.1)
+
+-- what follows n lines and one more
+pub after_lines-more : (n : ℕ) (text : List ℕ) → after_lines (suc n) text ≡ after_line (after_lines n text)
+after_lines-more zero text = refl
+after_lines-more (suc n) text = after_lines-more n (after_line text)
+
+-- the lines of what follows the first line are the other lines
+lines_of-after_line : (text : List ℕ) → lines_of (after_line text) ≡ drop 1 (lines_of text)
+lines_of-after_line [] = refl
+lines_of-after_line (x ∷ xs) = go (nat_eq x 10) (nat_eq x 13 && starts_with_feed xs) (lines_of xs) (lines_of-after_line xs) where
+  first : (ls : List (List ℕ)) → drop 1 ls ≡ drop 1 (onto_first x ls)
+  first [] = refl
+  first (l ∷ ls) = refl
+
+  go : (b c : Bool) (ls : List (List ℕ)) → lines_of (after_line xs) ≡ drop 1 ls → lines_of (cond b xs (after_line xs)) ≡ drop 1 (cond b ([] ∷ lines_of xs) (cond c ls (onto_first x ls)))
+  go true c ls more = refl
+  go false true ls more = more
+  go false false ls more = more ∙ first ls
+
+drop-drop_one : (n : ℕ) (ls : List (List ℕ)) → drop n (drop 1 ls) ≡ drop (suc n) ls
+drop-drop_one zero [] = refl
+drop-drop_one (suc n) [] = refl
+drop-drop_one n (l ∷ ls) = refl
+
+-- the lines of what follows n lines are the lines from the nth on
+pub lines_of-after_lines : (n : ℕ) (text : List ℕ) → lines_of (after_lines n text) ≡ drop n (lines_of text)
+lines_of-after_lines zero text = refl
+lines_of-after_lines (suc n) text = lines_of-after_lines n (after_line text) ∙ (ap (drop n) (lines_of-after_line text) ∙ drop-drop_one n (lines_of text))

@@ -1,0 +1,5 @@
+pub mod Digits
+pub mod GoodLines
+pub mod Lines
+pub mod Numbers
+pub mod Words

@@ -1,0 +1,21 @@
+//! Numbers in hexadecimal.
+
+ghost use Rattle.std.specs.Prelude.{◌≡◌, ℕ, ◌^◌, ◌<◌, ◌≤◌, false};
+ghost use Rattle.arrayvec.specs.ArrayString.{array_string_len};
+ghost use Rattle.rv_text.specs.Digits.{hex_digits};
+
+use arrayvec::ArrayString;
+
+/// The last hexadecimal digits of a number, as many as there are places, in lower case.
+pub fn hex(value: u32, places: usize) -> ArrayString<8>
+    requires { places ≤ 8 }
+    ensures digits { result.bytes ≡ hex_digits places value }
+    ensures len { array_string_len result ≡ places }
+{
+    let mut text = ArrayString::new();
+    for written in 0..places {
+        let digit = (value >> (4 * (places - (written + 1)))) & 15;
+        text.push(char::from_digit(digit, 16).unwrap());
+    }
+    text
+}

@@ -1,0 +1,14 @@
+//! Where a byte stands in a text.
+
+ghost use Rattle.std.specs.Prelude.{◌≡◌, ◌==◌, ◌≤◌, length};
+ghost use Rattle.std.specs.List.{position_or_len};
+
+/// Where the byte first stands, or the length.
+pub fn position_of(text: &[u8], wanted: u8) -> usize
+    ensures value { result ≡ position_or_len (λ b. b == wanted) text.now }
+    ensures within { result ≤ length text.now }
+{
+    text.iter()
+        .position(|byte| *byte == wanted)
+        .unwrap_or(text.len())
+}

@@ -1,0 +1,43 @@
+//! Replies: texts of at most 2048 bytes, and what is written at their end.
+
+ghost use Rattle.std.specs.Prelude.{◌≡◌, ℕ, ◌+◌, ◌≤◌, ◌++◌, length, decimal};
+ghost use Rattle.arrayvec.specs.ArrayVec.{array_vec_len};
+ghost use Rattle.rv_text.specs.Digits.{hex_digits};
+
+use crate::hexadecimal::hex;
+use arrayvec::ArrayVec;
+use itoa::Buffer;
+
+/// The bytes that answer one command.
+pub type Reply = ArrayVec<u8, 2048>;
+
+/// Writes a text at the end of a reply that has room for it.
+pub fn push_text(out: &mut Reply, text: &str)
+    requires room { array_vec_len out.old + length text.now ≤ 2048 }
+    ensures items { out.new.items ≡ out.old.items ++ text.now }
+    ensures len { array_vec_len out.new ≡ array_vec_len out.old + length text.now }
+{
+    if out.try_extend_from_slice(text.as_bytes()).is_err() {
+        unreachable!();
+    }
+}
+
+/// Writes the last hexadecimal digits of a number, as many as there are places, in lower case.
+pub fn push_hex(out: &mut Reply, value: u32, places: usize)
+    requires places { places ≤ 8 }
+    requires room { array_vec_len out.old + places ≤ 2048 }
+    ensures items { out.new.items ≡ out.old.items ++ hex_digits places value }
+    ensures len { array_vec_len out.new ≡ array_vec_len out.old + places }
+{
+    push_text(out, hex(value, places).as_str());
+}
+
+/// Writes a number in decimal.
+pub fn push_decimal(out: &mut Reply, value: u32)
+    requires room { array_vec_len out.old + 10 ≤ 2048 }
+    ensures items { out.new.items ≡ out.old.items ++ decimal value }
+    ensures len { array_vec_len out.new ≤ array_vec_len out.old + 10 }
+{
+    let mut buffer = Buffer::new();
+    push_text(out, buffer.format(value));
+}
