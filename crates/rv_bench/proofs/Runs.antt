@@ -38,10 +38,10 @@ next-answer start unread old now left mid rest ends shown answered so_far takes 
     ap (λ s. line_answer s takes.line) (sym so_far.state) ∙ shown-answer now shown takes.line answered takes.front is
 
 -- one more line is answered
-pub AnswersLines-more : (start : BenchState) (unread old : List ℕ) (now : BenchState) (left mid : List ℕ) (after : BenchState) (rest : List ℕ) (ends : Bool) (new shown reply : List ℕ)
+pub AnswersLines-more : (start : BenchState) (unread old : List ℕ) (now : BenchState) (left mid : List ℕ) (after : BenchState) (rest : List ℕ) (ends : Bool) (new shown reply : List ℕ) (entered : ℕ)
     → AnswersLines start unread old now left false mid → TakesLine left rest ends shown
-    → line_answer now shown ≡ record { state = after; reply = reply } → new ≡ mid ++ reply → AnswersLines start unread old after rest ends new
-AnswersLines-more start unread old now left mid after rest ends new shown reply so_far takes is wrote =
+    → line_answer now shown ≡ record { state = after; reply = reply; entered = entered } → new ≡ mid ++ reply → AnswersLines start unread old after rest ends new
+AnswersLines-more start unread old now left mid after rest ends new shown reply entered so_far takes is wrote =
     let lines = so_far.lines in
     let line = takes.line in
     let here = next-answer start unread old now left mid rest ends shown _ so_far takes is in record {
@@ -83,12 +83,12 @@ AnswersLines-written start unread old now left is_at_end new so_far = record {
 }
 
 -- the sink stops within the reply to one more line
-pub AnswersLines-stopped : (start : BenchState) (unread old : List ℕ) (now : BenchState) (left mid : List ℕ) (after : BenchState) (rest : List ℕ) (ends : Bool) (new shown reply : List ℕ)
+pub AnswersLines-stopped : (start : BenchState) (unread old : List ℕ) (now : BenchState) (left mid : List ℕ) (after : BenchState) (rest : List ℕ) (ends : Bool) (new shown reply : List ℕ) (entered : ℕ)
     → AnswersLines start unread old now left false mid → TakesLine left rest ends shown
-    → line_answer now shown ≡ record { state = after; reply = reply } → WritesFront mid new reply → StopsAtWrite start unread rest old new
+    → line_answer now shown ≡ record { state = after; reply = reply; entered = entered } → WritesFront mid new reply → StopsAtWrite start unread rest old new
 unfolding AnswersLines-more
-AnswersLines-stopped start unread old now left mid after rest ends new shown reply so_far takes is (more, (front, wrote, said)) =
-    let all = AnswersLines-more start unread old now left mid after rest ends (mid ++ reply) shown reply so_far takes is refl in
+AnswersLines-stopped start unread old now left mid after rest ends new shown reply entered so_far takes is (more, (front, wrote, said)) =
+    let all = AnswersLines-more start unread old now left mid after rest ends (mid ++ reply) shown reply entered so_far takes is refl in
     let here = next-answer start unread old now left mid rest ends shown _ so_far takes is in
     let said_next = append-nil (line_answer (state_after start so_far.lines) takes.line).reply ∙ (ap (λ (a : Answered). a.reply) here ∙ said) in record {
       text = all.reads.text;

@@ -1,6 +1,7 @@
 mod AddressLaws
 pub mod AddressLemmas
 pub mod Answers
+mod BareRuns
 mod CommandExamples
 mod Commands
 mod Keywords

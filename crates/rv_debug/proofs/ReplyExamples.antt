@@ -35,8 +35,8 @@ decimal-shown n =
     grind (arith, nat_tests, one, two)
 
 pub ran_text-examples :
-    ran_text 0x80000010 M (record { steps = 4; trap = None; stop = Done }) ++ ran_text 0 M (record { steps = 30; trap = Some (record { cause = Exception IllegalInstruction; tval = 0xffffffff }); stop = Done })
-    ++ ran_text 0x80000004 U (record { steps = 2; trap = None; stop = Break }) ++ ran_text 0x80000004 S (record { steps = 1; trap = None; stop = Watch 0x8000010a }) ≡
+    ran_text 0x80000010 M (codes "bare") (record { steps = 4; trap = None; stop = Done; entered = 0 }) ++ ran_text 0 M (codes "bare") (record { steps = 30; trap = Some (record { cause = Exception IllegalInstruction; tval = 0xffffffff }); stop = Done; entered = 0 })
+    ++ ran_text 0x80000004 U (codes "bare") (record { steps = 2; trap = None; stop = Break; entered = 0 }) ++ ran_text 0x80000004 S (codes "bare") (record { steps = 1; trap = None; stop = Watch 0x8000010a; entered = 0 }) ≡
     codes "ran 4 pc=80000010 mode=M world=bare why=done trap=-\nran 30 pc=00000000 mode=M world=bare why=done trap=00000002:ffffffff\n"
     ++ codes "ran 2 pc=80000004 mode=U world=bare why=break trap=-\nran 1 pc=80000004 mode=S world=bare why=watch:8000010a trap=-\n"
 unfolding ran_text stop_text trap_text hex_digits

@@ -1,76 +1,70 @@
 -- The answers to commands: the state of the bench that one leaves, and the text of its reply. (This project's own commands.)
-use Rattle.std.specs.Prelude.{ℕ, Bool, List, [], ◌∷◌, Option, Result, Ok, Err}
+use Rattle.std.specs.Prelude.{ℕ, Bool, List, [], Option, Result, Ok, Err}
 use Rattle.rv_word.specs.Cases.{option_case, result_case}
 use Rattle.rv_word.specs.Widths.{bytes_in}
 use Rattle.rv_word.specs.declared.width.Width.{Width}
-use Rattle.rv_debug.specs.Addresses.{with_room_for, without_address}
-use Rattle.rv_debug.specs.Command.{parse_of}
 use Rattle.rv_memory.specs.Accesses.{verdict_on}
-use Rattle.rv_memory.specs.Memory.{read, write, number_of}
+use Rattle.rv_memory.specs.Memory.{read, number_of}
 use Rattle.rv_pmp.specs.Entries.{Entries}
 use Rattle.rv_pmp.specs.declared.access.Access.{Access as AccessKind}
 use Rattle.rv_pmp.specs.declared.mode.Mode.{Mode}
 use Rattle.rv_pmp.specs.declared.mode.Mode.TheVariants.{M}
 use Rattle.rv_state.specs.CsrState.{CsrState}
 use Rattle.rv_state.specs.CsrTable.{read_result}
-use Rattle.rv_state.specs.Registers.{register, with_register}
-use Rattle.rv_debug.specs.ReplyText.{ran_text, register_text, registers_text, ok_text, csr_text, memory_text, dis_text, pmp_text, verdict_text, denied_outside_text, full_text, fault_text, no_csr_text, outside_text}
-use Rattle.rv_hart.specs.State.{State}
+use Rattle.rv_state.specs.Registers.{register}
+use Rattle.rv_debug.specs.Addresses.{with_room_for, without_address}
 use Rattle.rv_debug.specs.BenchState.{BenchState}
+use Rattle.rv_debug.specs.Command.{parse_of}
+use Rattle.rv_debug.specs.ReplyText.{ran_text, register_text, registers_text, ok_text, csr_text, memory_text, dis_text, pmp_text, verdict_text, denied_outside_text, full_text, fault_text, no_csr_text, outside_text}
 use Rattle.rv_debug.specs.Steps.{AfterRun, no_steps, run}
+use Rattle.rv_debug.specs.Targets.{hart_of, memory_of, world_text, enclaves_text, pc_of, stepped, register_set, timer_set, poked}
 use Rattle.rv_debug.specs.declared.command.Command.{Command}
 use Rattle.rv_debug.specs.declared.command.Command.TheVariants.{Blank, Step, Run, Break, Clear, Watch, Unwatch, Reg, Regs, SetReg, Csr, Mem, Poke, Dis, Pmp, Enclaves, Access, Timer}
 use Rattle.rv_debug.specs.declared.command.CommandFault.{CommandFault}
+use Rattle.rv_debug.specs.declared.target.Target.{Target}
 
--- a state, and the text of a reply
+-- a state, the text of a reply, and the slots of the enclaves that were entered: bit k is set for slot k
 pub record Answered : Type 0 where
   pub state : BenchState
   pub reply : List ℕ
+  pub entered : ℕ
 
 -- the reply of a command that changes nothing
 abbrev pub shows : BenchState → List ℕ → Answered
-shows bench reply = record { state = bench; reply = reply }
+shows bench reply = record { state = bench; reply = reply; entered = 0 }
 
--- a machine, and the text of a reply
-pub record MachineAnswered : Type 0 where
-  pub machine : State
-  pub reply : List ℕ
+-- the reply of a command that changes nothing but the target, and enters no enclave
+abbrev pub leaves : BenchState → Target → List ℕ → Answered
+leaves bench target reply = record { state = record bench { target = target }; reply = reply; entered = 0 }
 
--- the reply of a command that changes nothing but the machine
-abbrev pub by_machine : BenchState → MachineAnswered → Answered
-by_machine bench answered = record { state = record bench { machine = answered.machine }; reply = answered.reply }
+-- so many steps, which these addresses may end, are told by what they did, and where, in which mode and world they ended
+abbrev pub told : AfterRun Target → List ℕ
+told after = ran_text (pc_of after.state) (hart_of after.state).mode (world_text after.state) after.ran
 
--- steps are told by what they did, and the pc and the mode after them
-abbrev pub told : AfterRun → MachineAnswered
-told after = record { machine = after.state; reply = ran_text after.state.hart.pc after.state.hart.mode after.ran }
+abbrev pub steps_answer : BenchState → AfterRun Target → Answered
+steps_answer bench after = record { state = record bench { target = after.state }; reply = told after; entered = after.ran.entered }
+
+abbrev pub steps_of : Target → List ℕ → List ℕ → ℕ → AfterRun Target
+steps_of target breaks watches count = run stepped pc_of breaks watches count (no_steps target)
 
 -- an address is put among the breaks, or there is no room for it
 abbrev pub break_set : BenchState → Option (List ℕ) → Answered
-break_set bench set = option_case set (shows bench full_text) (λ breaks. record { state = record bench { breaks = breaks }; reply = ok_text })
+break_set bench set = option_case set (shows bench full_text) (λ breaks. shows (record bench { breaks = breaks }) ok_text)
 
 -- or among the watches
 abbrev pub watch_set : BenchState → Option (List ℕ) → Answered
-watch_set bench set = option_case set (shows bench full_text) (λ watches. record { state = record bench { watches = watches }; reply = ok_text })
+watch_set bench set = option_case set (shows bench full_text) (λ watches. shows (record bench { watches = watches }) ok_text)
 
--- a word is put into a register; x0 stays 0
-abbrev pub register_set : State → ℕ → ℕ → MachineAnswered
-register_set machine number value = record {
-  machine = record machine { hart = record machine.hart { regs = with_register machine.hart.regs number value } };
-  reply = ok_text;
-}
-
--- the timer line is raised or lowered
-abbrev pub timer_set : State → Bool → MachineAnswered
-timer_set machine raised = record {
-  machine = record machine { hart = record machine.hart { csrs = record machine.hart.csrs { timer = raised } } };
-  reply = ok_text;
-}
+-- a target, and the text of a reply
+pub record TargetAnswered : Type 0 where
+  pub target : Target
+  pub reply : List ℕ
 
 -- a byte is put into memory, where its address is in it
-abbrev pub poked : State → ℕ → ℕ → MachineAnswered
-poked machine address byte =
-    option_case (write machine.memory address (byte ∷ [])) (record { machine = machine; reply = outside_text })
-    (λ memory. record { machine = record machine { memory = memory }; reply = ok_text })
+abbrev pub poke_reply : Target → ℕ → ℕ → TargetAnswered
+poke_reply target address byte =
+    option_case (poked target address byte) (record { target = target; reply = outside_text })
+    (λ after. record { target = after; reply = ok_text })
 
 -- a control and status register is shown as mode M reads it, where there is one of the number
 abbrev pub csr_reply : CsrState → ℕ → List ℕ
@@ -93,24 +87,24 @@ access_reply memory entries mode access address width =
 -- one command
 unfoldable pub answer : BenchState → Command → Answered
 answer bench Blank = shows bench []
-answer bench (Step count) = by_machine bench (told (run [] [] count (no_steps bench.machine)))
-answer bench (Run count) = by_machine bench (told (run bench.breaks bench.watches count (no_steps bench.machine)))
+answer bench (Step count) = steps_answer bench (steps_of bench.target [] [] count)
+answer bench (Run count) = steps_answer bench (steps_of bench.target bench.breaks bench.watches count)
 answer bench (Break address) = break_set bench (with_room_for address bench.breaks)
-answer bench (Clear address) = record { state = record bench { breaks = without_address address bench.breaks }; reply = ok_text }
+answer bench (Clear address) = shows (record bench { breaks = without_address address bench.breaks }) ok_text
 answer bench (Watch address) = watch_set bench (with_room_for address bench.watches)
-answer bench (Unwatch address) = record { state = record bench { watches = without_address address bench.watches }; reply = ok_text }
-answer bench (Reg number) = shows bench (register_text number (register bench.machine.hart.regs number))
-answer bench Regs = shows bench (registers_text bench.machine.hart.regs bench.machine.hart.pc)
-answer bench (SetReg number value) = by_machine bench (register_set bench.machine number value)
-answer bench (Csr number) = shows bench (csr_reply bench.machine.hart.csrs number)
-answer bench (Mem address count) = shows bench (memory_reply bench.machine.memory address count)
-answer bench (Poke address byte) = by_machine bench (poked bench.machine address byte)
-answer bench (Dis address) = shows bench (dis_reply bench.machine.memory address)
-answer bench Pmp = shows bench (pmp_text bench.machine.hart.csrs.pmp)
-answer bench Enclaves = shows bench []
+answer bench (Unwatch address) = shows (record bench { watches = without_address address bench.watches }) ok_text
+answer bench (Reg number) = shows bench (register_text number (register (hart_of bench.target).regs number))
+answer bench Regs = shows bench (registers_text (hart_of bench.target).regs (pc_of bench.target))
+answer bench (SetReg number value) = leaves bench (register_set bench.target number value) ok_text
+answer bench (Csr number) = shows bench (csr_reply (hart_of bench.target).csrs number)
+answer bench (Mem address count) = shows bench (memory_reply (memory_of bench.target) address count)
+answer bench (Poke address byte) = let after = poke_reply bench.target address byte in leaves bench after.target after.reply
+answer bench (Dis address) = shows bench (dis_reply (memory_of bench.target) address)
+answer bench Pmp = shows bench (pmp_text (hart_of bench.target).csrs.pmp)
+answer bench Enclaves = shows bench (enclaves_text bench.target)
 answer bench (Access mode access address width) =
-    shows bench (access_reply bench.machine.memory bench.machine.hart.csrs.pmp mode access address width)
-answer bench (Timer raised) = by_machine bench (timer_set bench.machine raised)
+    shows bench (access_reply (memory_of bench.target) (hart_of bench.target).csrs.pmp mode access address width)
+answer bench (Timer raised) = leaves bench (timer_set bench.target raised) ok_text
 
 -- one line: a faulty one is told its fault, and changes nothing
 abbrev pub answer_or_fault : BenchState → Result Command CommandFault → Answered

@@ -1,13 +1,15 @@
 -- The state of a bench: what its commands show and change. (This project's own debugger.)
 use Rattle.std.specs.Prelude.{ℕ, List, []}
 use Rattle.rv_hart.specs.State.{State}
+use Rattle.rv_debug.specs.declared.target.Target.{Target}
+use Rattle.rv_debug.specs.declared.target.Target.TheVariants.{Bare}
 
--- the machine; the addresses at which a run breaks off; and those of the bytes that it watches, both in rising order
+-- what it steps; the addresses at which a run breaks off; and those of the bytes that it watches, both in rising order
 pub record BenchState : Type 0 where
-  pub machine : State
+  pub target : Target
   pub breaks : List ℕ
   pub watches : List ℕ
 
 -- a bench over a machine as it is, with no break and no watch
 abbrev pub bare : State → BenchState
-bare machine = record { machine = machine; breaks = []; watches = [] }
+bare machine = record { target = Bare machine; breaks = []; watches = [] }

@@ -6,4 +6,5 @@ pub mod Numbers
 pub mod ReplyText
 pub mod Steps
 pub mod Stops
+pub mod Targets
 pub mod Within

@@ -35,11 +35,11 @@ stop_text Done = codes "done"
 stop_text Break = codes "break"
 stop_text (Watch address) = codes "watch:" ++ hex8 address
 
--- `ran S pc=hhhhhhhh mode=m world=bare why=r trap=t`
-unfoldable pub ran_text : ℕ → Mode → Ran → List ℕ
-ran_text pc mode ran =
+-- `ran S pc=hhhhhhhh mode=m world=w why=r trap=t`
+unfoldable pub ran_text : ℕ → Mode → List ℕ → Ran → List ℕ
+ran_text pc mode world ran =
     codes "ran " ++ decimal ran.steps ++ codes " pc=" ++ hex8 pc ++ codes " mode=" ++ mode_text mode
-    ++ codes " world=bare why=" ++ stop_text ran.stop ++ codes " trap=" ++ trap_text ran.trap ++ codes "\n"
+    ++ codes " world=" ++ world ++ codes " why=" ++ stop_text ran.stop ++ codes " trap=" ++ trap_text ran.trap ++ codes "\n"
 
 -- `xN=hhhhhhhh`
 unfoldable pub register_text : ℕ → ℕ → List ℕ

@@ -1,9 +1,8 @@
 -- Steps one after another: RISC-V Unprivileged ISA 20191213, section 1.2; and what ends them. (This project's own debugger.)
-use Rattle.std.specs.Prelude.{ℕ, zero, suc, ◌+◌, ◌==◌, List, Option, None, if◌then◌else◌}
+use Rattle.std.specs.Prelude.{ℕ, zero, suc, ◌+◌, ◌^◌, ◌==◌, bit_or, List, Option, Some, None, if◌then◌else◌}
 use Rattle.std.specs.Option.{option_or}
 use Rattle.rv_word.specs.Cases.{option_case}
-use Rattle.rv_hart.specs.State.{State}
-use Rattle.rv_hart.specs.Step.{step}
+use Rattle.rv_hart.specs.declared.trap.StepOutcome.{StepOutcome}
 use Rattle.rv_hart.specs.declared.trap.Trap.{Trap}
 use Rattle.rv_debug.specs.Addresses.{is_among}
 use Rattle.rv_debug.specs.Stops.{lowest_accessed}
@@ -11,38 +10,56 @@ use Rattle.rv_debug.specs.declared.steps.Ran.{Ran}
 use Rattle.rv_debug.specs.declared.steps.Stop.{Stop}
 use Rattle.rv_debug.specs.declared.steps.Stop.TheVariants.{Done, Break, Watch}
 
--- the machine after steps, how many they were, and the last trap in them
-pub record AfterSteps : Type 0 where
-  pub state : State
+-- a state after one step, what the step shows, and the slot of the enclave that it entered, if it entered one
+pub record Stepped (A : Type 0) : Type 0 where
+  pub state : A
+  pub outcome : StepOutcome
+  pub entered : Option ℕ
+
+-- a state after steps, how many they were, the last trap in them, and the slots that they entered: bit k is set for slot k
+pub record AfterSteps (A : Type 0) : Type 0 where
+  pub state : A
   pub steps : ℕ
   pub trap : Option Trap
+  pub entered : ℕ
 
--- before the first
-abbrev pub no_steps : State → AfterSteps
-no_steps state = record { state = state; steps = 0; trap = None }
-
--- one more
-abbrev pub with_step : AfterSteps → AfterSteps
-with_step before =
-    let last = step before.state
-    in record { state = last.state; steps = before.steps + 1; trap = option_or last.outcome.trap before.trap }
-
--- the machine after steps that ended, and what they did
-pub record AfterRun : Type 0 where
-  pub state : State
+-- a state after steps that ended, and what they did
+pub record AfterRun (A : Type 0) : Type 0 where
+  pub state : A
   pub ran : Ran
 
-abbrev pub ended : AfterSteps → Stop → AfterRun
-ended after stop = record { state = after.state; ran = record { steps = after.steps; trap = after.trap; stop = stop } }
+-- before the first
+abbrev pub no_steps : {A : Type 0} → A → AfterSteps A
+no_steps state = record { state = state; steps = 0; trap = None; entered = 0 }
+
+-- the slots and one more, if there is one
+abbrev pub with_slot : ℕ → Option ℕ → ℕ
+with_slot slots None = slots
+with_slot slots (Some slot) = bit_or slots (2 ^ slot)
+
+-- steps and one more
+abbrev pub with_step : {A : Type 0} → AfterSteps A → Stepped A → AfterSteps A
+with_step before last = record {
+  state = last.state;
+  steps = before.steps + 1;
+  trap = option_or last.outcome.trap before.trap;
+  entered = with_slot before.entered last.entered;
+}
+
+abbrev pub ended : {A : Type 0} → AfterSteps A → Stop → AfterRun A
+ended after stop = record {
+  state = after.state;
+  ran = record { steps = after.steps; trap = after.trap; stop = stop; entered = after.entered };
+}
 
 -- At most so many steps more. After each it is asked first whether a watched byte was accessed, then whether all are done,
 -- then whether the next instruction is at a break.
-unfoldable pub run : List ℕ → List ℕ → ℕ → AfterSteps → AfterRun
-run breaks watches zero before = ended before Done
-run breaks watches (suc left) before =
-    let after = with_step before in
+unfoldable pub run : {A : Type 0} → (A → Stepped A) → (A → ℕ) → List ℕ → List ℕ → ℕ → AfterSteps A → AfterRun A
+run step pc breaks watches zero before = ended before Done
+run step pc breaks watches (suc left) before =
+    let after = with_step before (step before.state) in
     option_case (lowest_accessed watches (step before.state).outcome.touched)
     (if left == 0 then ended after Done
-    else (if is_among after.state.hart.pc breaks then ended after Break
-    else run breaks watches left after))
+    else (if is_among (pc after.state) breaks then ended after Break
+    else run step pc breaks watches left after))
     (λ address. ended after (Watch address))

@@ -1,11 +1,11 @@
-//! What commands that show or change the machine do and reply.
+//! What commands that show or change the target do and reply.
 
 ghost use Rattle.std.specs.Prelude.{◌≡◌};
 ghost use Rattle.arrayvec.specs.ArrayVec.{array_vec_len};
-ghost use Rattle.rv_debug.specs.Answer.{told, register_set, timer_set, csr_reply, memory_reply, poked, dis_reply, access_reply};
+ghost use Rattle.rv_debug.specs.Answer.{told, steps_of, csr_reply, memory_reply, poke_reply, dis_reply, access_reply};
 ghost use Rattle.rv_debug.specs.Addresses.{without_address};
 ghost use Rattle.rv_debug.specs.ReplyText.{ok_text};
-ghost use Rattle.rv_debug.specs.Steps.{no_steps, run};
+ghost use Rattle.rv_debug.specs.Targets.{hart_of, memory_of, register_set, timer_set, IsBare};
 
 use crate::addresses::Addresses;
 use crate::command::{ByteCount, StepCount};
@@ -13,26 +13,30 @@ use crate::reply::{
     push_csr, push_denied_outside, push_dis, push_memory, push_no_csr, push_ok, push_outside,
     push_ran, push_verdict,
 };
-use crate::steps::run_steps;
+use crate::target::Target;
 use rv_encoding::CsrNumber;
-use rv_hart::Machine;
 use rv_pmp::{Access, Mode};
 use rv_text::Reply;
 use rv_word::{Reg, Width, le_word};
 
-/// Does so many steps, or fewer, where a watch or a break ends them, and tells what they did.
+/// Does so many steps, or fewer, where a watch or a break ends them, and tells what they did. Returns the slots of the enclaves
+/// that they entered.
 pub(crate) fn answer_run(
-    machine: &mut Machine,
+    target: &mut Target,
     count: StepCount,
     breaks: &Addresses,
     watches: &Addresses,
     reply: &mut Reply,
-)
+) -> u16
     requires { array_vec_len reply.old ≡ 0 }
-    ensures { told (run breaks.now watches.now count (no_steps machine.old)) ≡ record { machine = machine.new; reply = reply.new.items } }
+    ensures state { (steps_of target.old breaks.now watches.now count).state ≡ target.new }
+    ensures entered { (steps_of target.old breaks.now watches.now count).ran.entered ≡ result }
+    ensures reply { told (steps_of target.old breaks.now watches.now count) ≡ reply.new.items }
+    ensures bare { IsBare target.old → result ≡ 0 }
 {
-    let ran = run_steps(machine, count.get(), breaks, watches);
-    push_ran(reply, machine.pc(), machine.mode(), ran);
+    let ran = target.run(count, breaks, watches);
+    push_ran(reply, target, ran);
+    ran.entered
 }
 
 /// Takes an address out of a set, where it is in it.
@@ -46,29 +50,31 @@ pub(crate) fn answer_removal(addresses: &mut Addresses, address: u32, reply: &mu
 }
 
 /// Puts a word into a register.
-pub(crate) fn answer_setreg(machine: &mut Machine, reg: Reg, value: u32, reply: &mut Reply)
+pub(crate) fn answer_setreg(target: &mut Target, reg: Reg, value: u32, reply: &mut Reply)
     requires { array_vec_len reply.old ≡ 0 }
-    ensures { register_set machine.old reg value ≡ record { machine = machine.new; reply = reply.new.items } }
+    ensures target { target.new ≡ register_set target.old reg value }
+    ensures reply { reply.new.items ≡ ok_text }
 {
-    machine.regs_mut().set(reg, value);
+    target.set_reg(reg, value);
     push_ok(reply);
 }
 
 /// Raises the timer line, or lowers it.
-pub(crate) fn answer_timer(machine: &mut Machine, raised: bool, reply: &mut Reply)
+pub(crate) fn answer_timer(target: &mut Target, raised: bool, reply: &mut Reply)
     requires { array_vec_len reply.old ≡ 0 }
-    ensures { timer_set machine.old raised ≡ record { machine = machine.new; reply = reply.new.items } }
+    ensures target { target.new ≡ timer_set target.old raised }
+    ensures reply { reply.new.items ≡ ok_text }
 {
-    machine.csrs_mut().set_timer(raised);
+    target.set_timer(raised);
     push_ok(reply);
 }
 
 /// Puts a byte into memory, where its address is in it.
-pub(crate) fn answer_poke(machine: &mut Machine, address: u32, byte: u8, reply: &mut Reply)
+pub(crate) fn answer_poke(target: &mut Target, address: u32, byte: u8, reply: &mut Reply)
     requires { array_vec_len reply.old ≡ 0 }
-    ensures { poked machine.old address byte ≡ record { machine = machine.new; reply = reply.new.items } }
+    ensures { poke_reply target.old address byte ≡ record { target = target.new; reply = reply.new.items } }
 {
-    if machine.ram_mut().poke(address, byte) {
+    if target.poke(address, byte) {
         push_ok(reply);
     } else {
         push_outside(reply);
@@ -76,22 +82,22 @@ pub(crate) fn answer_poke(machine: &mut Machine, address: u32, byte: u8, reply: 
 }
 
 /// Shows a control and status register as mode M reads it, where there is one of the number.
-pub(crate) fn answer_csr(machine: &Machine, csr: CsrNumber, reply: &mut Reply)
+pub(crate) fn answer_csr(target: &Target, csr: CsrNumber, reply: &mut Reply)
     requires { array_vec_len reply.old ≡ 0 }
-    ensures { reply.new.items ≡ csr_reply machine.now.hart.csrs csr }
+    ensures { reply.new.items ≡ csr_reply (hart_of target.now).csrs csr }
 {
-    match machine.csrs().read(csr.number(), Mode::M) {
+    match target.csrs().read(csr.number(), Mode::M) {
         Ok(word) => push_csr(reply, csr, word),
         Err(_) => push_no_csr(reply),
     }
 }
 
 /// Shows so many bytes of memory, where all of them are in it.
-pub(crate) fn answer_mem(machine: &Machine, address: u32, count: ByteCount, reply: &mut Reply)
+pub(crate) fn answer_mem(target: &Target, address: u32, count: ByteCount, reply: &mut Reply)
     requires { array_vec_len reply.old ≡ 0 }
-    ensures { reply.new.items ≡ memory_reply machine.now.memory address count }
+    ensures { reply.new.items ≡ memory_reply (memory_of target.now) address count }
 {
-    let ram = machine.ram();
+    let ram = target.ram();
     if !ram.contains(address, count.get()) {
         return push_outside(reply);
     }
@@ -99,11 +105,11 @@ pub(crate) fn answer_mem(machine: &Machine, address: u32, count: ByteCount, repl
 }
 
 /// Shows the word at an address and its instruction, where all of its bytes are in memory.
-pub(crate) fn answer_dis(machine: &Machine, address: u32, reply: &mut Reply)
+pub(crate) fn answer_dis(target: &Target, address: u32, reply: &mut Reply)
     requires { array_vec_len reply.old ≡ 0 }
-    ensures { reply.new.items ≡ dis_reply machine.now.memory address }
+    ensures { reply.new.items ≡ dis_reply (memory_of target.now) address }
 {
-    let ram = machine.ram();
+    let ram = target.ram();
     if !ram.contains(address, 4) {
         return push_outside(reply);
     }
@@ -115,7 +121,7 @@ pub(crate) fn answer_dis(machine: &Machine, address: u32, reply: &mut Reply)
 /// Tells that an access is outside where a byte of it is, and else what the entries say of it in the mode that is named.
 #[tactic(auto, unfolding(rv_memory::specs::Memory::read))]
 pub(crate) fn answer_access(
-    machine: &Machine,
+    target: &Target,
     mode: Mode,
     access: Access,
     address: u32,
@@ -123,12 +129,12 @@ pub(crate) fn answer_access(
     reply: &mut Reply,
 )
     requires { array_vec_len reply.old ≡ 0 }
-    ensures { reply.new.items ≡ access_reply machine.now.memory machine.now.hart.csrs.pmp mode access address width }
+    ensures { reply.new.items ≡ access_reply (memory_of target.now) (hart_of target.now).csrs.pmp mode access address width }
 {
-    let ram = machine.ram();
+    let ram = target.ram();
     if !ram.contains(address, u32::from(width.bytes())) {
         return push_denied_outside(reply);
     }
-    let verdict = machine.csrs().pmp().judge(mode, access, address, width);
+    let verdict = target.csrs().pmp().judge(mode, access, address, width);
     push_verdict(reply, verdict);
 }

@@ -7,14 +7,15 @@ use crate::answer::{
 };
 use crate::command::{Command, parse};
 use crate::reply::{push_fault, push_pmp, push_register, push_registers, push_set};
+use crate::target::Target;
 use rv_hart::Machine;
 use rv_text::Reply;
 use std::marker::Model;
 
-/// A machine under a debugger.
+/// A target under a debugger.
 #[derive(Drop, Debug)]
 pub struct Bench {
-    machine: Machine,
+    target: Target,
     breaks: Addresses,
     watches: Addresses,
 }
@@ -24,20 +25,21 @@ impl Model for Bench {
 
     ghost Value = { BenchState };
 
-    ghost view = { λ bench. record { machine = bench.machine; breaks = bench.breaks; watches = bench.watches } };
+    ghost view = { λ bench. record { target = bench.target; breaks = bench.breaks; watches = bench.watches } };
 }
 
 impl Bench {
-    ghost use Rattle.std.specs.Prelude.{◌≡◌};
+    ghost use Rattle.std.specs.Prelude.{◌≡◌, take};
     ghost use Rattle.rv_debug.specs.Answer.{answer, line_answer};
     ghost use Rattle.rv_debug.specs.BenchState.{bare};
+    ghost use Rattle.rv_debug.specs.Targets.{IsBare};
 
     /// A bench over a machine as it is, with no break and no watch.
     pub fn bare(machine: Machine) -> Self
         ensures { result ≡ bare machine }
     {
         Bench {
-            machine,
+            target: Target::Bare(machine),
             breaks: Addresses::new(),
             watches: Addresses::new(),
         }
@@ -45,51 +47,53 @@ impl Bench {
 
     /// Does one command, and puts its reply in place of what the buffer holds. A refused command changes nothing of the bench.
     ///
-    /// Returns a number with bit k set where enclave k was entered: 0, since there are no enclaves.
+    /// Returns a number with bit k set where the enclave of slot k was entered: 0 where the bench is bare.
     #[tactic(auto, unfolding(crate::specs::Answer::answer))]
     pub fn command(&mut self, command: &Command, out: &mut Reply) -> u16
-        ensures answer { answer self.old command.now ≡ record { state = self.new; reply = out.new.items } }
-        ensures entered { result ≡ 0 }
+        ensures answer { answer self.old command.now ≡ record { state = self.new; reply = out.new.items; entered = result } }
+        ensures bare { IsBare self.old.target → result ≡ 0 }
     {
         out.clear();
         match *command {
             Command::Blank | Command::Enclaves => {}
             Command::Step(count) => {
                 let none = Addresses::new();
-                answer_run(&mut self.machine, count, &none, &none, out);
+                return answer_run(&mut self.target, count, &none, &none, out);
             }
             Command::Run(count) => {
-                answer_run(&mut self.machine, count, &self.breaks, &self.watches, out);
+                return answer_run(&mut self.target, count, &self.breaks, &self.watches, out);
             }
             Command::Break(address) => push_set(out, self.breaks.insert(address)),
             Command::Clear(address) => answer_removal(&mut self.breaks, address, out),
             Command::Watch(address) => push_set(out, self.watches.insert(address)),
             Command::Unwatch(address) => answer_removal(&mut self.watches, address, out),
-            Command::Reg(reg) => push_register(out, reg, self.machine.regs().get(reg)),
-            Command::Regs => push_registers(out, self.machine.regs(), self.machine.pc()),
-            Command::SetReg(reg, value) => answer_setreg(&mut self.machine, reg, value, out),
-            Command::Csr(csr) => answer_csr(&self.machine, csr, out),
-            Command::Mem(address, count) => answer_mem(&self.machine, address, count, out),
-            Command::Poke(address, byte) => answer_poke(&mut self.machine, address, byte, out),
-            Command::Dis(address) => answer_dis(&self.machine, address, out),
-            Command::Pmp => push_pmp(out, self.machine.csrs().pmp()),
+            Command::Reg(reg) => push_register(out, reg, self.target.regs().get(reg)),
+            Command::Regs => push_registers(out, self.target.regs(), self.target.pc()),
+            Command::SetReg(reg, value) => answer_setreg(&mut self.target, reg, value, out),
+            Command::Csr(csr) => answer_csr(&self.target, csr, out),
+            Command::Mem(address, count) => answer_mem(&self.target, address, count, out),
+            Command::Poke(address, byte) => answer_poke(&mut self.target, address, byte, out),
+            Command::Dis(address) => answer_dis(&self.target, address, out),
+            Command::Pmp => push_pmp(out, self.target.csrs().pmp()),
             Command::Access {
                 mode,
                 access,
                 address,
                 width,
-            } => answer_access(&self.machine, mode, access, address, width, out),
-            Command::Timer(raised) => answer_timer(&mut self.machine, raised, out),
+            } => answer_access(&self.target, mode, access, address, width, out),
+            Command::Timer(raised) => answer_timer(&mut self.target, raised, out),
         }
         0
     }
 
     /// Does what a line says, given without its ending, or replies with its first fault, and then nothing changes. The reply
-    /// is put in place of what the buffer holds. Returns what `command` returns, and 0 at a fault.
+    /// is put in place of what the buffer holds. Returns what `command` returns, and 0 at a fault. No more than the first 121
+    /// bytes of the line matter.
     #[tactic(auto, unfolding(crate::specs::Answer::line_answer))]
     pub fn answer_line(&mut self, line: &[u8], out: &mut Reply) -> u16
-        ensures answer { line_answer self.old line.now ≡ record { state = self.new; reply = out.new.items } }
-        ensures entered { result ≡ 0 }
+        ensures answer { line_answer self.old line.now ≡ record { state = self.new; reply = out.new.items; entered = result } }
+        ensures front { line_answer self.old (take 121 line.now) ≡ line_answer self.old line.now }
+        ensures bare { IsBare self.old.target → result ≡ 0 }
     {
         match parse(line) {
             Ok(command) => self.command(&command, out),

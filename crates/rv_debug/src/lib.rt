@@ -1,7 +1,8 @@
 //! The commands of the bench: how a line is read as one, what each changes, and the text of its reply.
 //!
 //! In the specs `Command` is the table of the commands and their operands, `Answer` what each leaves and replies, `ReplyText`
-//! the texts, `Steps` what steps do one after another, and `BenchState` the state that commands show and change.
+//! the texts, `Steps` what steps do one after another, `Targets` what the answers say of a target, and `BenchState` the state
+//! that commands show and change.
 //!
 //! ```text
 //! let mut bench = Bench::bare(machine);
@@ -19,10 +20,12 @@ mod keyword;
 mod numbers;
 mod reply;
 mod steps;
+mod target;
 mod within;
 
 pub use bench::Bench;
 pub use command::{ByteCount, Command, CommandFault, StepCount, parse};
+pub use target::Target;
 pub use within::Within;
 
 #[cfg(test)]

@@ -3,9 +3,11 @@
 ghost use Rattle.std.specs.Prelude.{◌≡◌, ℕ, ◌+◌, ◌*◌, ◌≤◌, ◌++◌, length, codes, decimal, if◌then◌else◌};
 ghost use Rattle.arrayvec.specs.ArrayVec.{array_vec_len};
 ghost use Rattle.rv_debug.specs.ReplyText.{mode_text, stop_text, ran_text, trap_text, register_text, registers_text, pc_text, ok_text, csr_text, memory_text, dis_text, entry_text, pmp_text, verdict_text, denied_outside_text, full_text, fault_text, no_csr_text, outside_text};
+ghost use Rattle.rv_debug.specs.Targets.{hart_of, pc_of, world_text};
 
 use crate::command::CommandFault;
 use crate::steps::{Ran, Stop};
+use crate::target::Target;
 use arrayvec::ArrayString;
 use rv_asm::disassemble;
 use rv_encoding::CsrNumber;
@@ -62,20 +64,34 @@ fn push_stop(out: &mut Reply, stop: Stop)
     }
 }
 
-/// Writes what steps did: how many they were, the pc and the mode after them, why they ended, and the last trap in them.
+/// Writes the name of a target's world.
+fn push_world(out: &mut Reply, target: &Target)
+    requires room { array_vec_len out.old + 4 ≤ 2048 }
+    ensures items { out.new.items ≡ out.old.items ++ world_text target.now }
+    ensures len { array_vec_len out.new ≤ array_vec_len out.old + 4 }
+{
+    match target {
+        Target::Bare(_) => push_text(out, "bare"),
+    }
+}
+
+/// Writes what steps did: how many they were, the pc, the mode and the world of the target after them, why they ended, and the
+/// last trap in them.
 #[tactic(auto, unfolding(crate::specs::ReplyText::ran_text))]
-pub(crate) fn push_ran(out: &mut Reply, pc: u32, mode: Mode, ran: Ran)
+pub(crate) fn push_ran(out: &mut Reply, target: &Target, ran: Ran)
     requires room { array_vec_len out.old + 90 ≤ 2048 }
-    ensures items { out.new.items ≡ out.old.items ++ ran_text pc mode ran }
+    ensures items { out.new.items ≡ out.old.items ++ ran_text (pc_of target.now) (hart_of target.now).mode (world_text target.now) ran }
     ensures len { array_vec_len out.new ≤ array_vec_len out.old + 90 }
 {
     push_text(out, "ran ");
     push_decimal(out, ran.steps);
     push_text(out, " pc=");
-    push_hex(out, pc, 8);
+    push_hex(out, target.pc(), 8);
     push_text(out, " mode=");
-    push_mode(out, mode);
-    push_text(out, " world=bare why=");
+    push_mode(out, target.mode());
+    push_text(out, " world=");
+    push_world(out, target);
+    push_text(out, " why=");
     push_stop(out, ran.stop);
     push_text(out, " trap=");
     push_trap(out, ran.trap);

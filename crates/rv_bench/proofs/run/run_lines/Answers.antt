@@ -29,7 +29,7 @@ loop-line-preserved g c =
     let same = IfOk-at_ok _ wrote c.write_all.ensures.ok in
     record {
       answered = λ source_tells sink_tells.
-          AnswersLines-more _ _ _ _ _ _ _ _ _ _ _ _
+          AnswersLines-more _ _ _ _ _ _ _ _ _ _ _ _ _
           (going_on (IfOk-at_ok _ found c.next_line.ensures.going) (c.loop-line.invariant.answered source_tells sink_tells))
           (IfOk-at_ok _ found (c.next_line.ensures.line source_tells))
           (ap (line_answer c.loop-line.bench) (sym c.as_slice.ensures.value) ∙ c.answer_line.ensures.answer)
@@ -43,7 +43,7 @@ loop-line-preserved g c =
 pub returns-in_err-map_err-clause-after_write : goal.returns-in_err-map_err-clause-after_write
 returns-in_err-map_err-clause-after_write g c = λ _ source_tells sink_tells.
     let found = ok_mapped _ c.next_line.result c.map_err.result _ c.map_err.ensures.cases c.in_ok-line.was ∙ ap Ok c.in-Some.is in
-    AnswersLines-stopped _ _ _ _ _ _ _ _ _ _ _ _
+    AnswersLines-stopped _ _ _ _ _ _ _ _ _ _ _ _ _
     (going_on (IfOk-at_ok _ found c.next_line.ensures.going) (c.loop-line.invariant.answered source_tells sink_tells))
     (IfOk-at_ok _ found (c.next_line.ensures.line source_tells))
     (ap (line_answer c.loop-line.bench) (sym c.as_slice.ensures.value) ∙ c.answer_line.ensures.answer)

@@ -1,0 +1,116 @@
+//! What commands work on.
+
+ghost use Rattle.std.specs.Prelude.{◌≡◌, Some, None};
+ghost use Rattle.std.specs.Bool.{OnTrue, OnFalse};
+ghost use Rattle.rv_debug.specs.Steps.{no_steps, run};
+ghost use Rattle.rv_debug.specs.Targets.{hart_of, memory_of, world_text, pc_of, stepped, register_set, timer_set, poked, IsBare};
+
+use crate::addresses::Addresses;
+use crate::command::StepCount;
+use crate::steps::{Ran, run_steps};
+use rv_hart::Machine;
+use rv_memory::Ram;
+use rv_pmp::Mode;
+use rv_state::{Csrs, Regs};
+use rv_word::Reg;
+
+/// What a bench steps, shows and changes.
+#[derive(Drop, Debug)]
+pub enum Target {
+    /// A machine alone.
+    Bare(Machine),
+}
+
+impl Target {
+    /// The registers of its hart.
+    pub(crate) fn regs(&self) -> &Regs
+        ensures { result.now ≡ (hart_of self.now).regs }
+    {
+        match self {
+            Target::Bare(machine) => machine.regs(),
+        }
+    }
+
+    /// The control and status registers of its hart.
+    pub(crate) fn csrs(&self) -> &Csrs
+        ensures { result.now ≡ (hart_of self.now).csrs }
+    {
+        match self {
+            Target::Bare(machine) => machine.csrs(),
+        }
+    }
+
+    /// Its memory.
+    pub(crate) fn ram(&self) -> &Ram
+        ensures { result.now ≡ memory_of self.now }
+    {
+        match self {
+            Target::Bare(machine) => machine.ram(),
+        }
+    }
+
+    /// The address of its next instruction.
+    pub(crate) fn pc(&self) -> u32
+        ensures { result ≡ pc_of self.now }
+    {
+        match self {
+            Target::Bare(machine) => machine.pc(),
+        }
+    }
+
+    /// The mode of its hart.
+    pub(crate) fn mode(&self) -> Mode
+        ensures { result ≡ (hart_of self.now).mode }
+    {
+        match self {
+            Target::Bare(machine) => machine.mode(),
+        }
+    }
+
+    /// Puts a word into a register.
+    pub(crate) fn set_reg(&mut self, reg: Reg, value: u32)
+        ensures { self.new ≡ register_set self.old reg value }
+    {
+        match self {
+            Target::Bare(machine) => machine.regs_mut().set(reg, value),
+        }
+    }
+
+    /// Raises the timer line, or lowers it.
+    pub(crate) fn set_timer(&mut self, raised: bool)
+        ensures { self.new ≡ timer_set self.old raised }
+    {
+        match self {
+            Target::Bare(machine) => machine.csrs_mut().set_timer(raised),
+        }
+    }
+
+    /// Puts a byte into memory, where its address is in it, and tells whether it is.
+    pub(crate) fn poke(&mut self, address: u32, byte: u8) -> bool
+        ensures done { OnTrue result (poked self.old address byte ≡ Some self.new) }
+        ensures outside { OnFalse result (poked self.old address byte ≡ None) }
+        ensures kept { OnFalse result (self.new ≡ self.old) }
+    {
+        match self {
+            Target::Bare(machine) => machine.ram_mut().poke(address, byte),
+        }
+    }
+
+    /// Does steps until one accesses a watched byte, or else so many are done, or else the next instruction is at a break.
+    pub(crate) fn run(&mut self, count: StepCount, breaks: &Addresses, watches: &Addresses) -> Ran
+        ensures run { run stepped pc_of breaks.now watches.now count (no_steps self.old) ≡ record { state = self.new; ran = result } }
+        ensures bare { IsBare self.old → result.entered ≡ 0 }
+    {
+        match self {
+            Target::Bare(machine) => run_bare(machine, count, breaks, watches),
+        }
+    }
+}
+
+/// The steps of a machine alone, which enter no enclave.
+fn run_bare(machine: &mut Machine, count: StepCount, breaks: &Addresses, watches: &Addresses) -> Ran
+    ensures run { run stepped pc_of breaks.now watches.now count (no_steps (Target.Bare machine.old)) ≡ record { state = Target.Bare machine.new; ran = result } }
+    ensures none { result.entered ≡ 0 }
+{
+    run_steps(machine, count.get(), breaks, watches)
+}
