@@ -24,6 +24,3 @@ mod within;
 pub use bench::Bench;
 pub use command::{ByteCount, Command, CommandFault, StepCount, parse};
 pub use within::Within;
-
-#[cfg(test)]
-mod bench_tests;
