@@ -1,7 +1,7 @@
 #!/usr/bin/env python3
-"""Prints the table of verdicts at the borders of a few sets of PMP entries, for crates/rv_pmp/src/verdict_table.rt.
+"""Prints the table of verdicts at the borders of a few sets of PMP entries, for crates/rv_pmp_tests/src/verdict_table.rt.
 
-    tests/pmp_verdicts.py > crates/rv_pmp/src/verdict_table.rt && (cd crates/rv_pmp && rt fmt)
+    tests/pmp_verdicts.py > crates/rv_pmp_tests/src/verdict_table.rt && (cd crates/rv_pmp && rt fmt)
 
 Each verdict is worked out byte by byte, in pmp_entries.py.
 """
@@ -42,10 +42,10 @@ def hexadecimal(number):
 def main():
     print("//! Verdicts at the borders of a few sets of entries, worked out byte by byte. Written by tests/pmp_verdicts.py.")
     print()
-    print("use crate::access::Access::{Fetch, Read, Write};")
-    print("use crate::mode::Mode::{M, S, U};")
     print("use crate::tests::Expected::{Allowed, AllowedFree, Denied, DeniedFree, DeniedPartial};")
     print("use crate::tests::Row;")
+    print("use rv_pmp::Access::{Fetch, Read, Write};")
+    print("use rv_pmp::Mode::{M, S, U};")
     print("use rv_word::Width::{Byte, Half, Word};")
     turn = 0
     for name, shows, entries, borders in SETS:

@@ -33,8 +33,3 @@ mod tables;
 pub use assembler::assemble;
 pub use disassembler::disassemble;
 pub use fault::{AsmFault, AsmFaultKind};
-
-#[cfg(test)]
-mod assembler_tests;
-#[cfg(test)]
-mod disassembler_tests;

@@ -103,17 +103,3 @@ pub fn run_asm<S: Source, W: Sink>(
         Err(fault) => Err(BenchFault::Asm(fault)),
     }
 }
-
-#[cfg(test)]
-mod tests {
-    use super::*;
-    use crate::memory::MemorySink;
-
-    #[test]
-    fn writes_the_lowest_byte_first(rt: HostRuntime) {
-        let mut buffer = [0u8; 32];
-        let mut sink = MemorySink::new(&mut buffer);
-        assert!(rt; write_words(&[0xfff0_8093, 0xfe00_9ee3], &mut sink).is_ok());
-        assert_eq!(rt; sink.bytes(), b"9380f0ff\ne39e00fe\n".as_slice());
-    }
-}

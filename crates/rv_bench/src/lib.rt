@@ -44,14 +44,3 @@ pub use rv_command_line::{ImageKind, Job, Setup, WordsFault, read_words};
 pub use rv_elf::ElfFault;
 pub use stdio::{StandardSink, StandardSource};
 pub use whole::ASM_TEXT_MAX;
-
-#[cfg(test)]
-mod faulty;
-#[cfg(test)]
-mod image_tests;
-#[cfg(test)]
-mod job_tests;
-#[cfg(test)]
-mod run_tests;
-#[cfg(test)]
-mod stream_tests;

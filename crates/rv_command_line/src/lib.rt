@@ -23,6 +23,3 @@ pub use job::Job;
 pub use reading::read_words;
 pub use setup::Setup;
 pub use words_fault::WordsFault;
-
-#[cfg(test)]
-mod tests;

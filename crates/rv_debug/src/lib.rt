@@ -27,6 +27,3 @@ pub use bench::Bench;
 pub use command::{ByteCount, Command, CommandFault, StepCount, parse};
 pub use target::Target;
 pub use within::Within;
-
-#[cfg(test)]
-mod bench_tests;

@@ -25,12 +25,3 @@ pub use load_plan::Plan;
 pub use loading::load;
 pub use planning::{plan, plan_raw};
 pub use segment::Segment;
-
-#[cfg(test)]
-mod company;
-#[cfg(test)]
-mod files;
-#[cfg(test)]
-mod loading_tests;
-#[cfg(test)]
-mod tests;

@@ -21,6 +21,3 @@ pub use field::{
 };
 pub use instr::Instr;
 pub use kind::{BranchKind, CsrKind, LoadKind, OpImmKind, OpKind, ShiftKind, StoreKind};
-
-#[cfg(test)]
-mod tests;

@@ -20,6 +20,3 @@ mod trap;
 
 pub use machine::Machine;
 pub use trap::{StepOutcome, Trap};
-
-#[cfg(test)]
-mod tests;

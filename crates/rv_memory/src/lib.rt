@@ -19,6 +19,3 @@ pub use access_fault::AccessFault;
 pub use ram::{RAM_BASE, Ram};
 pub use ram_fault::RamFault;
 pub use touched::{Span, Touched};
-
-#[cfg(test)]
-mod tests;

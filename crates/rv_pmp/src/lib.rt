@@ -27,8 +27,3 @@ pub use pmp::Pmp;
 pub use pmp_index::PmpIndex;
 pub use pmp_register::PmpRegister;
 pub use verdict::Verdict;
-
-#[cfg(test)]
-mod tests;
-#[cfg(test)]
-mod verdict_table;

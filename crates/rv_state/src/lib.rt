@@ -26,6 +26,3 @@ pub use csr_fault::CsrFault;
 pub use csrs::Csrs;
 pub use mstatus::Mstatus;
 pub use regs::Regs;
-
-#[cfg(test)]
-mod tests;

@@ -30,6 +30,3 @@ pub use reg::Reg;
 pub use shift::{sll, sra, srl};
 pub use sign::signed;
 pub use width::Width;
-
-#[cfg(test)]
-mod tests;

@@ -1,0 +1,7 @@
+//! The tests of `rv_asm`, over its public calls alone. They stand in a crate of their own, so that the library is proved once.
+#![tactic(auto)]
+
+#[cfg(test)]
+mod assembler_tests;
+#[cfg(test)]
+mod disassembler_tests;

@@ -1,0 +1,204 @@
+//! A source and a sink over memory for tests: they move few bytes a call, and fail at a set call.
+ghost use Rattle.std.specs.Prelude.{◌≡◌, ◌<◌, [], true, false, length};
+ghost use Rattle.rv_bench.specs.MemoryStreams.{rest_of, bytes_of};
+
+use rv_bench::{DeviceFault, MemorySink, MemorySource, Sink, Source};
+
+/// What a sink does at the set call.
+#[derive(Clone, Copy, Debug, PartialEq, Eq)]
+pub(crate) enum AtSetCall {
+    Fail,
+    TakeNothing,
+}
+
+/// A source over memory that gives at most a set number of bytes a call, and fails at a set call, counted from 1; at call 0
+/// means never.
+#[derive(Drop)]
+pub(crate) struct FaultySource<'a> {
+    source: MemorySource<'a>,
+    most: usize,
+    set_call: u64,
+    calls: u64,
+    failed_calls: u64,
+    ghost some: { 0 < most },
+}
+
+impl<'a> FaultySource<'a> {
+    /// A device that was not called yet.
+    pub(crate) fn new(bytes: &'a [u8], most: usize, set_call: u64) -> FaultySource<'a>
+        requires { 0 < most }
+    {
+        FaultySource {
+            source: MemorySource::new(bytes),
+            most,
+            set_call,
+            calls: 0,
+            failed_calls: 0,
+        }
+    }
+
+    /// How many calls were made.
+    pub(crate) fn calls(&self) -> u64 {
+        self.calls
+    }
+
+    /// The bytes that are still to come.
+    pub(crate) fn rest(&self) -> &[u8] {
+        self.source.rest()
+    }
+}
+
+impl<'a> Source for FaultySource<'a> {
+    ghost tells = { true };
+
+    ghost remaining = { λ faulty. rest_of faulty.source };
+
+    ghost ends = { λ faulty. faulty.source.end_count };
+
+    ghost failures = { λ faulty. faulty.failed_calls };
+
+    ghost calls_left = { λ faulty. length (rest_of faulty.source) };
+
+    fn read_some(&mut self, buffer: &mut [u8]) -> Result<usize, DeviceFault> {
+        if self.failed_calls == u64::MAX {
+            return Err(DeviceFault);
+        }
+        self.calls = self.calls.saturating_add(1);
+        if self.calls == self.set_call {
+            self.failed_calls += 1;
+            return Err(DeviceFault);
+        }
+        let room = buffer.len().min(self.most);
+        self.source.read_some(&mut buffer[..room])
+    }
+}
+
+/// A sink over memory that takes at most a set number of bytes a call, and fails or takes nothing at a set call, counted
+/// from 1; at call 0 means never.
+#[derive(Drop)]
+pub(crate) struct FaultySink<'a> {
+    sink: MemorySink<'a>,
+    most: usize,
+    set_call: u64,
+    at_set_call: AtSetCall,
+    calls: u64,
+    failed_calls: u64,
+    refused_parts: u64,
+}
+
+impl<'a> FaultySink<'a> {
+    /// A device that was not called yet.
+    pub(crate) fn new(
+        buffer: &'a mut [u8],
+        most: usize,
+        set_call: u64,
+        at_set_call: AtSetCall,
+    ) -> FaultySink<'a> {
+        FaultySink {
+            sink: MemorySink::new(buffer),
+            most,
+            set_call,
+            at_set_call,
+            calls: 0,
+            failed_calls: 0,
+            refused_parts: 0,
+        }
+    }
+
+    /// How many calls were made, those of `flush` among them.
+    pub(crate) fn calls(&self) -> u64 {
+        self.calls
+    }
+
+    /// The bytes that were taken.
+    pub(crate) fn bytes(&self) -> &[u8] {
+        self.sink.bytes()
+    }
+}
+
+impl<'a> Sink for FaultySink<'a> {
+    ghost tells = { true };
+
+    ghost taken = { λ faulty. bytes_of faulty.sink };
+
+    ghost refusals = { λ faulty. faulty.refused_parts };
+
+    ghost failures = { λ faulty. faulty.failed_calls };
+
+    fn write_some(&mut self, part: &[u8]) -> Result<usize, DeviceFault> {
+        if self.failed_calls == u64::MAX {
+            return Err(DeviceFault);
+        }
+        self.calls = self.calls.saturating_add(1);
+        let is_set_call = self.calls == self.set_call;
+        if is_set_call && self.at_set_call == AtSetCall::Fail {
+            self.failed_calls += 1;
+            return Err(DeviceFault);
+        }
+        let most = if is_set_call { 0 } else { self.most };
+        let count = self.sink.write_some(&part[..part.len().min(most)])?;
+        if count == 0 && !part.is_empty() {
+            self.refused_parts = self.refused_parts.saturating_add(1);
+        }
+        Ok(count)
+    }
+
+    fn flush(&mut self) -> Result<(), DeviceFault> {
+        if self.failed_calls == u64::MAX {
+            return Err(DeviceFault);
+        }
+        self.calls = self.calls.saturating_add(1);
+        if self.calls == self.set_call && self.at_set_call == AtSetCall::Fail {
+            self.failed_calls += 1;
+            return Err(DeviceFault);
+        }
+        Ok(())
+    }
+}
+
+/// A source of so many `#`, which takes no memory for them.
+#[derive(Drop)]
+pub(crate) struct FeedSource {
+    left: usize,
+    given: usize,
+    end_count: u64,
+}
+
+impl FeedSource {
+    /// A device that was not called yet.
+    pub(crate) fn new(left: usize) -> FeedSource {
+        FeedSource {
+            left,
+            given: 0,
+            end_count: 0,
+        }
+    }
+
+    /// How many bytes were given.
+    pub(crate) fn given(&self) -> usize {
+        self.given
+    }
+}
+
+impl Source for FeedSource {
+    ghost tells = { false };
+
+    ghost remaining = { λ _. [] };
+
+    ghost ends = { λ source. source.end_count };
+
+    ghost failures = { λ _. 0 };
+
+    ghost calls_left = { λ source. source.left };
+
+    fn read_some(&mut self, buffer: &mut [u8]) -> Result<usize, DeviceFault> {
+        let count = self.left.min(buffer.len());
+        buffer[..count].fill(b'#');
+        self.left -= count;
+        self.given = self.given.saturating_add(count);
+        if count == 0 && !buffer.is_empty() {
+            self.end_count = self.end_count.saturating_add(1);
+        }
+        Ok(count)
+    }
+}

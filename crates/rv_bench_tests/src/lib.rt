@@ -1,0 +1,13 @@
+//! The tests of `rv_bench`, over its public calls alone. They stand in a crate of their own, so that the library is proved once.
+#![tactic(auto)]
+
+#[cfg(test)]
+mod faulty;
+#[cfg(test)]
+mod image_tests;
+#[cfg(test)]
+mod job_tests;
+#[cfg(test)]
+mod run_tests;
+#[cfg(test)]
+mod stream_tests;

@@ -1,0 +1,192 @@
+//! What is in RAM after an image was loaded, or refused: the bytes of its segments, zeros behind them, and all others as before.
+
+use crate::files::{ProgramHeader, file_of, segment};
+use rv_elf::{ElfFault, load, plan, plan_raw};
+use rv_memory::{RAM_BASE, Ram};
+use std::alloc::Global;
+use std::test::Fail;
+
+/// A file with one segment of 8 bytes at 80000000, of which the file has 4.
+const WORKED: [u8; 88] = [
+    0x7f, 0x45, 0x4c, 0x46, 1, 1, 1, 0, 0, 0, 0, 0, 0, 0, 0, 0, 2, 0, 0xf3, 0, 1, 0, 0, 0, 0, 0, 0,
+    0x80, 0x34, 0, 0, 0, 0, 0, 0, 0, 0, 0, 0, 0, 0x34, 0, 0x20, 0, 1, 0, 0x28, 0, 0, 0, 0, 0, 1, 0,
+    0, 0, 0x54, 0, 0, 0, 0, 0, 0, 0x80, 0, 0, 0, 0x80, 4, 0, 0, 0, 8, 0, 0, 0, 5, 0, 0, 0, 4, 0, 0,
+    0, 0x93, 0, 0xf0, 0xff,
+];
+
+const RAM_SIZE: u32 = 65_536;
+
+/// The byte at an address before an image is loaded. It is not 0, nor that of a neighbour.
+fn byte_before(address: u32) -> u8 {
+    (address % 251) as u8 + 1
+}
+
+/// A RAM as it is before an image is loaded, with other bytes at some addresses.
+fn ram_with(alloc: Global, parts: &[(u32, &[u8])]) -> Result<Ram, Fail> {
+    let mut ram = Ram::new(alloc, RAM_SIZE).map_err(|_| "a RAM")?;
+    for address in RAM_BASE..RAM_BASE + RAM_SIZE {
+        ram.poke(address, byte_before(address));
+    }
+    for (start, bytes) in parts {
+        put(&mut ram, *start, bytes);
+    }
+    Ok(ram)
+}
+
+/// Puts bytes from an address on, as far as they are inside.
+fn put(ram: &mut Ram, start: u32, bytes: &[u8]) {
+    for (address, byte) in (start..=u32::MAX).zip(bytes) {
+        ram.poke(address, *byte);
+    }
+}
+
+/// Whether two RAMs hold the same bytes.
+fn are_equal(one: &Ram, other: &Ram) -> bool {
+    one.part(RAM_BASE, one.size()) == other.part(RAM_BASE, other.size())
+}
+
+/// Loads an ELF file, and answers its entry.
+fn load_file(file: &[u8], ram: &mut Ram) -> Result<u32, ElfFault> {
+    let plan = plan(file, ram.size())?;
+    load(&plan, file, ram);
+    Ok(plan.entry())
+}
+
+#[test]
+fn loads_the_worked_file(rt: HostRuntime) -> Result<(), Fail> {
+    let mut ram = ram_with(rt.alloc(), &[])?;
+    assert_eq!(rt; load_file(&WORKED, &mut ram), Ok(0x8000_0000));
+    let wanted = ram_with(
+        rt.alloc(),
+        &[(RAM_BASE, &[0x93, 0x00, 0xf0, 0xff, 0, 0, 0, 0])],
+    )?;
+    assert!(rt; are_equal(&ram, &wanted));
+    Ok(())
+}
+
+/// In falling order and at odd addresses, side by side and apart, with zeros behind, of zeros alone, of no bytes at an address
+/// that RAM does not have, of the same bytes of the file as another, and of the header.
+#[test]
+fn loads_several_segments(rt: HostRuntime) -> Result<(), Fail> {
+    let headers = [
+        segment(0, RAM_BASE + 0xfffd, 3, 3),
+        segment(308, RAM_BASE + 0x103, 5, 9),
+        segment(311, RAM_BASE + 0x101, 1, 2),
+        segment(u32::MAX, RAM_BASE + 0x80, 0, 6),
+        segment(308, 0, 0, 0),
+        [2, 308, RAM_BASE + 0x40, RAM_BASE + 0x40, 8, 8, 5, 4],
+        segment(312, RAM_BASE + 1, 4, 4),
+        segment(4, RAM_BASE, 1, 1),
+    ];
+    let file = file_of(RAM_BASE + 4, &headers, b"abcdefgh")?;
+    let mut ram = ram_with(rt.alloc(), &[])?;
+    assert_eq!(rt; load_file(file.as_slice(), &mut ram), Ok(RAM_BASE + 4));
+    let wanted = ram_with(
+        rt.alloc(),
+        &[
+            (RAM_BASE, b"\x01efgh"),
+            (RAM_BASE + 0x80, b"\0\0\0\0\0\0"),
+            (RAM_BASE + 0x101, b"d\0abcde\0\0\0\0"),
+            (RAM_BASE + 0xfffd, b"\x7fEL"),
+        ],
+    )?;
+    assert!(rt; are_equal(&ram, &wanted));
+    Ok(())
+}
+
+/// Headers of 64 segments in an order that steps over so many of them: each takes 5 of 8 bytes of RAM, and has three bytes of
+/// the 192 behind the table.
+fn headers_of_64(step: u32) -> [ProgramHeader; 64] {
+    let mut headers = [[0; 8]; 64];
+    for (header, index) in headers.iter_mut().zip(0..64u32) {
+        let number = index.wrapping_mul(step) % 64;
+        *header = segment(2100 + 3 * number, RAM_BASE + 8 * number, 3, 5);
+    }
+    headers
+}
+
+#[test]
+fn loads_64_segments(rt: HostRuntime) -> Result<(), Fail> {
+    let mut data = [0; 192];
+    for (byte, value) in data.iter_mut().zip(0u8..) {
+        *byte = value;
+    }
+    let mut wanted = ram_with(rt.alloc(), &[])?;
+    for number in 0..64u32 {
+        let first = (3 * number) as u8;
+        put(
+            &mut wanted,
+            RAM_BASE + 8 * number,
+            &[first, first + 1, first + 2, 0, 0],
+        );
+    }
+    for step in [1, 63, 37] {
+        let file = file_of(RAM_BASE, &headers_of_64(step), &data)?;
+        let mut ram = ram_with(rt.alloc(), &[])?;
+        assert_eq!(rt;
+            load_file(file.as_slice(), &mut ram),
+            Ok(RAM_BASE),
+            "{step}"
+        );
+        assert!(rt; are_equal(&ram, &wanted), "{step}");
+    }
+    Ok(())
+}
+
+#[test]
+fn loads_both_ends_of_ram(rt: HostRuntime) -> Result<(), Fail> {
+    let last = RAM_BASE + RAM_SIZE - 1;
+    let headers = [segment(116, RAM_BASE, 1, 1), segment(117, last, 1, 1)];
+    let file = file_of(RAM_BASE, &headers, b"ab")?;
+    let mut ram = ram_with(rt.alloc(), &[])?;
+    assert_eq!(rt; load_file(file.as_slice(), &mut ram), Ok(RAM_BASE));
+    let wanted = ram_with(rt.alloc(), &[(RAM_BASE, b"a"), (last, b"b")])?;
+    assert!(rt; are_equal(&ram, &wanted));
+    Ok(())
+}
+
+/// The zeros of one segment, which is all of a RAM.
+#[test]
+fn loads_all_of_ram(rt: HostRuntime) -> Result<(), Fail> {
+    let file = file_of(RAM_BASE, &[segment(84, RAM_BASE, 2, RAM_SIZE)], b"abcd")?;
+    let mut ram = ram_with(rt.alloc(), &[])?;
+    assert_eq!(rt; load_file(file.as_slice(), &mut ram), Ok(RAM_BASE));
+    let mut wanted = Ram::new(rt.alloc(), RAM_SIZE).map_err(|_| "a RAM")?;
+    put(&mut wanted, RAM_BASE, b"ab");
+    assert!(rt; are_equal(&ram, &wanted));
+    Ok(())
+}
+
+/// Two segments that share a byte, and one that lies behind RAM: what comes before them in the table is not loaded either.
+#[test]
+fn refused_files_leave_ram(rt: HostRuntime) -> Result<(), Fail> {
+    let first = segment(116, RAM_BASE, 4, 8);
+    let before = ram_with(rt.alloc(), &[])?;
+    for (second, fault) in [
+        (segment(116, RAM_BASE + 7, 4, 4), ElfFault::SegmentOverlap),
+        (
+            segment(116, RAM_BASE + RAM_SIZE - 3, 4, 4),
+            ElfFault::SegmentOutside,
+        ),
+        (segment(116, RAM_BASE + 8, 4, 3), ElfFault::SegmentSizes),
+        (segment(116, RAM_BASE + 8, 5, 8), ElfFault::SegmentTruncated),
+    ] {
+        let file = file_of(RAM_BASE, &[first, second], b"data")?;
+        let mut ram = ram_with(rt.alloc(), &[])?;
+        assert_eq!(rt; load_file(file.as_slice(), &mut ram), Err(fault));
+        assert!(rt; are_equal(&ram, &before));
+    }
+    Ok(())
+}
+
+#[test]
+fn loads_raw_images(rt: HostRuntime) -> Result<(), Fail> {
+    for image in [b"".as_slice(), b"\xff", b"\x01\x02\x03\x04\x05"] {
+        let mut ram = ram_with(rt.alloc(), &[])?;
+        let plan = plan_raw(image.len(), ram.size()).map_err(|_| "the image has no fault")?;
+        load(&plan, image, &mut ram);
+        let wanted = ram_with(rt.alloc(), &[(RAM_BASE, image)])?;
+        assert!(rt; are_equal(&ram, &wanted));
+    }
+    Ok(())
+}

@@ -1,0 +1,161 @@
+//! The numbers of the modes, verdicts at the borders of a few sets of entries, and the locks.
+
+use crate::verdict_table::{
+    ALL_ONES, ALL_ONES_ENTRIES, LOCKED, LOCKED_ENTRIES, NA4_AT_BORDER, NA4_AT_BORDER_ENTRIES,
+    NAPOT_IN_TOR, NAPOT_IN_TOR_ENTRIES, PAST_THE_TOP, PAST_THE_TOP_ENTRIES,
+};
+use rv_pmp::{Access, Mode, Pmp, PmpIndex, PmpRegister, Verdict};
+use rv_word::Width;
+use std::process::Abort;
+
+/// An access, and the verdict on it.
+pub(crate) type Row = (Mode, Access, u32, Width, Expected);
+
+/// A verdict, with the number of the entry.
+#[derive(Clone, Copy, Debug, PartialEq, Eq)]
+pub(crate) enum Expected {
+    Allowed(u8),
+    AllowedFree,
+    Denied(u8),
+    DeniedPartial(u8),
+    DeniedFree,
+}
+
+/// The verdict with its number.
+fn numbered(verdict: Verdict) -> Expected {
+    match verdict {
+        Verdict::Allowed(index) => Expected::Allowed(index.number()),
+        Verdict::AllowedFree => Expected::AllowedFree,
+        Verdict::Denied(index) => Expected::Denied(index.number()),
+        Verdict::DeniedPartial(index) => Expected::DeniedPartial(index.number()),
+        Verdict::DeniedFree => Expected::DeniedFree,
+    }
+}
+
+/// The entry of a number, and the last one for those past it.
+fn index(number: u8) -> PmpIndex {
+    PmpIndex::new(number.min(15))
+}
+
+/// Asserts that the entries, each a number, a cfg byte and a pmpaddr, give the verdicts of the rows.
+fn agrees(rt: &impl Abort, entries: &[(u8, u8, u32)], rows: &[Row]) {
+    let mut pmp = Pmp::new();
+    for (number, _, addr) in entries {
+        pmp.write_addr(index(*number), *addr);
+    }
+    for (number, cfg, _) in entries {
+        pmp.write_cfg(index(*number), *cfg);
+    }
+    for (mode, access, addr, width, expected) in rows {
+        let verdict = pmp.judge(*mode, *access, *addr, *width);
+        assert_eq!(rt; numbered(verdict), *expected);
+        for _ in 0..2 {
+            assert_eq!(rt; pmp.check(*mode, *access, *addr, *width), verdict.permits());
+        }
+    }
+}
+
+/// Privileged Architecture, table 1.1.
+#[test]
+fn modes_are_numbered(rt: HostRuntime) {
+    assert_eq!(rt; Mode::U.number(), 0);
+    assert_eq!(rt; Mode::S.number(), 1);
+    assert_eq!(rt; Mode::M.number(), 3);
+}
+
+#[test]
+fn napot_in_tor(rt: HostRuntime) {
+    agrees(&rt, &NAPOT_IN_TOR_ENTRIES, &NAPOT_IN_TOR);
+}
+
+#[test]
+fn na4_at_border(rt: HostRuntime) {
+    agrees(&rt, &NA4_AT_BORDER_ENTRIES, &NA4_AT_BORDER);
+}
+
+#[test]
+fn locked(rt: HostRuntime) {
+    agrees(&rt, &LOCKED_ENTRIES, &LOCKED);
+}
+
+#[test]
+fn all_ones(rt: HostRuntime) {
+    agrees(&rt, &ALL_ONES_ENTRIES, &ALL_ONES);
+}
+
+#[test]
+fn past_the_top(rt: HostRuntime) {
+    agrees(&rt, &PAST_THE_TOP_ENTRIES, &PAST_THE_TOP);
+}
+
+/// A locked TOR entry keeps the pmpaddr below it, also where it covers nothing, and W without R is stored as neither.
+#[test]
+fn locks_and_stored_bytes(rt: HostRuntime) {
+    let mut pmp = Pmp::new();
+    pmp.write_cfg(index(1), 0x8f);
+    pmp.write_cfg(index(2), 0x80);
+    pmp.write_cfg(index(3), 0x66);
+    pmp.write_addr(index(0), 0x1234_5678);
+    pmp.write_addr(index(1), 0x1234_5678);
+    pmp.write_addr(index(2), 0x1234_5678);
+    pmp.write_addr(index(3), 0x1234_5678);
+    pmp.write_cfg(index(1), 0x1f);
+    pmp.write_cfg(index(2), 0x1f);
+    assert_eq!(rt; pmp.addr(index(0)), 0);
+    assert_eq!(rt; pmp.addr(index(1)), 0);
+    assert_eq!(rt; pmp.addr(index(2)), 0);
+    assert_eq!(rt; pmp.addr(index(3)), 0x1234_5678);
+    assert_eq!(rt; pmp.cfg(index(1)), 0x8f);
+    assert_eq!(rt; pmp.cfg(index(2)), 0x80);
+    assert_eq!(rt; pmp.cfg(index(3)), 0x04);
+}
+
+/// A write of a whole register leaves the byte of a locked entry, and locks bind from the next write on.
+#[test]
+fn register_of_four_entries(rt: HostRuntime) {
+    let mut pmp = Pmp::new();
+    pmp.write_cfg_word(PmpRegister::new(0), 0x0000_8f00);
+    pmp.write_cfg_word(PmpRegister::new(0), 0x0006_0000);
+    pmp.write_cfg_word(PmpRegister::new(3), 0x9f7f_0201);
+    pmp.write_cfg_word(PmpRegister::new(3), 0x0000_0000);
+    for (number, cfg) in [
+        (0, 0),
+        (1, 0x8f),
+        (2, 0x04),
+        (3, 0),
+        (12, 0),
+        (14, 0),
+        (15, 0x9f),
+    ] {
+        assert_eq!(rt; pmp.cfg(index(number)), cfg);
+    }
+}
+
+/// The first byte and the first past them of each way of matching.
+#[test]
+fn ranges(rt: HostRuntime) {
+    let mut pmp = Pmp::new();
+    for (number, cfg, addr, range) in [
+        (0, 0x18, 0x3fff_ffff, Some((0, 1 << 33))),
+        (1, 0x18, 0xffff_ffff, Some((0, 1 << 35))),
+        (2, 0x10, 0xffff_ffff, Some((0x3_ffff_fffc, 1 << 34))),
+        (3, 0x08, 0xffff_ffff, None),
+        (4, 0x08, 0xffff_fffe, None),
+        (5, 0x08, 0xffff_ffff, Some((0x3_ffff_fff8, 0x3_ffff_fffc))),
+        (6, 0x00, 0xffff_ffff, None),
+    ] {
+        pmp.write_cfg(index(number), cfg);
+        pmp.write_addr(index(number), addr);
+        assert_eq!(rt; pmp.entry_range(index(number)), range);
+    }
+}
+
+/// An entry is set at once, its cfg byte in its stored form.
+#[test]
+fn set_entry(rt: HostRuntime) {
+    let mut pmp = Pmp::new();
+    pmp.set_entry(PmpIndex::new(7), 0x7a, 0x2000_01ff);
+    assert_eq!(rt; pmp.cfg(index(7)), 0x18);
+    assert_eq!(rt; pmp.addr(index(7)), 0x2000_01ff);
+    assert_eq!(rt; pmp.entry_range(index(7)), Some((0x8000_0000, 0x8000_1000)));
+}
