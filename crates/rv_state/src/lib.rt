@@ -19,6 +19,7 @@ mod csr_name;
 mod csrs;
 mod mstatus;
 mod regs;
+mod s_context;
 mod traps;
 
 pub use cause::{Cause, Exception, Interrupt};
@@ -26,6 +27,7 @@ pub use csr_fault::CsrFault;
 pub use csrs::Csrs;
 pub use mstatus::Mstatus;
 pub use regs::Regs;
+pub use s_context::SContext;
 
 #[cfg(test)]
 mod tests;
