@@ -1,230 +1,135 @@
--- A step reads and writes memory only where it says.
-use Rattle.std.proofs.Common.{◌≡◌, ℕ, List, [], length, take, drop, ◌-◌, Some, None, Result, Ok, Err, true, false, cond, refl, ap, ◌∙◌, ◌⊎◌, ⊎_elim, inl, inr, Option, Bool}
-use Rattle.std.specs.Prelude.{if◌then◌else◌}
-use Rattle.rv_word.specs.Cases.{option_case, result_case}
+-- A step depends on no byte of memory but those that it fetched and loaded, and changes none but those that it stored: over every
+-- memory that agrees there it goes the same way. (This law compares two steps, so it goes by the ways and not by the cases.)
+use Rattle.std.proofs.Common.{◌≡◌, ℕ, ◌-◌, List, [], length, Option, Some, None, Result, Ok, Err, refl, sym, ap, ◌∙◌}
 use Rattle.rv_word.specs.Widths.{bytes_in}
 use Rattle.rv_word.specs.declared.width.Width.{Width}
-use Rattle.rv_word.specs.declared.width.Width.TheVariants.{Byte, Half, Word}
+use Rattle.rv_word.specs.declared.width.Width.TheVariants.{Word}
 use Rattle.rv_encoding.specs.declared.instr.Instr.{Instr}
-use Rattle.rv_encoding.specs.Decoding.{decoded}
-use Rattle.rv_pmp.specs.Verdicts.{permits}
-use Rattle.rv_pmp.specs.declared.access.Access.TheVariants.{Fetch, Read, Write}
-use Rattle.rv_pmp.specs.declared.verdict.Verdict.{Verdict}
-use Rattle.rv_memory.specs.Accesses.{loaded, fetched, stored, where_permitted, verdict_on}
-use Rattle.rv_memory.specs.declared.access_fault.AccessFault.TheVariants.{Refused}
-use Rattle.rv_memory.specs.Memory.{ram_base, is_inside, read, write, write_bytes, number_of, bytes_of}
+use Rattle.rv_memory.specs.Memory.{ram_base, write_bytes, bytes_of}
+use Rattle.rv_memory.specs.declared.access_fault.AccessFault.{AccessFault}
 use Rattle.rv_memory.specs.declared.touched.Touched.{Touched}
+use Rattle.rv_memory.proofs.AccessLaws.{store_done, fetch_refused_too, load_refused_too, store_refused_too, store_done_too, fetch_same, load_same}
+use Rattle.rv_memory.proofs.MemoryLaws.{length-bytes_of, write_at}
 use Rattle.rv_hart.specs.Confinement.{SameIn, AgreeOn, EndAlike, IsConfined}
-use Rattle.rv_state.specs.Interrupts.{pending}
-use Rattle.rv_hart.specs.CsrInstructions.{written_csr}
-use Rattle.rv_hart.specs.Exceptions.{illegal, access_fault, interrupted}
 use Rattle.rv_hart.specs.HartState.{Hart}
-use Rattle.rv_hart.specs.Instructions.{request, finished}
 use Rattle.rv_hart.specs.State.{State, Ended, over}
-use Rattle.rv_hart.specs.Step.{step, attempted, executed, accessed, concluded, data_mode, done, trap_end, fetch_of, load_of, store_of, span, nothing}
-use Rattle.rv_state.specs.declared.cause.Exception.TheVariants.{InstructionAccessFault, LoadAccessFault, StoreAccessFault}
+use Rattle.rv_hart.specs.Step.{step, attempted, executed, accessed, concluded, data_mode, done, span, fetch_of, load_of, store_of}
 use Rattle.rv_hart.specs.declared.request.Request.{Request}
 use Rattle.rv_hart.specs.declared.request.Request.TheVariants.{Nothing, Load, Store}
 use Rattle.rv_hart.specs.declared.trap.Trap.{Trap}
+use Rattle.rv_hart.proofs.StepCases.{Fetches, Decodes, Asks, Loads, Stores, by_ways}
 
--- ---- memories of one size
+-- the same hart over another memory
+abbrev with_memory : State → List ℕ → State
+with_memory state memory = record state { memory = memory }
 
--- a read is done in both or in neither
-abbrev ReadsBoth : List ℕ → List ℕ → ℕ → ℕ → Type 0
-ReadsBoth m n address count =
-    ((a : List ℕ) × (b : List ℕ) × (read m address count ≡ Some a) × (read n address count ≡ Some b))
-    ⊎ ((read m address count ≡ None) × (read n address count ≡ None))
+-- ---- the other memory goes the same way
 
-read-both : (m n : List ℕ) (address count : ℕ) → length m ≡ length n → ReadsBoth m n address count
-unfolding read
-read-both m n address count sizes =
-    rw (← sizes)
-    (elim (is_inside m address count) as (λ b.
-    ((x : List ℕ) × (y : List ℕ) × (cond b (Some (take count (drop (address - ram_base) m))) None ≡ Some x)
-    × (cond b (Some (take count (drop (address - ram_base) n))) None ≡ Some y))
-    ⊎ ((cond b (Some (take count (drop (address - ram_base) m))) None ≡ None)
-    × (cond b (Some (take count (drop (address - ram_base) n))) None ≡ None)))
-    [ true ↦ inl (_, _, refl, refl) | false ↦ inr (refl, refl) ])
-
--- a write too
-write-both : (m n : List ℕ) (address : ℕ) (bytes : List ℕ) → length m ≡ length n
-    → ((a : List ℕ) × (b : List ℕ) × (write m address bytes ≡ Some a) × (write n address bytes ≡ Some b))
-    ⊎ ((write m address bytes ≡ None) × (write n address bytes ≡ None))
-unfolding write
-write-both m n address bytes sizes =
-    rw (← sizes)
-    (elim (is_inside m address (length bytes)) as (λ b.
-    ((x : List ℕ) × (y : List ℕ) × (cond b (Some (write_bytes m (address - ram_base) bytes)) None ≡ Some x)
-    × (cond b (Some (write_bytes n (address - ram_base) bytes)) None ≡ Some y))
-    ⊎ ((cond b (Some (write_bytes m (address - ram_base) bytes)) None ≡ None)
-    × (cond b (Some (write_bytes n (address - ram_base) bytes)) None ≡ None)))
-    [ true ↦ inl (_, _, refl, refl) | false ↦ inr (refl, refl) ])
-
-pub length-bytes_of : (width : Width) (value : ℕ) → length (bytes_of (bytes_in width) value) ≡ bytes_in width
-length-bytes_of Byte value = refl
-length-bytes_of Half value = refl
-length-bytes_of Word value = refl
-
--- ---- what a step touches
-
--- an instruction whose access is done touches what it touched
-pub touched-concluded : (hart : Hart) (touched : Touched) (written : Option ℕ) (finish : Result Hart Trap) → (concluded hart touched written finish).outcome.touched ≡ touched
-unfolding concluded
-touched-concluded hart touched written (Ok after) = refl
-touched-concluded hart touched written (Err trap) = refl
-
--- two steps that change no memory and end in the same way
-unchanged : (m n bytes : List ℕ) (ended : Ended) → ended.outcome.touched.stored ≡ None → EndAlike m n bytes (over m ended) (over n ended)
-unchanged m n bytes ended none = record { hart = refl; outcome = refl; here = rw none refl; there = rw none refl }
-
--- ---- the access of an instruction
-
--- the bytes that it stores
-bytes_in_request : Request → List ℕ
-bytes_in_request Nothing = []
-bytes_in_request (Load address width) = []
-bytes_in_request (Store address width value) = bytes_of (bytes_in width) value
-
-none-stored : (hart : Hart) (written : Option ℕ) (finish : Result Hart Trap) (touched : Touched) → touched.stored ≡ None → (concluded hart touched written finish).outcome.touched.stored ≡ None
-none-stored hart written finish touched none = ap (λ (t : Touched). t.stored) (touched-concluded hart touched written finish) ∙ none
-
--- a load whose bytes are read, where the entries permit it and where not
-load-confined : (b : Bool) (given : Verdict) (hart : Hart) (m n : List ℕ) (word : ℕ) (instr : Instr) (address : ℕ) (width : Width) (x y : List ℕ)
-    → read m address (bytes_in width) ≡ Some x → read n address (bytes_in width) ≡ Some y
-    → SameIn m n (result_case (if b then Ok (number_of x) else Err (Refused given)) (λ number. over m (done hart (load_of hart address width) word instr number))
-    (λ _. over m (trap_end hart (fetch_of hart) (access_fault LoadAccessFault address)))).outcome.touched.loaded
-    → EndAlike m n []
-    (result_case (if b then Ok (number_of x) else Err (Refused given)) (λ number. over m (done hart (load_of hart address width) word instr number))
-    (λ _. over m (trap_end hart (fetch_of hart) (access_fault LoadAccessFault address))))
-    (result_case (if b then Ok (number_of y) else Err (Refused given)) (λ number. over n (done hart (load_of hart address width) word instr number))
-    (λ _. over n (trap_end hart (fetch_of hart) (access_fault LoadAccessFault address))))
-load-confined true given hart m n word instr address width x y here there same =
-    let read_alike = rw touched-concluded at same in
-    let equal : x ≡ y = cc in
-    rw equal (unchanged m n [] _ (none-stored hart (written_csr instr) (finished instr hart word (number_of y)) (load_of hart address width) refl))
-load-confined false given hart m n word instr address width x y here there same =
-    unchanged m n [] (trap_end hart (fetch_of hart) (access_fault LoadAccessFault address)) refl
-
--- a store too
-store-confined : (b : Bool) (given : Verdict) (hart : Hart) (m n : List ℕ) (word : ℕ) (instr : Instr) (address value : ℕ) (width : Width) (x y : List ℕ)
-    → write m address (bytes_of (bytes_in width) value) ≡ Some x → write n address (bytes_of (bytes_in width) value) ≡ Some y
-    → EndAlike m n (bytes_of (bytes_in width) value)
-    (result_case (if b then Ok x else Err (Refused given)) (λ after. over after (done hart (store_of hart address width) word instr 0))
-    (λ _. over m (trap_end hart (fetch_of hart) (access_fault StoreAccessFault address))))
-    (result_case (if b then Ok y else Err (Refused given)) (λ after. over after (done hart (store_of hart address width) word instr 0))
-    (λ _. over n (trap_end hart (fetch_of hart) (access_fault StoreAccessFault address))))
-store-confined true given hart m n word instr address value width x y here there = record {
-  hart = refl;
-  outcome = refl;
-  here = rw touched-concluded (length-bytes_of width value, here);
-  there = rw touched-concluded (length-bytes_of width value, there);
+fetches-too : (state : State) (n : List ℕ) (given : Result ℕ AccessFault) → SameIn state.memory n (span state.hart.pc Word) → Fetches state given
+    → Fetches (with_memory state n) given
+fetches-too state n given same here = record {
+  pending = here.pending;
+  fetched = sym (fetch_same state.memory n state.hart.csrs.pmp state.hart.mode state.hart.pc same) ∙ here.fetched;
 }
-store-confined false given hart m n word instr address value width x y here there =
-    unchanged m n _ (trap_end hart (fetch_of hart) (access_fault StoreAccessFault address)) refl
 
-access-confined : (hart : Hart) (m n : List ℕ) (word : ℕ) (instr : Instr) (r : Request) → length m ≡ length n
-    → SameIn m n (accessed hart m word instr r).outcome.touched.loaded
-    → EndAlike m n (bytes_in_request r) (accessed hart m word instr r) (accessed hart n word instr r)
-unfolding accessed bytes_in_request
-access-confined hart m n word instr Nothing sizes same =
-    unchanged m n _ _ (none-stored hart (written_csr instr) (finished instr hart word 0) (fetch_of hart) refl)
-access-confined hart m n word instr (Load address width) sizes same =
-    let given = verdict_on hart.csrs.pmp (data_mode hart) Read address width in
-    ⊎_elim
-    (λ done. rw (done.2, done.3) (load-confined (permits given) given hart m n word instr address width done.0 done.1 done.2 done.3 (rw done.2 at same)))
-    (λ refused. rw (refused.0, refused.1) (unchanged m n [] (trap_end hart (fetch_of hart) (access_fault LoadAccessFault address)) refl))
-    (read-both m n address (bytes_in width) sizes)
-access-confined hart m n word instr (Store address width value) sizes same =
-    let given = verdict_on hart.csrs.pmp (data_mode hart) Write address width in
-    ⊎_elim
-    (λ done. rw (done.2, done.3) (store-confined (permits given) given hart m n word instr address value width done.0 done.1 done.2 done.3))
-    (λ refused. rw (refused.0, refused.1) (unchanged m n _ (trap_end hart (fetch_of hart) (access_fault StoreAccessFault address)) refl))
-    (write-both m n address (bytes_of (bytes_in width) value) sizes)
+decodes-too : (state : State) (n : List ℕ) (word : ℕ) (given : Option Instr) → SameIn state.memory n (span state.hart.pc Word) → Decodes state word given
+    → Decodes (with_memory state n) word given
+decodes-too state n word given same here = record { fetch = fetches-too state n (Ok word) same here.fetch; decoded = here.decoded }
+
+asks-too : (state : State) (n : List ℕ) (word : ℕ) (instr : Instr) (access : Request) → SameIn state.memory n (span state.hart.pc Word) → Asks state word instr access
+    → Asks (with_memory state n) word instr access
+asks-too state n word instr access same here = record { decode = decodes-too state n word (Some instr) same here.decode; request = here.request }
+
+asked-step : (state : State) (word : ℕ) (instr : Instr) (access : Request) → Asks state word instr access
+    → step state ≡ accessed state.hart state.memory word instr access
+unfolding step attempted executed
+asked-step state word instr access here = rw (here.decode.fetch.pending, here.decode.fetch.fetched, here.decode.decoded, here.request) refl
+
+-- ---- the ends
+
+-- no memory changes
+unchanged : (state : State) (n : List ℕ) (ended : Ended) → ended.outcome.touched.stored ≡ None → step (with_memory state n) ≡ over n ended
+    → EndAlike state.memory n [] (over state.memory ended) (step (with_memory state n))
+unchanged state n ended none other = rw other (record { hart = refl; outcome = refl; here = rw none refl; there = rw none refl })
+
+touched-done : (hart : Hart) (touched : Touched) (written : Option ℕ) (finish : Result Hart Trap) → (concluded hart touched written finish).outcome.touched ≡ touched
+unfolding concluded
+touched-done hart touched written (Ok after) = refl
+touched-done hart touched written (Err trap) = refl
+
+none-stored : (hart : Hart) (touched : Touched) (written : Option ℕ) (finish : Result Hart Trap) → touched.stored ≡ None
+    → (concluded hart touched written finish).outcome.touched.stored ≡ None
+none-stored hart touched written finish none = ap (λ (t : Touched). t.stored) (touched-done hart touched written finish) ∙ none
+
+-- both memories take a store
+stored-alike : (state : State) (n : List ℕ) (word : ℕ) (instr : Instr) (address : ℕ) (width : Width) (value : ℕ) (memory : List ℕ)
+    → length state.memory ≡ length n → Stores state address width value (Ok memory)
+    → step (with_memory state n) ≡ over (write_bytes n (address - ram_base) (bytes_of (bytes_in width) value)) (done state.hart (store_of state.hart address width) word instr 0)
+    → EndAlike state.memory n (bytes_of (bytes_in width) value) (over memory (done state.hart (store_of state.hart address width) word instr 0)) (step (with_memory state n))
+stored-alike state n word instr address width value memory sizes is other =
+    let here = store_done state.memory state.hart.csrs.pmp (data_mode state.hart) address width value memory is in
+    let there = store_done n state.hart.csrs.pmp (data_mode state.hart) address width value _
+    (store_done_too state.memory n state.hart.csrs.pmp (data_mode state.hart) address width value memory sizes is) in
+    rw other (record {
+      hart = refl;
+      outcome = refl;
+      here = rw touched-done (length-bytes_of width value, write_at state.memory address _ memory (rw (length-bytes_of width value) here.0) (sym here.2));
+      there = rw touched-done (length-bytes_of width value, write_at n address _ _ (rw (length-bytes_of width value) there.0) refl);
+    })
 
 -- ---- the step
 
--- an instruction touches the word at pc
-fetched-accessed : (hart : Hart) (m : List ℕ) (word : ℕ) (instr : Instr) (r : Request) → (accessed hart m word instr r).outcome.touched.fetched ≡ span hart.pc Word
-unfolding accessed
-fetched-accessed hart m word instr Nothing = rw touched-concluded refl
-fetched-accessed hart m word instr (Load address width) =
-    elim (loaded m hart.csrs.pmp (data_mode hart) address width) as (λ r.
-    (result_case r (λ number. over m (done hart (load_of hart address width) word instr number))
-    (λ _. over m (trap_end hart (fetch_of hart) (access_fault LoadAccessFault address)))).outcome.touched.fetched ≡ span hart.pc Word)
-    [ Ok number ↦ rw touched-concluded refl | Err fault ↦ refl ]
-fetched-accessed hart m word instr (Store address width value) =
-    elim (stored m hart.csrs.pmp (data_mode hart) address width value) as (λ r.
-    (result_case r (λ after. over after (done hart (store_of hart address width) word instr 0))
-    (λ _. over m (trap_end hart (fetch_of hart) (access_fault StoreAccessFault address)))).outcome.touched.fetched ≡ span hart.pc Word)
-    [ Ok after ↦ rw touched-concluded refl | Err fault ↦ refl ]
-
--- the bytes that a fetched word stores
-bytes_in_word : Hart → ℕ → List ℕ
-bytes_in_word hart word = option_case (decoded word) [] (λ instr. bytes_in_request (request instr hart))
-
-executed-confined : (hart : Hart) (m n : List ℕ) (word : ℕ) → length m ≡ length n → SameIn m n (executed hart m word).outcome.touched.loaded
-    → EndAlike m n (bytes_in_word hart word) (executed hart m word) (executed hart n word)
-unfolding executed bytes_in_word
-executed-confined hart m n word sizes =
-    elim (decoded word) as (λ o.
-    SameIn m n (option_case o (over m (trap_end hart (fetch_of hart) (illegal word))) (λ instr. accessed hart m word instr (request instr hart))).outcome.touched.loaded
-    → EndAlike m n (option_case o [] (λ instr. bytes_in_request (request instr hart)))
-    (option_case o (over m (trap_end hart (fetch_of hart) (illegal word))) (λ instr. accessed hart m word instr (request instr hart)))
-    (option_case o (over n (trap_end hart (fetch_of hart) (illegal word))) (λ instr. accessed hart n word instr (request instr hart))))
-    [ None ↦ λ same. unchanged m n [] _ refl | Some instr ↦ λ same. access-confined hart m n word instr (request instr hart) sizes same ]
-
-fetched-executed : (hart : Hart) (m : List ℕ) (word : ℕ) → (executed hart m word).outcome.touched.fetched ≡ span hart.pc Word
-unfolding executed
-fetched-executed hart m word =
-    elim (decoded word) as (λ o.
-    (option_case o (over m (trap_end hart (fetch_of hart) (illegal word))) (λ instr. accessed hart m word instr (request instr hart))).outcome.touched.fetched
-    ≡ span hart.pc Word)
-    [ None ↦ refl | Some instr ↦ fetched-accessed hart m word instr (request instr hart) ]
-
--- the bytes that a fetched instruction stores
-bytes_at_pc : Hart → List ℕ → List ℕ
-bytes_at_pc hart memory = result_case (fetched memory hart.csrs.pmp hart.mode hart.pc) (bytes_in_word hart) (λ _. [])
-
-fetch-confined : (b : Bool) (given : Verdict) (hart : Hart) (m n : List ℕ) (x y : List ℕ) → read m hart.pc 4 ≡ Some x → read n hart.pc 4 ≡ Some y
-    → AgreeOn m n (result_case (if b then Ok (number_of x) else Err (Refused given)) (executed hart m)
-    (λ _. over m (trap_end hart nothing (access_fault InstructionAccessFault hart.pc)))).outcome.touched
-    → EndAlike m n (result_case (if b then Ok (number_of x) else Err (Refused given)) (bytes_in_word hart) (λ _. []))
-    (result_case (if b then Ok (number_of x) else Err (Refused given)) (executed hart m)
-    (λ _. over m (trap_end hart nothing (access_fault InstructionAccessFault hart.pc))))
-    (result_case (if b then Ok (number_of y) else Err (Refused given)) (executed hart n)
-    (λ _. over n (trap_end hart nothing (access_fault InstructionAccessFault hart.pc))))
-fetch-confined true given hart m n x y here there agree =
-    let read_alike = rw fetched-executed at agree.fetched in
-    let equal : x ≡ y = cc in
-    rw (← equal) (executed-confined hart m n (number_of x) agree.size agree.loaded)
-fetch-confined false given hart m n x y here there agree = unchanged m n [] (trap_end hart nothing (access_fault InstructionAccessFault hart.pc)) refl
-
-attempted-confined : (hart : Hart) (m n : List ℕ) → AgreeOn m n (attempted hart m).outcome.touched
-    → EndAlike m n (bytes_at_pc hart m) (attempted hart m) (attempted hart n)
-unfolding attempted bytes_at_pc
-attempted-confined hart m n agree =
-    let given = verdict_on hart.csrs.pmp hart.mode Fetch hart.pc Word in
-    ⊎_elim
-    (λ done. rw (done.2, done.3) (fetch-confined (permits given) given hart m n done.0 done.1 done.2 done.3 (rw done.2 at agree)))
-    (λ refused. rw (refused.0, refused.1) (unchanged m n [] (trap_end hart nothing (access_fault InstructionAccessFault hart.pc)) refl))
-    (read-both m n hart.pc 4 agree.size)
-
--- the bytes that a step stores
-bytes_in_step : State → List ℕ
-bytes_in_step state = option_case (pending state.hart.csrs state.hart.mode) (bytes_at_pc state.hart state.memory) (λ _. [])
-
-step-confined : (state : State) (n : List ℕ) → AgreeOn state.memory n (step state).outcome.touched
-    → EndAlike state.memory n (bytes_in_step state) (step state) (step (record state { memory = n }))
-unfolding step bytes_in_step
-step-confined state n =
-    let hart = state.hart in
-    let m = state.memory in
-    elim (pending hart.csrs hart.mode) as (λ o.
-    AgreeOn m n (option_case o (attempted hart m) (λ interrupt. over m (trap_end hart nothing (interrupted interrupt)))).outcome.touched
-    → EndAlike m n (option_case o (bytes_at_pc hart m) (λ _. []))
-    (option_case o (attempted hart m) (λ interrupt. over m (trap_end hart nothing (interrupted interrupt))))
-    (option_case o (attempted hart n) (λ interrupt. over n (trap_end hart nothing (interrupted interrupt)))))
-    [ None ↦ λ agree. attempted-confined hart m n agree | Some interrupt ↦ λ agree. unchanged m n [] _ refl ]
-
 pub confined : (state : State) → IsConfined state (step state)
-confined state = record { bytes = bytes_in_step state; alike = step-confined state }
+unfolding step attempted executed accessed
+confined state = by_ways state (IsConfined state) (record {
+  interrupt = λ interrupt is. record { bytes = []; alike = λ n agree. unchanged state n _ refl (rw is refl) };
+  fetch_refused = λ fault here. record {
+    bytes = [];
+    alike = λ n agree.
+        let refused = fetch_refused_too state.memory n state.hart.csrs.pmp state.hart.mode state.hart.pc fault agree.size here.fetched in
+        unchanged state n _ refl (rw (here.pending, refused) refl);
+  };
+  illegal = λ word here. record {
+    bytes = [];
+    alike = λ n agree.
+        let there = decodes-too state n word None agree.fetched here in
+        unchanged state n _ refl (rw (there.fetch.pending, there.fetch.fetched, there.decoded) refl);
+  };
+  no_access = λ word instr here. record {
+    bytes = [];
+    alike = λ n agree.
+        let reads : AgreeOn state.memory n (fetch_of state.hart) = rw touched-done at agree in
+        unchanged state n _ (none-stored state.hart (fetch_of state.hart) _ _ refl) (asked-step _ word instr Nothing (asks-too state n word instr Nothing reads.fetched here));
+  };
+  load = λ word instr address width number here is. record {
+    bytes = [];
+    alike = λ n agree.
+        let reads : AgreeOn state.memory n (load_of state.hart address width) = rw touched-done at agree in
+        let there = asked-step _ word instr (Load address width) (asks-too state n word instr (Load address width) reads.fetched here) in
+        let loads : Loads (with_memory state n) address width (Ok number) =
+        sym (load_same state.memory n state.hart.csrs.pmp (data_mode state.hart) address width reads.loaded) ∙ is in
+        unchanged state n _ (none-stored state.hart (load_of state.hart address width) _ _ refl) (rw loads at there);
+  };
+  load_refused = λ word instr address width fault here is. record {
+    bytes = [];
+    alike = λ n agree.
+        let there = asked-step _ word instr (Load address width) (asks-too state n word instr (Load address width) agree.fetched here) in
+        let refused = load_refused_too state.memory n state.hart.csrs.pmp (data_mode state.hart) address width fault agree.size is in
+        unchanged state n _ refl (rw refused at there);
+  };
+  store = λ word instr address width value memory here is. record {
+    bytes = bytes_of (bytes_in width) value;
+    alike = λ n agree.
+        let reads : AgreeOn state.memory n (store_of state.hart address width) = rw touched-done at agree in
+        let there = asked-step _ word instr (Store address width value) (asks-too state n word instr (Store address width value) reads.fetched here) in
+        let stores = store_done_too state.memory n state.hart.csrs.pmp (data_mode state.hart) address width value memory reads.size is in
+        stored-alike state n word instr address width value memory reads.size is (rw stores at there);
+  };
+  store_refused = λ word instr address width value fault here is. record {
+    bytes = [];
+    alike = λ n agree.
+        let there = asked-step _ word instr (Store address width value) (asks-too state n word instr (Store address width value) agree.fetched here) in
+        let refused = store_refused_too state.memory n state.hart.csrs.pmp (data_mode state.hart) address width value fault agree.size is in
+        unchanged state n _ refl (rw refused at there);
+  };
+})

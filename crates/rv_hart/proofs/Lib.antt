@@ -1,5 +1,5 @@
-mod Confined
-mod Mprv
-mod Permitted
+pub mod Confined
+pub mod InstructionCases
+pub mod StepCases
+pub mod StepLaws
 mod StepExamples
-mod StepLaws

@@ -1,102 +1,90 @@
--- A trap changes nothing but what every trap changes.
-use Rattle.std.proofs.Common.{◌≡◌, ℕ, List, Some, None, Result, Ok, Err, refl, subst, Option}
-use Rattle.rv_word.specs.Cases.{option_case, result_case}
-use Rattle.rv_encoding.specs.declared.instr.Instr.{Instr}
-use Rattle.rv_encoding.specs.declared.instr.Instr.TheVariants.{Lui, Auipc, Jal, Jalr, Branch, Load, Store, OpImm, ShiftImm, Op, Fence, Csr, CsrImm, Ecall, Ebreak, Sret, Mret, Wfi, SfenceVma}
-use Rattle.rv_encoding.specs.Decoding.{decoded}
-use Rattle.rv_memory.specs.Accesses.{loaded, fetched, stored}
-use Rattle.rv_memory.specs.declared.touched.Touched.{Touched}
-use Rattle.rv_word.specs.declared.width.Width.{Width}
-use Rattle.rv_hart.specs.Exceptions.{illegal, access_fault, interrupted}
-use Rattle.rv_hart.specs.Hart.{advanced}
+-- The laws of a step, each by the cases of a step.
+use Rattle.std.proofs.Common.{◌≡◌, Bool, true, false, refl, sym, subst, ◌∙◌}
+use Rattle.std.specs.Prelude.{◌&&◌}
+use Rattle.std.proofs.lemmas.Bool.{false≢true}
+use Rattle.rv_memory.proofs.AccessLaws.{store_done}
+use Rattle.rv_memory.proofs.MemoryLaws.{store_changes_only}
+use Rattle.rv_state.specs.Interrupts.{is_machine}
+use Rattle.rv_state.specs.MachineParts.{machine_parts}
+use Rattle.rv_state.specs.Traps.{mode_of_spp}
+use Rattle.rv_state.proofs.MachinePartsLemmas.{write_keeps_parts, same_mprv}
 use Rattle.rv_hart.specs.HartState.{Hart}
-use Rattle.rv_hart.specs.Instructions.{request, finished}
-use Rattle.rv_hart.specs.State.{State, Stepped, over}
-use Rattle.rv_hart.specs.Step.{step, attempted, executed, accessed, concluded, data_mode, done, trap_end, fetch_of, load_of, store_of, nothing}
-use Rattle.rv_state.specs.Interrupts.{pending}
-use Rattle.rv_hart.specs.CsrInstructions.{written_csr}
-use Rattle.rv_hart.specs.StepLaws.{TrapKeeps}
-use Rattle.rv_state.specs.declared.cause.Exception.TheVariants.{InstructionAccessFault, LoadAccessFault, StoreAccessFault}
-use Rattle.rv_hart.specs.declared.request.Request.{Request}
-use Rattle.rv_hart.specs.declared.request.Request.TheVariants as requests
-use Rattle.rv_hart.specs.declared.trap.Trap.{Trap}
+use Rattle.rv_hart.specs.Instructions.{returned_from_supervisor}
+use Rattle.rv_hart.specs.Permitted.{TouchesPermitted}
+use Rattle.rv_hart.specs.State.{State, Stepped}
+use Rattle.rv_hart.specs.Step.{step, data_mode}
+use Rattle.rv_hart.specs.StepLaws.{TrapKeeps, MprvIsClear, KeepsMprvClear, StaysBelow, KeepsMachineParts, ChangesStored}
+use Rattle.rv_hart.proofs.InstructionCases.{Changes, by_changes}
+use Rattle.rv_hart.proofs.StepCases.{by_cases, by_hart}
 
--- an instruction that stores ends in no exception once its store is done
-store-finishes : (instr : Instr) (hart : Hart) (address value word : ℕ) (width : Width)
-    → request instr hart ≡ requests.Store address width value → finished instr hart word 0 ≡ Ok (advanced hart)
-unfolding request finished
-store-finishes (Store kind rs1 rs2 offset) hart address value word width is = refl
-store-finishes (Load kind rd rs1 offset) hart address value word width is = cc
-store-finishes (Lui rd imm) hart address value word width is = cc
-store-finishes (Auipc rd imm) hart address value word width is = cc
-store-finishes (Jal rd offset) hart address value word width is = cc
-store-finishes (Jalr rd rs1 offset) hart address value word width is = cc
-store-finishes (Branch kind rs1 rs2 offset) hart address value word width is = cc
-store-finishes (OpImm kind rd rs1 imm) hart address value word width is = cc
-store-finishes (ShiftImm kind rd rs1 amount) hart address value word width is = cc
-store-finishes (Op kind rd rs1 rs2) hart address value word width is = cc
-store-finishes (Fence fm pred succ rd rs1) hart address value word width is = cc
-store-finishes (Csr kind rd rs1 csr) hart address value word width is = cc
-store-finishes (CsrImm kind rd number csr) hart address value word width is = cc
-store-finishes Ecall hart address value word width is = cc
-store-finishes Ebreak hart address value word width is = cc
-store-finishes Sret hart address value word width is = cc
-store-finishes Mret hart address value word width is = cc
-store-finishes Wfi hart address value word width is = cc
-store-finishes (SfenceVma rs1 rs2) hart address value word width is = cc
+-- a trap changes nothing but what every trap changes
+pub trap_keeps : (state : State) → TrapKeeps state (step state)
+trap_keeps state = by_hart state (TrapKeeps state) (λ touched trap. (refl, refl)) (λ memory touched instr word loaded after is. tt)
 
-concluded-keeps : (hart : Hart) (memory : List ℕ) (touched : Touched) (written : Option ℕ) (finish : Result Hart Trap)
-    → TrapKeeps (record { hart = hart; memory = memory }) (over memory (concluded hart touched written finish))
-unfolding concluded
-concluded-keeps hart memory touched written (Ok after) = tt
-concluded-keeps hart memory touched written (Err trap) = (refl, refl)
+-- a step touches nothing that the entries do not permit
+pub touches_permitted : (state : State) → TouchesPermitted state (step state)
+touches_permitted state = by_cases state (TouchesPermitted state) (record {
+  trap = λ touched trap may none. may;
+  no_access = λ instr word after may is. may;
+  load = λ instr word address width number after may done is. may;
+  store = λ instr word address width value memory after may done is. may;
+})
 
-accessed-keeps : (hart : Hart) (memory : List ℕ) (word : ℕ) (instr : Instr) (r : Request) → request instr hart ≡ r
-    → TrapKeeps (record { hart = hart; memory = memory }) (accessed hart memory word instr r)
-unfolding accessed concluded
-accessed-keeps hart memory word instr requests.Nothing is =
-    concluded-keeps hart memory (fetch_of hart) (written_csr instr) (finished instr hart word 0)
-accessed-keeps hart memory word instr (requests.Load address width) is =
-    elim (loaded memory hart.csrs.pmp (data_mode hart) address width) as (λ r.
-    TrapKeeps (record { hart = hart; memory = memory })
-    (result_case r (λ number. over memory (done hart (load_of hart address width) word instr number))
-    (λ _. over memory (trap_end hart (fetch_of hart) (access_fault LoadAccessFault address))))) [
-      | Ok number ↦ concluded-keeps hart memory (load_of hart address width) (written_csr instr) (finished instr hart word number)
-      | Err fault ↦ (refl, refl)
-    ]
-accessed-keeps hart memory word instr (requests.Store address width value) is =
-    rw (store-finishes instr hart address value word width is)
-    (elim (stored memory hart.csrs.pmp (data_mode hart) address width value) as (λ r.
-    TrapKeeps (record { hart = hart; memory = memory })
-    (result_case r (λ after. over after (concluded hart (store_of hart address width) (written_csr instr) (Ok (advanced hart))))
-    (λ _. over memory (trap_end hart (fetch_of hart) (access_fault StoreAccessFault address)))))
-    [ Ok after ↦ tt | Err fault ↦ (refl, refl) ])
+-- ---- MPRV stays 0 below mode M
 
-executed-keeps : (hart : Hart) (memory : List ℕ) (word : ℕ) → TrapKeeps (record { hart = hart; memory = memory }) (executed hart memory word)
-unfolding executed
-executed-keeps hart memory word =
-    elim (decoded word) as (λ o.
-    TrapKeeps (record { hart = hart; memory = memory })
-    (option_case o (over memory (trap_end hart (fetch_of hart) (illegal word))) (λ instr. accessed hart memory word instr (request instr hart))))
-    [ None ↦ (refl, refl) | Some instr ↦ accessed-keeps hart memory word instr (request instr hart) refl ]
+and-false : (b : Bool) → (b && false) ≡ false
+and-false true = refl
+and-false false = refl
 
-attempted-keeps : (hart : Hart) (memory : List ℕ) → TrapKeeps (record { hart = hart; memory = memory }) (attempted hart memory)
-unfolding attempted
-attempted-keeps hart memory =
-    elim (fetched memory hart.csrs.pmp hart.mode hart.pc) as (λ r.
-    TrapKeeps (record { hart = hart; memory = memory })
-    (result_case r (executed hart memory) (λ _. over memory (trap_end hart nothing (access_fault InstructionAccessFault hart.pc)))))
-    [ Ok word ↦ executed-keeps hart memory word | Err fault ↦ (refl, refl) ]
+changes-keep-mprv : (hart : Hart) → Changes hart (λ after. MprvIsClear hart → MprvIsClear after)
+changes-keep-mprv hart = record {
+  computes = λ regs pc clear. clear;
+  writes = λ csr word csrs regs pc is clear below. same_mprv _ _ (write_keeps_parts _ _ _ _ _ below is) ∙ clear below;
+  mret = λ machine clear below. rw below (and-false hart.csrs.mstatus.mprv);
+  sret = λ clear below. refl;
+}
 
-pub trap-keeps : (state : State) → TrapKeeps state (step state)
-unfolding step
-trap-keeps state =
-    elim (pending state.hart.csrs state.hart.mode) as (λ o.
-    TrapKeeps state
-    (option_case o (attempted state.hart state.memory) (λ interrupt. over state.memory (trap_end state.hart nothing (interrupted interrupt)))))
-    [ None ↦ attempted-keeps state.hart state.memory | Some interrupt ↦ (refl, refl) ]
+pub keeps_mprv_clear : (state : State) → KeepsMprvClear state (step state)
+keeps_mprv_clear state = by_hart state (KeepsMprvClear state) (λ touched trap clear below. cc)
+    (λ memory touched instr word loaded after is. by_changes state.hart _ (changes-keep-mprv state.hart) instr word loaded after is)
+
+-- ---- below mode M the machine's parts stay
+
+spp-below : (spp : Bool) → is_machine (mode_of_spp spp) ≡ false
+spp-below true = refl
+spp-below false = refl
+
+sret-keeps-parts : (hart : Hart) → hart.csrs.mstatus.mprv ≡ false → StaysBelow hart (returned_from_supervisor hart)
+unfolding machine_parts
+sret-keeps-parts hart clear = (rw clear refl, spp-below hart.csrs.mstatus.spp)
+
+changes-keep-parts : (hart : Hart) → is_machine hart.mode ≡ false → hart.csrs.mstatus.mprv ≡ false → Changes hart (StaysBelow hart)
+changes-keep-parts hart below clear = record {
+  computes = λ regs pc. (refl, below);
+  writes = λ csr word csrs regs pc is. (write_keeps_parts _ _ _ _ _ below is, below);
+  mret = λ machine. absurd (false≢true (sym below ∙ machine));
+  sret = sret-keeps-parts hart clear;
+}
+
+pub keeps_machine_parts : (state : State) → KeepsMachineParts state (step state)
+unfolding machine_parts
+keeps_machine_parts state = by_hart state (KeepsMachineParts state) (λ touched trap below clear. tt)
+    (λ memory touched instr word loaded after is below clear. by_changes state.hart _ (changes-keep-parts state.hart below clear) instr word loaded after is)
+
+-- ---- the memory changes where the step stored
+
+pub changes_stored : (state : State) → ChangesStored state (step state)
+changes_stored state = by_cases state (ChangesStored state) (record {
+  trap = λ touched trap may none. (refl, rw none refl);
+  no_access = λ instr word after may is. (refl, refl);
+  load = λ instr word address width number after may done is. (refl, refl);
+  store = λ instr word address width value memory after may done is.
+      let put = store_done state.memory state.hart.csrs.pmp (data_mode state.hart) address width value memory done in
+      let only = store_changes_only state.memory address value width memory put.0 (sym put.2) in
+      (only.size, only);
+})
 
 -- what holds of every step holds of one that is named
-pub after-step : (P : State → Stepped → Type 0) → ((state : State) → P state (step state))
-    → (before state : State) (after : Stepped) → state ≡ before → step state ≡ after → P before after
-after-step P law before state after is stepped = subst (λ (s : State). P s after) is (subst (P state) stepped (law state))
+pub after_step : (P : State → Stepped → Type 0) → ((state : State) → P state (step state))
+    → (before : State) (after : Stepped) → step before ≡ after → P before after
+after_step P law before after stepped = subst (P before) stepped (law before)

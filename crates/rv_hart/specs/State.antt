@@ -18,8 +18,14 @@ pub record Stepped : Type 0 where
   pub state : State
   pub outcome : StepOutcome
 
+abbrev pub state_of : Hart → List ℕ → State
+state_of hart memory = record { hart = hart; memory = memory }
+
 abbrev pub ended_in : Hart → StepOutcome → Ended
 ended_in hart outcome = record { hart = hart; outcome = outcome }
 
 abbrev pub over : List ℕ → Ended → Stepped
 over memory ended = record { state = record { hart = ended.hart; memory = memory }; outcome = ended.outcome }
+
+abbrev pub stepped : Hart → List ℕ → StepOutcome → Stepped
+stepped hart memory outcome = over memory (ended_in hart outcome)

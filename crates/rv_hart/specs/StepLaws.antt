@@ -1,6 +1,10 @@
 -- What holds after every step. RISC-V Privileged Architecture 20211203, sections 3.1.6.3 (MPRV) and 3.1.6 to 3.1.16 (trap entry);
 -- Unprivileged ISA 20191213, section 1.6: a trap is precise.
-use Rattle.std.specs.Prelude.{◌≡◌, false, None, IfSome}
+use Rattle.std.specs.Prelude.{◌≡◌, ℕ, List, length, false, Option, Some, None, IfSome, IfNone}
+use Rattle.rv_word.specs.Widths.{bytes_in}
+use Rattle.rv_memory.specs.Changes.{ChangesOnly}
+use Rattle.rv_memory.specs.declared.touched.Span.{Span}
+use Rattle.rv_state.specs.MachineParts.{machine_parts}
 use Rattle.rv_state.specs.Interrupts.{is_machine}
 use Rattle.rv_hart.specs.Hart.{trapped, counted}
 use Rattle.rv_hart.specs.HartState.{Hart}
@@ -21,3 +25,23 @@ MprvIsClear hart = is_machine hart.mode ≡ false → hart.csrs.mstatus.mprv ≡
 -- and stays so
 abbrev pub KeepsMprvClear : State → Stepped → Type 0
 KeepsMprvClear before after = MprvIsClear before.hart → MprvIsClear after.state.hart
+
+-- the machine's parts of the registers are as before, and the mode is below M
+abbrev pub StaysBelow : Hart → Hart → Type 0
+StaysBelow before after = (machine_parts after.csrs ≡ machine_parts before.csrs) × (is_machine after.mode ≡ false)
+
+-- Below mode M, with MPRV 0, no instruction changes the machine's parts, and none but by a trap leads to M.
+abbrev pub KeepsMachineParts : State → Stepped → Type 0
+KeepsMachineParts before after =
+    is_machine before.hart.mode ≡ false → before.hart.csrs.mstatus.mprv ≡ false
+    → IfNone after.outcome.trap (StaysBelow before.hart after.state.hart)
+
+-- a memory changes in the bytes of a span alone, and not at all where there is none
+abbrev pub ChangesIn : List ℕ → List ℕ → Option Span → Type 0
+ChangesIn old new None = new ≡ old
+ChangesIn old new (Some span) = ChangesOnly old new span.addr (bytes_in span.len)
+
+-- The memory keeps its size, and changes in the bytes that the step stored alone.
+abbrev pub ChangesStored : State → Stepped → Type 0
+ChangesStored before after =
+    (length after.state.memory ≡ length before.memory) × ChangesIn before.memory after.state.memory after.outcome.touched.stored

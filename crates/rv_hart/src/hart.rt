@@ -13,9 +13,10 @@ use rv_state::{Cause, Csrs, Exception, Regs};
 use rv_word::{Reg, Width};
 use std::marker::Model;
 
-/// All of the machine's state but the memory.
+/// A hart: its registers, its control and status registers, the address of its next instruction, which is a multiple of 4, and
+/// its mode. The memory stands apart (Unprivileged ISA, section 2.1; Privileged Architecture, section 1.2 and chapter 2).
 #[derive(Drop, Debug)]
-pub(crate) struct Hart {
+pub struct Hart {
     pub(crate) regs: Regs,
     pub(crate) csrs: Csrs,
     pub(crate) pc: u32,
@@ -42,11 +43,14 @@ impl Hart {
     ghost use Rattle.rv_hart.specs.Instructions.{request, finished, made_even};
     ghost use Rattle.rv_hart.specs.Lending.{HartLendsRegs, HartLendsCsrs};
     ghost use Rattle.rv_state.specs.Registers.{register};
-    ghost use Rattle.rv_hart.specs.State.{ended_in, over};
+    ghost use Rattle.rv_hart.specs.State.{state_of, ended_in, over, stepped};
+    ghost use Rattle.rv_hart.specs.StepLaws.{TrapKeeps, KeepsMprvClear, KeepsMachineParts, ChangesStored};
+    ghost use Rattle.rv_hart.specs.Permitted.{TouchesPermitted};
+    ghost use Rattle.rv_hart.specs.Confinement.{IsConfined};
     ghost use Rattle.rv_hart.specs.Step.{step, executed, accessed, concluded, done, trap_end, retired_end, fetch_of, data_mode};
 
-    /// The hart at reset, with the entry next.
-    pub(crate) fn new(entry: u32, mode: Mode) -> Self
+    /// The hart at reset with the entry next, in this mode.
+    pub fn new(entry: u32, mode: Mode) -> Self
         requires { entry % 4 ≡ 0 }
         ensures { result ≡ at_reset entry mode }
     {
@@ -58,8 +62,8 @@ impl Hart {
         }
     }
 
-    /// The address of the next instruction.
-    pub(crate) fn pc(&self) -> u32
+    /// The address of the next instruction, a multiple of 4.
+    pub fn pc(&self) -> u32
         ensures value { result ≡ self.now.pc }
         ensures aligned { result % 4 ≡ 0 }
     {
@@ -67,14 +71,14 @@ impl Hart {
     }
 
     /// The mode.
-    pub(crate) fn mode(&self) -> Mode
+    pub fn mode(&self) -> Mode
         ensures { result ≡ self.now.mode }
     {
         self.mode
     }
 
     /// Goes on at another address, in another mode.
-    pub(crate) fn set_pc(&mut self, pc: u32, mode: Mode)
+    pub fn set_pc(&mut self, pc: u32, mode: Mode)
         requires { pc % 4 ≡ 0 }
         ensures { self.new ≡ record self.old { pc = pc; mode = mode } }
     {
@@ -84,7 +88,7 @@ impl Hart {
 
     /// What holds in every state. It does nothing.
     #[inline(always)]
-    pub(crate) fn invariant(&self)
+    fn invariant(&self)
         ensures x0 { register self.now.regs 0 ≡ 0 }
         ensures aligned { self.now.pc % 4 ≡ 0 }
     {
@@ -94,14 +98,14 @@ impl Hart {
     }
 
     /// The registers.
-    pub(crate) fn regs(&self) -> &Regs
+    pub fn regs(&self) -> &Regs
         ensures { result.now ≡ self.now.regs }
     {
         &self.regs
     }
 
     /// The registers, for writing.
-    pub(crate) fn regs_mut(&mut self) -> &mut Regs
+    pub fn regs_mut(&mut self) -> &mut Regs
         ensures* writes_back { sem 𝓛 (HartLendsRegs self.entry result) }
         ensures value { result.now ≡ self.old.regs }
     {
@@ -109,25 +113,52 @@ impl Hart {
     }
 
     /// The control and status registers.
-    pub(crate) fn csrs(&self) -> &Csrs
+    pub fn csrs(&self) -> &Csrs
         ensures { result.now ≡ self.now.csrs }
     {
         &self.csrs
     }
 
     /// The control and status registers, for writing.
-    pub(crate) fn csrs_mut(&mut self) -> &mut Csrs
+    pub fn csrs_mut(&mut self) -> &mut Csrs
         ensures* writes_back { sem 𝓛 (HartLendsCsrs self.entry result) }
         ensures value { result.now ≡ self.old.csrs }
     {
         &mut self.csrs
     }
 
-    /// Does one step over a memory: takes an interrupt, or does the instruction at pc.
+    /// Does one step over a memory: takes an interrupt, or does the instruction at pc, or its trap (Unprivileged ISA, chapters 2, 7
+    /// and 9; Privileged Architecture, sections 3.1.6 to 3.1.16, 3.3 and 4.2.1). It never refuses, and takes no memory of the
+    /// host's.
+    ///
+    /// In every state x0 is 0 and pc a multiple of 4. A trap changes what every trap changes, and nothing else. MPRV stays 0
+    /// below mode M. From below mode M, with MPRV 0, only a trap leads to mode M, and any other step leaves the registers of
+    /// mode M, the entries and the timer line as they are. The memory keeps its size, and changes in the bytes that the step says
+    /// it stored alone. The step depends on no byte of memory but those that it says it fetched and loaded. The entries permit
+    /// every byte that it says it fetched, loaded or stored, in the mode that decides that access (Privileged Architecture,
+    /// sections 3.1.6.3 and 3.7.1).
+    #[inline(always)]
+    pub fn step(&mut self, ram: &mut Ram) -> StepOutcome
+        ensures meaning { step (state_of self.old ram.old) ≡ stepped self.new ram.new result }
+        ensures x0 { register self.new.regs 0 ≡ 0 }
+        ensures aligned { self.new.pc % 4 ≡ 0 }
+        ensures trap_keeps { TrapKeeps (state_of self.old ram.old) (stepped self.new ram.new result) }
+        ensures mprv { KeepsMprvClear (state_of self.old ram.old) (stepped self.new ram.new result) }
+        ensures machine_parts { KeepsMachineParts (state_of self.old ram.old) (stepped self.new ram.new result) }
+        ensures memory { ChangesStored (state_of self.old ram.old) (stepped self.new ram.new result) }
+        ensures permitted { TouchesPermitted (state_of self.old ram.old) (stepped self.new ram.new result) }
+        ensures confined { IsConfined (state_of self.old ram.old) (stepped self.new ram.new result) }
+    {
+        let outcome = self.step_once(ram);
+        self.invariant();
+        outcome
+    }
+
+    /// Takes an interrupt, or does the instruction at pc, or its trap.
     #[inline(always)]
     #[tactic(auto, unfolding(crate::specs::Step::step, crate::specs::Step::attempted))]
-    pub(crate) fn step(&mut self, ram: &mut Ram) -> StepOutcome
-        ensures { step (record { hart = self.old; memory = ram.old }) ≡ over ram.new (ended_in self.new result) }
+    fn step_once(&mut self, ram: &mut Ram) -> StepOutcome
+        ensures { step (state_of self.old ram.old) ≡ stepped self.new ram.new result }
     {
         if let Some(interrupt) = self.csrs.pending_interrupt(self.mode) {
             return self.trap(interrupted(interrupt), Touched::default());

@@ -1,6 +1,6 @@
 //! Steps of small programs, and what they show. The corner values of every row are command-line cases of the bench.
 
-use rv_hart::{Machine, StepOutcome, Trap};
+use rv_hart::{Hart, Machine, StepOutcome, Trap};
 use rv_memory::{RAM_BASE, Ram, Span, Touched};
 use rv_pmp::Mode;
 use rv_state::{Cause, Exception, Interrupt};
@@ -65,6 +65,32 @@ fn shows_what_it_touches(rt: HostRuntime) -> Result<(), Fail> {
     assert_eq!(rt; machine.pc(), RAM_BASE + 12);
     assert_eq!(rt; machine.ram().peek(RAM_BASE + 259), Some(0xff));
     assert_eq!(rt; machine.regs().get(Reg::new(3)), 0);
+    Ok(())
+}
+
+/// A hart by itself steps over a memory that is lent to it: lui x1, 0x12345, in mode U under an entry for fetching; then the word
+/// 0 traps.
+#[test]
+fn steps_over_a_memory(rt: HostRuntime) -> Result<(), Fail> {
+    let mut ram = Ram::new(rt.alloc(), 65_536).map_err(|_| "a RAM")?;
+    ram.write_part(RAM_BASE + 8, &[0xb7, 0x50, 0x34, 0x12]);
+    let mut hart = Hart::new(RAM_BASE, Mode::M);
+    assert_eq!(rt; hart.csrs_mut().write(0x3b0, u32::MAX, Mode::M), Ok(()));
+    assert_eq!(rt; hart.csrs_mut().write(0x3a0, 0x1c, Mode::M), Ok(()));
+    hart.set_pc(RAM_BASE + 8, Mode::U);
+    assert_eq!(rt; hart.step(&mut ram).trap, None);
+    assert_eq!(rt; hart.regs().get(Reg::new(1)), 0x1234_5000);
+    assert_eq!(rt; hart.pc(), RAM_BASE + 12);
+    assert_eq!(rt; hart.mode(), Mode::U);
+    hart.regs_mut().set(Reg::new(1), 7);
+    let trap = hart.step(&mut ram).trap;
+    assert_eq!(rt;
+        trap.map(|trap| trap.cause),
+        Some(Cause::Exception(Exception::IllegalInstruction))
+    );
+    assert_eq!(rt; hart.mode(), Mode::M);
+    assert_eq!(rt; hart.csrs().mepc(), RAM_BASE + 12);
+    assert_eq!(rt; hart.regs().get(Reg::new(1)), 7);
     Ok(())
 }
 

@@ -1,4 +1,4 @@
 pub mod MaskLemmas
 pub mod ReadBackLemmas
 pub mod StatusLemmas
-pub mod MprvLemmas
+pub mod MachinePartsLemmas

@@ -9,4 +9,6 @@ pub mod Interrupts
 pub mod Traps
 pub mod CsrTable
 pub mod Laws
+pub mod SContexts
+pub mod MachineParts
 pub mod Lending

@@ -19,6 +19,7 @@ mod csr_name;
 mod csrs;
 mod mstatus;
 mod regs;
+mod s_context;
 mod traps;
 
 pub use cause::{Cause, Exception, Interrupt};
@@ -26,3 +27,4 @@ pub use csr_fault::CsrFault;
 pub use csrs::Csrs;
 pub use mstatus::Mstatus;
 pub use regs::Regs;
+pub use s_context::SContext;

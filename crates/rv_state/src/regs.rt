@@ -8,7 +8,7 @@ use std::marker::Model;
 
 /// The 32 integer registers, of which x0 is always 0 (Unprivileged ISA, section 2.1). Callers see the list of
 /// their words.
-#[derive(Drop, Debug)]
+#[derive(Clone, Copy, Debug)]
 pub struct Regs {
     words: [u32; 32],
 }
@@ -21,6 +21,8 @@ impl Model for Regs {
     ghost view = { λ regs. regs.words };
 
     ghost invariant = { λ regs. slice_index regs.words 0 ≡ 0 };
+
+    ghost inverse = { λ words. record { words = words } };
 }
 
 impl Regs {

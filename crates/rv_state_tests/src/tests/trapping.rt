@@ -2,7 +2,7 @@
 
 use super::{differing, put};
 use rv_pmp::Mode;
-use rv_state::{Cause, Csrs, Exception, Interrupt};
+use rv_state::{Cause, Csrs, Exception, Interrupt, SContext};
 
 /// A timer interrupt in mode M with mtvec 401 (mode Vectored), and an exception after it.
 #[test]
@@ -111,4 +111,42 @@ fn counts_steps(rt: HostRuntime) {
     put(&mut csrs, &[(0x320, 0x1)]);
     csrs.tick_counters(true, csrs.inhibit(), None);
     assert_eq!(rt; differing(&csrs, &[(0xB00, 1), (0xB02, 3)]), None);
+}
+
+/// The registers of mode S, all ones set at once: each keeps what its write keeps, and mstatus its other fields. Set back, they
+/// read as at first.
+#[test]
+fn sets_the_registers_of_mode_s(rt: HostRuntime) {
+    let mut csrs = Csrs::new();
+    put(&mut csrs, &[(0x300, 0x0000_0088), (0x341, 0x8000_0013)]);
+    let first = csrs.s_context();
+    csrs.set_s_context(SContext {
+        stvec: u32::MAX,
+        sscratch: u32::MAX,
+        sepc: u32::MAX,
+        scause: u32::MAX,
+        stval: u32::MAX,
+        sie: true,
+        spie: true,
+        spp: true,
+        mxr: true,
+    });
+    let wanted = [
+        (0x105, 0xFFFF_FFFD),
+        (0x140, u32::MAX),
+        (0x141, 0xFFFF_FFFC),
+        (0x142, u32::MAX),
+        (0x143, u32::MAX),
+        (0x100, 0x0008_0122),
+        (0x300, 0x0008_01AA),
+    ];
+    assert_eq!(rt; differing(&csrs, &wanted), None);
+    assert_eq!(rt; csrs.stvec(), 0xFFFF_FFFD);
+    assert_eq!(rt; csrs.mepc(), 0x8000_0010);
+    csrs.set_s_context(first);
+    assert_eq!(rt; csrs.s_context(), first);
+    assert_eq!(rt;
+        differing(&csrs, &[(0x105, 0), (0x141, 0), (0x300, 0x88)]),
+        None
+    );
 }

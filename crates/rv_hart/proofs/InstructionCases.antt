@@ -1,0 +1,102 @@
+-- The one walk over the instructions. Whatever holds of each way in which an instruction that ends in no exception changes the
+-- hart holds after every such instruction.
+use Rattle.std.proofs.Common.{◌≡◌, ℕ, Bool, true, false, List, Result, Ok, Err, refl, subst}
+use Rattle.std.specs.Prelude.{IfOk, ◌==◌, ◌%◌, if◌then◌else◌}
+use Rattle.rv_word.specs.BitFields.{sign_extended}
+use Rattle.rv_word.specs.declared.width.Width.{Width}
+use Rattle.rv_encoding.specs.declared.instr.Instr.{Instr}
+use Rattle.rv_encoding.specs.declared.instr.Instr.TheVariants.{Lui, Auipc, Jal, Jalr, Branch, Load, Store, OpImm, ShiftImm, Op, Fence, Csr, CsrImm, Ecall, Ebreak, Sret, Mret, Wfi, SfenceVma}
+use Rattle.rv_encoding.specs.declared.kind.CsrKind.{CsrKind}
+use Rattle.rv_state.specs.CsrState.{CsrState}
+use Rattle.rv_state.specs.CsrTable.{write_result}
+use Rattle.rv_state.specs.Interrupts.{is_machine}
+use Rattle.rv_state.specs.Registers.{register, with_register}
+use Rattle.rv_state.specs.declared.csr_fault.CsrFault.{CsrFault}
+use Rattle.rv_hart.specs.Arithmetic.{sum_of, is_taken}
+use Rattle.rv_hart.specs.CsrInstructions.{is_written, changed, old_word, new_csrs, unless_fault, csr_changed}
+use Rattle.rv_hart.specs.Exceptions.{misaligned}
+use Rattle.rv_hart.specs.Hart.{advanced, with_result, jumped, branched}
+use Rattle.rv_hart.specs.HartState.{Hart}
+use Rattle.rv_hart.specs.Instructions.{request, finished, where_allowed, unless_refused, unless_illegal, returned_from_machine, returned_from_supervisor, address_of, made_even}
+use Rattle.rv_hart.specs.declared.request.Request.TheVariants as requests
+use Rattle.rv_hart.specs.declared.trap.Trap.{Trap}
+
+-- the ways in which an instruction changes the hart
+pub record Changes (hart : Hart) (P : Hart → Type 0) : Type 0 where
+  -- it computes and jumps
+  pub computes : (regs : List ℕ) (pc : ℕ) → P (record hart { regs = regs; pc = pc })
+  -- it writes a control and status register
+  pub writes : (csr word : ℕ) (csrs : CsrState) (regs : List ℕ) (pc : ℕ) → write_result hart.csrs csr word hart.mode ≡ Ok csrs
+      → P (record hart { regs = regs; csrs = csrs; pc = pc })
+  -- it returns
+  pub mret : is_machine hart.mode ≡ true → P (returned_from_machine hart)
+  pub sret : P (returned_from_supervisor hart)
+
+jumped-by : (hart : Hart) (P : Hart → Type 0) → Changes hart P → (rd target : ℕ) → IfOk (jumped hart rd target) P
+jumped-by hart P changes rd target =
+    elim (target % 4 == 0) as (λ b. IfOk (if b then Ok (record hart { regs = with_register hart.regs rd (sum_of hart.pc 4); pc = target }) else Err (misaligned target)) P)
+    [ true ↦ changes.computes _ _ | false ↦ tt ]
+
+branched-by : (hart : Hart) (P : Hart → Type 0) → Changes hart P → (taken : Bool) (target : ℕ) → IfOk (branched hart taken target) P
+branched-by hart P changes false target = changes.computes _ _
+branched-by hart P changes true target =
+    elim (target % 4 == 0) as (λ b. IfOk (if b then Ok (record hart { pc = target }) else Err (misaligned target)) P)
+    [ true ↦ changes.computes _ _ | false ↦ tt ]
+
+allowed-by : (P : Hart → Type 0) (allowed : Bool) (word : ℕ) (after : Hart) → (allowed ≡ true → P after) → IfOk (where_allowed allowed word after) P
+allowed-by P true word after holds = holds refl
+allowed-by P false word after holds = tt
+
+written-by : (hart : Hart) (P : Hart → Type 0) → Changes hart P → (rd old word csr new : ℕ) (r : Result CsrState CsrFault) → write_result hart.csrs csr new hart.mode ≡ r
+    → IfOk (unless_illegal word (unless_fault r (λ csrs. Ok (with_result (record hart { csrs = csrs }) rd old)))) P
+written-by hart P changes rd old word csr new (Ok csrs) is = changes.writes csr new csrs _ _ is
+written-by hart P changes rd old word csr new (Err fault) is = tt
+
+changed-by : (hart : Hart) (P : Hart → Type 0) → Changes hart P → (kind : CsrKind) (rd source operand csr word : ℕ)
+    → IfOk (unless_illegal word (csr_changed hart kind rd source operand csr)) P
+unfolding csr_changed
+changed-by hart P changes kind rd source operand csr word =
+    elim (old_word hart kind rd csr) as (λ o.
+    IfOk (unless_illegal word (unless_fault o (λ old. unless_fault (new_csrs hart kind source (changed kind old operand) csr) (λ csrs. Ok (with_result (record hart { csrs = csrs }) rd old))))) P) [
+      | Ok old ↦
+          elim (is_written kind source) as (λ b.
+          IfOk (unless_illegal word (unless_fault (if b then write_result hart.csrs csr (changed kind old operand) hart.mode else Ok hart.csrs) (λ csrs. Ok (with_result (record hart { csrs = csrs }) rd old)))) P)
+          [ true ↦ written-by hart P changes rd old word csr (changed kind old operand) _ refl | false ↦ changes.computes _ _ ]
+      | Err fault ↦ tt
+    ]
+
+finished-by : (hart : Hart) (P : Hart → Type 0) → Changes hart P → (instr : Instr) (word loaded : ℕ) → IfOk (finished instr hart word loaded) P
+unfolding finished
+finished-by hart P changes (Lui rd imm) word loaded = changes.computes _ _
+finished-by hart P changes (Auipc rd imm) word loaded = changes.computes _ _
+finished-by hart P changes (Jal rd offset) word loaded = jumped-by hart P changes rd (sum_of hart.pc (sign_extended offset 21))
+finished-by hart P changes (Jalr rd rs1 offset) word loaded = jumped-by hart P changes rd (made_even (address_of hart rs1 offset))
+finished-by hart P changes (Branch kind rs1 rs2 offset) word loaded =
+    branched-by hart P changes (is_taken kind (register hart.regs rs1) (register hart.regs rs2)) (sum_of hart.pc (sign_extended offset 13))
+finished-by hart P changes (Load kind rd rs1 offset) word loaded = changes.computes _ _
+finished-by hart P changes (Store kind rs1 rs2 offset) word loaded = changes.computes _ _
+finished-by hart P changes (OpImm kind rd rs1 imm) word loaded = changes.computes _ _
+finished-by hart P changes (ShiftImm kind rd rs1 shamt) word loaded = changes.computes _ _
+finished-by hart P changes (Op kind rd rs1 rs2) word loaded = changes.computes _ _
+finished-by hart P changes (Fence fm pred succ rd rs1) word loaded = changes.computes _ _
+finished-by hart P changes (Csr kind rd rs1 csr) word loaded = changed-by hart P changes kind rd rs1 (register hart.regs rs1) csr word
+finished-by hart P changes (CsrImm kind rd uimm csr) word loaded = changed-by hart P changes kind rd uimm uimm csr word
+finished-by hart P changes Ecall word loaded = tt
+finished-by hart P changes Ebreak word loaded = tt
+finished-by hart P changes Sret word loaded =
+    allowed-by P (unless_refused hart.mode hart.csrs.mstatus.tsr) word (returned_from_supervisor hart) (λ _. changes.sret)
+finished-by hart P changes Mret word loaded = allowed-by P (is_machine hart.mode) word (returned_from_machine hart) changes.mret
+finished-by hart P changes Wfi word loaded = allowed-by P (unless_refused hart.mode hart.csrs.mstatus.tw) word (advanced hart) (λ _. changes.computes _ _)
+finished-by hart P changes (SfenceVma rs1 rs2) word loaded =
+    allowed-by P (unless_refused hart.mode hart.csrs.mstatus.tvm) word (advanced hart) (λ _. changes.computes _ _)
+
+pub by_changes : (hart : Hart) (P : Hart → Type 0) → Changes hart P → (instr : Instr) (word loaded : ℕ) (after : Hart)
+    → finished instr hart word loaded ≡ Ok after → P after
+by_changes hart P changes instr word loaded after is = subst (λ (r : Result Hart Trap). IfOk r P) is (finished-by hart P changes instr word loaded)
+
+-- an instruction whose store is done ends in no exception
+pub store_finishes : (instr : Instr) (hart : Hart) (address value word : ℕ) (width : Width)
+    → request instr hart ≡ requests.Store address width value → finished instr hart word 0 ≡ Ok (advanced hart)
+unfolding request finished
+store_finishes (Store kind rs1 rs2 offset) hart address value word width is = refl
+store_finishes _ hart address value word width is = cc

@@ -1,0 +1,103 @@
+-- Laws of the accesses: what is done lies in RAM and is permitted, and two memories of one size do and refuse the same accesses.
+use Rattle.std.proofs.Common.{◌≡◌, ℕ, ◌-◌, List, length, Option, Some, None, Result, Ok, Err, Bool, true, false, refl}
+use Rattle.std.specs.Prelude.{if◌then◌else◌}
+use Rattle.rv_word.specs.Cases.{option_case}
+use Rattle.rv_word.specs.Widths.{bytes_in}
+use Rattle.rv_word.specs.declared.width.Width.{Width}
+use Rattle.rv_word.specs.declared.width.Width.TheVariants.{Word}
+use Rattle.rv_pmp.specs.Entries.{Entries}
+use Rattle.rv_pmp.specs.Verdicts.{permits}
+use Rattle.rv_pmp.specs.declared.access.Access.TheVariants.{Fetch, Read, Write}
+use Rattle.rv_pmp.specs.declared.mode.Mode.{Mode}
+use Rattle.rv_pmp.specs.declared.verdict.Verdict.{Verdict}
+use Rattle.rv_memory.specs.Accesses.{loaded, fetched, stored, where_permitted, verdict_on}
+use Rattle.rv_memory.specs.Memory.{ram_base, is_inside, read, write, write_bytes, number_of, bytes_of}
+use Rattle.rv_memory.specs.declared.access_fault.AccessFault.{AccessFault}
+use Rattle.rv_memory.specs.declared.access_fault.AccessFault.TheVariants.{Outside, Refused}
+use Rattle.rv_memory.proofs.MemoryLaws.{length-bytes_of}
+
+-- ---- what is done was in RAM and permitted
+
+-- an access of which RAM gives something, where a verdict permits it
+abbrev judged : {A B : Type 0} → Option B → Verdict → (B → A) → Result A AccessFault
+judged given verdict made = option_case given (Err Outside) (λ b. where_permitted verdict (made b))
+
+permitted-if : {A : Type 0} (b : Bool) (verdict : Verdict) (value k : A) → (if b then Ok value else Err (Refused verdict)) ≡ Ok k → (b ≡ true) × (value ≡ k)
+permitted-if true verdict value k is = (refl, cc)
+permitted-if false verdict value k is = cc
+
+judged-done : {A B : Type 0} (inside : Bool) (b : B) (verdict : Verdict) (made : B → A) (k : A)
+    → judged (if inside then Some b else None) verdict made ≡ Ok k → (inside ≡ true) × (permits verdict ≡ true) × (made b ≡ k)
+judged-done true b verdict made k is = let done = permitted-if (permits verdict) verdict (made b) k is in (refl, done.0, done.1)
+judged-done false b verdict made k is = cc
+
+pub fetch_done : (m : List ℕ) (entries : Entries) (mode : Mode) (address word : ℕ) → fetched m entries mode address ≡ Ok word
+    → (is_inside m address (bytes_in Word) ≡ true) × (permits (verdict_on entries mode Fetch address Word) ≡ true)
+unfolding read
+fetch_done m entries mode address word is =
+    let done = judged-done (is_inside m address (bytes_in Word)) _ (verdict_on entries mode Fetch address Word) number_of word is in (done.0, done.1)
+
+pub load_done : (m : List ℕ) (entries : Entries) (mode : Mode) (address : ℕ) (width : Width) (number : ℕ) → loaded m entries mode address width ≡ Ok number
+    → (is_inside m address (bytes_in width) ≡ true) × (permits (verdict_on entries mode Read address width) ≡ true)
+unfolding read
+load_done m entries mode address width number is =
+    let done = judged-done (is_inside m address (bytes_in width)) _ (verdict_on entries mode Read address width) number_of number is in (done.0, done.1)
+
+pub store_done : (m : List ℕ) (entries : Entries) (mode : Mode) (address : ℕ) (width : Width) (value : ℕ) (after : List ℕ)
+    → stored m entries mode address width value ≡ Ok after
+    → (is_inside m address (bytes_in width) ≡ true) × (permits (verdict_on entries mode Write address width) ≡ true)
+    × (write_bytes m (address - ram_base) (bytes_of (bytes_in width) value) ≡ after)
+unfolding write
+store_done m entries mode address width value after is =
+    let bytes = bytes_of (bytes_in width) value in
+    let done = judged-done (is_inside m address (length bytes)) _ (verdict_on entries mode Write address width) (λ (x : List ℕ). x) after is in
+    (rw length-bytes_of at done.0, done.1, done.2)
+
+-- ---- what one memory refuses, every other of its size refuses, and what one takes the other takes
+
+unless-permitted : {A : Type 0} (b : Bool) (verdict : Verdict) (value other : A) (fault : AccessFault)
+    → (if b then Ok value else Err (Refused verdict)) ≡ Err fault → (if b then Ok other else Err (Refused verdict)) ≡ Err fault
+unless-permitted true verdict value other fault is = cc
+unless-permitted false verdict value other fault is = cc
+
+judged-refused : {A B : Type 0} (inside : Bool) (b c : B) (verdict : Verdict) (made : B → A) (fault : AccessFault)
+    → judged (if inside then Some b else None) verdict made ≡ Err fault → judged (if inside then Some c else None) verdict made ≡ Err fault
+judged-refused true b c verdict made fault is = unless-permitted (permits verdict) verdict (made b) (made c) fault is
+judged-refused false b c verdict made fault is = cc
+
+pub fetch_refused_too : (m n : List ℕ) (entries : Entries) (mode : Mode) (address : ℕ) (fault : AccessFault) → length m ≡ length n
+    → fetched m entries mode address ≡ Err fault → fetched n entries mode address ≡ Err fault
+unfolding read
+fetch_refused_too m n entries mode address fault sizes is =
+    judged-refused (is_inside n address (bytes_in Word)) _ _ (verdict_on entries mode Fetch address Word) number_of fault (rw sizes at is)
+
+pub load_refused_too : (m n : List ℕ) (entries : Entries) (mode : Mode) (address : ℕ) (width : Width) (fault : AccessFault) → length m ≡ length n
+    → loaded m entries mode address width ≡ Err fault → loaded n entries mode address width ≡ Err fault
+unfolding read
+load_refused_too m n entries mode address width fault sizes is =
+    judged-refused (is_inside n address (bytes_in width)) _ _ (verdict_on entries mode Read address width) number_of fault (rw sizes at is)
+
+pub store_refused_too : (m n : List ℕ) (entries : Entries) (mode : Mode) (address : ℕ) (width : Width) (value : ℕ) (fault : AccessFault) → length m ≡ length n
+    → stored m entries mode address width value ≡ Err fault → stored n entries mode address width value ≡ Err fault
+unfolding write
+store_refused_too m n entries mode address width value fault sizes is =
+    judged-refused (is_inside n address (length (bytes_of (bytes_in width) value))) _ _ (verdict_on entries mode Write address width) (λ (x : List ℕ). x) fault (rw sizes at is)
+
+pub store_done_too : (m n : List ℕ) (entries : Entries) (mode : Mode) (address : ℕ) (width : Width) (value : ℕ) (after : List ℕ) → length m ≡ length n
+    → stored m entries mode address width value ≡ Ok after
+    → stored n entries mode address width value ≡ Ok (write_bytes n (address - ram_base) (bytes_of (bytes_in width) value))
+unfolding write
+store_done_too m n entries mode address width value after sizes is =
+    let done = store_done m entries mode address width value after is in
+    let inside : is_inside n address (length (bytes_of (bytes_in width) value)) ≡ true = rw (length-bytes_of, ← sizes) done.0 in
+    rw (inside, done.1) refl
+
+-- ---- an access is the same where the bytes are
+
+pub fetch_same : (m n : List ℕ) (entries : Entries) (mode : Mode) (address : ℕ) → read m address (bytes_in Word) ≡ read n address (bytes_in Word)
+    → fetched m entries mode address ≡ fetched n entries mode address
+fetch_same m n entries mode address same = rw same refl
+
+pub load_same : (m n : List ℕ) (entries : Entries) (mode : Mode) (address : ℕ) (width : Width) → read m address (bytes_in width) ≡ read n address (bytes_in width)
+    → loaded m entries mode address width ≡ loaded n entries mode address width
+load_same m n entries mode address width same = rw same refl
