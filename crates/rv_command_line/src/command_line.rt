@@ -14,6 +14,22 @@ const FIRST_EXAMPLE: &str =
     "Example: one instruction, addi x1, x0, -1, and a script of two commands:\n  \
     printf '9300f0ff\\n--\\nstep 1\\nreg 1\\n' | rvbench";
 
+/// What the help of `run` ends with: a first input, and the commands of a script.
+const FIRST_SCRIPT: &str =
+    "Example: a loop of two instructions, sw x1, 0(x2) and a jump back, under a watch:\n  \
+    printf '232011006ff0dfff\\n--\\nsetreg 2 80000100\\nwatch 80000102\\nrun 9\\nregs\\n' | rvbench run\n\n\
+    Commands of a script, one a line; docs/COMMANDS.md tells their operands and replies:\n  \
+    step N                   do N steps\n  \
+    run N                    do N steps, or fewer, where a break or a watch ends them\n  \
+    break A, clear A         set or clear a break, an address where a run stops\n  \
+    watch A, unwatch A       set or clear a watch, a byte whose load or store stops a run\n  \
+    reg N, regs, setreg N V  show a register, show all and pc, write a register\n  \
+    csr C, timer on|off      show a control and status register, set the timer line\n  \
+    mem A N, poke A V        show bytes of memory, write one\n  \
+    dis A                    show the word at an address and its instruction\n  \
+    pmp, access M K A L      show the PMP entries, judge an access by them\n  \
+    enclaves                 show the live enclaves";
+
 /// `--kind NAME` with these names, by default what `Setup::default` has.
 fn kind_option<'a>(alloc: Global, names: &'a [&'a str]) -> Arg<'a>
     ensures rule { rule_of result ≡ kind names.entry }
@@ -45,9 +61,11 @@ fn run_command<'a>(alloc: Global, kind_names: &'a [&'a str]) -> Result<Command<'
     ensures app { IfOk result (λ command. app_of command ≡ run kind_names.entry) }
     ensures local { IfOk result (λ command. (fields_of command).has_globals ≡ false) }
 {
-    let command = Command::new(alloc, "run").about(
-        "Read an image in hexadecimal, a line -- and a script, and write the replies (the default)",
-    );
+    let command = Command::new(alloc, "run")
+        .about(
+            "Read an image in hexadecimal, a line -- and a script, and write the replies (the default)",
+        )
+        .after_help(FIRST_SCRIPT);
     command
         .arg(kind_option(alloc, kind_names))?
         .arg(ram_option(alloc))
