@@ -1,5 +1,5 @@
 -- The names of the control and status registers that an assembler text may use: Privileged Architecture 20211203,
--- section 2.2, tables 2.4 and 2.5. Of the performance counters, their upper halves and events it uses the numbers.
+-- section 2.2, tables 2.3, 2.5 and 2.6. Of the performance counters, their upper halves and events it uses the numbers.
 use Rattle.std.specs.Prelude.{ℕ, List, [], ◌∷◌, codes, Option}
 use Rattle.rv_asm.specs.Tables.{looked_up}
 
