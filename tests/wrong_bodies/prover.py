@@ -14,7 +14,7 @@ import sys
 import tempfile
 
 # What the prover says of a function: that it is proved; that it is refused; that only what it calls is not proved.
-PROVED = re.compile(r"proved(, .*)?")
+PROVED = re.compile(r"proved( where its callers give what it asks)?(, .*)?")
 REFUSED = re.compile(r"not proved(; .*)?|no proof: expected answers in \S+; `search` did not prove .*")
 CALLS = re.compile(r"no proof: it calls (`[^`]+`.*), (?:which|each of which|none of which) .*")
 # The other forms, which say nothing of the function's meaning.
@@ -71,10 +71,9 @@ class Answer:
         return set(re.findall(r"`([^`]+)`", said[1])) if said else set()
 
     def refuses(self, name):
-        return bool(REFUSED.fullmatch(self.functions[name]))
-
-    def proves(self, name):
-        return bool(PROVED.fullmatch(self.functions[name]))
+        """Whether the function, or a closure in it, is refused by itself."""
+        within = "{}::fn::{}::".format(*name.rsplit("::", 1))
+        return any(REFUSED.fullmatch(said) for it, said in self.functions.items() if it == name or it.startswith(within))
 
     def of_names_alone(self, place):
         """Whether a function, or with no place the crate, is refused only because its proof files name what an edit took away."""
