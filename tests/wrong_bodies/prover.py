@@ -1,0 +1,124 @@
+"""Checks of a crate with edits: what the prover says of it, function by function.
+
+A check goes by `rattle check` with the words that `rt` gives it, in a scratch copy of the crate, over a folder of work that
+earlier checks of this run have kept, so that only what changed is proved again. Where a line is not of the form that is known
+here, the check counts for nothing: Unknown says so.
+"""
+import importlib.machinery
+import importlib.util
+import os
+import re
+import shutil
+import subprocess
+import sys
+import tempfile
+
+# What the prover says of a function: that it is proved; that it is refused; that only what it calls is not proved.
+PROVED = re.compile(r"proved( where its callers give what it asks)?(, .*)?")
+REFUSED = re.compile(r"not proved(; .*)?|no proof: expected answers in \S+; `search` did not prove .*")
+CALLS = re.compile(r"no proof: it calls (`[^`]+`.*), (?:which|each of which|none of which) .*")
+# The other forms, which say nothing of the function's meaning.
+OTHER = re.compile(r"could not tell.*|no proof.*|not stated.*|assumed.*|not assumed.*")
+# A proof file that names what an edit took away.
+OF_NAMES = re.compile(r"is not in scope|has no field|has no `|was not admitted|is no name")
+
+
+class Unknown(Exception):
+    """A check that ended in a way that is not known here, so that nothing can be taken from it."""
+
+
+def load_rt():
+    """The kit's command `rt` as a module, by which its own checks of must-fail edits go."""
+    path = shutil.which("rt")
+    if not path:
+        raise SystemExit("try: the command rt of the Rattle kit is not on the PATH")
+    sys.dont_write_bytecode = True
+    loader = importlib.machinery.SourceFileLoader("rt", os.path.realpath(path))
+    module = importlib.util.module_from_spec(importlib.util.spec_from_loader("rt", loader))
+    sys.modules["rt"] = module
+    loader.exec_module(module)
+    return module
+
+
+class Answer:
+    """What a check said: whether the crate is proved, the functions by their names, and all lines."""
+
+    def __init__(self, status, text):
+        self.lines = text.rstrip("\n").split("\n")
+        last = self.lines[-1]
+        self.is_proved = status == 0 and last.startswith("logic=proved ")
+        self.is_refused = status == 1 and last.startswith("logic=not-proved")
+        self.functions = dict(re.findall(r"^fn (\S+): (.*)$", text, re.M))
+        if status == 0 and not self.is_proved or self.is_proved and not all(map(PROVED.fullmatch, self.functions.values())):
+            raise Unknown(f"a check that ends well has other lines than are known: {last[:200]}")
+        for name, said in self.functions.items():
+            if not any(it.fullmatch(said) for it in (PROVED, REFUSED, CALLS, OTHER)):
+                raise Unknown(f"what is said of {name} has no known form: {said[:200]}")
+        refused = [it for it in self.lines if re.match(r"\w+ \S+: (?!proved)", it)] or self.errors()
+        if self.is_refused and not refused:
+            raise Unknown("the crate is not proved, and nothing in it is refused")
+
+    def errors(self):
+        return [it for it in self.lines if re.search(r":\d+:\d+: error", it)]
+
+    def first(self):
+        """The first error, or else the first line."""
+        return (self.errors() or [it for it in self.lines if it] or ["no line"])[0][:300]
+
+    def called(self, name):
+        """The functions, not proved, that the function calls, where that is all that is said of it."""
+        said = CALLS.fullmatch(self.functions[name])
+        return set(re.findall(r"`([^`]+)`", said[1])) if said else set()
+
+    def refuses(self, name):
+        """Whether the function, or a closure in it, is refused by itself."""
+        within = "{}::fn::{}::".format(*name.rsplit("::", 1))
+        return any(REFUSED.fullmatch(said) for it, said in self.functions.items() if it == name or it.startswith(within))
+
+    def of_names_alone(self, place):
+        """Whether a function, or with no place the crate, is refused only because its proof files name what an edit took away."""
+        folder = re.escape(place.proofs() if place else "proofs") + "/"
+        told = [it for it in self.errors() if re.match(rf"(?:\./)?{folder}", it)] if place else self.errors()
+        notes = re.findall(r"^note: (src/\S+?):(\d+):\d+: it is not proved", "\n".join(self.lines), re.M)
+        is_meant = any(place is None or place.holds(file, int(line)) for file, line in notes)
+        return bool(told) and not is_meant and all(OF_NAMES.search(it) for it in told)
+
+
+class Prover:
+    """Checks one crate in a scratch folder. The crate's own folder is only read."""
+
+    def __init__(self, rt, crate, scratch):
+        self.rt, self.crate, self.scratch = rt, crate, scratch
+        self.kept = f"{scratch}/kept"
+        own = f"{crate.folder}/out/incremental"
+        if os.path.isdir(own):
+            shutil.copytree(own, self.kept)
+        else:
+            os.makedirs(self.kept)
+
+    def check(self, texts, from_nothing=False):
+        """Checks the crate with these texts in place of its own. A check that is killed, as for memory, is tried once more."""
+        for _ in range(2):
+            ran = self.run(texts, from_nothing)
+            if ran.returncode >= 0:
+                break
+        else:
+            raise Unknown(f"the check was stopped twice by signal {-ran.returncode}")
+        if self.rt.rtlib.STALE.search(ran.stdout):
+            raise Unknown("the built libraries do not fit one another: build them again by rt check in the crate's folder")
+        if ran.returncode not in (0, 1, 3):
+            raise Unknown(f"rattle ended with status {ran.returncode}: {ran.stdout.strip()[-200:]}")
+        return Answer(ran.returncode, ran.stdout)
+
+    def run(self, texts, from_nothing):
+        with tempfile.TemporaryDirectory(dir=self.scratch) as room:
+            for part in self.rt.rtlib.PARTS:
+                if os.path.isdir(f"{self.crate.folder}/{part}"):
+                    shutil.copytree(f"{self.crate.folder}/{part}", f"{room}/{part}")
+            for file, text in texts.items():
+                with open(f"{room}/{file}", "w", encoding="utf-8") as it:
+                    it.write(text)
+            words = [self.rt.rtlib.RATTLE, "check", *self.crate.words(["--jobs", "1"], keeps=False)]
+            words += [] if from_nothing else ["--incremental", self.kept]
+            how = {"cwd": room, "stdin": subprocess.DEVNULL, "stdout": subprocess.PIPE, "stderr": subprocess.STDOUT}
+            return subprocess.run([*self.rt.rtlib.guarded(), *words], errors="replace", **how)
