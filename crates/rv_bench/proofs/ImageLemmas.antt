@@ -1,19 +1,18 @@
 -- The image of lines that are read one by one.
-use Rattle.std.proofs.Common.{◌≡◌, ℕ, ◌+◌, ◌<◌, ◌≤◌, ltb, Bool, true, false, not, cond, ◌&&◌, List, [], ◌∷◌, ◌++◌, length, take, IsTrue, Result, IfErr, Ok, Err, Option, Some, None, codes, refl, sym, ◌∙◌, ap, subst, arith, append-nil, add-one}
+use Rattle.std.proofs.Common.{◌≡◌, ℕ, ◌+◌, ◌<◌, ◌≤◌, ltb, Bool, true, false, not, cond, ◌&&◌, ◌||◌, List, [], ◌∷◌, ◌++◌, length, take, IsTrue, Ok, Err, Option, Some, None, codes, refl, sym, ◌∙◌, ap, subst, arith, append-nil, add-one}
 use Rattle.std.proofs.lemmas.Grind.{flat_map-append}
 use Rattle.std.proofs.lemmas.Bool.Decides.{nat_tests}
 use Rattle.std.proofs.lemmas.List.{length-append}
-use Rattle.std.proofs.lemmas.List.Folds.{list_all-append}
+use Rattle.std.proofs.lemmas.List.Folds.{list_all-append, list_any-append}
 use Rattle.std.proofs.lemmas.List.Sums.{take_while-cons}
-use Rattle.std.specs.List.{list_all, take_while}
+use Rattle.std.specs.List.{list_all, list_any, take_while}
 use Rattle.std.specs.Option.{IsSomeAnd, is_some, unwrap_or, option_and_then}
 use Rattle.std.specs.Str.{bytes_eq}
-use Rattle.rv_bench.specs.declared.fault.BenchFault.{BenchFault}
-use Rattle.rv_bench.specs.declared.fault.BenchFault.TheVariants.{Image, Ram, Read, Write, Hex, TooLong, NoMemory, Asm}
+use Rattle.rv_bench.specs.declared.fault.BenchFault.TheVariants.{Hex, TooLong}
 use Rattle.rv_text.specs.Lines.{lines_of, after_line, after_lines}
 use Rattle.rv_bench.specs.LineText.{ReadsText, TakesLine, ReadsLines}
 use Rattle.rv_text.specs.Words.{words_of}
-use Rattle.rv_bench.specs.Image.{only_word, line_word, bytes_of_digits, is_dashes, is_marker, line_bytes, is_image_line, bytes_of_lines, image_of, image_lines, image_in, after_image, is_text_fault, LeavesLines, ReadsInImage, ReadsUnmarked, ReadsFrontOfImage, StopsAtFault}
+use Rattle.rv_bench.specs.Image.{only_word, line_word, bytes_of_digits, is_dashes, is_marker, line_bytes, is_image_line, bytes_of_lines, image_of, image_lines, has_marker, image_in, after_image, ReadsInImage, ReadsUnmarked, ReadsFrontOfImage, StopsAtFault}
 use Rattle.rv_text.proofs.CutLines.{if_good-take}
 use Rattle.rv_text.proofs.LineLemmas.{after_lines-more}
 use Rattle.rv_bench.proofs.LineTextLemmas.{ReadsLines-none, ReadsLines-more}
@@ -22,6 +21,10 @@ use Rattle.rv_bench.proofs.LineTextLemmas.{ReadsLines-none, ReadsLines-more}
 pub line_word-take : (line : List ℕ) → line_word (take 121 line) ≡ line_word line
 unfolding line_word
 line_word-take line = if_good-take (λ l. only_word (words_of l)) None line
+
+or_true : (b : Bool) → (b || true) ≡ true
+or_true true = refl
+or_true false = refl
 
 -- lines that all pass, and others
 take_while-append : (p : List ℕ → Bool) (xs ys : List (List ℕ)) → list_all p xs ≡ true → take_while p (xs ++ ys) ≡ xs ++ take_while p ys
@@ -120,6 +123,10 @@ image_lines-marker lines others line unmarked e = take_while-stop (λ l. not (is
 image_lines-other : (lines others : List (List ℕ)) (line : List ℕ) → list_all (λ l. not (is_marker l)) lines ≡ true → is_marker line ≡ false → image_lines (lines ++ line ∷ others) ≡ lines ++ line ∷ image_lines others
 image_lines-other lines others line unmarked e = take_while-pass (λ l. not (is_marker l)) lines line others unmarked (ap not e)
 
+-- the marker is among the lines
+has_marker-there : (lines others : List (List ℕ)) (line unread : List ℕ) → lines_of unread ≡ lines ++ line ∷ others → is_marker line ≡ true → IsTrue (has_marker unread)
+has_marker-there lines others line unread all e = subst IsTrue (sym (ap (list_any is_marker) all ∙ (list_any-append is_marker lines (line ∷ others) ∙ ap (λ b. list_any is_marker lines || (b || list_any is_marker others)) e))) (or_true (list_any is_marker lines))
+
 -- the word of the line that was taken is that of what is shown
 pub TakesLine-word : (left rest : List ℕ) (ends : Bool) (shown : List ℕ) (word : Option (List ℕ)) → (takes : TakesLine left rest ends shown) → word ≡ line_word shown → line_word takes.line ≡ word
 TakesLine-word left rest ends shown word takes is = sym (line_word-take takes.line) ∙ (ap line_word (sym takes.front) ∙ sym is)
@@ -178,14 +185,6 @@ SpellsImage-faulty unread left rest ends image shown so_far takes few other none
 -- ---- what one more line does
 
 module _ {unread left rest : List ℕ} {ends : Bool} {image shown : List ℕ} where
-  -- a line more was read
-  pub SpellsImage-leaves : TakesInImage unread left rest ends image shown → LeavesLines unread rest
-  SpellsImage-leaves at =
-      let reads = ReadsLines-more unread left rest ends shown at.so_far.lines at.so_far.reads at.takes in record {
-        count = length (at.so_far.lines ++ at.takes.line ∷ []);
-        rest = reads.rest;
-      }
-
   -- a line that is no marker and has bytes adds them
   pub SpellsImage-more : {word new : List ℕ} → TakesInImage unread left rest ends image shown
       → Some word ≡ line_word shown → bytes_eq word (codes "--") ≡ false → IsSomeAnd (bytes_of_digits word) (λ bytes. new ≡ image ++ bytes) → SpellsImage unread rest ends new
@@ -265,7 +264,7 @@ module _ {unread left rest : List ℕ} {ends : Bool} {image shown : List ℕ} wh
 
   -- at the marker the image is whole, and what follows it is left
   pub SpellsImage-marker : {word : List ℕ} → TakesInImage unread left rest ends image shown
-      → Some word ≡ line_word shown → bytes_eq word (codes "--") ≡ true → (image_in unread ≡ Ok image) × (rest ≡ after_image unread)
+      → Some word ≡ line_word shown → bytes_eq word (codes "--") ≡ true → (image_in unread ≡ Ok image) × (rest ≡ after_image unread) × IsTrue (has_marker unread)
   SpellsImage-marker {word = word} at is dashes =
       let so_far = at.so_far in
       let takes = at.takes in
@@ -276,6 +275,7 @@ module _ {unread left rest : List ℕ} {ends : Bool} {image shown : List ℕ} wh
       let reads = ReadsLines-more unread left rest ends shown so_far.lines so_far.reads takes in (
         ap image_of lines ∙ (image_of-sound so_far.lines so_far.sound (omega (arith, few, ap length so_far.spelled)) ∙ ap Ok (sym so_far.spelled)),
         reads.rest ∙ (ap (λ n. after_lines n unread) (length-append so_far.lines (takes.line ∷ []) ∙ ap (λ ls. length ls + 1) (sym lines))),
+        has_marker-there so_far.lines (lines_of rest) takes.line unread (lines_with unread left rest ends image shown so_far takes) marked,
       )
 
 -- at the end the image is whole, and nothing is left
@@ -287,15 +287,3 @@ SpellsImage-end unread left is_at_end image so_far few none =
       ap image_of lines ∙ (image_of-sound so_far.lines so_far.sound (omega (arith, few, ap length so_far.spelled)) ∙ ap Ok (sym so_far.spelled)),
       ap (λ ls. after_lines (length ls + 1) unread) lines ∙ (rw add-one (after_lines-more (length so_far.lines) unread) ∙ ap after_line (sym so_far.reads.rest ∙ none)),
     )
-
--- what holds of each fault of the text
-pub IfErr-text_fault : {T : Type 0} (result : Result T BenchFault) (P : BenchFault → Type 0) → (result ≡ Err Hex → P Hex) → (result ≡ Err TooLong → P TooLong) → IfErr result (λ fault. IsTrue (is_text_fault fault) → P fault)
-IfErr-text_fault (Ok x) P hex long = tt
-IfErr-text_fault (Err (Image fault)) P hex long = λ is. cc
-IfErr-text_fault (Err (Ram fault)) P hex long = λ is. cc
-IfErr-text_fault (Err Read) P hex long = λ is. cc
-IfErr-text_fault (Err Write) P hex long = λ is. cc
-IfErr-text_fault (Err Hex) P hex long = λ _. hex refl
-IfErr-text_fault (Err TooLong) P hex long = λ _. long refl
-IfErr-text_fault (Err NoMemory) P hex long = λ is. cc
-IfErr-text_fault (Err (Asm fault)) P hex long = λ is. cc

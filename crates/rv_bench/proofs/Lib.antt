@@ -7,7 +7,7 @@ mod Mapped
 mod RepliesLemmas
 mod Runs
 mod Starts
-mod Stopped
+mod Streams
 mod WordLengths
 mod Writing
 mod WrittenLines

@@ -1,5 +1,5 @@
 -- What a call whose error is mapped gave.
-use Rattle.std.proofs.Common.{◌≡◌, Result, Ok, Err, refl, sym, ap, subst}
+use Rattle.std.proofs.Common.{◌≡◌, Result, Ok, Err, refl, sym, ◌∙◌, ap, subst}
 use Rattle.std.specs.Result.{MatchResult, IsOkAnd, IsErrAnd, OnOk, OnErr}
 use Rattle.std.proofs.lemmas.Result.{err_from_is_err_and}
 
@@ -16,6 +16,18 @@ err_mapped Q (Err e) s f cases is = (e, refl)
 -- the error that a `?` passes on as it is
 pub err_passed : {A E : Type 0} (r : Result A E) (e f : E) → IsErrAnd r (λ x. x ≡ e) → r ≡ Err f → e ≡ f
 err_passed r e f passed is = let bad = err_from_is_err_and r passed in let was : bad.0 ≡ e = bad.2 in let got : r ≡ Err bad.0 = bad.1 in cc
+
+-- what holds of an error holds of the result that a `?` passes it on with
+pub passed_on : {T E : Type 0} (P : Result T E → Type 0) (r : Result T E) (e : E) → IsErrAnd r (λ x. x ≡ e) → P (Err e) → P r
+passed_on P r e passed p = let bad = err_from_is_err_and r passed in subst P (sym (bad.1 ∙ ap Err bad.2)) p
+
+-- what holds of a result whose error is mapped to one error, by what was mapped
+pub mapped : {A E F : Type 0} (P : Result A F → Type 0) (Q : E → F → Type 0) (f : F) (r : Result A E) (s : Result A F)
+    → MatchResult r (λ y. s ≡ Ok y) (λ e. IsErrAnd s (Q e)) → ((e : E) (d : F) → Q e d → d ≡ f)
+    → ((y : A) → r ≡ Ok y → P (Ok y)) → ((e : E) → r ≡ Err e → P (Err f)) → P s
+mapped P Q f (Ok y) s cases only ok err = subst P (sym cases) (ok y refl)
+mapped P Q f (Err e) s cases only ok err =
+    let bad = err_from_is_err_and s cases in subst P (sym (bad.1 ∙ ap Err (only e bad.0 bad.2))) (err e refl)
 
 -- what holds anyway holds at an `Ok`
 pub OnOk-always : {A E P : Type 0} (r : Result A E) → P → OnOk r P

@@ -1,5 +1,6 @@
 -- The machine that an image starts.
-use Rattle.std.proofs.Common.{◌≡◌, ℕ, true, false, List, replicate, Ok, Err, refl}
+use Rattle.std.proofs.Common.{◌≡◌, ℕ, Bool, true, false, cond, List, replicate, Ok, Err, refl}
+use Rattle.rv_word.specs.Cases.{result_case}
 use Rattle.rv_memory.specs.Memory.{is_ram_size}
 use Rattle.rv_hart.specs.State.{State}
 use Rattle.rv_hart.specs.Hart.{at_reset}
@@ -10,7 +11,7 @@ use Rattle.rv_elf.specs.declared.elf_fault.ElfFault.{ElfFault}
 use Rattle.rv_command_line.specs.declared.setup.Setup.{Setup}
 use Rattle.rv_bench.specs.declared.fault.BenchFault.TheVariants.{Image, Ram}
 use Rattle.rv_memory.specs.declared.ram_fault.RamFault.TheVariants.{BadSize}
-use Rattle.rv_bench.specs.Loaded.{planned, started}
+use Rattle.rv_bench.specs.Loaded.{planned, reset_over, started}
 
 -- a RAM that is made, loaded by the image's plan and given to a machine
 pub started_ok : (image : List ℕ) (setup : Setup) (plan : LoadPlan) (zeros memory : List ℕ) (entry : ℕ) (machine : State)
@@ -31,3 +32,19 @@ started_err image setup fault lawful faulty = rw (lawful, faulty) refl
 pub no_ram : (image : List ℕ) (setup : Setup) → is_ram_size setup.ram ≡ false → started image setup ≡ Err (Ram BadSize)
 unfolding started
 no_ram image setup unlawful = rw unlawful refl
+
+-- a machine that starts has a RAM
+pub has_ram : (image : List ℕ) (setup : Setup) (machine : State) → started image setup ≡ Ok machine → is_ram_size setup.ram ≡ true
+unfolding started
+has_ram image setup machine is = go (is_ram_size setup.ram) is where
+  go : (b : Bool) → cond b (result_case (planned image setup) (λ plan. Ok (reset_over image setup plan)) (λ fault. Err (Image fault))) (Err (Ram BadSize)) ≡ Ok machine → b ≡ true
+  go true e = refl
+  go false e = cc
+
+-- and an image has faults only where there is one
+pub fault_has_ram : (image : List ℕ) (setup : Setup) (fault : ElfFault) → started image setup ≡ Err (Image fault) → is_ram_size setup.ram ≡ true
+unfolding started
+fault_has_ram image setup fault is = go (is_ram_size setup.ram) is where
+  go : (b : Bool) → cond b (result_case (planned image setup) (λ plan. Ok (reset_over image setup plan)) (λ fault. Err (Image fault))) (Err (Ram BadSize)) ≡ Err (Image fault) → b ≡ true
+  go true e = refl
+  go false e = cc

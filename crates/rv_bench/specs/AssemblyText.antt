@@ -1,12 +1,11 @@
 -- What is written for an assembler text: the bytes of its words. (This project's own format; the digits are ASCII, ISO/IEC 646.)
-use Rattle.std.specs.Prelude.{ℕ, ◌≤◌, ⊤, nat_lt, Bool, true, false, List, length, ◌++◌, codes, flat_map, Result, Ok, Err, if◌then◌else◌}
+use Rattle.std.specs.Prelude.{ℕ, nat_lt, List, length, ◌++◌, codes, flat_map, Result, Ok, Err, if◌then◌else◌}
 use Rattle.rv_word.specs.ByteOrder.{byte_of}
 use Rattle.rv_word.specs.Cases.{result_case}
-use Rattle.rv_text.specs.Lines.{lines_of}
 use Rattle.rv_asm.specs.Program.{assembled}
 use Rattle.rv_text.specs.Digits.{hex2}
 use Rattle.rv_bench.specs.declared.fault.BenchFault.{BenchFault}
-use Rattle.rv_bench.specs.declared.fault.BenchFault.TheVariants.{Image, Ram, Read, Write, Hex, TooLong, NoMemory, Asm}
+use Rattle.rv_bench.specs.declared.fault.BenchFault.TheVariants.{TooLong, Asm}
 
 -- the four bytes of a word in the order of memory, the lowest first, in two digits each
 unfoldable pub word_line : ℕ → List ℕ
@@ -21,36 +20,3 @@ unfoldable pub asm_output : List ℕ → Result (List ℕ) BenchFault
 asm_output text =
     if nat_lt 4194304 (length text) then Err TooLong
     else result_case (assembled text) (λ words. Ok (asm_text words)) (λ fault. Err (Asm fault))
-
--- a fault of the text is told at one of its lines
-abbrev pub IsAtLine : List ℕ → BenchFault → Type 0
-IsAtLine text (Image fault) = ⊤
-IsAtLine text (Ram fault) = ⊤
-IsAtLine text Read = ⊤
-IsAtLine text Write = ⊤
-IsAtLine text Hex = ⊤
-IsAtLine text TooLong = ⊤
-IsAtLine text NoMemory = ⊤
-IsAtLine text (Asm fault) = (1 ≤ fault.line) × (fault.line ≤ length (lines_of text))
-
--- the faults of reading a text: after any other all of it was read
-abbrev pub is_reading_fault : BenchFault → Bool
-is_reading_fault (Image fault) = false
-is_reading_fault (Ram fault) = false
-is_reading_fault Read = true
-is_reading_fault Write = false
-is_reading_fault Hex = false
-is_reading_fault TooLong = true
-is_reading_fault NoMemory = true
-is_reading_fault (Asm fault) = false
-
--- the faults of assembling
-abbrev pub is_asm_fault : BenchFault → Bool
-is_asm_fault (Image fault) = false
-is_asm_fault (Ram fault) = false
-is_asm_fault Read = true
-is_asm_fault Write = true
-is_asm_fault Hex = false
-is_asm_fault TooLong = true
-is_asm_fault NoMemory = true
-is_asm_fault (Asm fault) = true

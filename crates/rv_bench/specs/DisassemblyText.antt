@@ -1,5 +1,5 @@
 -- What is written for an image that is disassembled. (This project's own format; the digits are ASCII, ISO/IEC 646.)
-use Rattle.std.specs.Prelude.{ℕ, ◌/◌, ◌%◌, ◌==◌, Bool, true, false, List, length, ◌++◌, codes, map, flat_map, Result, Ok, Err, if◌then◌else◌}
+use Rattle.std.specs.Prelude.{ℕ, ◌/◌, ◌%◌, ◌==◌, List, length, ◌++◌, codes, map, flat_map, Result, Ok, Err, if◌then◌else◌}
 use Rattle.std.specs.Simd.{first_chunks}
 use Rattle.rv_word.specs.ByteOrder.{word_of_bytes}
 use Rattle.rv_word.specs.Cases.{result_case}
@@ -7,7 +7,7 @@ use Rattle.rv_asm.specs.Spelling.{spelling}
 use Rattle.rv_text.specs.Digits.{hex8}
 use Rattle.rv_bench.specs.Image.{image_in}
 use Rattle.rv_bench.specs.declared.fault.BenchFault.{BenchFault}
-use Rattle.rv_bench.specs.declared.fault.BenchFault.TheVariants.{Image, Ram, Read, Write, Hex, TooLong, NoMemory, Asm}
+use Rattle.rv_bench.specs.declared.fault.BenchFault.TheVariants.{Hex}
 
 -- the words of an image: four bytes each, the lowest first
 abbrev pub words_of_image : List ℕ → List ℕ
@@ -28,14 +28,3 @@ dis_of image = if length image % 4 == 0 then Ok (dis_text (words_of_image image)
 -- the lines for the image at the front of an input, or the fault: of the image's text, or of the number of its bytes
 abbrev pub dis_output : List ℕ → Result (List ℕ) BenchFault
 dis_output input = result_case (image_in input) dis_of Err
-
--- the faults of disassembling
-abbrev pub is_dis_fault : BenchFault → Bool
-is_dis_fault (Image fault) = false
-is_dis_fault (Ram fault) = false
-is_dis_fault Read = true
-is_dis_fault Write = true
-is_dis_fault Hex = true
-is_dis_fault TooLong = true
-is_dis_fault NoMemory = true
-is_dis_fault (Asm fault) = false

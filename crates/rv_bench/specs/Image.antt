@@ -1,10 +1,10 @@
 -- The image in a text of hexadecimal lines. (This project's own format; the text is ASCII, ISO/IEC 646.)
-use Rattle.std.specs.Prelude.{◌≡◌, ℕ, ◌+◌, ◌*◌, ◌%◌, ◌<◌, ◌++◌, ◌==◌, ◌&&◌, nat_lt, Bool, true, false, not, List, [], ◌∷◌, length, codes, flat_map, take_while, is_some, unwrap_or, option_and_then, Option, Some, None, Result, Ok, Err, if◌then◌else◌}
-use Rattle.std.specs.List.{list_all}
+use Rattle.std.specs.Prelude.{◌≡◌, ℕ, ◌+◌, ◌*◌, ◌%◌, ◌<◌, ◌++◌, ◌==◌, ◌&&◌, nat_lt, Bool, false, not, List, [], ◌∷◌, length, codes, flat_map, take_while, is_some, unwrap_or, option_and_then, Option, IsSomeAnd, ◌≤◌, Some, None, Result, Ok, Err, if◌then◌else◌}
+use Rattle.std.specs.List.{list_all, list_any}
 use Rattle.std.specs.Char.{is_digit, digit_value}
 use Rattle.std.specs.Str.{bytes_eq}
 use Rattle.rv_bench.specs.declared.fault.BenchFault.{BenchFault}
-use Rattle.rv_bench.specs.declared.fault.BenchFault.TheVariants.{Image, Ram, Read, Write, Hex, TooLong, NoMemory, Asm}
+use Rattle.rv_bench.specs.declared.fault.BenchFault.TheVariants.{Hex, TooLong, NoMemory}
 use Rattle.rv_text.specs.Lines.{lines_of, after_lines}
 use Rattle.rv_bench.specs.LineText.{ReadsText, ReadsLines}
 use Rattle.rv_text.specs.GoodLines.{is_good_line}
@@ -63,36 +63,13 @@ image_lines lines = take_while (λ line. not (is_marker line)) lines
 abbrev pub image_in : List ℕ → Result (List ℕ) BenchFault
 image_in input = image_of (image_lines (lines_of input))
 
+-- the input has a line `--`
+abbrev pub has_marker : List ℕ → Bool
+has_marker input = list_any is_marker (lines_of input)
+
 -- what follows the line `--`
 abbrev pub after_image : List ℕ → List ℕ
 after_image input = after_lines (length (image_lines (lines_of input)) + 1) input
-
--- the faults that reading an image can have
-abbrev pub is_image_fault : BenchFault → Bool
-is_image_fault (Image fault) = false
-is_image_fault (Ram fault) = false
-is_image_fault Read = true
-is_image_fault Write = false
-is_image_fault Hex = true
-is_image_fault TooLong = true
-is_image_fault NoMemory = true
-is_image_fault (Asm fault) = false
-
--- the faults that the text of an image can have
-abbrev pub is_text_fault : BenchFault → Bool
-is_text_fault (Image fault) = false
-is_text_fault (Ram fault) = false
-is_text_fault Read = false
-is_text_fault Write = false
-is_text_fault Hex = true
-is_text_fault TooLong = true
-is_text_fault NoMemory = false
-is_text_fault (Asm fault) = false
-
--- whole lines were read, up to the bytes that are left
-pub record LeavesLines (unread left : List ℕ) : Type 0 where
-  pub count : ℕ
-  pub rest : left ≡ after_lines count unread
 
 -- Lines of the image were read, none of them `--`, none faulty and not too many, and then the front of a line, which is kept.
 pub record ReadsInImage (unread left kept : List ℕ) : Type 0 where
@@ -123,3 +100,11 @@ pub record StopsAtFault (unread left : List ℕ) (fault : BenchFault) : Type 0 w
   pub reads : ReadsUnmarked unread left (sound ++ line ∷ [])
   pub image : image_of sound ≡ Ok (bytes_of_lines sound)
   pub fails : image_of (sound ++ line ∷ []) ≡ Err fault
+
+-- what each result of adding the bytes of a word to an image means
+abbrev pub AddsBytes : List ℕ → List ℕ → List ℕ → Result (Unit {0}) BenchFault → Type 0
+AddsBytes word old new (Ok _) = IsSomeAnd (bytes_of_digits word) (λ bytes. new ≡ old ++ bytes)
+AddsBytes word old new (Err Hex) = (bytes_of_digits word ≡ None) × (new ≡ old)
+AddsBytes word old new (Err TooLong) = IsSomeAnd (bytes_of_digits word) (λ bytes. 33554432 < length old + length bytes) × (new ≡ old)
+AddsBytes word old new (Err NoMemory) = IsSomeAnd (bytes_of_digits word) (λ bytes. length old + length bytes ≤ 33554432) × (new ≡ old)
+AddsBytes word old new (Err _) = ⊥

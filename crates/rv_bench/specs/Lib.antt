@@ -1,5 +1,8 @@
+pub mod Assemble
 pub mod AssemblyText
+pub mod Calls
 pub mod Device
+pub mod Disassemble
 pub mod DisassemblyText
 pub mod Faults
 pub mod Image
@@ -8,7 +11,9 @@ pub mod LineText
 pub mod Loaded
 pub mod MemoryStreams
 pub mod Output
+pub mod ReadImage
 pub mod Replies
 pub mod Run
+pub mod Stream
 pub mod Transfer
 pub mod Unread

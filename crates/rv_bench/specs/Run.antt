@@ -1,24 +1,35 @@
--- What a run has done where it stops early. (This project's own streams.)
-use Rattle.std.specs.Prelude.{◌≡◌, ℕ, ◌≤◌, false, List, ◌++◌, length, take}
-use Rattle.rv_bench.specs.Replies.{replies, state_after}
+-- What a run over the lines of a script does, result by result. (This project's own streams.)
+use Rattle.std.specs.Prelude.{◌≡◌, ℕ, ◌≤◌, Bool, true, false, List, [], ◌++◌, length, take, IsTrue, IsOkAnd, Result, Ok, Err}
 use Rattle.rv_text.specs.Lines.{has_feed, lines_of, through_last_feed}
-use Rattle.rv_debug.specs.BenchState.{BenchState}
+use Rattle.rv_debug.specs.BenchState.{BenchState, bare}
+use Rattle.rv_memory.specs.Memory.{is_ram_size}
+use Rattle.rv_memory.specs.declared.ram_fault.RamFault.TheVariants.{BadSize, NoMemory as NoRamMemory}
+use Rattle.rv_command_line.specs.declared.setup.Setup.{Setup}
+use Rattle.rv_bench.specs.declared.device.Sink.{Ghosts as SinkGhosts}
+use Rattle.rv_bench.specs.declared.device.Source.{Ghosts as SourceGhosts}
+use Rattle.rv_bench.specs.declared.fault.BenchFault.{BenchFault}
+use Rattle.rv_bench.specs.declared.fault.BenchFault.TheVariants.{Image, Ram, Read, Write}
+use Rattle.rv_bench.specs.declared.lines.Lines.{Lines}
+use Rattle.rv_bench.specs.Calls.{SourceWorked, SourceFailed, SinkWorked, SinkFailed}
+use Rattle.rv_bench.specs.Loaded.{started}
+use Rattle.rv_bench.specs.Replies.{replies, state_after}
 use Rattle.rv_bench.specs.Transfer.{WritesFront}
+use Rattle.rv_bench.specs.Unread.{held, unread, HasEnded}
 
 -- The source failed. A text of whole lines has its replies, and the line that was begun is kept, at most 122 bytes of it,
--- so that a later call goes on from there.
-pub record StopsAtRead (start : BenchState) (unread left kept old new : List ℕ) : Type 0 where
+-- so that a later call goes on from there. What was written is known where the sink tells.
+pub record StopsAtRead (start : BenchState) (tells : Bool) (unread left kept old new : List ℕ) : Type 0 where
   pub text : List ℕ
   pub begun : List ℕ
   pub split : unread ≡ text ++ (begun ++ left)
   pub whole : through_last_feed text ≡ text
   pub unfinished : has_feed begun ≡ false
   pub front : kept ≡ take 122 begun
-  pub written : new ≡ old ++ replies start (lines_of text)
+  pub written : IsTrue tells → new ≡ old ++ replies start (lines_of text)
 
 -- The sink failed, or took nothing. Lines were answered and at most one more was read, of whose reply a beginning was
 -- written; a later call goes on after these.
-pub record StopsAtWrite (start : BenchState) (unread left old new : List ℕ) : Type 0 where
+pub record StopsAtWrite (start : BenchState) (tells : Bool) (unread left old new : List ℕ) : Type 0 where
   pub text : List ℕ
   pub answered : List (List ℕ)
   pub next : List (List ℕ)
@@ -26,4 +37,51 @@ pub record StopsAtWrite (start : BenchState) (unread left old new : List ℕ) : 
   pub split : unread ≡ text ++ left
   pub are_lines : lines_of text ≡ answered ++ next
   pub all : lines_of unread ≡ lines_of text ++ lines_of left
-  pub written : WritesFront (old ++ replies start answered) new (replies (state_after start answered) next)
+  pub written : IsTrue tells → WritesFront (old ++ replies start answered) new (replies (state_after start answered) next)
+
+-- what a call that gives no value comes to
+abbrev pub Outcome : Type 0
+Outcome = Result (Unit {0}) BenchFault
+
+module _ {S W : Type 0} {g : SourceGhosts S} (h : SinkGhosts W) where
+  -- All was read, to the end that the source answered, and just the output was written.
+  pub record RunsToEnd (output : Result (List ℕ) BenchFault) (old new : Lines S g) (before after : W) : Type 0 where
+    pub at_end : new.is_at_end ≡ true
+    pub ended : HasEnded old new
+    pub emptied : held new ≡ []
+    pub source : SourceWorked g old.source new.source
+    pub sink : SinkWorked h before after
+    pub used_up : IsTrue g.tells → unread new ≡ []
+    pub written : IsTrue g.tells → IsOkAnd output (λ text. IsTrue h.tells → h.taken after ≡ h.taken before ++ text)
+
+  -- The source failed, and not the sink.
+  pub record FailsToRead (old new : Lines S g) (before after : W) : Type 0 where
+    pub source : SourceFailed g old.source new.source
+    pub sink : SinkWorked h before after
+    pub going : new.is_at_end ≡ false
+
+  -- The sink failed, and not the source: a beginning of the output is written.
+  pub record FailsToWrite (output : Result (List ℕ) BenchFault) (old new : Lines S g) (before after : W) : Type 0 where
+    pub source : SourceWorked g old.source new.source
+    pub sink : SinkFailed h before after
+    pub emptied : held new ≡ []
+    pub front : IsTrue g.tells → IsOkAnd output (λ text. IsTrue h.tells → WritesFront (h.taken before) (h.taken after) text)
+
+  -- what each result of a run over the lines means, from the state of the bench before it
+  abbrev pub RunsLines : BenchState → Lines S g → Lines S g → W → W → Outcome → Type 0
+  RunsLines bench old new before after (Ok _) = RunsToEnd (Ok (replies bench (lines_of (unread old)))) old new before after
+  RunsLines bench old new before after (Err Read) =
+      FailsToRead old new before after
+      × (IsTrue g.tells → StopsAtRead bench h.tells (unread old) (g.remaining new.source) (held new) (h.taken before) (h.taken after))
+  RunsLines bench old new before after (Err Write) =
+      FailsToWrite (Ok (replies bench (lines_of (unread old)))) old new before after
+      × (IsTrue g.tells → StopsAtWrite bench h.tells (unread old) (unread new) (h.taken before) (h.taken after))
+  RunsLines bench old new before after (Err _) = ⊥
+
+  -- What each result of `run_bench` means. Where the setup or the image has a fault, nothing is read or written; else the lines
+  -- are run by the machine that the image starts.
+  abbrev pub RunsBench : List ℕ → Setup → Lines S g → Lines S g → W → W → Outcome → Type 0
+  RunsBench image setup old new before after (Err (Ram BadSize)) = (is_ram_size setup.ram ≡ false) × (new ≡ old) × (after ≡ before)
+  RunsBench image setup old new before after (Err (Ram NoRamMemory)) = (is_ram_size setup.ram ≡ true) × (new ≡ old) × (after ≡ before)
+  RunsBench image setup old new before after (Err (Image fault)) = (started image setup ≡ Err (Image fault)) × (new ≡ old) × (after ≡ before)
+  RunsBench image setup old new before after outcome = IsOkAnd (started image setup) (λ state. RunsLines (bare state) old new before after outcome)

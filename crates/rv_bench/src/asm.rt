@@ -1,11 +1,11 @@
 //! From an assembler text to the bytes of its words.
 
-ghost use Rattle.std.specs.Prelude.{◌≡◌, ◌+◌, ◌≤◌, ◌++◌, ◌⊎◌, [], false, IsTrue, OnOk, OnErr, IfErr, IsOkAnd, Err};
+ghost use Rattle.std.specs.Prelude.{◌≡◌, ◌+◌, ◌≤◌, ◌++◌, ◌⊎◌, IsTrue, OnOk, OnErr};
 ghost use Rattle.arrayvec.specs.ArrayVec.{array_vec_len};
-ghost use Rattle.rv_bench.specs.AssemblyText.{IsAtLine, word_line, asm_text, asm_output, is_asm_fault, is_reading_fault};
+ghost use Rattle.rv_bench.specs.Assemble.{RunsAsm};
+ghost use Rattle.rv_bench.specs.AssemblyText.{word_line, asm_text};
 ghost use Rattle.rv_bench.specs.Device.{HasRisen};
-ghost use Rattle.rv_bench.specs.Output.{is_input_fault};
-ghost use Rattle.rv_bench.specs.Transfer.{ReadsAtMost, WritesFront};
+ghost use Rattle.rv_bench.specs.Transfer.{WritesFront};
 
 use crate::device::{DeviceFault, Sink, Source};
 use crate::fault::BenchFault;
@@ -70,32 +70,7 @@ pub fn run_asm<S: Source, W: Sink>(
     source: &mut S,
     sink: &mut W,
 ) -> Result<(), BenchFault>
-    // At the end all was read, and just the output was written.
-    ensures read_to_end { OnOk result (HasRisen (S.ends source.old) (S.ends source.new)) }
-    ensures written { IsTrue S.tells → IsTrue W.tells → OnOk result
-        (IsOkAnd (asm_output (S.remaining source.old)) (λ text. W.taken sink.new ≡ W.taken sink.old ++ text)) }
-    ensures used_up { IsTrue S.tells → OnOk result (S.remaining source.new ≡ []) }
-    ensures sound { OnOk result ((S.failures source.new ≡ S.failures source.old)
-        × (W.failures sink.new ≡ W.failures sink.old) × (W.refusals sink.new ≡ W.refusals sink.old)) }
-
-    // A fault of the text is the one that it has; before the first line nothing is written, whatever the refusal.
-    ensures input { IsTrue S.tells → IfErr result (λ fault. IsTrue (is_input_fault fault) → asm_output (S.remaining source.old) ≡ Err fault) }
-    ensures faults { IfErr result (λ fault. IsTrue (is_asm_fault fault)) }
-    ensures line { IsTrue S.tells → IfErr result (λ fault. IsAtLine (S.remaining source.old) fault) }
-    ensures unwritten { OnErr result ((result ≡ Err BenchFault.Write) ⊎ (sink.new ≡ sink.old)) }
-
-    // Each fault of a device comes only where that device failed in this call.
-    ensures read { result ≡ Err BenchFault.Read → HasRisen (S.failures source.old) (S.failures source.new) }
-    ensures write { result ≡ Err BenchFault.Write →
-        HasRisen (W.failures sink.old) (W.failures sink.new) ⊎ HasRisen (W.refusals sink.old) (W.refusals sink.new) }
-
-    // What was read then, and what was written. No end was answered before a fault of reading.
-    ensures most { IsTrue S.tells → OnErr result ((result ≡ Err BenchFault.TooLong) ⊎ ReadsAtMost 4194304 (S.remaining source.old) (S.remaining source.new)) }
-    ensures going { IfErr result (λ fault. IsTrue (is_reading_fault fault) → S.ends source.new ≡ S.ends source.old) }
-    ensures whole { IfErr result (λ fault. is_reading_fault fault ≡ false →
-        HasRisen (S.ends source.old) (S.ends source.new) × (IsTrue S.tells → S.remaining source.new ≡ [])) }
-    ensures front { result ≡ Err BenchFault.Write → IsTrue S.tells → IsTrue W.tells →
-        IsOkAnd (asm_output (S.remaining source.old)) (WritesFront (W.taken sink.old) (W.taken sink.new)) }
+    ensures { RunsAsm S.Source W.Sink source.old source.new sink.old sink.new result }
 {
     let text = read_whole(alloc, source)?;
     match assemble(alloc, text.as_slice()) {

@@ -1,14 +1,13 @@
 //! From an image to the disassembly of its words.
 
-ghost use Rattle.std.specs.Prelude.{◌≡◌, ◌+◌, ◌≤◌, ◌++◌, ◌⊎◌, [], map, IsTrue, OnOk, OnErr, IfErr, IsOk, IsOkAnd, Err};
+ghost use Rattle.std.specs.Prelude.{◌≡◌, ◌+◌, ◌≤◌, ◌++◌, ◌⊎◌, map, IsTrue, OnOk, OnErr};
 ghost use Rattle.arrayvec.specs.ArrayVec.{array_vec_len};
 ghost use Rattle.rv_word.specs.ByteOrder.{word_of_bytes};
 ghost use Rattle.rv_bench.specs.Device.{HasRisen};
-ghost use Rattle.rv_bench.specs.DisassemblyText.{dis_line, dis_text, dis_output, is_dis_fault};
-ghost use Rattle.rv_bench.specs.Image.{image_in, after_image, is_text_fault, ReadsInImage, ReadsFrontOfImage, StopsAtFault};
-ghost use Rattle.rv_bench.specs.Output.{is_input_fault};
+ghost use Rattle.rv_bench.specs.Disassemble.{RunsDis};
+ghost use Rattle.rv_bench.specs.DisassemblyText.{dis_line, dis_text};
 ghost use Rattle.rv_bench.specs.Transfer.{WritesFront};
-ghost use Rattle.rv_bench.specs.Unread.{held, unread, TellsEnd};
+ghost use Rattle.rv_bench.specs.Unread.{TellsEnd};
 
 use crate::device::{DeviceFault, Sink, Source};
 use crate::fault::BenchFault;
@@ -74,35 +73,8 @@ pub fn run_dis<S: Source, W: Sink>(
     lines: &mut Lines<S>,
     sink: &mut W,
 ) -> Result<(), BenchFault>
-    // At the end the image was read, through the line `--` where there is one, and just the output was written.
+    ensures outcome { RunsDis W.Sink lines.old lines.new sink.old sink.new result }
     ensures end { TellsEnd lines.old lines.new }
-    ensures written { IsTrue S.tells → IsTrue W.tells → OnOk result
-        (IsOkAnd (dis_output (unread lines.old)) (λ text. W.taken sink.new ≡ W.taken sink.old ++ text)) }
-    ensures rest { IsTrue S.tells → OnOk result (unread lines.new ≡ after_image (unread lines.old)) }
-    ensures emptied { OnOk result (held lines.new ≡ []) }
-    ensures sound { OnOk result ((S.failures lines.new.source ≡ S.failures lines.old.source)
-        × (W.failures sink.new ≡ W.failures sink.old) × (W.refusals sink.new ≡ W.refusals sink.old)) }
-
-    // A fault of the input is the one that it has; before the first line nothing is written, whatever the refusal.
-    ensures input { IsTrue S.tells → IfErr result (λ fault. IsTrue (is_input_fault fault) → dis_output (unread lines.old) ≡ Err fault) }
-    ensures faults { IfErr result (λ fault. IsTrue (is_dis_fault fault)) }
-    ensures unwritten { OnErr result ((result ≡ Err BenchFault.Write) ⊎ (sink.new ≡ sink.old)) }
-
-    // Each fault of a device comes only where that device failed in this call.
-    ensures read { result ≡ Err BenchFault.Read → HasRisen (S.failures lines.old.source) (S.failures lines.new.source) }
-    ensures write { result ≡ Err BenchFault.Write →
-        HasRisen (W.failures sink.old) (W.failures sink.new) ⊎ HasRisen (W.refusals sink.old) (W.refusals sink.new) }
-
-    // What was read then, and what was written. A fault of the text is that of the last line that was read, or else the
-    // whole image was read.
-    ensures after_read { result ≡ Err BenchFault.Read → IsTrue S.tells → ReadsInImage (unread lines.old) (S.remaining lines.new.source) (held lines.new) }
-    ensures no_memory { result ≡ Err BenchFault.NoMemory → IsTrue S.tells → ReadsFrontOfImage (unread lines.old) (unread lines.new) }
-    ensures at_fault { IsTrue S.tells → IfErr result (λ fault. IsTrue (is_text_fault fault) →
-        StopsAtFault (unread lines.old) (unread lines.new) fault
-        ⊎ (IsOk (image_in (unread lines.old)) × (unread lines.new ≡ after_image (unread lines.old)))) }
-    ensures after_write { result ≡ Err BenchFault.Write → IsTrue S.tells → unread lines.new ≡ after_image (unread lines.old) }
-    ensures front { result ≡ Err BenchFault.Write → IsTrue S.tells → IsTrue W.tells →
-        IsOkAnd (dis_output (unread lines.old)) (WritesFront (W.taken sink.old) (W.taken sink.new)) }
 {
     let image = read_image(alloc, lines)?;
     let (words, rest) = image.as_slice().as_chunks::<4>();

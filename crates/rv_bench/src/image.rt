@@ -1,9 +1,9 @@
 //! The image in a text of hexadecimal lines.
-ghost use Rattle.std.specs.Prelude.{◌≡◌, ◌≤◌, ◌++◌, [], codes, vec_len, length, IsTrue, IfOk, OnOk, OnErr, IfErr, IsSomeAnd, ◌⊎◌, Ok, Err, None, option_map, ◌<◌, ◌+◌};
+ghost use Rattle.std.specs.Prelude.{◌≡◌, ◌≤◌, codes, vec_len, length, option_map};
 ghost use Rattle.std.specs.Str.{bytes_eq};
-ghost use Rattle.rv_bench.specs.Device.{HasRisen};
-ghost use Rattle.rv_bench.specs.Unread.{held, unread, TellsEnd};
-ghost use Rattle.rv_bench.specs.Image.{line_word, bytes_of_digits, image_in, after_image, is_image_fault, is_text_fault, LeavesLines, ReadsInImage, ReadsFrontOfImage, StopsAtFault};
+ghost use Rattle.rv_bench.specs.Image.{line_word, AddsBytes};
+ghost use Rattle.rv_bench.specs.ReadImage.{ReadsImage};
+ghost use Rattle.rv_bench.specs.Unread.{TellsEnd};
 
 use crate::device::Source;
 use crate::fault::BenchFault;
@@ -46,13 +46,7 @@ fn is_dashes(word: &[u8]) -> bool
 fn add_bytes(image: &mut Vec<u8>, word: &[u8]) -> Result<(), BenchFault>
     requires image { vec_len image.old ≤ 33554432 }
     requires word { length word.now ≤ 120 }
-    ensures ok { OnOk result (IsSomeAnd (bytes_of_digits word.now) (λ bytes. image.new.items ≡ image.old.items ++ bytes)) }
-    ensures hex { result ≡ Err BenchFault.Hex → bytes_of_digits word.now ≡ None }
-    ensures too_long { result ≡ Err BenchFault.TooLong → IsSomeAnd (bytes_of_digits word.now) (λ bytes. 33554432 < length image.old.items + length bytes) }
-    ensures no_memory { result ≡ Err BenchFault.NoMemory → IsSomeAnd (bytes_of_digits word.now) (λ bytes. length image.old.items + length bytes ≤ 33554432) }
-    ensures read { result ≡ Err BenchFault.Read → ⊥ }
-    ensures fault { IfErr result (λ fault. IsTrue (is_image_fault fault)) }
-    ensures err { OnErr result (image.new.items ≡ image.old.items) }
+    ensures outcome { AddsBytes word.now image.old.items image.new.items result }
     ensures len { vec_len image.new ≤ 33554432 }
 {
     let mut bytes = [0u8; MAX_LINE / 2];
@@ -80,25 +74,7 @@ fn add_bytes(image: &mut Vec<u8>, word: &[u8]) -> Result<(), BenchFault>
 /// - `TooLong` where the image would have more than `IMAGE_MAX` bytes;
 /// - `NoMemory` where memory was refused.
 pub fn read_image<S: Source>(alloc: Global, lines: &mut Lines<S>) -> Result<Vec<u8>, BenchFault>
-    // The image, or its first fault, is that of the lines before the line `--`, and what follows that line is left.
-    ensures ok { IsTrue S.tells → IfOk result (λ image. image_in (unread lines.old) ≡ Ok image.items) }
-    ensures rest { IsTrue S.tells → OnOk result (unread lines.new ≡ after_image (unread lines.old)) }
-    ensures hex { result ≡ Err BenchFault.Hex → IsTrue S.tells → image_in (unread lines.old) ≡ Err BenchFault.Hex }
-    ensures too_long { result ≡ Err BenchFault.TooLong → IsTrue S.tells → image_in (unread lines.old) ≡ Err BenchFault.TooLong }
-    ensures fault { IfErr result (λ fault. IsTrue (is_image_fault fault)) }
-    ensures len { IfOk result (λ image. vec_len image ≤ 33554432) }
-
-    // After a failed read only faultless lines of the image were read, and the front of a line; after another fault whole lines.
-    ensures read { result ≡ Err BenchFault.Read → HasRisen (S.failures lines.old.source) (S.failures lines.new.source) }
-    ensures after_read { result ≡ Err BenchFault.Read → IsTrue S.tells → ReadsInImage (unread lines.old) (S.remaining lines.new.source) (held lines.new) }
-    ensures after_fault { IsTrue S.tells → OnErr result ((result ≡ Err BenchFault.Read) ⊎ LeavesLines (unread lines.old) (unread lines.new)) }
-
-    // A fault of the text is that of the last line that was read; memory is refused only at a faultless line, which is read.
-    ensures at_fault { IsTrue S.tells → IfErr result (λ fault. IsTrue (is_text_fault fault) → StopsAtFault (unread lines.old) (unread lines.new) fault) }
-    ensures no_memory { result ≡ Err BenchFault.NoMemory → IsTrue S.tells → ReadsFrontOfImage (unread lines.old) (unread lines.new) }
-
-    ensures failures { OnOk result (S.failures lines.new.source ≡ S.failures lines.old.source) }
-    ensures emptied { OnOk result (held lines.new ≡ []) }
+    ensures outcome { ReadsImage lines.old lines.new result }
     ensures end { TellsEnd lines.old lines.new }
 {
     let mut image = Vec::new(alloc);

@@ -1,15 +1,13 @@
 //! The machine that an image starts.
 
-ghost use Rattle.std.specs.Prelude.{◌≡◌, ◌↔◌, length, false, IsTrue, IfOk, IfErr, Ok};
-ghost use Rattle.rv_bench.specs.Loaded.{is_read_as_elf as is_read_as_elf_of, planned as planned_of, started};
-ghost use Rattle.rv_bench.specs.Output.{is_start_fault, is_input_fault};
-ghost use Rattle.rv_memory.specs.Memory.{is_ram_size};
+ghost use Rattle.std.specs.Prelude.{◌≡◌, length, IfOk};
+ghost use Rattle.rv_bench.specs.Loaded.{is_read_as_elf as is_read_as_elf_of, planned as planned_of, Starts};
 
 use crate::fault::BenchFault;
 use rv_command_line::{ImageKind, Setup};
 use rv_elf::{ElfFault, Plan, is_elf, load, plan, plan_raw};
 use rv_hart::Machine;
-use rv_memory::{Ram, RamFault};
+use rv_memory::Ram;
 use rv_pmp::Mode;
 use std::alloc::Global;
 
@@ -41,12 +39,8 @@ fn planned(image: &[u8], setup: &Setup) -> Result<Plan, ElfFault>
 }
 
 /// The machine at reset, with the image in its RAM.
-#[tactic(auto, using(crate::proofs::Starts::no_ram))]
 pub(crate) fn start(alloc: Global, image: &[u8], setup: &Setup) -> Result<Machine, BenchFault>
-    ensures machine { IfOk result (λ machine. started image.now setup.now ≡ Ok machine) }
-    ensures ram_size { (result ≡ Err (BenchFault.Ram RamFault.BadSize)) ↔ (is_ram_size setup.now.ram ≡ false) }
-    ensures image { IfErr result (λ fault. IsTrue (is_input_fault fault) → started image.now setup.now ≡ Err fault) }
-    ensures faults { IfErr result (λ fault. IsTrue (is_start_fault fault)) }
+    ensures { Starts image.now setup.now result }
 {
     let mut ram = match Ram::new(alloc, setup.ram) {
         Ok(ram) => ram,

@@ -63,14 +63,14 @@ bytes_of_digits-decoded word =
           rw (even) (sym (decode_pairs-is 0 word even))
     ]
 
-pub returns-then-is_err-clause-hex : goal.returns-then-is_err-clause-hex
-returns-then-is_err-clause-hex c = rw (bytes_of_digits-decoded c.args.word.now) (search rules)
+pub returns-then-is_err-clause-outcome : goal.returns-then-is_err-clause-outcome
+returns-then-is_err-clause-outcome c = (rw (bytes_of_digits-decoded c.args.word.now) (search rules), refl)
 
-pub returns-then-len-count-gt-IMAGE_MAX-clause-too_long : goal.returns-then-len-count-gt-IMAGE_MAX-clause-too_long
-returns-then-len-count-gt-IMAGE_MAX-clause-too_long c = rw (bytes_of_digits-decoded c.args.word.now) (search rules)
+pub returns-then-len-count-gt-IMAGE_MAX-clause-outcome : goal.returns-then-len-count-gt-IMAGE_MAX-clause-outcome
+returns-then-len-count-gt-IMAGE_MAX-clause-outcome c = (rw (bytes_of_digits-decoded c.args.word.now) (search rules), refl)
 
-pub returns-in-Ok-clause-ok : goal.returns-in-Ok-clause-ok
-returns-in-Ok-clause-ok c = rw (bytes_of_digits-decoded c.args.word.now) (grind (arith, common_steps))
+pub returns-in-Ok-clause-outcome : goal.returns-in-Ok-clause-outcome
+returns-in-Ok-clause-outcome c = rw (bytes_of_digits-decoded c.args.word.now) (grind (arith, common_steps))
 
-pub returns-in-Err-clause-no_memory : goal.returns-in-Err-clause-no_memory
-returns-in-Err-clause-no_memory c = rw (bytes_of_digits-decoded c.args.word.now) (search rules)
+pub returns-in-Err-clause-outcome : goal.returns-in-Err-clause-outcome
+returns-in-Err-clause-outcome c = (rw (bytes_of_digits-decoded c.args.word.now) (search rules), search rules)

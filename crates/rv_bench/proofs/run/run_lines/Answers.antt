@@ -1,26 +1,35 @@
-use Rattle.std.proofs.Common.{rules, ◌++◌, ◌∙◌, refl, sym, ap, subst, Ok}
+use Rattle.std.proofs.Common.{rules, ◌≡◌, ◌++◌, ◌∙◌, IsTrue, refl, sym, ap, subst, Ok, Err}
 use Rattle.std.proofs.lemmas.Result.{IfOk-at_ok, IfErr-at_err}
 use Rattle.rv_debug.specs.Answer.{line_answer}
+use Rattle.rv_bench.specs.declared.fault.BenchFault.TheVariants.{Read, Write}
+use Rattle.rv_bench.specs.Run.{RunsLines}
 use Rattle.rv_bench.specs.Transfer.{WritesFront}
 use Rattle.rv_bench.proofs.Ends.{TellsEnd-none, TellsEnd-more}
-use Rattle.rv_bench.proofs.Mapped.{ok_mapped, err_mapped}
-use Rattle.rv_bench.proofs.Runs.{AnswersLines-none, AnswersLines-more, AnswersLines-read, AnswersLines-stopped, StopsAtWrite-front, going_on}
+use Rattle.rv_bench.proofs.Mapped.{ok_mapped, err_mapped, mapped}
+use Rattle.rv_bench.proofs.Runs.{AnswersLines-none, AnswersLines-more, AnswersLines-read, AnswersLines-written, AnswersLines-stopped, AnswersLines-all, StopsAtWrite-front, going_on}
 use Rattle.rv_bench.proofs.run.run_lines.Goals as goal
 
 pub loop-line-init : goal.loop-line-init
 loop-line-init g c = record {
-  answered = λ _ _. AnswersLines-none _ _ _ _;
+  answered = λ _. AnswersLines-none _ _ _ _ _;
   end = TellsEnd-none _;
   source_failures = refl;
   sink_failures = refl;
   sink_refusals = refl;
 }
 
-pub returns-in_err-line-clause-after_read : goal.returns-in_err-line-clause-after_read
-returns-in_err-line-clause-after_read g c = λ _ source_tells sink_tells.
+pub returns-in_err-line-clause-outcome : goal.returns-in_err-line-clause-outcome
+returns-in_err-line-clause-outcome g c =
+    let is : c.from_residual.result ≡ Err Read = search rules in
     let failed = err_mapped _ c.next_line.result c.map_err.result _ c.map_err.ensures.cases c.in_err-line.was in
-    let going = (IfErr-at_err _ failed.1 c.next_line.ensures.err).0 in
-    AnswersLines-read _ _ _ _ _ _ _ _ (going_on going (c.loop-line.invariant.answered source_tells sink_tells)) (IfErr-at_err _ failed.1 (c.next_line.ensures.kept source_tells))
+    let going = IfErr-at_err _ failed.1 c.next_line.ensures.err in
+    rw is (
+      record { source = search rules; sink = (c.loop-line.invariant.sink_failures, c.loop-line.invariant.sink_refusals); going = going.1 },
+      λ tells. AnswersLines-read _ _ _ _ _ _ _ _ _ (going_on going.0 (c.loop-line.invariant.answered tells)) (IfErr-at_err _ failed.1 (c.next_line.ensures.kept tells)),
+    )
+
+pub returns-in_err-line-clause-end : goal.returns-in_err-line-clause-end
+returns-in_err-line-clause-end g c = TellsEnd-more _ _ _ c.loop-line.invariant.end c.next_line.ensures.end
 
 pub loop-line-preserved : goal.loop-line-preserved
 loop-line-preserved g c =
@@ -28,27 +37,51 @@ loop-line-preserved g c =
     let wrote = ok_mapped _ c.write_all.result c.map_err-in-Some.result _ c.map_err-in-Some.ensures.cases c.in_ok-map_err.was in
     let same = IfOk-at_ok _ wrote c.write_all.ensures.ok in
     record {
-      answered = λ source_tells sink_tells.
-          AnswersLines-more _ _ _ _ _ _ _ _ _ _ _ _ _
-          (going_on (IfOk-at_ok _ found c.next_line.ensures.going) (c.loop-line.invariant.answered source_tells sink_tells))
-          (IfOk-at_ok _ found (c.next_line.ensures.line source_tells))
+      answered = λ tells.
+          AnswersLines-more _ _ _ _ _ _ _ _ _ _ _ _ _ _
+          (going_on (IfOk-at_ok _ found c.next_line.ensures.going) (c.loop-line.invariant.answered tells))
+          (IfOk-at_ok _ found (c.next_line.ensures.line tells))
           (ap (line_answer c.loop-line.bench) (sym c.as_slice.ensures.value) ∙ c.answer_line.ensures.answer)
-          (IfOk-at_ok _ wrote c.write_all.ensures.written sink_tells ∙ ap (λ t. g.W.Sink.taken c.loop-line.sink ++ t) c.as_slice-in-Some.ensures.value);
+          (λ told. IfOk-at_ok _ wrote c.write_all.ensures.written told ∙ ap (λ t. g.W.Sink.taken c.loop-line.sink ++ t) c.as_slice-in-Some.ensures.value);
       end = TellsEnd-more _ _ _ c.loop-line.invariant.end c.next_line.ensures.end;
       source_failures = search rules;
       sink_failures = same.0 ∙ c.loop-line.invariant.sink_failures;
       sink_refusals = same.1 ∙ c.loop-line.invariant.sink_refusals;
     }
 
-pub returns-in_err-map_err-clause-after_write : goal.returns-in_err-map_err-clause-after_write
-returns-in_err-map_err-clause-after_write g c = λ _ source_tells sink_tells.
+pub returns-in_err-map_err-clause-outcome : goal.returns-in_err-map_err-clause-outcome
+returns-in_err-map_err-clause-outcome g c =
+    let is : c.from_residual-in_err-map_err.result ≡ Err Write = search rules in
     let found = ok_mapped _ c.next_line.result c.map_err.result _ c.map_err.ensures.cases c.in_ok-line.was ∙ ap Ok c.in-Some.is in
-    AnswersLines-stopped _ _ _ _ _ _ _ _ _ _ _ _ _
-    (going_on (IfOk-at_ok _ found c.next_line.ensures.going) (c.loop-line.invariant.answered source_tells sink_tells))
-    (IfOk-at_ok _ found (c.next_line.ensures.line source_tells))
+    let stops = λ (tells : IsTrue g.S.Source.tells).
+    AnswersLines-stopped _ _ _ _ _ _ _ _ _ _ _ _ _ _
+    (going_on (IfOk-at_ok _ found c.next_line.ensures.going) (c.loop-line.invariant.answered tells))
+    (IfOk-at_ok _ found (c.next_line.ensures.line tells))
     (ap (line_answer c.loop-line.bench) (sym c.as_slice.ensures.value) ∙ c.answer_line.ensures.answer)
-    (subst (λ t. WritesFront (g.W.Sink.taken c.loop-line.sink) (g.W.Sink.taken c.write_all.new.sink) t) c.as_slice-in-Some.ensures.value (c.write_all.ensures.front sink_tells))
+    (λ told. subst (λ t. WritesFront (g.W.Sink.taken c.loop-line.sink) (g.W.Sink.taken c.write_all.new.sink) t) c.as_slice-in-Some.ensures.value (c.write_all.ensures.front told)) in
+    rw is (
+      record { source = search rules; sink = search rules; emptied = search rules; front = λ tells told. StopsAtWrite-front _ _ _ _ _ _ (stops tells) told },
+      stops,
+    )
 
-pub returns-in_err-map_err-clause-front : goal.returns-in_err-map_err-clause-front
-returns-in_err-map_err-clause-front g c = λ is source_tells sink_tells.
-    StopsAtWrite-front _ _ _ _ _ (returns-in_err-map_err-clause-after_write g c is source_tells sink_tells)
+pub returns-clause-outcome : goal.returns-clause-outcome
+returns-clause-outcome g c =
+    let found = ok_mapped _ c.next_line.result c.map_err.result _ c.map_err.ensures.cases c.in_ok-line.was ∙ ap Ok c.in_default.is in
+    let at_end = IfOk-at_ok _ found c.next_line.ensures.none in
+    let none = λ (tells : IsTrue g.S.Source.tells). IfOk-at_ok _ found (c.next_line.ensures.nothing tells) in
+    let end = TellsEnd-more _ _ _ c.loop-line.invariant.end c.next_line.ensures.end in
+    mapped (RunsLines g.W.Sink c.args.bench.now c.args.lines.now c.next_line.new.self c.args.sink.now c.flush.new.self) _ Write c.flush.result c.map_err-2.result c.map_err-2.ensures.cases (λ e d is. search rules)
+    (λ _ flushed. record {
+      at_end = at_end;
+      ended = end.ended at_end;
+      emptied = search rules;
+      source = search rules;
+      sink = search rules;
+      used_up = λ tells. (none tells).1;
+      written = λ tells told. c.flush.ensures.bytes told ∙ AnswersLines-all _ _ _ _ _ _ _ _ (c.loop-line.invariant.answered tells) (none tells).0 told;
+    })
+    (λ _ failed.
+    let stops = λ (tells : IsTrue g.S.Source.tells). AnswersLines-written _ _ _ _ _ _ _ _ _ _ (c.loop-line.invariant.answered tells) ((none tells).1 ∙ sym (none tells).0) c.flush.ensures.bytes in (
+      record { source = search rules; sink = search rules; emptied = search rules; front = λ tells told. StopsAtWrite-front _ _ _ _ _ _ (stops tells) told },
+      stops,
+    ))

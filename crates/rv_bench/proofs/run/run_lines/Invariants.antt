@@ -6,8 +6,8 @@ use Rattle.rv_bench.proofs.run.run_lines.Given as goal
 -- the lines so far are answered, and no call has failed
 abbrev pub invariant-loop-line : goal.invariant-loop-line
 invariant-loop-line g l = record {
-  answered : IsTrue g.S.Source.tells → IsTrue g.W.Sink.tells →
-      AnswersLines l.initial.bench (unread l.initial.lines) (g.W.Sink.taken l.initial.sink)
+  answered : IsTrue g.S.Source.tells →
+      AnswersLines l.initial.bench g.W.Sink.tells (unread l.initial.lines) (g.W.Sink.taken l.initial.sink)
       l.bench (unread l.lines) l.lines.is_at_end (g.W.Sink.taken l.sink);
   end : TellsEnd l.initial.lines l.lines;
   source_failures : g.S.Source.failures l.lines.source ≡ g.S.Source.failures l.initial.lines.source;

@@ -2,11 +2,11 @@ use Rattle.std.proofs.Common.{rules, sym}
 use Rattle.rv_bench.proofs.Starts.{started_ok, started_err}
 use Rattle.rv_bench.proofs.start.start.Goals as goal
 
-pub returns-in-Ok-planned-clause-machine : goal.returns-in-Ok-planned-clause-machine
-returns-in-Ok-planned-clause-machine c =
+pub returns-in-Ok-planned : goal.returns-in-Ok-planned
+returns-in-Ok-planned c =
     started_ok _ _ c.in-Ok-planned.plan _ _ _ _ c.in-Ok.ensures.ok_size (sym c.in-Ok-planned.ensures.value) c.in-Ok.ensures.made c.load.ensures.memory
     c.entry.ensures.value c.new-in-Ok-planned.ensures
 
-pub returns-in-Err-planned-clause-image : goal.returns-in-Err-planned-clause-image
-returns-in-Err-planned-clause-image c _ =
+pub returns-in-Err-planned : goal.returns-in-Err-planned
+returns-in-Err-planned c =
     started_err _ _ c.in-Err-planned.fault (search rules) (sym c.in-Err-planned.ensures.value)

@@ -1,0 +1,89 @@
+-- A run over an input, by its image and by its script.
+use Rattle.std.proofs.Common.{◌≡◌, ℕ, List, ◌++◌, inr, IsTrue, Result, Ok, Err, refl, sym, ◌∙◌, ap, subst, arith}
+use Rattle.std.specs.Result.{IsOkAnd}
+use Rattle.rv_text.specs.Lines.{lines_of}
+use Rattle.rv_hart.specs.State.{State}
+use Rattle.rv_debug.specs.BenchState.{bare}
+use Rattle.rv_memory.specs.declared.ram_fault.RamFault.TheVariants.{BadSize, NoMemory as NoRamMemory}
+use Rattle.rv_command_line.specs.declared.setup.Setup.{Setup}
+use Rattle.rv_bench.specs.declared.device.Sink.{Ghosts as SinkGhosts}
+use Rattle.rv_bench.specs.declared.device.Source.{Ghosts as SourceGhosts}
+use Rattle.rv_bench.specs.declared.fault.BenchFault.{BenchFault}
+use Rattle.rv_bench.specs.declared.fault.BenchFault.TheVariants.{Image, Ram, Read, Write}
+use Rattle.rv_bench.specs.declared.lines.Lines.{Lines}
+use Rattle.rv_bench.specs.Calls.{SourceFailed}
+use Rattle.rv_bench.specs.Image.{after_image, image_in}
+use Rattle.rv_bench.specs.Loaded.{started}
+use Rattle.rv_bench.specs.Output.{machine_in, output, replies_of}
+use Rattle.rv_bench.specs.ReadImage.{ReadsWholeImage}
+use Rattle.rv_bench.specs.Replies.{replies}
+use Rattle.rv_bench.specs.Run.{Outcome, RunsBench, StopsAtRead, StopsAtWrite}
+use Rattle.rv_bench.specs.Stream.{RunsStream}
+use Rattle.rv_bench.specs.Transfer.{WritesFront}
+use Rattle.rv_bench.specs.Unread.{held, unread, TellsEnd}
+use Rattle.rv_bench.proofs.Starts.{no_ram, has_ram, fault_has_ram}
+
+ok_and : {A E : Type 0} (r : Result A E) (P : A → Type 0) → IsOkAnd r P → (x : A) × (r ≡ Ok x) × P x
+ok_and (Ok x) P h = (x, refl, h)
+ok_and (Err e) P h = absurd h
+
+module _ {S W : Type 0} {g : SourceGhosts S} (h : SinkGhosts W) (setup : Setup) (image : List ℕ) (old mid new : Lines S g) (before after : W)
+    (reads : ReadsWholeImage old mid) (is : IsTrue g.tells → image_in (unread old) ≡ Ok image) (end : TellsEnd old new) where
+  -- the machine of the input is that of the image
+  machine_is : (r : Result State BenchFault) → started image setup ≡ r → IsTrue g.tells → machine_in setup (unread old) ≡ r
+  machine_is r starts tells = rw (is tells) starts
+
+  output_is : (state : State) → started image setup ≡ Ok state → IsTrue g.tells → output setup (unread old) ≡ Ok (replies (bare state) (lines_of (unread mid)))
+  output_is state starts tells =
+      ap (λ m. replies_of m (lines_of (after_image (unread old)))) (machine_is (Ok state) starts tells)
+      ∙ ap (λ t. Ok (replies (bare state) (lines_of t))) (sym (reads.rest tells))
+
+  fault_is : (fault : BenchFault) → started image setup ≡ Err fault → IsTrue g.tells → output setup (unread old) ≡ Err fault
+  fault_is fault starts tells = ap (λ m. replies_of m (lines_of (after_image (unread old)))) (machine_is (Err fault) starts tells)
+
+  failed : SourceFailed g mid.source new.source → SourceFailed g old.source new.source
+  failed risen = let same = reads.source in omega (arith, risen, same)
+
+  -- the image was read and the script is run
+  pub streamed : (outcome : Outcome) → RunsBench h image setup mid new before after outcome → RunsStream h setup old new before after outcome
+  streamed (Ok done) runs =
+      let (state, starts, run) = ok_and (started image setup) _ runs in (
+        has_ram image setup state starts,
+        record {
+          at_end = run.at_end;
+          ended = end.ended run.at_end;
+          emptied = run.emptied;
+          source = run.source ∙ reads.source;
+          sink = run.sink;
+          used_up = run.used_up;
+          written = λ tells. subst (λ o. IsOkAnd o (λ text. IsTrue h.tells → h.taken after ≡ h.taken before ++ text)) (sym (output_is state starts tells)) (run.written tells);
+        },
+      )
+  streamed (Err Read) runs =
+      let (state, starts, run) = ok_and (started image setup) _ runs in (
+        record { source = failed run.0.source; sink = run.0.sink; going = run.0.going },
+        λ tells. inr (
+            subst (λ m. IsOkAnd m (λ state. StopsAtRead (bare state) h.tells (after_image (unread old)) (g.remaining new.source) (held new) (h.taken before) (h.taken after))) (sym (machine_is (Ok state) starts tells))
+            (subst (λ t. StopsAtRead (bare state) h.tells t (g.remaining new.source) (held new) (h.taken before) (h.taken after)) (reads.rest tells) (run.1 tells))
+            ),
+      )
+  streamed (Err Write) runs =
+      let (state, starts, run) = ok_and (started image setup) _ runs in (
+        has_ram image setup state starts,
+        record {
+          source = run.0.source ∙ reads.source;
+          sink = run.0.sink;
+          emptied = run.0.emptied;
+          front = λ tells. subst (λ o. IsOkAnd o (λ text. IsTrue h.tells → WritesFront (h.taken before) (h.taken after) text)) (sym (output_is state starts tells)) (run.0.front tells);
+        },
+        λ tells.
+            subst (λ m. IsOkAnd m (λ state. StopsAtWrite (bare state) h.tells (after_image (unread old)) (unread new) (h.taken before) (h.taken after))) (sym (machine_is (Ok state) starts tells))
+            (subst (λ t. StopsAtWrite (bare state) h.tells t (unread new) (h.taken before) (h.taken after)) (reads.rest tells) (run.1 tells)),
+      )
+  streamed (Err (Ram BadSize)) (none, same, unwritten) =
+      (none, subst (ReadsWholeImage old) (sym same) reads, fault_is (Ram BadSize) (no_ram image setup none), unwritten)
+  streamed (Err (Ram NoRamMemory)) (some, same, unwritten) =
+      (some, subst (ReadsWholeImage old) (sym same) reads, λ tells. rw (is tells) refl, unwritten)
+  streamed (Err (Image fault)) (faulty, same, unwritten) =
+      (fault_has_ram image setup fault faulty, subst (ReadsWholeImage old) (sym same) reads, fault_is (Image fault) faulty, unwritten)
+  streamed (Err _) runs = absurd (ok_and (started image setup) _ runs).2

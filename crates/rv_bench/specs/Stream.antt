@@ -1,0 +1,50 @@
+-- What a run over an input does, result by result: an image, the line `--`, and a script. (This project's own streams.)
+use Rattle.std.specs.Prelude.{◌≡◌, ◌⊎◌, true, false, IsTrue, IsOk, IsOkAnd, Ok, Err}
+use Rattle.rv_debug.specs.BenchState.{bare}
+use Rattle.rv_memory.specs.Memory.{is_ram_size}
+use Rattle.rv_memory.specs.declared.ram_fault.RamFault.TheVariants.{BadSize, NoMemory as NoRamMemory}
+use Rattle.rv_command_line.specs.declared.setup.Setup.{Setup}
+use Rattle.rv_bench.specs.declared.device.Sink.{Ghosts as SinkGhosts}
+use Rattle.rv_bench.specs.declared.device.Source.{Ghosts as SourceGhosts}
+use Rattle.rv_bench.specs.declared.fault.BenchFault.{BenchFault}
+use Rattle.rv_bench.specs.declared.fault.BenchFault.TheVariants.{Image, Ram, Read, Write, Hex, TooLong, NoMemory}
+use Rattle.rv_bench.specs.declared.lines.Lines.{Lines}
+use Rattle.rv_bench.specs.Image.{after_image, image_in, ReadsInImage}
+use Rattle.rv_bench.specs.Output.{machine_in, output}
+use Rattle.rv_bench.specs.ReadImage.{ReadsWholeImage, FindsFault, LacksMemory}
+use Rattle.rv_bench.specs.Run.{Outcome, RunsToEnd, FailsToRead, FailsToWrite, StopsAtRead, StopsAtWrite}
+use Rattle.rv_bench.specs.Unread.{held, unread}
+
+module _ {S W : Type 0} {g : SourceGhosts S} (h : SinkGhosts W) (setup : Setup) (old new : Lines S g) (before after : W) where
+  -- what the input denotes, where the source tells it: the output, or its fault
+  abbrev pub IsFault : BenchFault → Type 0
+  IsFault fault = IsTrue g.tells → output setup (unread old) ≡ Err fault
+
+  -- The source failed: in the image, when nothing is written, or else in the script.
+  abbrev pub StopsStreamAtRead : Type 0
+  StopsStreamAtRead =
+      (ReadsInImage (unread old) (g.remaining new.source) (held new) × (after ≡ before))
+      ⊎ IsOkAnd (machine_in setup (unread old)) (λ state.
+      StopsAtRead (bare state) h.tells (after_image (unread old)) (g.remaining new.source) (held new) (h.taken before) (h.taken after))
+
+  -- The sink failed in the script.
+  abbrev pub StopsStreamAtWrite : Type 0
+  StopsStreamAtWrite =
+      IsOkAnd (machine_in setup (unread old)) (λ state.
+      StopsAtWrite (bare state) h.tells (after_image (unread old)) (unread new) (h.taken before) (h.taken after))
+
+  -- What each result of `run_stream` means. The image's text, the RAM's size and the image are asked in this order, before a
+  -- byte is written.
+  abbrev pub RunsStream : Outcome → Type 0
+  RunsStream (Ok _) = (is_ram_size setup.ram ≡ true) × RunsToEnd h (output setup (unread old)) old new before after
+  RunsStream (Err Read) = FailsToRead h old new before after × (IsTrue g.tells → StopsStreamAtRead)
+  RunsStream (Err Write) =
+      (is_ram_size setup.ram ≡ true) × FailsToWrite h (output setup (unread old)) old new before after × (IsTrue g.tells → StopsStreamAtWrite)
+  RunsStream (Err Hex) = FindsFault Hex old new × IsFault Hex × (after ≡ before)
+  RunsStream (Err TooLong) = FindsFault TooLong old new × IsFault TooLong × (after ≡ before)
+  RunsStream (Err NoMemory) = LacksMemory old new × (after ≡ before)
+  RunsStream (Err (Ram BadSize)) = (is_ram_size setup.ram ≡ false) × ReadsWholeImage old new × IsFault (Ram BadSize) × (after ≡ before)
+  RunsStream (Err (Ram NoRamMemory)) =
+      (is_ram_size setup.ram ≡ true) × ReadsWholeImage old new × (IsTrue g.tells → IsOk (image_in (unread old))) × (after ≡ before)
+  RunsStream (Err (Image fault)) = (is_ram_size setup.ram ≡ true) × ReadsWholeImage old new × IsFault (Image fault) × (after ≡ before)
+  RunsStream (Err _) = ⊥
