@@ -1,6 +1,6 @@
 -- A run, line by line.
 use Rattle.std.proofs.Common.{◌≡◌, ℕ, Bool, false, IsTrue, List, [], ◌∷◌, ◌++◌, take, refl, sym, ◌∙◌, ap, subst, append_assoc, append-nil, lit≤}
-use Rattle.rv_debug.proofs.Answers.{line_answer-cut}
+use Rattle.std.proofs.lemmas.List.{take-take}
 use Rattle.rv_debug.specs.Answer.{Answered, line_answer}
 use Rattle.rv_debug.specs.BenchState.{BenchState}
 use Rattle.rv_bench.specs.Replies.{replies, state_after}
@@ -26,25 +26,29 @@ AnswersLines-none start tells unread old is_at_end = record {
   written = λ _. sym (append-nil old);
 }
 
--- what the machine answers to the shown front of a line is the answer to the line
-shown-answer : (now : BenchState) (shown line : List ℕ) (answered : Answered) → shown ≡ take 121 line → line_answer now shown ≡ answered → line_answer now line ≡ answered
-shown-answer now shown line answered front is = sym (line_answer-cut now line) ∙ (ap (line_answer now) (sym front) ∙ is)
+-- every line that begins as this one has its answer
+abbrev pub AnswersFronts : BenchState → List ℕ → Type 0
+AnswersFronts now shown = (other : List ℕ) → take 121 other ≡ take 121 shown → line_answer now other ≡ line_answer now shown
 
--- the machine after the lines so far answers the next line
+-- what the bench answers to the shown front of a line is the answer to the line
+shown-answer : (now : BenchState) (shown line : List ℕ) (answered : Answered) → AnswersFronts now shown → shown ≡ take 121 line → line_answer now shown ≡ answered → line_answer now line ≡ answered
+shown-answer now shown line answered fronts front is = fronts line (sym (ap (take 121) front ∙ take-take 121 121 line (lit≤ tt))) ∙ is
+
+-- the bench after the lines so far answers the next line
 next-answer : (start : BenchState) (tells : Bool) (unread old : List ℕ) (now : BenchState) (left mid rest : List ℕ) (ends : Bool) (shown : List ℕ) (answered : Answered)
-    → (so_far : AnswersLines start tells unread old now left false mid) → (takes : TakesLine left rest ends shown) → line_answer now shown ≡ answered
+    → (so_far : AnswersLines start tells unread old now left false mid) → (takes : TakesLine left rest ends shown) → AnswersFronts now shown → line_answer now shown ≡ answered
     → line_answer (state_after start so_far.lines) takes.line ≡ answered
-next-answer start tells unread old now left mid rest ends shown answered so_far takes is =
-    ap (λ s. line_answer s takes.line) (sym so_far.state) ∙ shown-answer now shown takes.line answered takes.front is
+next-answer start tells unread old now left mid rest ends shown answered so_far takes fronts is =
+    ap (λ s. line_answer s takes.line) (sym so_far.state) ∙ shown-answer now shown takes.line answered fronts takes.front is
 
 -- one more line is answered
 pub AnswersLines-more : (start : BenchState) (tells : Bool) (unread old : List ℕ) (now : BenchState) (left mid : List ℕ) (after : BenchState) (rest : List ℕ) (ends : Bool) (new shown reply : List ℕ) (entered : ℕ)
     → AnswersLines start tells unread old now left false mid → TakesLine left rest ends shown
-    → line_answer now shown ≡ record { state = after; reply = reply; entered = entered } → (IsTrue tells → new ≡ mid ++ reply) → AnswersLines start tells unread old after rest ends new
-AnswersLines-more start tells unread old now left mid after rest ends new shown reply entered so_far takes is wrote =
+    → AnswersFronts now shown → line_answer now shown ≡ record { state = after; reply = reply; entered = entered } → (IsTrue tells → new ≡ mid ++ reply) → AnswersLines start tells unread old after rest ends new
+AnswersLines-more start tells unread old now left mid after rest ends new shown reply entered so_far takes fronts is wrote =
     let lines = so_far.lines in
     let line = takes.line in
-    let here = next-answer start tells unread old now left mid rest ends shown _ so_far takes is in record {
+    let here = next-answer start tells unread old now left mid rest ends shown _ so_far takes fronts is in record {
       lines = lines ++ line ∷ [];
       reads = ReadsLines-more unread left rest ends shown lines so_far.reads takes;
       state = sym (state_after-append start lines (line ∷ []) ∙ ap (λ (a : Answered). a.state) here);
@@ -85,11 +89,11 @@ AnswersLines-written start tells unread old now left mid is_at_end rest new so_f
 -- the sink stops within the reply to one more line
 pub AnswersLines-stopped : (start : BenchState) (tells : Bool) (unread old : List ℕ) (now : BenchState) (left mid : List ℕ) (after : BenchState) (rest : List ℕ) (ends : Bool) (new shown reply : List ℕ) (entered : ℕ)
     → AnswersLines start tells unread old now left false mid → TakesLine left rest ends shown
-    → line_answer now shown ≡ record { state = after; reply = reply; entered = entered } → (IsTrue tells → WritesFront mid new reply) → StopsAtWrite start tells unread rest old new
+    → AnswersFronts now shown → line_answer now shown ≡ record { state = after; reply = reply; entered = entered } → (IsTrue tells → WritesFront mid new reply) → StopsAtWrite start tells unread rest old new
 unfolding AnswersLines-more
-AnswersLines-stopped start tells unread old now left mid after rest ends new shown reply entered so_far takes is stops =
-    let all = AnswersLines-more start tells unread old now left mid after rest ends (mid ++ reply) shown reply entered so_far takes is (λ _. refl) in
-    let here = next-answer start tells unread old now left mid rest ends shown _ so_far takes is in
+AnswersLines-stopped start tells unread old now left mid after rest ends new shown reply entered so_far takes fronts is stops =
+    let all = AnswersLines-more start tells unread old now left mid after rest ends (mid ++ reply) shown reply entered so_far takes fronts is (λ _. refl) in
+    let here = next-answer start tells unread old now left mid rest ends shown _ so_far takes fronts is in
     let said = append-nil (line_answer (state_after start so_far.lines) takes.line).reply ∙ ap (λ (a : Answered). a.reply) here in record {
       text = all.reads.text;
       answered = so_far.lines;

@@ -1,8 +1,8 @@
--- The machine that an image starts.
+-- The bench that an image starts.
 use Rattle.std.proofs.Common.{◌≡◌, ℕ, Bool, true, false, cond, List, replicate, Ok, Err, refl}
 use Rattle.rv_word.specs.Cases.{result_case}
 use Rattle.rv_memory.specs.Memory.{is_ram_size}
-use Rattle.rv_hart.specs.State.{State}
+use Rattle.rv_debug.specs.BenchState.{BenchState, bare}
 use Rattle.rv_hart.specs.Hart.{at_reset}
 use Rattle.rv_pmp.specs.declared.mode.Mode.TheVariants.{M}
 use Rattle.rv_elf.specs.Loaded.{loaded}
@@ -13,13 +13,13 @@ use Rattle.rv_bench.specs.declared.fault.BenchFault.TheVariants.{Image, Ram}
 use Rattle.rv_memory.specs.declared.ram_fault.RamFault.TheVariants.{BadSize}
 use Rattle.rv_bench.specs.Loaded.{planned, reset_over, started}
 
--- a RAM that is made, loaded by the image's plan and given to a machine
-pub started_ok : (image : List ℕ) (setup : Setup) (plan : LoadPlan) (zeros memory : List ℕ) (entry : ℕ) (machine : State)
+-- a RAM that is made, loaded by the image's plan and given to a bench
+pub started_ok : (image : List ℕ) (setup : Setup) (plan : LoadPlan) (zeros memory : List ℕ) (entry : ℕ) (bench : BenchState)
     → is_ram_size setup.ram ≡ true → planned image setup ≡ Ok plan → zeros ≡ replicate setup.ram 0
     → memory ≡ loaded image plan.segments zeros → entry ≡ plan.entry
-    → machine ≡ record { hart = at_reset entry M; memory = memory } → started image setup ≡ Ok machine
+    → bench ≡ bare (record { hart = at_reset entry M; memory = memory }) → started image setup ≡ Ok bench
 unfolding started
-started_ok image setup plan zeros memory entry machine lawful plans made loads enters is =
+started_ok image setup plan zeros memory entry bench lawful plans made loads enters is =
     rw (lawful, plans, is, enters, loads, made) refl
 
 -- an image that can not be loaded
@@ -33,11 +33,11 @@ pub no_ram : (image : List ℕ) (setup : Setup) → is_ram_size setup.ram ≡ fa
 unfolding started
 no_ram image setup unlawful = rw unlawful refl
 
--- a machine that starts has a RAM
-pub has_ram : (image : List ℕ) (setup : Setup) (machine : State) → started image setup ≡ Ok machine → is_ram_size setup.ram ≡ true
+-- a bench that starts has a RAM
+pub has_ram : (image : List ℕ) (setup : Setup) (bench : BenchState) → started image setup ≡ Ok bench → is_ram_size setup.ram ≡ true
 unfolding started
-has_ram image setup machine is = go (is_ram_size setup.ram) is where
-  go : (b : Bool) → cond b (result_case (planned image setup) (λ plan. Ok (reset_over image setup plan)) (λ fault. Err (Image fault))) (Err (Ram BadSize)) ≡ Ok machine → b ≡ true
+has_ram image setup bench is = go (is_ram_size setup.ram) is where
+  go : (b : Bool) → cond b (result_case (planned image setup) (λ plan. Ok (reset_over image setup plan)) (λ fault. Err (Image fault))) (Err (Ram BadSize)) ≡ Ok bench → b ≡ true
   go true e = refl
   go false e = cc
 

@@ -2,8 +2,7 @@
 use Rattle.std.proofs.Common.{◌≡◌, ℕ, List, ◌++◌, inr, IsTrue, Result, Ok, Err, refl, sym, ◌∙◌, ap, subst, arith}
 use Rattle.std.specs.Result.{IsOkAnd}
 use Rattle.rv_text.specs.Lines.{lines_of}
-use Rattle.rv_hart.specs.State.{State}
-use Rattle.rv_debug.specs.BenchState.{bare}
+use Rattle.rv_debug.specs.BenchState.{BenchState}
 use Rattle.rv_memory.specs.declared.ram_fault.RamFault.TheVariants.{BadSize, NoMemory as NoRamMemory}
 use Rattle.rv_command_line.specs.declared.setup.Setup.{Setup}
 use Rattle.rv_bench.specs.declared.device.Sink.{Ghosts as SinkGhosts}
@@ -14,7 +13,7 @@ use Rattle.rv_bench.specs.declared.lines.Lines.{Lines}
 use Rattle.rv_bench.specs.Calls.{SourceFailed}
 use Rattle.rv_bench.specs.Image.{after_image, image_in}
 use Rattle.rv_bench.specs.Loaded.{started}
-use Rattle.rv_bench.specs.Output.{machine_in, output, replies_of}
+use Rattle.rv_bench.specs.Output.{bench_in, output, replies_of}
 use Rattle.rv_bench.specs.ReadImage.{ReadsWholeImage}
 use Rattle.rv_bench.specs.Replies.{replies}
 use Rattle.rv_bench.specs.Run.{Outcome, RunsBench, StopsAtRead, StopsAtWrite}
@@ -29,17 +28,17 @@ ok_and (Err e) P h = absurd h
 
 module _ {S W : Type 0} {g : SourceGhosts S} (h : SinkGhosts W) (setup : Setup) (image : List ℕ) (old mid new : Lines S g) (before after : W)
     (reads : ReadsWholeImage old mid) (is : IsTrue g.tells → image_in (unread old) ≡ Ok image) (end : TellsEnd old new) where
-  -- the machine of the input is that of the image
-  machine_is : (r : Result State BenchFault) → started image setup ≡ r → IsTrue g.tells → machine_in setup (unread old) ≡ r
-  machine_is r starts tells = rw (is tells) starts
+  -- the bench of the input is that of the image
+  bench_is : (r : Result BenchState BenchFault) → started image setup ≡ r → IsTrue g.tells → bench_in setup (unread old) ≡ r
+  bench_is r starts tells = rw (is tells) starts
 
-  output_is : (state : State) → started image setup ≡ Ok state → IsTrue g.tells → output setup (unread old) ≡ Ok (replies (bare state) (lines_of (unread mid)))
+  output_is : (state : BenchState) → started image setup ≡ Ok state → IsTrue g.tells → output setup (unread old) ≡ Ok (replies state (lines_of (unread mid)))
   output_is state starts tells =
-      ap (λ m. replies_of m (lines_of (after_image (unread old)))) (machine_is (Ok state) starts tells)
-      ∙ ap (λ t. Ok (replies (bare state) (lines_of t))) (sym (reads.rest tells))
+      ap (λ m. replies_of m (lines_of (after_image (unread old)))) (bench_is (Ok state) starts tells)
+      ∙ ap (λ t. Ok (replies state (lines_of t))) (sym (reads.rest tells))
 
   fault_is : (fault : BenchFault) → started image setup ≡ Err fault → IsTrue g.tells → output setup (unread old) ≡ Err fault
-  fault_is fault starts tells = ap (λ m. replies_of m (lines_of (after_image (unread old)))) (machine_is (Err fault) starts tells)
+  fault_is fault starts tells = ap (λ m. replies_of m (lines_of (after_image (unread old)))) (bench_is (Err fault) starts tells)
 
   failed : SourceFailed g mid.source new.source → SourceFailed g old.source new.source
   failed risen = let same = reads.source in omega (arith, risen, same)
@@ -63,8 +62,8 @@ module _ {S W : Type 0} {g : SourceGhosts S} (h : SinkGhosts W) (setup : Setup) 
       let (state, starts, run) = ok_and (started image setup) _ runs in (
         record { source = failed run.0.source; sink = run.0.sink; going = run.0.going },
         λ tells. inr (
-            subst (λ m. IsOkAnd m (λ state. StopsAtRead (bare state) h.tells (after_image (unread old)) (g.remaining new.source) (held new) (h.taken before) (h.taken after))) (sym (machine_is (Ok state) starts tells))
-            (subst (λ t. StopsAtRead (bare state) h.tells t (g.remaining new.source) (held new) (h.taken before) (h.taken after)) (reads.rest tells) (run.1 tells))
+            subst (λ m. IsOkAnd m (λ state. StopsAtRead state h.tells (after_image (unread old)) (g.remaining new.source) (held new) (h.taken before) (h.taken after))) (sym (bench_is (Ok state) starts tells))
+            (subst (λ t. StopsAtRead state h.tells t (g.remaining new.source) (held new) (h.taken before) (h.taken after)) (reads.rest tells) (run.1 tells))
             ),
       )
   streamed (Err Write) runs =
@@ -77,8 +76,8 @@ module _ {S W : Type 0} {g : SourceGhosts S} (h : SinkGhosts W) (setup : Setup) 
           front = λ tells. subst (λ o. IsOkAnd o (λ text. IsTrue h.tells → WritesFront (h.taken before) (h.taken after) text)) (sym (output_is state starts tells)) (run.0.front tells);
         },
         λ tells.
-            subst (λ m. IsOkAnd m (λ state. StopsAtWrite (bare state) h.tells (after_image (unread old)) (unread new) (h.taken before) (h.taken after))) (sym (machine_is (Ok state) starts tells))
-            (subst (λ t. StopsAtWrite (bare state) h.tells t (unread new) (h.taken before) (h.taken after)) (reads.rest tells) (run.1 tells)),
+            subst (λ m. IsOkAnd m (λ state. StopsAtWrite state h.tells (after_image (unread old)) (unread new) (h.taken before) (h.taken after))) (sym (bench_is (Ok state) starts tells))
+            (subst (λ t. StopsAtWrite state h.tells t (unread new) (h.taken before) (h.taken after)) (reads.rest tells) (run.1 tells)),
       )
   streamed (Err (Ram BadSize)) (none, same, unwritten) =
       (none, subst (ReadsWholeImage old) (sym same) reads, fault_is (Ram BadSize) (no_ram image setup none), unwritten)

@@ -1,12 +1,12 @@
--- What an image denotes: the memory and the entry that it gives, or its fault (System V gABI, chapter 5, program loading).
+-- What an image denotes: the bench that it starts, by the memory and the entry that it gives, or its fault (System V gABI, chapter 5, program loading).
 use Rattle.std.specs.Prelude.{◌≡◌, ℕ, Bool, true, false, List, length, replicate, take, Result, Ok, Err, if◌then◌else◌}
 use Rattle.std.specs.Str.{bytes_eq}
 use Rattle.rv_word.specs.Cases.{result_case}
 use Rattle.rv_pmp.specs.declared.mode.Mode.TheVariants.{M}
 use Rattle.rv_hart.specs.Hart.{at_reset}
-use Rattle.rv_hart.specs.State.{State}
 use Rattle.rv_memory.specs.Memory.{is_ram_size}
 use Rattle.rv_memory.specs.declared.ram_fault.RamFault.TheVariants.{BadSize, NoMemory as NoRamMemory}
+use Rattle.rv_debug.specs.BenchState.{BenchState, bare}
 use Rattle.rv_elf.specs.Fields.{magic}
 use Rattle.rv_elf.specs.Loaded.{loaded}
 use Rattle.rv_elf.specs.Plans.{LoadPlan, file_plan, raw_plan}
@@ -28,21 +28,21 @@ abbrev pub planned : List ℕ → Setup → Result LoadPlan ElfFault
 planned image setup =
     if is_read_as_elf setup.kind image then file_plan image setup.ram else raw_plan (length image) setup.ram
 
--- the machine at reset over the loaded memory, every other byte of which is 0
-abbrev pub reset_over : List ℕ → Setup → LoadPlan → State
+-- the bench at reset over the loaded memory, every other byte of which is 0
+abbrev pub reset_over : List ℕ → Setup → LoadPlan → BenchState
 reset_over image setup plan =
-    record { hart = at_reset plan.entry M; memory = loaded image plan.segments (replicate setup.ram 0) }
+    bare (record { hart = at_reset plan.entry M; memory = loaded image plan.segments (replicate setup.ram 0) })
 
--- the machine at reset, or the first fault: of the RAM's size, then of the image
-unfoldable pub started : List ℕ → Setup → Result State BenchFault
+-- the bench at reset, or the first fault: of the RAM's size, then of the image
+unfoldable pub started : List ℕ → Setup → Result BenchState BenchFault
 started image setup =
     if is_ram_size setup.ram
     then result_case (planned image setup) (λ plan. Ok (reset_over image setup plan)) (λ fault. Err (Image fault))
     else Err (Ram BadSize)
 
--- what each result of starting a machine means: the size of the RAM is asked before the image
-abbrev pub Starts : List ℕ → Setup → Result State BenchFault → Type 0
-Starts image setup (Ok machine) = started image setup ≡ Ok machine
+-- what each result of starting a bench means: the size of the RAM is asked before the image
+abbrev pub Starts : List ℕ → Setup → Result BenchState BenchFault → Type 0
+Starts image setup (Ok bench) = started image setup ≡ Ok bench
 Starts image setup (Err (Ram BadSize)) = is_ram_size setup.ram ≡ false
 Starts image setup (Err (Ram NoRamMemory)) = is_ram_size setup.ram ≡ true
 Starts image setup (Err (Image fault)) = started image setup ≡ Err (Image fault)

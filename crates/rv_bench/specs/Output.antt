@@ -6,18 +6,17 @@ use Rattle.rv_bench.specs.Image.{image_in, after_image}
 use Rattle.rv_text.specs.Lines.{lines_of}
 use Rattle.rv_bench.specs.Loaded.{started}
 use Rattle.rv_command_line.specs.declared.setup.Setup.{Setup}
-use Rattle.rv_debug.specs.BenchState.{bare}
-use Rattle.rv_hart.specs.State.{State}
+use Rattle.rv_debug.specs.BenchState.{BenchState}
 use Rattle.rv_bench.specs.declared.fault.BenchFault.{BenchFault}
 
--- the replies of a machine that has started, or the fault
-abbrev pub replies_of : Result State BenchFault → List (List ℕ) → Result (List ℕ) BenchFault
-replies_of machine script = result_case machine (λ state. Ok (replies (bare state) script)) Err
+-- the replies of a bench that has started, or the fault
+abbrev pub replies_of : Result BenchState BenchFault → List (List ℕ) → Result (List ℕ) BenchFault
+replies_of bench script = result_case bench (λ state. Ok (replies state script)) Err
 
--- the machine that the front of an input starts, or the first fault: of the image's text, the RAM's size or the image
-abbrev pub machine_in : Setup → List ℕ → Result State BenchFault
-machine_in setup input = result_case (image_in input) (λ image. started image setup) Err
+-- the bench that the front of an input starts, or the first fault: of the image's text, the RAM's size or the image
+abbrev pub bench_in : Setup → List ℕ → Result BenchState BenchFault
+bench_in setup input = result_case (image_in input) (λ image. started image setup) Err
 
 -- the replies to the script in an input, or the fault
 abbrev pub output : Setup → List ℕ → Result (List ℕ) BenchFault
-output setup input = replies_of (machine_in setup input) (lines_of (after_image input))
+output setup input = replies_of (bench_in setup input) (lines_of (after_image input))

@@ -1,7 +1,7 @@
 -- What a run over the lines of a script does, result by result. (This project's own streams.)
 use Rattle.std.specs.Prelude.{◌≡◌, ℕ, ◌≤◌, Bool, true, false, List, [], ◌++◌, length, take, IsTrue, IsOkAnd, Result, Ok, Err}
 use Rattle.rv_text.specs.Lines.{has_feed, lines_of, through_last_feed}
-use Rattle.rv_debug.specs.BenchState.{BenchState, bare}
+use Rattle.rv_debug.specs.BenchState.{BenchState}
 use Rattle.rv_memory.specs.Memory.{is_ram_size}
 use Rattle.rv_memory.specs.declared.ram_fault.RamFault.TheVariants.{BadSize, NoMemory as NoRamMemory}
 use Rattle.rv_command_line.specs.declared.setup.Setup.{Setup}
@@ -79,9 +79,9 @@ module _ {S W : Type 0} {g : SourceGhosts S} (h : SinkGhosts W) where
   RunsLines bench old new before after (Err _) = ⊥
 
   -- What each result of `run_bench` means. Where the setup or the image has a fault, nothing is read or written; else the lines
-  -- are run by the machine that the image starts.
+  -- are run by the bench that the image starts.
   abbrev pub RunsBench : List ℕ → Setup → Lines S g → Lines S g → W → W → Outcome → Type 0
   RunsBench image setup old new before after (Err (Ram BadSize)) = (is_ram_size setup.ram ≡ false) × (new ≡ old) × (after ≡ before)
   RunsBench image setup old new before after (Err (Ram NoRamMemory)) = (is_ram_size setup.ram ≡ true) × (new ≡ old) × (after ≡ before)
   RunsBench image setup old new before after (Err (Image fault)) = (started image setup ≡ Err (Image fault)) × (new ≡ old) × (after ≡ before)
-  RunsBench image setup old new before after outcome = IsOkAnd (started image setup) (λ state. RunsLines (bare state) old new before after outcome)
+  RunsBench image setup old new before after outcome = IsOkAnd (started image setup) (λ state. RunsLines state old new before after outcome)

@@ -1,6 +1,5 @@
 -- What a run over an input does, result by result: an image, the line `--`, and a script. (This project's own streams.)
 use Rattle.std.specs.Prelude.{◌≡◌, ◌⊎◌, true, false, IsTrue, IsOk, IsOkAnd, Ok, Err}
-use Rattle.rv_debug.specs.BenchState.{bare}
 use Rattle.rv_memory.specs.Memory.{is_ram_size}
 use Rattle.rv_memory.specs.declared.ram_fault.RamFault.TheVariants.{BadSize, NoMemory as NoRamMemory}
 use Rattle.rv_command_line.specs.declared.setup.Setup.{Setup}
@@ -10,7 +9,7 @@ use Rattle.rv_bench.specs.declared.fault.BenchFault.{BenchFault}
 use Rattle.rv_bench.specs.declared.fault.BenchFault.TheVariants.{Image, Ram, Read, Write, Hex, TooLong, NoMemory}
 use Rattle.rv_bench.specs.declared.lines.Lines.{Lines}
 use Rattle.rv_bench.specs.Image.{after_image, image_in, ReadsInImage}
-use Rattle.rv_bench.specs.Output.{machine_in, output}
+use Rattle.rv_bench.specs.Output.{bench_in, output}
 use Rattle.rv_bench.specs.ReadImage.{ReadsWholeImage, FindsFault, LacksMemory}
 use Rattle.rv_bench.specs.Run.{Outcome, RunsToEnd, FailsToRead, FailsToWrite, StopsAtRead, StopsAtWrite}
 use Rattle.rv_bench.specs.Unread.{held, unread}
@@ -24,14 +23,14 @@ module _ {S W : Type 0} {g : SourceGhosts S} (h : SinkGhosts W) (setup : Setup) 
   abbrev pub StopsStreamAtRead : Type 0
   StopsStreamAtRead =
       (ReadsInImage (unread old) (g.remaining new.source) (held new) × (after ≡ before))
-      ⊎ IsOkAnd (machine_in setup (unread old)) (λ state.
-      StopsAtRead (bare state) h.tells (after_image (unread old)) (g.remaining new.source) (held new) (h.taken before) (h.taken after))
+      ⊎ IsOkAnd (bench_in setup (unread old)) (λ state.
+      StopsAtRead state h.tells (after_image (unread old)) (g.remaining new.source) (held new) (h.taken before) (h.taken after))
 
   -- The sink failed in the script.
   abbrev pub StopsStreamAtWrite : Type 0
   StopsStreamAtWrite =
-      IsOkAnd (machine_in setup (unread old)) (λ state.
-      StopsAtWrite (bare state) h.tells (after_image (unread old)) (unread new) (h.taken before) (h.taken after))
+      IsOkAnd (bench_in setup (unread old)) (λ state.
+      StopsAtWrite state h.tells (after_image (unread old)) (unread new) (h.taken before) (h.taken after))
 
   -- What each result of `run_stream` means. The image's text, the RAM's size and the image are asked in this order, before a
   -- byte is written.

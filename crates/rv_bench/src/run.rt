@@ -55,7 +55,7 @@ pub fn run_bench<S: Source, W: Sink>(
     ensures outcome { RunsBench W.Sink image.now setup.now lines.old lines.new sink.old sink.new result }
     ensures end { TellsEnd lines.old lines.new }
 {
-    let mut bench = Bench::bare(start(alloc, image, setup)?);
+    let mut bench = start(alloc, image, setup)?;
     run_lines(&mut bench, lines, sink)
 }
 

@@ -1,10 +1,11 @@
-//! The machine that an image starts.
+//! The bench that an image starts.
 
 ghost use Rattle.std.specs.Prelude.{◌≡◌, length, IfOk};
 ghost use Rattle.rv_bench.specs.Loaded.{is_read_as_elf as is_read_as_elf_of, planned as planned_of, Starts};
 
 use crate::fault::BenchFault;
 use rv_command_line::{ImageKind, Setup};
+use rv_debug::Bench;
 use rv_elf::{ElfFault, Plan, is_elf, load, plan, plan_raw};
 use rv_hart::Machine;
 use rv_memory::Ram;
@@ -38,8 +39,8 @@ fn planned(image: &[u8], setup: &Setup) -> Result<Plan, ElfFault>
     }
 }
 
-/// The machine at reset, with the image in its RAM.
-pub(crate) fn start(alloc: Global, image: &[u8], setup: &Setup) -> Result<Machine, BenchFault>
+/// The bench at reset, with the image in its RAM.
+pub(crate) fn start(alloc: Global, image: &[u8], setup: &Setup) -> Result<Bench, BenchFault>
     ensures { Starts image.now setup.now result }
 {
     let mut ram = match Ram::new(alloc, setup.ram) {
@@ -49,7 +50,8 @@ pub(crate) fn start(alloc: Global, image: &[u8], setup: &Setup) -> Result<Machin
     match planned(image, setup) {
         Ok(plan) => {
             load(&plan, image, &mut ram);
-            Ok(Machine::new(ram, plan.entry(), Mode::M))
+            let machine = Machine::new(ram, plan.entry(), Mode::M);
+            Ok(Bench::bare(machine))
         }
         Err(fault) => Err(BenchFault::Image(fault)),
     }

@@ -1,6 +1,6 @@
 mod AddressLaws
 pub mod AddressLemmas
-pub mod Answers
+mod Answers
 mod BareRuns
 mod CommandExamples
 mod Commands

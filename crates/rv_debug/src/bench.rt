@@ -29,7 +29,7 @@ impl Model for Bench {
 }
 
 impl Bench {
-    ghost use Rattle.std.specs.Prelude.{◌≡◌, take};
+    ghost use Rattle.std.specs.Prelude.{◌≡◌, ℕ, List, take};
     ghost use Rattle.rv_debug.specs.Answer.{answer, line_answer};
     ghost use Rattle.rv_debug.specs.BenchState.{bare};
     ghost use Rattle.rv_debug.specs.Targets.{IsBare};
@@ -87,12 +87,12 @@ impl Bench {
     }
 
     /// Does what a line says, given without its ending, or replies with its first fault, and then nothing changes. The reply
-    /// is put in place of what the buffer holds. Returns what `command` returns, and 0 at a fault. No more than the first 121
-    /// bytes of the line matter.
+    /// is put in place of what the buffer holds. Returns what `command` returns, and 0 at a fault. Every line that begins
+    /// with the same 121 bytes has the same answer.
     #[tactic(auto, unfolding(crate::specs::Answer::line_answer))]
     pub fn answer_line(&mut self, line: &[u8], out: &mut Reply) -> u16
         ensures answer { line_answer self.old line.now ≡ record { state = self.new; reply = out.new.items; entered = result } }
-        ensures front { line_answer self.old (take 121 line.now) ≡ line_answer self.old line.now }
+        ensures front { (other : List ℕ) → take 121 other ≡ take 121 line.now → line_answer self.old other ≡ line_answer self.old line.now }
         ensures bare { IsBare self.old.target → result ≡ 0 }
     {
         match parse(line) {

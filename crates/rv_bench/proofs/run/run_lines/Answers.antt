@@ -6,7 +6,7 @@ use Rattle.rv_bench.specs.Run.{RunsLines}
 use Rattle.rv_bench.specs.Transfer.{WritesFront}
 use Rattle.rv_bench.proofs.Ends.{TellsEnd-none, TellsEnd-more}
 use Rattle.rv_bench.proofs.Mapped.{ok_mapped, err_mapped, mapped}
-use Rattle.rv_bench.proofs.Runs.{AnswersLines-none, AnswersLines-more, AnswersLines-read, AnswersLines-written, AnswersLines-stopped, AnswersLines-all, StopsAtWrite-front, going_on}
+use Rattle.rv_bench.proofs.Runs.{AnswersFronts, AnswersLines-none, AnswersLines-more, AnswersLines-read, AnswersLines-written, AnswersLines-stopped, AnswersLines-all, StopsAtWrite-front, going_on}
 use Rattle.rv_bench.proofs.run.run_lines.Goals as goal
 
 pub loop-line-init : goal.loop-line-init
@@ -41,6 +41,7 @@ loop-line-preserved g c =
           AnswersLines-more _ _ _ _ _ _ _ _ _ _ _ _ _ _
           (going_on (IfOk-at_ok _ found c.next_line.ensures.going) (c.loop-line.invariant.answered tells))
           (IfOk-at_ok _ found (c.next_line.ensures.line tells))
+          (subst (AnswersFronts c.loop-line.bench) c.as_slice.ensures.value c.answer_line.ensures.front)
           (ap (line_answer c.loop-line.bench) (sym c.as_slice.ensures.value) ∙ c.answer_line.ensures.answer)
           (λ told. IfOk-at_ok _ wrote c.write_all.ensures.written told ∙ ap (λ t. g.W.Sink.taken c.loop-line.sink ++ t) c.as_slice-in-Some.ensures.value);
       end = TellsEnd-more _ _ _ c.loop-line.invariant.end c.next_line.ensures.end;
@@ -57,6 +58,7 @@ returns-in_err-map_err-clause-outcome g c =
     AnswersLines-stopped _ _ _ _ _ _ _ _ _ _ _ _ _ _
     (going_on (IfOk-at_ok _ found c.next_line.ensures.going) (c.loop-line.invariant.answered tells))
     (IfOk-at_ok _ found (c.next_line.ensures.line tells))
+    (subst (AnswersFronts c.loop-line.bench) c.as_slice.ensures.value c.answer_line.ensures.front)
     (ap (line_answer c.loop-line.bench) (sym c.as_slice.ensures.value) ∙ c.answer_line.ensures.answer)
     (λ told. subst (λ t. WritesFront (g.W.Sink.taken c.loop-line.sink) (g.W.Sink.taken c.write_all.new.sink) t) c.as_slice-in-Some.ensures.value (c.write_all.ensures.front told)) in
     rw is (
