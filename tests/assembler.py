@@ -2,7 +2,7 @@
 """Writes the cases of tests/cases/asm and dis: every statement, operand and border, labels and lines, and the text of every
 kind of word.
 
-    tests/assembler.py                      writes the folders anew
+    tests/assembler.py                      writes the files anew
     tests/assembler.py --check              tells whether they are what this script writes, and refused_texts as it says
     tests/assembler.py --check-with-llvm    tells whether llvm-mc gives the same word for each statement
 

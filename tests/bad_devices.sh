@@ -24,8 +24,9 @@ for subcommand in asm dis; do
   "$program" "$subcommand" <&- > "$scratch/out"
   expect "$subcommand of an input that is closed" 1 $? "$scratch/wanted" "$scratch/out"
   : > "$scratch/wanted"
-  "$program" "$subcommand" < "$here/cases/$subcommand/loop/stdin" > /dev/full 2> "$scratch/out"
+  part_of "$subcommand/loop" stdin "$scratch/in"
+  "$program" "$subcommand" < "$scratch/in" > /dev/full 2> "$scratch/out"
   expect "$subcommand to a full device" 1 $? "$scratch/wanted" "$scratch/out"
-  "$program" "$subcommand" < "$here/cases/$subcommand/loop/stdin" >&- 2> "$scratch/out"
+  "$program" "$subcommand" < "$scratch/in" >&- 2> "$scratch/out"
   expect "$subcommand to an output that is closed" 1 $? "$scratch/wanted" "$scratch/out"
 done

@@ -1,9 +1,11 @@
-"""Writes the folders of command-line cases that a script computes, or tells whether they are there as it computes them. A case
-has a topic, a name, and the texts of its files, a character a byte; all folders of its topic are the script's.
+"""Writes the files of command-line cases that a script computes, or tells whether they are there as it computes them. A case
+has a topic, a name, and texts under the keys stdin, stdout and perhaps args (one word a line) and status, a character a byte;
+all cases of its topic are the script's.
 """
 import os
-import shutil
+import sys
 
+import case_format
 from instruction_words import differing_from_llvm
 
 CASES = os.path.join(os.path.dirname(os.path.abspath(__file__)), "cases")
@@ -15,45 +17,48 @@ def stdin(image, script):
     return "\n".join([data[i:i + 120] for i in range(0, len(data), 120)] + ["--"] + script) + "\n"
 
 
-def there(topics):
-    """The files that are there, by their names below the folder of all cases."""
-    return {os.path.relpath(os.path.join(folder, name), CASES)
-            for topic in topics for folder, _, names in os.walk(os.path.join(CASES, topic)) for name in names}
+def computed(case):
+    """A script's case in the form of the files."""
+    texts = {key: text.encode("latin-1") for key, text in case.files().items()}
+    words = texts.get("args", b"").split(b"\n")[:-1]
+    return case_format.Case(case.name, words, texts["stdin"], texts["stdout"], int(texts.get("status", b"0")))
 
 
-def is_as_written(name, text):
-    with open(os.path.join(CASES, name), "rb") as file:
-        return file.read() == text.encode("latin-1")
+def files_of(cases):
+    """The texts of the files of the cases' topics, by their names."""
+    topics = {}
+    for case in cases:
+        topics.setdefault(case.topic, []).append(computed(case))
+    comment = "Written by tests/%s; case_format.py says how it is read." % os.path.basename(sys.argv[0])
+    return {topic + ".cases": case_format.written(part, comment) for topic, part in topics.items()}
 
 
-def differing(topics, files):
-    """The files that are missing, too many or of other bytes."""
-    found = there(topics)
-    return [name for name in sorted(found | files.keys())
-            if name not in found or name not in files or not is_as_written(name, files[name])]
+def differing(files):
+    """The files that are missing or of other bytes."""
+    return [name for name, text in files.items() if text_of(os.path.join(CASES, name)) != text]
 
 
-def write(topics, files):
-    for topic in topics:
-        shutil.rmtree(os.path.join(CASES, topic), ignore_errors=True)
-    for name, text in files.items():
-        os.makedirs(os.path.dirname(os.path.join(CASES, name)), exist_ok=True)
-        with open(os.path.join(CASES, name), "wb") as file:
-            file.write(text.encode("latin-1"))
+def text_of(path):
+    try:
+        with open(path, encoding="latin-1", newline="") as file:
+            return file.read()
+    except FileNotFoundError:
+        return None
 
 
 def main(arguments, cases, words, usage):
     """What the script was asked for, and its status. Words of instructions stand by their texts, for --check-with-llvm."""
-    files = {"%s/%s/%s" % (case.topic, case.name, name): text for case in cases for name, text in case.files().items()}
-    assert len(files) == sum(len(case.files()) for case in cases), "two cases of one name"
-    topics = {case.topic for case in cases}
+    files = files_of(cases)
+    assert sum(len(case_format.read(text)) for text in files.values()) == len(cases)
     if arguments in (["--check"], ["--check-with-llvm"]):
-        wrong, count = (differing(topics, files), len(files)) if arguments == ["--check"] else differing_from_llvm(words)
+        wrong, count = (differing(files), len(files)) if arguments == ["--check"] else differing_from_llvm(words)
         print("\n".join(["differs: " + name for name in wrong] + ["%d compared, %d differ" % (count, len(wrong))]))
         return 1 if wrong else 0
     if arguments:
         print(usage)
         return 2
-    write(topics, files)
+    for name, text in files.items():
+        with open(os.path.join(CASES, name), "w", encoding="ascii", newline="") as file:
+            file.write(text)
     print("%d cases written" % len(cases))
     return 0

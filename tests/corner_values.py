@@ -1,9 +1,9 @@
 #!/usr/bin/env python3
-"""Writes the cases of tests/cases/corner_values: a folder for each instruction of RV32IM, with all pairs of corner values, and
+"""Writes the cases of tests/cases/corner_values.cases: a case for each instruction of RV32IM, with all pairs of corner values, and
 one for each trap that it takes in mode M, since nothing goes on after a trap: there is no memory at 0. The instructions of
 Zicsr and the other privileged ones are in csr_table.py and traps.py.
 
-    tests/corner_values.py                      writes the folders anew
+    tests/corner_values.py                      writes the file anew
     tests/corner_values.py --check              tells whether they are what this script writes
     tests/corner_values.py --check-with-llvm    tells whether llvm-mc gives the same word for each assembly text
 
@@ -51,7 +51,7 @@ TAKEN = {
 
 
 class Case:
-    """One folder: the bytes of its image, its script with the replies, and registers, pc and bytes as they are by then."""
+    """One case: the bytes of its image, its script with the replies, and registers, pc and bytes as they are by then."""
     topic, all, words = "corner_values", [], {}
 
     def __init__(self, name, registers=None):

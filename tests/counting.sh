@@ -1,4 +1,4 @@
-# What the tests share: the counts, and one case.
+# What the tests share: the counts, and the cases. $here is the folder of the tests, $program the built program.
 passed=0 failed=0
 scratch=$(mktemp -d)
 trap 'rm -rf "$scratch"' EXIT
@@ -21,13 +21,22 @@ expect() {
   fi
 }
 
-# run_case FOLDER PROGRAM: a folder has the files stdin and stdout, and perhaps args (one word a line) and status.
-run_case() {
-  local folder=$1 program=$2 words=() wanted=0
-  [ -f "$folder/args" ] && mapfile -t words < "$folder/args"
-  [ -f "$folder/status" ] && wanted=$(cat "$folder/status")
-  timeout 60 "$program" "${words[@]}" < "$folder/stdin" > "$scratch/out"
-  expect "${folder%/}" "$wanted" $? "$folder/stdout" "$scratch/out"
+# run_cases [NAME...]: the command-line cases with these names, or all, are counted.
+run_cases() {
+  local line
+  "$here/run_cases" "$program" "$@" > "$scratch/cases"
+  line=$(tail -1 "$scratch/cases")
+  if [[ $line =~ ^([0-9]+)\ passed,\ ([0-9]+)\ failed$ ]]; then
+    head -n -1 "$scratch/cases"
+    passed=$((passed + BASH_REMATCH[1])) failed=$((failed + BASH_REMATCH[2]))
+  else
+    fail "${*:-cases}" "they could not be run"
+  fi
+}
+
+# part_of CASE stdin|stdout FILE: the input of a case, or the output that it must give, in a file.
+part_of() {
+  "$here/run_cases" --part "$2" "$1" > "$3" || fail "$1" "there is no such case"
 }
 
 report() {

@@ -2,7 +2,7 @@
 """Writes the cases of tests/cases/csr_table: what each number of a control and status register reads, what a write leaves, and
 which accesses are illegal, from each mode.
 
-    tests/csr_table.py                      writes the folders anew
+    tests/csr_table.py                      writes the file anew
     tests/csr_table.py --check              tells whether they are what this script writes
     tests/csr_table.py --check-with-llvm    tells whether llvm-mc gives the same word for each assembly text
 

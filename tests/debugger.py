@@ -2,7 +2,7 @@
 """Writes the cases of tests/cases/debugger: where runs end by watches and breaks at each border of an access, what is asked
 first, sets of 32 addresses and one more, poke, every malformed line of these commands, and long scripts of them.
 
-    tests/debugger.py                      writes the folders anew
+    tests/debugger.py                      writes the file anew
     tests/debugger.py --check              tells whether they are what this script writes
     tests/debugger.py --check-with-llvm    tells whether llvm-mc gives the same word for each assembly text
 

@@ -2,7 +2,7 @@
 """Writes the cases of tests/cases/pmp: verdicts at the borders of sets of PMP entries, what writes to pmpcfg and pmpaddr leave
 under which locks, and fetches, loads and stores across the borders in each mode and under MPRV.
 
-    tests/pmp.py                      writes the folders anew
+    tests/pmp.py                      writes the file anew
     tests/pmp.py --check              tells whether they are what this script writes
     tests/pmp.py --check-with-llvm    tells whether llvm-mc gives the same word for each assembly text
 

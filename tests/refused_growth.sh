@@ -35,11 +35,15 @@ refused_in_turn() {
 }
 
 if "$compiler" -shared -fPIC -nostdlib -fno-builtin "${linker[@]}" -o "$shim" "$here/refuse_allocation.c"; then
-  first=$here/cases/first_replies/image_step_register
-  refused_in_turn "run" "rvbench: memory/rvbench: ram 2/" "$first/stdin" 0 "$first/stdout"
-  refused_in_turn "run --ram" "rvbench: memory/rvbench: ram 2/" "$first/stdin" 0 "$first/stdout" run --ram 65536
-  refused_in_turn "asm" "rvbench: memory/rvbench: line N fault 8/" "$here/cases/asm/loop/stdin" 0 "$here/cases/asm/loop/stdout" asm
-  refused_in_turn "dis" "rvbench: memory/" "$here/cases/dis/loop/stdin" 0 "$here/cases/dis/loop/stdout" dis
+  for part in stdin stdout; do
+    part_of first_replies/image_step_register "$part" "$scratch/first_$part"
+    part_of asm/loop "$part" "$scratch/asm_$part"
+    part_of dis/loop "$part" "$scratch/dis_$part"
+  done
+  refused_in_turn "run" "rvbench: memory/rvbench: ram 2/" "$scratch/first_stdin" 0 "$scratch/first_stdout"
+  refused_in_turn "run --ram" "rvbench: memory/rvbench: ram 2/" "$scratch/first_stdin" 0 "$scratch/first_stdout" run --ram 65536
+  refused_in_turn "asm" "rvbench: memory/rvbench: line N fault 8/" "$scratch/asm_stdin" 0 "$scratch/asm_stdout" asm
+  refused_in_turn "dis" "rvbench: memory/" "$scratch/dis_stdin" 0 "$scratch/dis_stdout" dis
   # a text with many labels and words, in whose lines memory is found more than once; and one that is refused at its last line
   for i in $(seq 100); do echo "label_$i: jal x0, label_$i"; done > "$scratch/labels"
   for i in $(seq 100); do echo 6f000000; done > "$scratch/wanted"

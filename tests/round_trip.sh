@@ -1,5 +1,6 @@
 # The text of every word assembles to that word: some thousand words, disassembled, their texts alone assembled again.
-words=$here/cases/dis/words_of_a_fixed_seed/stdin
+words=$scratch/words
+part_of dis/words_of_a_fixed_seed stdin "$words"
 "$program" dis < "$words" | cut -d ' ' -f 2- > "$scratch/texts"
 "$program" asm < "$scratch/texts" > "$scratch/out"
 expect "words, disassembled and assembled again" 0 $? "$words" "$scratch/out"

@@ -2,7 +2,7 @@
 """Writes the cases of tests/cases/traps, returns, interrupts and counters: each cause from each mode, mret and sret, what is
 illegal below a mode, the order of interrupts, and what steps count.
 
-    tests/traps.py                      writes the folders anew
+    tests/traps.py                      writes the files anew
     tests/traps.py --check              tells whether they are what this script writes
     tests/traps.py --check-with-llvm    tells whether llvm-mc gives the same word for each assembly text
 

@@ -40,7 +40,7 @@ def pairs_in(path):
     count = 0
     for line in lines:
         key, _, text = line.partition(":")
-        text = text.removeprefix(" ")
+        text = text[1:] if text.startswith(" ") else text
         if key == "file" and old is None:
             file = text.strip()
             if not re.fullmatch(r"(src|specs|proofs)/[\w/+-]+\.(rt|antt)", file):
