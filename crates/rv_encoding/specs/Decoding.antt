@@ -34,11 +34,11 @@ samples =
 
 -- The instruction of the same row whose fields are those of a word.
 abbrev pub with_fields_of : ℕ → Instr → Instr
-with_fields_of word (Lui rd imm) = Lui (taken rd_at word) (taken u_immediate_at word * 2 ^ 12)
-with_fields_of word (Auipc rd imm) = Auipc (taken rd_at word) (taken u_immediate_at word * 2 ^ 12)
-with_fields_of word (Jal rd offset) = Jal (taken rd_at word) (taken j_immediate_at word * 2)
+with_fields_of word (Lui rd imm) = Lui (taken rd_at word) (taken u_immediate_at word)
+with_fields_of word (Auipc rd imm) = Auipc (taken rd_at word) (taken u_immediate_at word)
+with_fields_of word (Jal rd offset) = Jal (taken rd_at word) (taken j_immediate_at word)
 with_fields_of word (Jalr rd rs1 offset) = Jalr (taken rd_at word) (taken rs1_at word) (taken i_immediate_at word)
-with_fields_of word (Branch kind rs1 rs2 offset) = Branch kind (taken rs1_at word) (taken rs2_at word) (taken b_immediate_at word * 2)
+with_fields_of word (Branch kind rs1 rs2 offset) = Branch kind (taken rs1_at word) (taken rs2_at word) (taken b_immediate_at word)
 with_fields_of word (Load kind rd rs1 offset) = Load kind (taken rd_at word) (taken rs1_at word) (taken i_immediate_at word)
 with_fields_of word (Store kind rs1 rs2 offset) = Store kind (taken rs1_at word) (taken rs2_at word) (taken s_immediate_at word)
 with_fields_of word (OpImm kind rd rs1 imm) = OpImm kind (taken rd_at word) (taken rs1_at word) (taken i_immediate_at word)

@@ -4,7 +4,8 @@
 use Rattle.std.specs.Prelude.{◌≡◌, ℕ, ◌+◌, ◌*◌, ◌/◌, ◌^◌, ◌<◌, List, [], ◌∷◌, sum_by}
 use Rattle.rv_encoding.specs.Places.{Places, rd_at, rs1_at, rs2_at, i_immediate_at, s_immediate_at, b_immediate_at, j_immediate_at, u_immediate_at, shamt_at, fm_at, pred_at, succ_at, csr_at, uimm_at, placed}
 use Rattle.rv_encoding.specs.Ranges.{IsUpperImmediate, IsBranchOffset, IsJumpOffset}
-use Rattle.rv_encoding.specs.Codes.{branch_funct3, load_funct3, store_funct3, op_imm_funct3, shift_codes, op_codes, csr_funct3, csr_imm_funct3}
+use Rattle.rv_encoding.specs.Codes.{branch_funct3, load_funct3, store_funct3, op_imm_funct3, shift_functs, op_functs, csr_funct3, csr_imm_funct3}
+use Rattle.rv_encoding.specs.declared.encoder.codes.Functs.{Functs}
 use Rattle.rv_encoding.specs.declared.instr.Instr.{Instr}
 use Rattle.rv_encoding.specs.declared.instr.Instr.TheVariants.{Lui, Auipc, Jal, Jalr, Branch, Load, Store, OpImm, ShiftImm, Op, Fence, Csr, CsrImm, Ecall, Ebreak, Sret, Mret, Wfi, SfenceVma}
 
@@ -27,8 +28,9 @@ opcode_row opcode fields = record { mask = 0x0000007F; match = opcode; fields = 
 abbrev pub funct3_row : ℕ → ℕ → List (Places × ℕ) → Row
 funct3_row opcode funct3 fields = record { mask = 0x0000707F; match = opcode + funct3 * 2 ^ 12; fields = fields }
 
-abbrev pub funct7_row : ℕ → ℕ × ℕ → List (Places × ℕ) → Row
-funct7_row opcode codes fields = record { mask = 0xFE00707F; match = opcode + codes.0 * 2 ^ 12 + codes.1 * 2 ^ 25; fields = fields }
+abbrev pub funct7_row : ℕ → Functs → List (Places × ℕ) → Row
+funct7_row opcode functs fields =
+    record { mask = 0xFE00707F; match = opcode + functs.funct3 * 2 ^ 12 + functs.funct7 * 2 ^ 25; fields = fields }
 
 -- a whole word
 abbrev pub word_row : ℕ → Row
@@ -37,16 +39,16 @@ word_row word = record { mask = 0xFFFFFFFF; match = word; fields = [] }
 -- ---- the rows, by groups with the same fields
 
 abbrev pub row_of : Instr → Row
-row_of (Lui rd imm) = opcode_row 0b0110111 ((rd_at, rd) ∷ (u_immediate_at, imm / 2 ^ 12) ∷ [])
-row_of (Auipc rd imm) = opcode_row 0b0010111 ((rd_at, rd) ∷ (u_immediate_at, imm / 2 ^ 12) ∷ [])
-row_of (Jal rd offset) = opcode_row 0b1101111 ((rd_at, rd) ∷ (j_immediate_at, offset / 2) ∷ [])
+row_of (Lui rd imm) = opcode_row 0b0110111 ((rd_at, rd) ∷ (u_immediate_at, imm) ∷ [])
+row_of (Auipc rd imm) = opcode_row 0b0010111 ((rd_at, rd) ∷ (u_immediate_at, imm) ∷ [])
+row_of (Jal rd offset) = opcode_row 0b1101111 ((rd_at, rd) ∷ (j_immediate_at, offset) ∷ [])
 row_of (Jalr rd rs1 offset) = funct3_row 0b1100111 0b000 ((rd_at, rd) ∷ (rs1_at, rs1) ∷ (i_immediate_at, offset) ∷ [])
-row_of (Branch kind rs1 rs2 offset) = funct3_row 0b1100011 (branch_funct3 kind) ((rs1_at, rs1) ∷ (rs2_at, rs2) ∷ (b_immediate_at, offset / 2) ∷ [])
+row_of (Branch kind rs1 rs2 offset) = funct3_row 0b1100011 (branch_funct3 kind) ((rs1_at, rs1) ∷ (rs2_at, rs2) ∷ (b_immediate_at, offset) ∷ [])
 row_of (Load kind rd rs1 offset) = funct3_row 0b0000011 (load_funct3 kind) ((rd_at, rd) ∷ (rs1_at, rs1) ∷ (i_immediate_at, offset) ∷ [])
 row_of (Store kind rs1 rs2 offset) = funct3_row 0b0100011 (store_funct3 kind) ((rs1_at, rs1) ∷ (rs2_at, rs2) ∷ (s_immediate_at, offset) ∷ [])
 row_of (OpImm kind rd rs1 imm) = funct3_row 0b0010011 (op_imm_funct3 kind) ((rd_at, rd) ∷ (rs1_at, rs1) ∷ (i_immediate_at, imm) ∷ [])
-row_of (ShiftImm kind rd rs1 shamt) = funct7_row 0b0010011 (shift_codes kind) ((rd_at, rd) ∷ (rs1_at, rs1) ∷ (shamt_at, shamt) ∷ [])
-row_of (Op kind rd rs1 rs2) = funct7_row 0b0110011 (op_codes kind) ((rd_at, rd) ∷ (rs1_at, rs1) ∷ (rs2_at, rs2) ∷ [])
+row_of (ShiftImm kind rd rs1 shamt) = funct7_row 0b0010011 (shift_functs kind) ((rd_at, rd) ∷ (rs1_at, rs1) ∷ (shamt_at, shamt) ∷ [])
+row_of (Op kind rd rs1 rs2) = funct7_row 0b0110011 (op_functs kind) ((rd_at, rd) ∷ (rs1_at, rs1) ∷ (rs2_at, rs2) ∷ [])
 row_of (Fence fm pred succ rd rs1) = funct3_row 0b0001111 0b000 ((fm_at, fm) ∷ (pred_at, pred) ∷ (succ_at, succ) ∷ (rd_at, rd) ∷ (rs1_at, rs1) ∷ [])
 row_of (Csr kind rd rs1 csr) = funct3_row 0b1110011 (csr_funct3 kind) ((rd_at, rd) ∷ (rs1_at, rs1) ∷ (csr_at, csr) ∷ [])
 row_of (CsrImm kind rd uimm csr) = funct3_row 0b1110011 (csr_imm_funct3 kind) ((rd_at, rd) ∷ (uimm_at, uimm) ∷ (csr_at, csr) ∷ [])

@@ -12,7 +12,8 @@ ghost use Rattle.rv_encoding.specs.declared.instr.Instr.{Instr};
 
 use crate::instr::Instr;
 use codes::{
-    branch_code, csr_code, csr_imm_code, load_code, op_code, op_imm_code, shift_code, store_code,
+    branch_code, csr_code, csr_imm_code, load_code, op_functs, op_imm_code, shift_functs,
+    store_code,
 };
 use places::{
     at_b, at_csr, at_fm, at_i, at_j, at_pred, at_rd, at_rs1, at_rs2, at_s, at_shamt, at_succ, at_u,
@@ -48,12 +49,12 @@ const fn match_of(instr: &Instr) -> u32
         Instr::Store { kind, .. } => 0b0100011 + (store_code(kind) << 12),
         Instr::OpImm { kind, .. } => 0b0010011 + (op_imm_code(kind) << 12),
         Instr::ShiftImm { kind, .. } => {
-            let (funct3, funct7) = shift_code(kind);
-            0b0010011 + (funct3 << 12) + (funct7 << 25)
+            let functs = shift_functs(kind);
+            0b0010011 + (functs.funct3 << 12) + (functs.funct7 << 25)
         }
         Instr::Op { kind, .. } => {
-            let (funct3, funct7) = op_code(kind);
-            0b0110011 + (funct3 << 12) + (funct7 << 25)
+            let functs = op_functs(kind);
+            0b0110011 + (functs.funct3 << 12) + (functs.funct7 << 25)
         }
         Instr::Fence { .. } => 0b0001111,
         Instr::Csr { kind, .. } => 0b1110011 + (csr_code(kind) << 12),
