@@ -4,7 +4,7 @@ use Rattle.std.proofs.lemmas.Nat.{and_mask, and_block, div-add-mod'}
 use Rattle.rv_word.specs.Logic.{and_by_bits}
 use Rattle.rv_word.proofs.LogicLemmas.{bit_and_is}
 use Rattle.rv_encoding.specs.Codes.{branch_funct3, load_funct3, store_funct3, op_imm_funct3, shift_functs, op_functs, csr_funct3, csr_imm_funct3}
-use Rattle.rv_encoding.specs.Rows.{row_of, IsInstr, word_of, Spells}
+use Rattle.rv_encoding.specs.Rows.{row_of_instr, IsInstr, word_of, Spells}
 use Rattle.rv_encoding.specs.Decoding.{with_fields_of}
 use Rattle.rv_encoding.proofs.CodeLemmas.{branch_funct3-lt, load_funct3-lt, store_funct3-lt, op_imm_funct3-lt, shift_functs-lt, op_functs-lt, csr_funct3-lt, csr_imm_funct3-lt}
 use Rattle.rv_encoding.specs.declared.instr.Instr.{Instr}
@@ -45,7 +45,7 @@ mask_word word fits = and_mask word 32 ∙ omega arith
 
 -- ---- a word that equals the match under the mask is spelled, with the fields that it has
 
-spelled_by_and : (i : Instr) (word : ℕ) → word < 2 ^ 32 → bit_and word (row_of i).mask ≡ (row_of i).match → Spells word (with_fields_of word i)
+spelled_by_and : (i : Instr) (word : ℕ) → word < 2 ^ 32 → bit_and word (row_of_instr i).mask ≡ (row_of_instr i).match → Spells word (with_fields_of word i)
 unfolding word_of
 spelled_by_and (Lui rd imm) word fits masked =
     let code = sym (and_mask word 7) ∙ masked in
@@ -105,7 +105,7 @@ spelled_by_and (SfenceVma rs1 rs2) word fits masked =
 
 -- ---- the word of an instruction equals the match under the mask
 
-word_of_and : (i : Instr) → IsInstr i → word_of i < 2 ^ 32 → bit_and (word_of i) (row_of i).mask ≡ (row_of i).match
+word_of_and : (i : Instr) → IsInstr i → word_of i < 2 ^ 32 → bit_and (word_of i) (row_of_instr i).mask ≡ (row_of_instr i).match
 unfolding word_of
 word_of_and (Lui rd imm) valid fits =
     and_mask (word_of (Lui rd imm)) 7 ∙ omega arith
@@ -151,14 +151,14 @@ word_of_and (SfenceVma rs1 rs2) valid fits =
 
 -- ---- the same of the mask bit by bit
 
-mask-lt : (i : Instr) → (row_of i).mask < 2 ^ 32
+mask-lt : (i : Instr) → (row_of_instr i).mask < 2 ^ 32
 mask-lt i = grind arith
 
-and_mask_is : (i : Instr) (word : ℕ) → word < 2 ^ 32 → bit_and word (row_of i).mask ≡ and_by_bits word (row_of i).mask
-and_mask_is i word fits = bit_and_is word (row_of i).mask fits (mask-lt i)
+and_mask_is : (i : Instr) (word : ℕ) → word < 2 ^ 32 → bit_and word (row_of_instr i).mask ≡ and_by_bits word (row_of_instr i).mask
+and_mask_is i word fits = bit_and_is word (row_of_instr i).mask fits (mask-lt i)
 
-pub spelled_by_mask : (i : Instr) (word : ℕ) → word < 2 ^ 32 → and_by_bits word (row_of i).mask ≡ (row_of i).match → Spells word (with_fields_of word i)
+pub spelled_by_mask : (i : Instr) (word : ℕ) → word < 2 ^ 32 → and_by_bits word (row_of_instr i).mask ≡ (row_of_instr i).match → Spells word (with_fields_of word i)
 spelled_by_mask i word fits masked = spelled_by_and i word fits (and_mask_is i word fits ∙ masked)
 
-pub masked_word_of : (i : Instr) → IsInstr i → word_of i < 2 ^ 32 → and_by_bits (word_of i) (row_of i).mask ≡ (row_of i).match
+pub masked_word_of : (i : Instr) → IsInstr i → word_of i < 2 ^ 32 → and_by_bits (word_of i) (row_of_instr i).mask ≡ (row_of_instr i).match
 masked_word_of i valid fits = sym (and_mask_is i (word_of i) fits) ∙ word_of_and i valid fits

@@ -1,9 +1,9 @@
 -- The instruction that a word spells, read off the listing: RISC-V Unprivileged ISA 20191213, section 2.2 and chapter 24.
-use Rattle.std.specs.Prelude.{ℕ, ◌*◌, ◌^◌, ◌==◌, List, [], ◌∷◌, find, Option}
+use Rattle.std.specs.Prelude.{ℕ, ◌==◌, List, [], ◌∷◌, find, Option}
 use Rattle.std.specs.Option.{option_map}
 use Rattle.rv_word.specs.Logic.{and_by_bits}
 use Rattle.rv_encoding.specs.Places.{rd_at, rs1_at, rs2_at, i_immediate_at, s_immediate_at, b_immediate_at, j_immediate_at, u_immediate_at, shamt_at, fm_at, pred_at, succ_at, csr_at, uimm_at, taken}
-use Rattle.rv_encoding.specs.Rows.{row_of}
+use Rattle.rv_encoding.specs.Rows.{row_of_instr}
 use Rattle.rv_encoding.specs.declared.kind.BranchKind.TheVariants.{Beq, Bne, Blt, Bge, Bltu, Bgeu}
 use Rattle.rv_encoding.specs.declared.kind.LoadKind.TheVariants.{Lb, Lh, Lw, Lbu, Lhu}
 use Rattle.rv_encoding.specs.declared.kind.StoreKind.TheVariants.{Sb, Sh, Sw}
@@ -56,4 +56,4 @@ with_fields_of word (SfenceVma rs1 rs2) = SfenceVma (taken rs1_at word) (taken r
 
 -- The first row whose match is the word under its mask (the only one: no word is spelled by two), with the word's fields.
 unfoldable pub decoded : ℕ → Option Instr
-decoded word = option_map (with_fields_of word) (find (λ sample. and_by_bits word (row_of sample).mask == (row_of sample).match) samples)
+decoded word = option_map (with_fields_of word) (find (λ sample. and_by_bits word (row_of_instr sample).mask == (row_of_instr sample).match) samples)

@@ -5,7 +5,7 @@ mod places;
 
 ghost use Rattle.std.specs.Prelude.{◌≡◌, ◌+◌, ◌*◌, ◌%◌, ◌^◌, ◌<◌, Some};
 ghost use Rattle.rv_word.specs.Logic.{and_by_bits};
-ghost use Rattle.rv_encoding.specs.Rows.{IsInstr, Spells, row_of, word_of, fields_at};
+ghost use Rattle.rv_encoding.specs.Rows.{IsInstr, Spells, row_of_instr, word_of, fields_at};
 ghost use Rattle.rv_encoding.specs.Listing.{IsListed};
 ghost use Rattle.rv_encoding.specs.Decoding.{decoded};
 ghost use Rattle.rv_encoding.specs.declared.instr.Instr.{Instr};
@@ -30,14 +30,14 @@ pub const fn encode(instr: &Instr) -> u32
     ensures round_trip { decoded result ≡ Some instr.now }
     // The instruction's row is one of the listing, and the word is the row's match under its mask.
     ensures listed { IsListed instr.now }
-    ensures masked { and_by_bits result (row_of instr.now).mask ≡ (row_of instr.now).match }
+    ensures masked { and_by_bits result (row_of_instr instr.now).mask ≡ (row_of_instr instr.now).match }
 {
     match_of(instr) + fields_of(instr)
 }
 
 /// What the words of an instruction's row share: opcode, funct3 and funct7.
 const fn match_of(instr: &Instr) -> u32
-    ensures { result ≡ (row_of instr.now).match }
+    ensures { result ≡ (row_of_instr instr.now).match }
 {
     match *instr {
         Instr::Lui { .. } => 0b0110111,
@@ -70,7 +70,7 @@ const fn match_of(instr: &Instr) -> u32
 
 /// An instruction's fields, each at its places.
 const fn fields_of(instr: &Instr) -> u32
-    ensures value { result ≡ fields_at (row_of instr.now).fields }
+    ensures value { result ≡ fields_at (row_of_instr instr.now).fields }
     ensures in_range { IsInstr instr.now }
 {
     match *instr {
@@ -111,8 +111,8 @@ const fn fields_of(instr: &Instr) -> u32
 
 /// The fields of an instruction of opcode 1110011, each at its places.
 const fn system_fields_of(instr: &Instr) -> u32
-    requires { (row_of instr.now).match % 2 ^ 7 ≡ 0b1110011 }
-    ensures value { result ≡ fields_at (row_of instr.now).fields }
+    requires { (row_of_instr instr.now).match % 2 ^ 7 ≡ 0b1110011 }
+    ensures value { result ≡ fields_at (row_of_instr instr.now).fields }
     ensures in_range { IsInstr instr.now }
 {
     match *instr {

@@ -2,7 +2,7 @@
 use Rattle.std.proofs.Common.{◌≡◌, ℕ, zero, suc, ◌+◌, ◌*◌, ◌/◌, ◌^◌, ◌<◌, Bool, true, false, List, [], ◌∷◌, Option, Some, None, Ok, Err, refl, sym, ap, ◌∙◌, arith}
 use Rattle.std.specs.Prelude.{nat_lt, ◌&&◌, ◌==◌, if◌then◌else◌}
 use Rattle.std.proofs.Math.Nat.{pow-suc, div-div-eq-div-mul, div-one}
-use Rattle.rv_word.specs.Logic.{bit_list, number_of, digit, bitwise, by_bits, and_by_bits}
+use Rattle.rv_word.specs.Logic.{bit_list, word_of_bits, digit, bitwise, by_bits, and_by_bits}
 use Rattle.rv_pmp.specs.Mode.{mode_number}
 use Rattle.rv_word.specs.BitFields.{bits, is_set, flag}
 use Rattle.rv_state.specs.Bits.{aligned_to_4}
@@ -51,25 +51,25 @@ bit_list-from zero k word = refl
 bit_list-from (suc count) k word =
     rw (halved word k) (ap (λ bits. is_set word k ∷ bits) (bit_list-from count (suc k) word))
 
-by_places : (word mask : ℕ) → and_by_bits word mask ≡ number_of (masked (bit_list 32 mask) (bits_from 32 0 word))
+by_places : (word mask : ℕ) → and_by_bits word mask ≡ word_of_bits (masked (bit_list 32 mask) (bits_from 32 0 word))
 unfolding by_bits
 by_places word mask =
-    ap number_of (bitwise-masked (bit_list 32 word) (bit_list 32 mask)
+    ap word_of_bits (bitwise-masked (bit_list 32 word) (bit_list 32 mask)
     ∙ ap (masked (bit_list 32 mask)) (ap (bit_list 32) (sym (div-one word)) ∙ bit_list-from 32 0 word))
 
 -- ---- bits 1:0 cleared
 
 -- a word below 2 ^ count is its bits, so many
-number_of-bit_list : (count word : ℕ) → word < 2 ^ count → number_of (bit_list count word) ≡ word
-number_of-bit_list zero word below = omega arith
-number_of-bit_list (suc count) word below =
-    let rest = number_of-bit_list count (word / 2) (omega (arith, pow-suc 2 count)) in
+word_of_bit_list : (count word : ℕ) → word < 2 ^ count → word_of_bits (bit_list count word) ≡ word
+word_of_bit_list zero word below = omega arith
+word_of_bit_list (suc count) word below =
+    let rest = word_of_bit_list count (word / 2) (omega (arith, pow-suc 2 count)) in
     omega (arith, rest, digit-rem word)
 
 pub aligned-is : (word : ℕ) → word < 2 ^ 32 → aligned_to_4 word ≡ and_by_bits word 0xFFFFFFFC
 aligned-is word below =
-    let above : number_of (bits_from 30 2 word) ≡ word / 4 =
-    ap number_of (sym (bit_list-from 30 2 word)) ∙ number_of-bit_list 30 (word / 4) (omega arith)
+    let above : word_of_bits (bits_from 30 2 word) ≡ word / 4 =
+    ap word_of_bits (sym (bit_list-from 30 2 word)) ∙ word_of_bit_list 30 (word / 4) (omega arith)
     in
     omega (arith, above, by_places word 0xFFFFFFFC)
 
