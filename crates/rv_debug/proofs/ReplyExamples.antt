@@ -5,7 +5,7 @@ use Rattle.std.specs.Fmt.{digits}
 use Rattle.std.proofs.lemmas.Bool.Decides.{nat_tests}
 use Rattle.std.proofs.lemmas.Fmt.{decimal_digit, decimal_step}
 use Rattle.rv_state.specs.CsrState.{at_reset}
-use Rattle.rv_state.specs.CsrTable.{csr_named, listing, reading, read_result}
+use Rattle.rv_state.specs.CsrTable.{csr_numbered, csr_listing, reading, read_result}
 use Rattle.rv_debug.specs.Answer.{csr_reply, dis_reply, access_reply}
 use Rattle.rv_memory.specs.Memory.{read}
 use Rattle.rv_pmp.specs.Covers.{covers}
@@ -101,7 +101,7 @@ ok_text-example = refl
 pub csr_reply-examples :
     csr_reply at_reset 0x301 ++ csr_reply at_reset 0xb00 ++ csr_reply at_reset 0x41 ++ csr_reply (record at_reset { timer = true }) 0x344 ≡
     codes "csr 301=40141100\ncsr b00=00000000\nerror csr\ncsr 344=00000080\n"
-unfolding csr_text no_csr_text hex_digits read_result csr_named listing reading
+unfolding csr_text no_csr_text hex_digits read_result csr_numbered csr_listing reading
 csr_reply-examples = refl
 
 -- four bytes from 80000100 on, for reading and executing

@@ -4,7 +4,7 @@ use Rattle.rv_word.specs.Cases.{option_case, result_case}
 use Rattle.rv_word.specs.Widths.{bytes_in}
 use Rattle.rv_word.specs.declared.width.Width.{Width}
 use Rattle.rv_memory.specs.Accesses.{verdict_on}
-use Rattle.rv_memory.specs.Memory.{read, number_of}
+use Rattle.rv_memory.specs.Memory.{read, number_of_bytes}
 use Rattle.rv_pmp.specs.Entries.{Entries}
 use Rattle.rv_pmp.specs.declared.access.Access.{Access as AccessKind}
 use Rattle.rv_pmp.specs.declared.mode.Mode.{Mode}
@@ -76,7 +76,7 @@ memory_reply memory address count = option_case (read memory address count) outs
 
 -- the word at an address, the lowest byte first, is shown where all of its bytes are in memory
 abbrev pub dis_reply : List ℕ → ℕ → List ℕ
-dis_reply memory address = option_case (read memory address 4) outside_text (λ bytes. dis_text address (number_of bytes))
+dis_reply memory address = option_case (read memory address 4) outside_text (λ bytes. dis_text address (number_of_bytes bytes))
 
 -- an access is told to be outside where a byte of it is; else what the entries say of it in the mode that is named
 abbrev pub access_reply : List ℕ → Entries → Mode → AccessKind → ℕ → Width → List ℕ

@@ -2,14 +2,14 @@
 -- chapter 5, program header.
 use Rattle.std.specs.Prelude.{ℕ, ◌+◌, ◌*◌, List, [], ◌∷◌, take, drop, map}
 use Rattle.std.specs.List.{range_with_len}
-use Rattle.rv_memory.specs.Memory.{number_of}
+use Rattle.rv_memory.specs.Memory.{number_of_bytes}
 
 -- the numbers of 2 and of 4 bytes at a place
 abbrev pub half_at : List ℕ → ℕ → ℕ
-half_at file place = number_of (take 2 (drop place file))
+half_at file place = number_of_bytes (take 2 (drop place file))
 
 abbrev pub word_at : List ℕ → ℕ → ℕ
-word_at file place = number_of (take 4 (drop place file))
+word_at file place = number_of_bytes (take 4 (drop place file))
 
 -- what an ELF file begins with: 7F, E, L, F
 abbrev pub magic : List ℕ

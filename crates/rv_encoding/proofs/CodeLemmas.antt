@@ -1,6 +1,6 @@
 -- Each kind is found by its code, and the codes fit their bits.
 use Rattle.std.proofs.Common.{◌≡◌, ℕ, ◌<◌, Some, None, arith}
-use Rattle.rv_encoding.specs.Codes.{branch_funct3, load_funct3, store_funct3, op_imm_funct3, shift_codes, op_codes, csr_funct3, csr_imm_funct3, branch_kind, load_kind, store_kind, op_imm_kind, shift_kind, op_kind, csr_kind, csr_imm_kind}
+use Rattle.rv_encoding.specs.Codes.{branch_funct3, load_funct3, store_funct3, op_imm_funct3, shift_functs, op_functs, csr_funct3, csr_imm_funct3, branch_kind, load_kind, store_kind, op_imm_kind, shift_kind, op_kind, csr_kind, csr_imm_kind}
 use Rattle.rv_encoding.specs.declared.kind.BranchKind.{BranchKind}
 use Rattle.rv_encoding.specs.declared.kind.LoadKind.{LoadKind}
 use Rattle.rv_encoding.specs.declared.kind.StoreKind.{StoreKind}
@@ -45,17 +45,17 @@ csr_imm_kind_found kind = grind arith
 pub csr_imm_funct3-lt : (kind : CsrKind) → csr_imm_funct3 kind < 8
 csr_imm_funct3-lt kind = grind arith
 
-pub shift_kind_found : (kind : ShiftKind) → shift_kind (shift_codes kind).0 (shift_codes kind).1 ≡ Some kind
+pub shift_kind_found : (kind : ShiftKind) → shift_kind (shift_functs kind).funct3 (shift_functs kind).funct7 ≡ Some kind
 shift_kind_found kind = grind arith
 
-pub shift_codes-lt : (kind : ShiftKind) → ((shift_codes kind).0 < 8) × ((shift_codes kind).1 < 128)
-shift_codes-lt kind = grind arith
+pub shift_functs-lt : (kind : ShiftKind) → ((shift_functs kind).funct3 < 8) × ((shift_functs kind).funct7 < 128)
+shift_functs-lt kind = grind arith
 
-pub op_kind_found : (kind : OpKind) → op_kind (op_codes kind).0 (op_codes kind).1 ≡ Some kind
+pub op_kind_found : (kind : OpKind) → op_kind (op_functs kind).funct3 (op_functs kind).funct7 ≡ Some kind
 op_kind_found kind = grind arith
 
-pub op_codes-lt : (kind : OpKind) → ((op_codes kind).0 < 8) × ((op_codes kind).1 < 128)
-op_codes-lt kind = grind arith
+pub op_functs-lt : (kind : OpKind) → ((op_functs kind).funct3 < 8) × ((op_functs kind).funct7 < 128)
+op_functs-lt kind = grind arith
 
 -- no shift has the code of another operation with an immediate, and no change by an immediate that of one by a register
 pub no_shift : (kind : OpImmKind) (funct7 : ℕ) → shift_kind (op_imm_funct3 kind) funct7 ≡ None

@@ -4,7 +4,7 @@ use Rattle.std.specs.Prelude.{◌==◌, map, find, slice_get, Option, IfSome, Al
 use Rattle.std.specs.Option.{option_map}
 use Rattle.std.proofs.lemmas.Option.{slice_get-get_or}
 use Rattle.rv_word.specs.Logic.{and_by_bits}
-use Rattle.rv_encoding.specs.Rows.{row_of, word_of, fields_at, Spells}
+use Rattle.rv_encoding.specs.Rows.{row_of_instr, word_of, fields_at, Spells}
 use Rattle.rv_encoding.specs.Listing.{Listed, listing, listed_of}
 use Rattle.rv_encoding.specs.Decoding.{samples, with_fields_of, decoded}
 use Rattle.rv_encoding.proofs.ReadingLemmas.{only_read}
@@ -14,7 +14,7 @@ use Rattle.rv_encoding.specs.declared.instr.Instr.{Instr}
 
 -- a word fits the row of an instruction
 abbrev fits_row : ℕ → Instr → Bool
-fits_row word sample = and_by_bits word (row_of sample).mask == (row_of sample).match
+fits_row word sample = and_by_bits word (row_of_instr sample).mask == (row_of_instr sample).match
 
 test-true : (a b : ℕ) → a ≡ b → (a == b) ≡ true
 test-true a b same = grind arith
@@ -24,13 +24,13 @@ true-test a b is = grind arith
 
 -- ---- a row that is found fits, and where none is found none fits
 
-found_first : (word : ℕ) (x s : Instr) (rest : Option Instr) (b : Bool) → b ≡ fits_row word x → cond b (Some x) rest ≡ Some s → (rest ≡ Some s → and_by_bits word (row_of s).mask ≡ (row_of s).match) → and_by_bits word (row_of s).mask ≡ (row_of s).match
+found_first : (word : ℕ) (x s : Instr) (rest : Option Instr) (b : Bool) → b ≡ fits_row word x → cond b (Some x) rest ≡ Some s → (rest ≡ Some s → and_by_bits word (row_of_instr s).mask ≡ (row_of_instr s).match) → and_by_bits word (row_of_instr s).mask ≡ (row_of_instr s).match
 found_first word x s rest true is found later =
     let same : x ≡ s = cc in
-    subst (λ (i : Instr). and_by_bits word (row_of i).mask ≡ (row_of i).match) same (true-test (and_by_bits word (row_of x).mask) (row_of x).match (sym is))
+    subst (λ (i : Instr). and_by_bits word (row_of_instr i).mask ≡ (row_of_instr i).match) same (true-test (and_by_bits word (row_of_instr x).mask) (row_of_instr x).match (sym is))
 found_first word x s rest false is found later = later found
 
-found_fits : (word : ℕ) (xs : List Instr) (s : Instr) → find (fits_row word) xs ≡ Some s → and_by_bits word (row_of s).mask ≡ (row_of s).match
+found_fits : (word : ℕ) (xs : List Instr) (s : Instr) → find (fits_row word) xs ≡ Some s → and_by_bits word (row_of_instr s).mask ≡ (row_of_instr s).match
 found_fits word [] s found = cc
 found_fits word (x ∷ xs) s found = found_first word x s (find (fits_row word) xs) (fits_row word x) refl found (found_fits word xs s)
 
@@ -43,7 +43,7 @@ none_fit word [] none place row is same = cc
 none_fit word (x ∷ xs) none zero row is same =
     let row_is : row ≡ listed_of x = cc in
     let fits = subst (λ (r : Listed). and_by_bits word r.mask ≡ r.match) row_is same in
-    let tested = test-true (and_by_bits word (row_of x).mask) (row_of x).match fits in
+    let tested = test-true (and_by_bits word (row_of_instr x).mask) (row_of_instr x).match fits in
     let missed = (not_found (fits_row word x) x (find (fits_row word) xs) none).0 in
     cc
 none_fit word (x ∷ xs) none (suc place) row is same =
@@ -51,9 +51,9 @@ none_fit word (x ∷ xs) none (suc place) row is same =
 
 -- ---- so with the one that a word spells
 
-pub word_of_parts : (i : Instr) (match fields : ℕ) → match ≡ (row_of i).match → fields ≡ fields_at (row_of i).fields → word_of i ≡ match + fields
+pub word_of_parts : (i : Instr) (match fields : ℕ) → match ≡ (row_of_instr i).match → fields ≡ fields_at (row_of_instr i).fields → word_of i ≡ match + fields
 unfolding word_of
-word_of_parts i match fields match_is fields_are = sym (ap (λ n. n + fields) match_is ∙ ap (λ n. (row_of i).match + n) fields_are)
+word_of_parts i match fields match_is fields_are = sym (ap (λ n. n + fields) match_is ∙ ap (λ n. (row_of_instr i).match + n) fields_are)
 
 -- no row of the listing fits where none of the samples does
 unlisted : (word : ℕ) → find (fits_row word) samples ≡ None → (place : ℕ) (row : Listed) → slice_get listing place ≡ Some row → and_by_bits word row.mask ≢ row.match
@@ -64,7 +64,7 @@ unfound : (word : ℕ) (result : Option Instr) → word < 2 ^ 32 → IfSome resu
 unfound word None fits found none = refl
 unfound word (Some i) fits found none =
     let below : word_of i < 2 ^ 32 = omega (arith, found.1) in
-    let masked = subst (λ (w : ℕ). and_by_bits w (row_of i).mask ≡ (row_of i).match) found.1 (masked_word_of i found.0 below) in
+    let masked = subst (λ (w : ℕ). and_by_bits w (row_of_instr i).mask ≡ (row_of_instr i).match) found.1 (masked_word_of i found.0 below) in
     absurd (unlisted word none (is_listed i).0 (listed_of i) (is_listed i).1 masked)
 
 -- what is spelled by the word, and alone is, is what the listing gives

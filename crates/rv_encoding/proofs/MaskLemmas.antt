@@ -3,10 +3,10 @@ use Rattle.std.proofs.Common.{◌≡◌, ℕ, ◌+◌, ◌*◌, ◌/◌, ◌%◌
 use Rattle.std.proofs.lemmas.Nat.{and_mask, and_block, div-add-mod'}
 use Rattle.rv_word.specs.Logic.{and_by_bits}
 use Rattle.rv_word.proofs.LogicLemmas.{bit_and_is}
-use Rattle.rv_encoding.specs.Codes.{branch_funct3, load_funct3, store_funct3, op_imm_funct3, shift_codes, op_codes, csr_funct3, csr_imm_funct3}
-use Rattle.rv_encoding.specs.Rows.{row_of, IsInstr, word_of, Spells}
+use Rattle.rv_encoding.specs.Codes.{branch_funct3, load_funct3, store_funct3, op_imm_funct3, shift_functs, op_functs, csr_funct3, csr_imm_funct3}
+use Rattle.rv_encoding.specs.Rows.{row_of_instr, IsInstr, word_of, Spells}
 use Rattle.rv_encoding.specs.Decoding.{with_fields_of}
-use Rattle.rv_encoding.proofs.CodeLemmas.{branch_funct3-lt, load_funct3-lt, store_funct3-lt, op_imm_funct3-lt, shift_codes-lt, op_codes-lt, csr_funct3-lt, csr_imm_funct3-lt}
+use Rattle.rv_encoding.proofs.CodeLemmas.{branch_funct3-lt, load_funct3-lt, store_funct3-lt, op_imm_funct3-lt, shift_functs-lt, op_functs-lt, csr_funct3-lt, csr_imm_funct3-lt}
 use Rattle.rv_encoding.specs.declared.instr.Instr.{Instr}
 use Rattle.rv_encoding.specs.declared.instr.Instr.TheVariants.{Lui, Auipc, Jal, Jalr, Branch, Load, Store, OpImm, ShiftImm, Op, Fence, Csr, CsrImm, Ecall, Ebreak, Sret, Mret, Wfi, SfenceVma}
 
@@ -45,7 +45,7 @@ mask_word word fits = and_mask word 32 ∙ omega arith
 
 -- ---- a word that equals the match under the mask is spelled, with the fields that it has
 
-spelled_by_and : (i : Instr) (word : ℕ) → word < 2 ^ 32 → bit_and word (row_of i).mask ≡ (row_of i).match → Spells word (with_fields_of word i)
+spelled_by_and : (i : Instr) (word : ℕ) → word < 2 ^ 32 → bit_and word (row_of_instr i).mask ≡ (row_of_instr i).match → Spells word (with_fields_of word i)
 unfolding word_of
 spelled_by_and (Lui rd imm) word fits masked =
     let code = sym (and_mask word 7) ∙ masked in
@@ -76,11 +76,11 @@ spelled_by_and (OpImm kind rd rs1 imm) word fits masked =
     let code = sym (mask_i word) ∙ masked in
     (grind arith, omega (arith, code))
 spelled_by_and (ShiftImm kind rd rs1 shamt) word fits masked =
-    let codes : ((shift_codes kind).0 < 8) × ((shift_codes kind).1 < 128) = shift_codes-lt kind in
+    let codes : ((shift_functs kind).funct3 < 8) × ((shift_functs kind).funct7 < 128) = shift_functs-lt kind in
     let code = sym (mask_r word fits) ∙ masked in
     (grind arith, omega (arith, code))
 spelled_by_and (Op kind rd rs1 rs2) word fits masked =
-    let codes : ((op_codes kind).0 < 8) × ((op_codes kind).1 < 128) = op_codes-lt kind in
+    let codes : ((op_functs kind).funct3 < 8) × ((op_functs kind).funct7 < 128) = op_functs-lt kind in
     let code = sym (mask_r word fits) ∙ masked in
     (grind arith, omega (arith, code))
 spelled_by_and (Fence fm pred succ rd rs1) word fits masked =
@@ -105,7 +105,7 @@ spelled_by_and (SfenceVma rs1 rs2) word fits masked =
 
 -- ---- the word of an instruction equals the match under the mask
 
-word_of_and : (i : Instr) → IsInstr i → word_of i < 2 ^ 32 → bit_and (word_of i) (row_of i).mask ≡ (row_of i).match
+word_of_and : (i : Instr) → IsInstr i → word_of i < 2 ^ 32 → bit_and (word_of i) (row_of_instr i).mask ≡ (row_of_instr i).match
 unfolding word_of
 word_of_and (Lui rd imm) valid fits =
     and_mask (word_of (Lui rd imm)) 7 ∙ omega arith
@@ -128,10 +128,10 @@ word_of_and (OpImm kind rd rs1 imm) valid fits =
     let funct3 : op_imm_funct3 kind < 8 = op_imm_funct3-lt kind in
     mask_i (word_of (OpImm kind rd rs1 imm)) ∙ omega arith
 word_of_and (ShiftImm kind rd rs1 shamt) valid fits =
-    let codes : ((shift_codes kind).0 < 8) × ((shift_codes kind).1 < 128) = shift_codes-lt kind in
+    let codes : ((shift_functs kind).funct3 < 8) × ((shift_functs kind).funct7 < 128) = shift_functs-lt kind in
     mask_r (word_of (ShiftImm kind rd rs1 shamt)) fits ∙ omega arith
 word_of_and (Op kind rd rs1 rs2) valid fits =
-    let codes : ((op_codes kind).0 < 8) × ((op_codes kind).1 < 128) = op_codes-lt kind in
+    let codes : ((op_functs kind).funct3 < 8) × ((op_functs kind).funct7 < 128) = op_functs-lt kind in
     mask_r (word_of (Op kind rd rs1 rs2)) fits ∙ omega arith
 word_of_and (Fence fm pred succ rd rs1) valid fits =
     mask_i (word_of (Fence fm pred succ rd rs1)) ∙ omega arith
@@ -151,14 +151,14 @@ word_of_and (SfenceVma rs1 rs2) valid fits =
 
 -- ---- the same of the mask bit by bit
 
-mask-lt : (i : Instr) → (row_of i).mask < 2 ^ 32
+mask-lt : (i : Instr) → (row_of_instr i).mask < 2 ^ 32
 mask-lt i = grind arith
 
-and_mask_is : (i : Instr) (word : ℕ) → word < 2 ^ 32 → bit_and word (row_of i).mask ≡ and_by_bits word (row_of i).mask
-and_mask_is i word fits = bit_and_is word (row_of i).mask fits (mask-lt i)
+and_mask_is : (i : Instr) (word : ℕ) → word < 2 ^ 32 → bit_and word (row_of_instr i).mask ≡ and_by_bits word (row_of_instr i).mask
+and_mask_is i word fits = bit_and_is word (row_of_instr i).mask fits (mask-lt i)
 
-pub spelled_by_mask : (i : Instr) (word : ℕ) → word < 2 ^ 32 → and_by_bits word (row_of i).mask ≡ (row_of i).match → Spells word (with_fields_of word i)
+pub spelled_by_mask : (i : Instr) (word : ℕ) → word < 2 ^ 32 → and_by_bits word (row_of_instr i).mask ≡ (row_of_instr i).match → Spells word (with_fields_of word i)
 spelled_by_mask i word fits masked = spelled_by_and i word fits (and_mask_is i word fits ∙ masked)
 
-pub masked_word_of : (i : Instr) → IsInstr i → word_of i < 2 ^ 32 → and_by_bits (word_of i) (row_of i).mask ≡ (row_of i).match
+pub masked_word_of : (i : Instr) → IsInstr i → word_of i < 2 ^ 32 → and_by_bits (word_of i) (row_of_instr i).mask ≡ (row_of_instr i).match
 masked_word_of i valid fits = sym (and_mask_is i (word_of i) fits) ∙ word_of_and i valid fits

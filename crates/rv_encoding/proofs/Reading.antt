@@ -1,6 +1,6 @@
 -- The decoder's steps as functions: for each group of words with one opcode, the one instruction that a word may spell.
 -- An aid of the proof that these steps find what the listing has; no public contract speaks of it.
-use Rattle.std.specs.Prelude.{ℕ, ◌*◌, ◌^◌, ◌==◌, ◌&&◌, if◌then◌else◌, Option, Some, None}
+use Rattle.std.specs.Prelude.{ℕ, ◌==◌, ◌&&◌, if◌then◌else◌, Option, Some, None}
 use Rattle.std.specs.Option.{option_map, option_or}
 use Rattle.rv_word.specs.BitFields.{bits}
 use Rattle.rv_encoding.specs.Places.{rd_at, rs1_at, rs2_at, i_immediate_at, s_immediate_at, b_immediate_at, j_immediate_at, u_immediate_at, shamt_at, fm_at, pred_at, succ_at, csr_at, uimm_at, taken}
@@ -14,7 +14,7 @@ abbrev pub read_jalr : ℕ → Option Instr
 read_jalr word = if bits word 14 12 == 0 then Some (Jalr (taken rd_at word) (taken rs1_at word) (taken i_immediate_at word)) else None
 
 abbrev pub read_branch : ℕ → Option Instr
-read_branch word = option_map (λ kind. Branch kind (taken rs1_at word) (taken rs2_at word) (taken b_immediate_at word * 2)) (branch_kind (bits word 14 12))
+read_branch word = option_map (λ kind. Branch kind (taken rs1_at word) (taken rs2_at word) (taken b_immediate_at word)) (branch_kind (bits word 14 12))
 
 abbrev pub read_load : ℕ → Option Instr
 read_load word = option_map (λ kind. Load kind (taken rd_at word) (taken rs1_at word) (taken i_immediate_at word)) (load_kind (bits word 14 12))
@@ -58,9 +58,9 @@ read_system word =
 abbrev pub read : ℕ → Option Instr
 read word =
     let opcode = bits word 6 0 in
-    if opcode == 0b0110111 then Some (Lui (taken rd_at word) (taken u_immediate_at word * 2 ^ 12))
-    else if opcode == 0b0010111 then Some (Auipc (taken rd_at word) (taken u_immediate_at word * 2 ^ 12))
-    else if opcode == 0b1101111 then Some (Jal (taken rd_at word) (taken j_immediate_at word * 2))
+    if opcode == 0b0110111 then Some (Lui (taken rd_at word) (taken u_immediate_at word))
+    else if opcode == 0b0010111 then Some (Auipc (taken rd_at word) (taken u_immediate_at word))
+    else if opcode == 0b1101111 then Some (Jal (taken rd_at word) (taken j_immediate_at word))
     else if opcode == 0b1100111 then read_jalr word
     else if opcode == 0b1100011 then read_branch word
     else if opcode == 0b0000011 then read_load word

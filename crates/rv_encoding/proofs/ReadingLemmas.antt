@@ -1,11 +1,11 @@
 -- What a row spells is read as its instruction.
-use Rattle.std.proofs.Common.{◌≡◌, ℕ, ◌*◌, ◌<◌, Some, None, refl, sym, ap, ◌∙◌, arith}
+use Rattle.std.proofs.Common.{◌≡◌, ℕ, ◌<◌, Some, None, refl, sym, ap, ◌∙◌, arith}
 use Rattle.rv_word.specs.BitFields.{bits}
 use Rattle.rv_encoding.specs.Places.{rd_at, rs1_at, rs2_at, i_immediate_at, s_immediate_at, b_immediate_at, shamt_at, fm_at, pred_at, succ_at, csr_at, uimm_at, taken}
-use Rattle.rv_encoding.specs.Codes.{branch_funct3, load_funct3, store_funct3, op_imm_funct3, shift_codes, op_codes, csr_funct3, csr_imm_funct3, branch_kind, load_kind, store_kind, op_imm_kind, shift_kind, op_kind, csr_kind, csr_imm_kind}
+use Rattle.rv_encoding.specs.Codes.{branch_funct3, load_funct3, store_funct3, op_imm_funct3, shift_functs, op_functs, csr_funct3, csr_imm_funct3, branch_kind, load_kind, store_kind, op_imm_kind, shift_kind, op_kind, csr_kind, csr_imm_kind}
 use Rattle.rv_encoding.specs.Rows.{IsInstr, word_of, Spells}
 use Rattle.rv_encoding.proofs.Reading.{read, read_jalr, read_branch, read_load, read_store, read_op_imm, read_op, read_fence, read_whole, read_system}
-use Rattle.rv_encoding.proofs.CodeLemmas.{branch_kind_found, branch_funct3-lt, load_kind_found, load_funct3-lt, store_kind_found, store_funct3-lt, op_imm_kind_found, op_imm_funct3-lt, csr_kind_found, csr_funct3-lt, csr_imm_kind_found, csr_imm_funct3-lt, shift_kind_found, shift_codes-lt, op_kind_found, op_codes-lt, no_shift, no_csr}
+use Rattle.rv_encoding.proofs.CodeLemmas.{branch_kind_found, branch_funct3-lt, load_kind_found, load_funct3-lt, store_kind_found, store_funct3-lt, op_imm_kind_found, op_imm_funct3-lt, csr_kind_found, csr_funct3-lt, csr_imm_kind_found, csr_imm_funct3-lt, shift_kind_found, shift_functs-lt, op_kind_found, op_functs-lt, no_shift, no_csr}
 use Rattle.rv_encoding.specs.declared.kind.BranchKind.{BranchKind}
 use Rattle.rv_encoding.specs.declared.kind.LoadKind.{LoadKind}
 use Rattle.rv_encoding.specs.declared.kind.StoreKind.{StoreKind}
@@ -18,7 +18,7 @@ use Rattle.rv_encoding.specs.declared.instr.Instr.TheVariants.{Lui, Auipc, Jal, 
 
 -- ---- a word of an opcode is read by its fields
 
-read_branch_is : (word : ℕ) (kind : BranchKind) (rs1 rs2 offset : ℕ) → bits word 6 0 ≡ 0b1100011 → branch_kind (bits word 14 12) ≡ Some kind → taken rs1_at word ≡ rs1 → taken rs2_at word ≡ rs2 → taken b_immediate_at word * 2 ≡ offset → read word ≡ Some (Branch kind rs1 rs2 offset)
+read_branch_is : (word : ℕ) (kind : BranchKind) (rs1 rs2 offset : ℕ) → bits word 6 0 ≡ 0b1100011 → branch_kind (bits word 14 12) ≡ Some kind → taken rs1_at word ≡ rs1 → taken rs2_at word ≡ rs2 → taken b_immediate_at word ≡ offset → read word ≡ Some (Branch kind rs1 rs2 offset)
 read_branch_is word kind rs1 rs2 offset opcode found rs1_is rs2_is offset_is = grind arith
 
 read_load_is : (word : ℕ) (kind : LoadKind) (rd rs1 offset : ℕ) → bits word 6 0 ≡ 0b0000011 → load_kind (bits word 14 12) ≡ Some kind → taken rd_at word ≡ rd → taken rs1_at word ≡ rs1 → taken i_immediate_at word ≡ offset → read word ≡ Some (Load kind rd rs1 offset)
@@ -83,18 +83,18 @@ read_word_of (OpImm kind rd rs1 imm) valid =
     (ap op_imm_kind funct3 ∙ op_imm_kind_found kind) (omega arith) (omega arith) (omega arith)
 read_word_of (ShiftImm kind rd rs1 shamt) valid =
     let word : ℕ = word_of (ShiftImm kind rd rs1 shamt) in
-    let code : ((shift_codes kind).0 < 8) × ((shift_codes kind).1 < 128) = shift_codes-lt kind in
-    let funct3 : bits (word_of (ShiftImm kind rd rs1 shamt)) 14 12 ≡ (shift_codes kind).0 = omega arith in
-    let funct7 : bits (word_of (ShiftImm kind rd rs1 shamt)) 31 25 ≡ (shift_codes kind).1 = omega arith in
+    let code : ((shift_functs kind).funct3 < 8) × ((shift_functs kind).funct7 < 128) = shift_functs-lt kind in
+    let funct3 : bits (word_of (ShiftImm kind rd rs1 shamt)) 14 12 ≡ (shift_functs kind).funct3 = omega arith in
+    let funct7 : bits (word_of (ShiftImm kind rd rs1 shamt)) 31 25 ≡ (shift_functs kind).funct7 = omega arith in
     read_shift_imm_is word kind rd rs1 shamt (omega arith)
-    (ap (λ n. shift_kind n (bits word 31 25)) funct3 ∙ ap (shift_kind (shift_codes kind).0) funct7 ∙ shift_kind_found kind) (omega arith) (omega arith) (omega arith)
+    (ap (λ n. shift_kind n (bits word 31 25)) funct3 ∙ ap (shift_kind (shift_functs kind).funct3) funct7 ∙ shift_kind_found kind) (omega arith) (omega arith) (omega arith)
 read_word_of (Op kind rd rs1 rs2) valid =
     let word : ℕ = word_of (Op kind rd rs1 rs2) in
-    let code : ((op_codes kind).0 < 8) × ((op_codes kind).1 < 128) = op_codes-lt kind in
-    let funct3 : bits (word_of (Op kind rd rs1 rs2)) 14 12 ≡ (op_codes kind).0 = omega arith in
-    let funct7 : bits (word_of (Op kind rd rs1 rs2)) 31 25 ≡ (op_codes kind).1 = omega arith in
+    let code : ((op_functs kind).funct3 < 8) × ((op_functs kind).funct7 < 128) = op_functs-lt kind in
+    let funct3 : bits (word_of (Op kind rd rs1 rs2)) 14 12 ≡ (op_functs kind).funct3 = omega arith in
+    let funct7 : bits (word_of (Op kind rd rs1 rs2)) 31 25 ≡ (op_functs kind).funct7 = omega arith in
     read_op_is word kind rd rs1 rs2 (omega arith)
-    (ap (λ n. op_kind n (bits word 31 25)) funct3 ∙ ap (op_kind (op_codes kind).0) funct7 ∙ op_kind_found kind) (omega arith) (omega arith) (omega arith)
+    (ap (λ n. op_kind n (bits word 31 25)) funct3 ∙ ap (op_kind (op_functs kind).funct3) funct7 ∙ op_kind_found kind) (omega arith) (omega arith) (omega arith)
 read_word_of (Fence fm pred succ rd rs1) valid =
     let word : ℕ = word_of (Fence fm pred succ rd rs1) in
     read_fence_is word fm pred succ rd rs1 (omega arith) (omega arith) (omega arith) (omega arith) (omega arith) (omega arith) (omega arith)

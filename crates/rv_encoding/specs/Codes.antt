@@ -12,10 +12,11 @@ use Rattle.rv_encoding.specs.declared.kind.ShiftKind.{ShiftKind}
 use Rattle.rv_encoding.specs.declared.kind.ShiftKind.TheVariants.{Slli, Srli, Srai}
 use Rattle.rv_encoding.specs.declared.kind.OpKind.{OpKind}
 use Rattle.rv_encoding.specs.declared.kind.OpKind.TheVariants.{Add, Sub, Sll, Slt, Sltu, Xor, Srl, Sra, Or, And, Mul, Mulh, Mulhsu, Mulhu, Div, Divu, Rem, Remu}
+use Rattle.rv_encoding.specs.declared.encoder.codes.Functs.{Functs}
 use Rattle.rv_encoding.specs.declared.kind.CsrKind.{CsrKind}
 use Rattle.rv_encoding.specs.declared.kind.CsrKind.TheVariants.{Write, Set, Clear}
 
--- ---- funct3
+-- ---- funct3 alone
 
 abbrev pub branch_funct3 : BranchKind → ℕ
 branch_funct3 Beq = 0b000
@@ -55,32 +56,32 @@ csr_imm_funct3 Write = 0b101
 csr_imm_funct3 Set = 0b110
 csr_imm_funct3 Clear = 0b111
 
--- ---- funct3 and funct7
+-- ---- funct7 and funct3
 
-abbrev pub shift_codes : ShiftKind → ℕ × ℕ
-shift_codes Slli = (0b001, 0b0000000)
-shift_codes Srli = (0b101, 0b0000000)
-shift_codes Srai = (0b101, 0b0100000)
+abbrev pub shift_functs : ShiftKind → Functs
+shift_functs Slli = record { funct7 = 0b0000000; funct3 = 0b001 }
+shift_functs Srli = record { funct7 = 0b0000000; funct3 = 0b101 }
+shift_functs Srai = record { funct7 = 0b0100000; funct3 = 0b101 }
 
-abbrev pub op_codes : OpKind → ℕ × ℕ
-op_codes Add = (0b000, 0b0000000)
-op_codes Sub = (0b000, 0b0100000)
-op_codes Sll = (0b001, 0b0000000)
-op_codes Slt = (0b010, 0b0000000)
-op_codes Sltu = (0b011, 0b0000000)
-op_codes Xor = (0b100, 0b0000000)
-op_codes Srl = (0b101, 0b0000000)
-op_codes Sra = (0b101, 0b0100000)
-op_codes Or = (0b110, 0b0000000)
-op_codes And = (0b111, 0b0000000)
-op_codes Mul = (0b000, 0b0000001)
-op_codes Mulh = (0b001, 0b0000001)
-op_codes Mulhsu = (0b010, 0b0000001)
-op_codes Mulhu = (0b011, 0b0000001)
-op_codes Div = (0b100, 0b0000001)
-op_codes Divu = (0b101, 0b0000001)
-op_codes Rem = (0b110, 0b0000001)
-op_codes Remu = (0b111, 0b0000001)
+abbrev pub op_functs : OpKind → Functs
+op_functs Add = record { funct7 = 0b0000000; funct3 = 0b000 }
+op_functs Sub = record { funct7 = 0b0100000; funct3 = 0b000 }
+op_functs Sll = record { funct7 = 0b0000000; funct3 = 0b001 }
+op_functs Slt = record { funct7 = 0b0000000; funct3 = 0b010 }
+op_functs Sltu = record { funct7 = 0b0000000; funct3 = 0b011 }
+op_functs Xor = record { funct7 = 0b0000000; funct3 = 0b100 }
+op_functs Srl = record { funct7 = 0b0000000; funct3 = 0b101 }
+op_functs Sra = record { funct7 = 0b0100000; funct3 = 0b101 }
+op_functs Or = record { funct7 = 0b0000000; funct3 = 0b110 }
+op_functs And = record { funct7 = 0b0000000; funct3 = 0b111 }
+op_functs Mul = record { funct7 = 0b0000001; funct3 = 0b000 }
+op_functs Mulh = record { funct7 = 0b0000001; funct3 = 0b001 }
+op_functs Mulhsu = record { funct7 = 0b0000001; funct3 = 0b010 }
+op_functs Mulhu = record { funct7 = 0b0000001; funct3 = 0b011 }
+op_functs Div = record { funct7 = 0b0000001; funct3 = 0b100 }
+op_functs Divu = record { funct7 = 0b0000001; funct3 = 0b101 }
+op_functs Rem = record { funct7 = 0b0000001; funct3 = 0b110 }
+op_functs Remu = record { funct7 = 0b0000001; funct3 = 0b111 }
 
 -- ---- the kind of a code, if there is one
 
@@ -97,10 +98,10 @@ abbrev pub op_imm_kind : ℕ → Option OpImmKind
 op_imm_kind funct3 = find (λ kind. op_imm_funct3 kind == funct3) (Addi ∷ Slti ∷ Sltiu ∷ Xori ∷ Ori ∷ Andi ∷ [])
 
 abbrev pub shift_kind : ℕ → ℕ → Option ShiftKind
-shift_kind funct3 funct7 = find (λ kind. (shift_codes kind).0 == funct3 && (shift_codes kind).1 == funct7) (Slli ∷ Srli ∷ Srai ∷ [])
+shift_kind funct3 funct7 = find (λ kind. (shift_functs kind).funct3 == funct3 && (shift_functs kind).funct7 == funct7) (Slli ∷ Srli ∷ Srai ∷ [])
 
 abbrev pub op_kind : ℕ → ℕ → Option OpKind
-op_kind funct3 funct7 = find (λ kind. (op_codes kind).0 == funct3 && (op_codes kind).1 == funct7) (Add ∷ Sub ∷ Sll ∷ Slt ∷ Sltu ∷ Xor ∷ Srl ∷ Sra ∷ Or ∷ And ∷ Mul ∷ Mulh ∷ Mulhsu ∷ Mulhu ∷ Div ∷ Divu ∷ Rem ∷ Remu ∷ [])
+op_kind funct3 funct7 = find (λ kind. (op_functs kind).funct3 == funct3 && (op_functs kind).funct7 == funct7) (Add ∷ Sub ∷ Sll ∷ Slt ∷ Sltu ∷ Xor ∷ Srl ∷ Sra ∷ Or ∷ And ∷ Mul ∷ Mulh ∷ Mulhsu ∷ Mulhu ∷ Div ∷ Divu ∷ Rem ∷ Remu ∷ [])
 
 abbrev pub csr_kind : ℕ → Option CsrKind
 csr_kind funct3 = find (λ kind. csr_funct3 kind == funct3) (Write ∷ Set ∷ Clear ∷ [])

@@ -1,9 +1,9 @@
 -- The instruction that a word spells, read off the listing: RISC-V Unprivileged ISA 20191213, section 2.2 and chapter 24.
-use Rattle.std.specs.Prelude.{ℕ, ◌*◌, ◌^◌, ◌==◌, List, [], ◌∷◌, find, Option}
+use Rattle.std.specs.Prelude.{ℕ, ◌==◌, List, [], ◌∷◌, find, Option}
 use Rattle.std.specs.Option.{option_map}
 use Rattle.rv_word.specs.Logic.{and_by_bits}
 use Rattle.rv_encoding.specs.Places.{rd_at, rs1_at, rs2_at, i_immediate_at, s_immediate_at, b_immediate_at, j_immediate_at, u_immediate_at, shamt_at, fm_at, pred_at, succ_at, csr_at, uimm_at, taken}
-use Rattle.rv_encoding.specs.Rows.{row_of}
+use Rattle.rv_encoding.specs.Rows.{row_of_instr}
 use Rattle.rv_encoding.specs.declared.kind.BranchKind.TheVariants.{Beq, Bne, Blt, Bge, Bltu, Bgeu}
 use Rattle.rv_encoding.specs.declared.kind.LoadKind.TheVariants.{Lb, Lh, Lw, Lbu, Lhu}
 use Rattle.rv_encoding.specs.declared.kind.StoreKind.TheVariants.{Sb, Sh, Sw}
@@ -34,11 +34,11 @@ samples =
 
 -- The instruction of the same row whose fields are those of a word.
 abbrev pub with_fields_of : ℕ → Instr → Instr
-with_fields_of word (Lui rd imm) = Lui (taken rd_at word) (taken u_immediate_at word * 2 ^ 12)
-with_fields_of word (Auipc rd imm) = Auipc (taken rd_at word) (taken u_immediate_at word * 2 ^ 12)
-with_fields_of word (Jal rd offset) = Jal (taken rd_at word) (taken j_immediate_at word * 2)
+with_fields_of word (Lui rd imm) = Lui (taken rd_at word) (taken u_immediate_at word)
+with_fields_of word (Auipc rd imm) = Auipc (taken rd_at word) (taken u_immediate_at word)
+with_fields_of word (Jal rd offset) = Jal (taken rd_at word) (taken j_immediate_at word)
 with_fields_of word (Jalr rd rs1 offset) = Jalr (taken rd_at word) (taken rs1_at word) (taken i_immediate_at word)
-with_fields_of word (Branch kind rs1 rs2 offset) = Branch kind (taken rs1_at word) (taken rs2_at word) (taken b_immediate_at word * 2)
+with_fields_of word (Branch kind rs1 rs2 offset) = Branch kind (taken rs1_at word) (taken rs2_at word) (taken b_immediate_at word)
 with_fields_of word (Load kind rd rs1 offset) = Load kind (taken rd_at word) (taken rs1_at word) (taken i_immediate_at word)
 with_fields_of word (Store kind rs1 rs2 offset) = Store kind (taken rs1_at word) (taken rs2_at word) (taken s_immediate_at word)
 with_fields_of word (OpImm kind rd rs1 imm) = OpImm kind (taken rd_at word) (taken rs1_at word) (taken i_immediate_at word)
@@ -56,4 +56,4 @@ with_fields_of word (SfenceVma rs1 rs2) = SfenceVma (taken rs1_at word) (taken r
 
 -- The first row whose match is the word under its mask (the only one: no word is spelled by two), with the word's fields.
 unfoldable pub decoded : ℕ → Option Instr
-decoded word = option_map (with_fields_of word) (find (λ sample. and_by_bits word (row_of sample).mask == (row_of sample).match) samples)
+decoded word = option_map (with_fields_of word) (find (λ sample. and_by_bits word (row_of_instr sample).mask == (row_of_instr sample).match) samples)

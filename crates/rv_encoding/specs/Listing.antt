@@ -2,7 +2,7 @@
 -- Zicsr, RV32M), and of Privileged Architecture 20211203, chapter "RISC-V Privileged Instruction Set Listings". This is
 -- the table to hold beside the manuals; `decode` ensures that it is the rows of `Rows`, no more and no fewer.
 use Rattle.std.specs.Prelude.{◌≡◌, ℕ, List, [], ◌∷◌, codes, slice_get, Some}
-use Rattle.rv_encoding.specs.Rows.{row_of}
+use Rattle.rv_encoding.specs.Rows.{row_of_instr}
 use Rattle.rv_encoding.specs.declared.kind.BranchKind.{BranchKind}
 use Rattle.rv_encoding.specs.declared.kind.BranchKind.TheVariants.{Beq, Bne, Blt, Bge, Bltu, Bgeu}
 use Rattle.rv_encoding.specs.declared.kind.LoadKind.{LoadKind}
@@ -183,7 +183,7 @@ name_of (SfenceVma rs1 rs2) = codes "sfence.vma"
 
 -- What the listing has of an instruction.
 abbrev pub listed_of : Instr → Listed
-listed_of instr = listed (name_of instr) (row_of instr).mask (row_of instr).match
+listed_of instr = listed (name_of instr) (row_of_instr instr).mask (row_of_instr instr).match
 
 -- That line stands in the listing.
 abbrev pub IsListed : Instr → Type 0

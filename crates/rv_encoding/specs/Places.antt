@@ -1,74 +1,82 @@
 -- Where the fields of an instruction lie in its word: RISC-V Unprivileged ISA 20191213, sections 2.2 and 2.3.
-use Rattle.std.specs.Prelude.{ℕ, ◌+◌, ◌-◌, ◌*◌, ◌/◌, ◌%◌, ◌^◌, List, [], ◌∷◌}
+use Rattle.std.specs.Prelude.{ℕ, ◌+◌, ◌*◌, ◌^◌, List, [], ◌∷◌}
+use Rattle.rv_word.specs.BitFields.{bits}
 
--- The runs of bits that a field takes in a word, each from its highest to its lowest, the field's highest bits first.
+-- A run of bits of a field, and the bits of the word that they are: each by its highest and its lowest bit.
+pub record Run : Type 0 where
+  pub field_hi : ℕ
+  pub field_lo : ℕ
+  pub hi : ℕ
+  pub lo : ℕ
+
+abbrev pub run : ℕ → ℕ → ℕ → ℕ → Run
+run field_hi field_lo hi lo = record { field_hi = field_hi; field_lo = field_lo; hi = hi; lo = lo }
+
+-- The runs of a field, from the highest bit of the word on. A bit of the field that is in none is 0.
 abbrev pub Places : Type 0
-Places = List (ℕ × ℕ)
+Places = List Run
 
 -- ---- fields of every format
 
 abbrev pub rd_at : Places
-rd_at = (11, 7) ∷ []
+rd_at = run 4 0 11 7 ∷ []
 
 abbrev pub rs1_at : Places
-rs1_at = (19, 15) ∷ []
+rs1_at = run 4 0 19 15 ∷ []
 
 abbrev pub rs2_at : Places
-rs2_at = (24, 20) ∷ []
+rs2_at = run 4 0 24 20 ∷ []
 
 -- ---- immediates
 
+-- imm[11:0]
 abbrev pub i_immediate_at : Places
-i_immediate_at = (31, 20) ∷ []
+i_immediate_at = run 11 0 31 20 ∷ []
 
+-- imm[11:5], imm[4:0]
 abbrev pub s_immediate_at : Places
-s_immediate_at = (31, 25) ∷ (11, 7) ∷ []
+s_immediate_at = run 11 5 31 25 ∷ run 4 0 11 7 ∷ []
 
--- a 0 follows
+-- imm[12], imm[10:5], imm[4:1], imm[11]
 abbrev pub b_immediate_at : Places
-b_immediate_at = (31, 31) ∷ (7, 7) ∷ (30, 25) ∷ (11, 8) ∷ []
+b_immediate_at = run 12 12 31 31 ∷ run 10 5 30 25 ∷ run 4 1 11 8 ∷ run 11 11 7 7 ∷ []
 
--- a 0 follows
+-- imm[20], imm[10:1], imm[11], imm[19:12]
 abbrev pub j_immediate_at : Places
-j_immediate_at = (31, 31) ∷ (19, 12) ∷ (20, 20) ∷ (30, 21) ∷ []
+j_immediate_at = run 20 20 31 31 ∷ run 10 1 30 21 ∷ run 11 11 20 20 ∷ run 19 12 19 12 ∷ []
 
--- twelve 0s follow
+-- imm[31:12]
 abbrev pub u_immediate_at : Places
-u_immediate_at = (31, 12) ∷ []
+u_immediate_at = run 31 12 31 12 ∷ []
 
 -- ---- fields of single groups: section 2.4 (shamt), 2.7 (fm, pred, succ), 9.1 (csr, uimm)
 
 abbrev pub shamt_at : Places
-shamt_at = (24, 20) ∷ []
+shamt_at = run 4 0 24 20 ∷ []
 
 abbrev pub fm_at : Places
-fm_at = (31, 28) ∷ []
+fm_at = run 3 0 31 28 ∷ []
 
 abbrev pub pred_at : Places
-pred_at = (27, 24) ∷ []
+pred_at = run 3 0 27 24 ∷ []
 
 abbrev pub succ_at : Places
-succ_at = (23, 20) ∷ []
+succ_at = run 3 0 23 20 ∷ []
 
 abbrev pub csr_at : Places
-csr_at = (31, 20) ∷ []
+csr_at = run 11 0 31 20 ∷ []
 
 abbrev pub uimm_at : Places
-uimm_at = (19, 15) ∷ []
+uimm_at = run 4 0 19 15 ∷ []
 
 -- ---- a field and its places
-
--- How many bits lie at these places.
-abbrev pub width : Places → ℕ
-width [] = 0
-width ((hi, lo) ∷ runs) = hi + 1 - lo + width runs
 
 -- A field at its places in a word.
 abbrev pub placed : Places → ℕ → ℕ
 placed [] field = 0
-placed ((hi, lo) ∷ runs) field = field / 2 ^ width runs % 2 ^ (hi + 1 - lo) * 2 ^ lo + placed runs field
+placed (run ∷ runs) field = bits field run.field_hi run.field_lo * 2 ^ run.lo + placed runs field
 
 -- The field that lies at these places of a word.
 abbrev pub taken : Places → ℕ → ℕ
 taken [] word = 0
-taken ((hi, lo) ∷ runs) word = word / 2 ^ lo % 2 ^ (hi + 1 - lo) * 2 ^ width runs + taken runs word
+taken (run ∷ runs) word = bits word run.hi run.lo * 2 ^ run.field_lo + taken runs word

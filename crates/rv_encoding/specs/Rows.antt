@@ -1,16 +1,17 @@
 -- The rows of the instruction listings: RISC-V Unprivileged ISA 20191213, sections 2.2 and 2.3 and chapter 24, and
 -- Privileged Architecture 20211203, chapter "RISC-V Privileged Instruction Set Listings". What the words of each row
 -- share, the fields of each at their places, and so the word that spells an instruction.
-use Rattle.std.specs.Prelude.{◌≡◌, ℕ, ◌+◌, ◌*◌, ◌/◌, ◌^◌, ◌<◌, List, [], ◌∷◌, sum_by}
+use Rattle.std.specs.Prelude.{◌≡◌, ℕ, ◌+◌, ◌*◌, ◌^◌, ◌<◌, List, [], ◌∷◌, sum_by}
 use Rattle.rv_encoding.specs.Places.{Places, rd_at, rs1_at, rs2_at, i_immediate_at, s_immediate_at, b_immediate_at, j_immediate_at, u_immediate_at, shamt_at, fm_at, pred_at, succ_at, csr_at, uimm_at, placed}
 use Rattle.rv_encoding.specs.Ranges.{IsUpperImmediate, IsBranchOffset, IsJumpOffset}
-use Rattle.rv_encoding.specs.Codes.{branch_funct3, load_funct3, store_funct3, op_imm_funct3, shift_codes, op_codes, csr_funct3, csr_imm_funct3}
+use Rattle.rv_encoding.specs.Codes.{branch_funct3, load_funct3, store_funct3, op_imm_funct3, shift_functs, op_functs, csr_funct3, csr_imm_funct3}
+use Rattle.rv_encoding.specs.declared.encoder.codes.Functs.{Functs}
 use Rattle.rv_encoding.specs.declared.instr.Instr.{Instr}
 use Rattle.rv_encoding.specs.declared.instr.Instr.TheVariants.{Lui, Auipc, Jal, Jalr, Branch, Load, Store, OpImm, ShiftImm, Op, Fence, Csr, CsrImm, Ecall, Ebreak, Sret, Mret, Wfi, SfenceVma}
 
 -- A row with the fields of one of its words: under the mask the word is the match, and it is the match and each field
 -- at its places.
-pub record Row : Type 0 where
+pub record InstrRow : Type 0 where
   pub mask : ℕ
   pub match : ℕ
   pub fields : List (Places × ℕ)
@@ -21,47 +22,48 @@ fields_at fields = sum_by (λ (field : Places × ℕ). placed field.0 field.1) f
 
 -- ---- formats: opcode in bits 6:0, funct3 in bits 14:12, funct7 in bits 31:25
 
-abbrev pub opcode_row : ℕ → List (Places × ℕ) → Row
+abbrev pub opcode_row : ℕ → List (Places × ℕ) → InstrRow
 opcode_row opcode fields = record { mask = 0x0000007F; match = opcode; fields = fields }
 
-abbrev pub funct3_row : ℕ → ℕ → List (Places × ℕ) → Row
+abbrev pub funct3_row : ℕ → ℕ → List (Places × ℕ) → InstrRow
 funct3_row opcode funct3 fields = record { mask = 0x0000707F; match = opcode + funct3 * 2 ^ 12; fields = fields }
 
-abbrev pub funct7_row : ℕ → ℕ × ℕ → List (Places × ℕ) → Row
-funct7_row opcode codes fields = record { mask = 0xFE00707F; match = opcode + codes.0 * 2 ^ 12 + codes.1 * 2 ^ 25; fields = fields }
+abbrev pub funct7_row : ℕ → Functs → List (Places × ℕ) → InstrRow
+funct7_row opcode functs fields =
+    record { mask = 0xFE00707F; match = opcode + functs.funct3 * 2 ^ 12 + functs.funct7 * 2 ^ 25; fields = fields }
 
 -- a whole word
-abbrev pub word_row : ℕ → Row
+abbrev pub word_row : ℕ → InstrRow
 word_row word = record { mask = 0xFFFFFFFF; match = word; fields = [] }
 
 -- ---- the rows, by groups with the same fields
 
-abbrev pub row_of : Instr → Row
-row_of (Lui rd imm) = opcode_row 0b0110111 ((rd_at, rd) ∷ (u_immediate_at, imm / 2 ^ 12) ∷ [])
-row_of (Auipc rd imm) = opcode_row 0b0010111 ((rd_at, rd) ∷ (u_immediate_at, imm / 2 ^ 12) ∷ [])
-row_of (Jal rd offset) = opcode_row 0b1101111 ((rd_at, rd) ∷ (j_immediate_at, offset / 2) ∷ [])
-row_of (Jalr rd rs1 offset) = funct3_row 0b1100111 0b000 ((rd_at, rd) ∷ (rs1_at, rs1) ∷ (i_immediate_at, offset) ∷ [])
-row_of (Branch kind rs1 rs2 offset) = funct3_row 0b1100011 (branch_funct3 kind) ((rs1_at, rs1) ∷ (rs2_at, rs2) ∷ (b_immediate_at, offset / 2) ∷ [])
-row_of (Load kind rd rs1 offset) = funct3_row 0b0000011 (load_funct3 kind) ((rd_at, rd) ∷ (rs1_at, rs1) ∷ (i_immediate_at, offset) ∷ [])
-row_of (Store kind rs1 rs2 offset) = funct3_row 0b0100011 (store_funct3 kind) ((rs1_at, rs1) ∷ (rs2_at, rs2) ∷ (s_immediate_at, offset) ∷ [])
-row_of (OpImm kind rd rs1 imm) = funct3_row 0b0010011 (op_imm_funct3 kind) ((rd_at, rd) ∷ (rs1_at, rs1) ∷ (i_immediate_at, imm) ∷ [])
-row_of (ShiftImm kind rd rs1 shamt) = funct7_row 0b0010011 (shift_codes kind) ((rd_at, rd) ∷ (rs1_at, rs1) ∷ (shamt_at, shamt) ∷ [])
-row_of (Op kind rd rs1 rs2) = funct7_row 0b0110011 (op_codes kind) ((rd_at, rd) ∷ (rs1_at, rs1) ∷ (rs2_at, rs2) ∷ [])
-row_of (Fence fm pred succ rd rs1) = funct3_row 0b0001111 0b000 ((fm_at, fm) ∷ (pred_at, pred) ∷ (succ_at, succ) ∷ (rd_at, rd) ∷ (rs1_at, rs1) ∷ [])
-row_of (Csr kind rd rs1 csr) = funct3_row 0b1110011 (csr_funct3 kind) ((rd_at, rd) ∷ (rs1_at, rs1) ∷ (csr_at, csr) ∷ [])
-row_of (CsrImm kind rd uimm csr) = funct3_row 0b1110011 (csr_imm_funct3 kind) ((rd_at, rd) ∷ (uimm_at, uimm) ∷ (csr_at, csr) ∷ [])
-row_of Ecall = word_row 0x00000073
-row_of Ebreak = word_row 0x00100073
-row_of Sret = word_row 0x10200073
-row_of Mret = word_row 0x30200073
-row_of Wfi = word_row 0x10500073
-row_of (SfenceVma rs1 rs2) = record { mask = 0xFE007FFF; match = 0x12000073; fields = (rs1_at, rs1) ∷ (rs2_at, rs2) ∷ [] }
+abbrev pub row_of_instr : Instr → InstrRow
+row_of_instr (Lui rd imm) = opcode_row 0b0110111 ((rd_at, rd) ∷ (u_immediate_at, imm) ∷ [])
+row_of_instr (Auipc rd imm) = opcode_row 0b0010111 ((rd_at, rd) ∷ (u_immediate_at, imm) ∷ [])
+row_of_instr (Jal rd offset) = opcode_row 0b1101111 ((rd_at, rd) ∷ (j_immediate_at, offset) ∷ [])
+row_of_instr (Jalr rd rs1 offset) = funct3_row 0b1100111 0b000 ((rd_at, rd) ∷ (rs1_at, rs1) ∷ (i_immediate_at, offset) ∷ [])
+row_of_instr (Branch kind rs1 rs2 offset) = funct3_row 0b1100011 (branch_funct3 kind) ((rs1_at, rs1) ∷ (rs2_at, rs2) ∷ (b_immediate_at, offset) ∷ [])
+row_of_instr (Load kind rd rs1 offset) = funct3_row 0b0000011 (load_funct3 kind) ((rd_at, rd) ∷ (rs1_at, rs1) ∷ (i_immediate_at, offset) ∷ [])
+row_of_instr (Store kind rs1 rs2 offset) = funct3_row 0b0100011 (store_funct3 kind) ((rs1_at, rs1) ∷ (rs2_at, rs2) ∷ (s_immediate_at, offset) ∷ [])
+row_of_instr (OpImm kind rd rs1 imm) = funct3_row 0b0010011 (op_imm_funct3 kind) ((rd_at, rd) ∷ (rs1_at, rs1) ∷ (i_immediate_at, imm) ∷ [])
+row_of_instr (ShiftImm kind rd rs1 shamt) = funct7_row 0b0010011 (shift_functs kind) ((rd_at, rd) ∷ (rs1_at, rs1) ∷ (shamt_at, shamt) ∷ [])
+row_of_instr (Op kind rd rs1 rs2) = funct7_row 0b0110011 (op_functs kind) ((rd_at, rd) ∷ (rs1_at, rs1) ∷ (rs2_at, rs2) ∷ [])
+row_of_instr (Fence fm pred succ rd rs1) = funct3_row 0b0001111 0b000 ((fm_at, fm) ∷ (pred_at, pred) ∷ (succ_at, succ) ∷ (rd_at, rd) ∷ (rs1_at, rs1) ∷ [])
+row_of_instr (Csr kind rd rs1 csr) = funct3_row 0b1110011 (csr_funct3 kind) ((rd_at, rd) ∷ (rs1_at, rs1) ∷ (csr_at, csr) ∷ [])
+row_of_instr (CsrImm kind rd uimm csr) = funct3_row 0b1110011 (csr_imm_funct3 kind) ((rd_at, rd) ∷ (uimm_at, uimm) ∷ (csr_at, csr) ∷ [])
+row_of_instr Ecall = word_row 0x00000073
+row_of_instr Ebreak = word_row 0x00100073
+row_of_instr Sret = word_row 0x10200073
+row_of_instr Mret = word_row 0x30200073
+row_of_instr Wfi = word_row 0x10500073
+row_of_instr (SfenceVma rs1 rs2) = record { mask = 0xFE007FFF; match = 0x12000073; fields = (rs1_at, rs1) ∷ (rs2_at, rs2) ∷ [] }
 
 -- ---- spelling
 
 -- The word of an instruction: its row's match, and each of its fields at its places.
 unfoldable pub word_of : Instr → ℕ
-word_of instr = (row_of instr).match + fields_at (row_of instr).fields
+word_of instr = (row_of_instr instr).match + fields_at (row_of_instr instr).fields
 
 -- Each field is in its range, as in each value of the type.
 abbrev pub IsInstr : Instr → Type 0

@@ -5,14 +5,15 @@ mod places;
 
 ghost use Rattle.std.specs.Prelude.{◌≡◌, ◌+◌, ◌*◌, ◌%◌, ◌^◌, ◌<◌, Some};
 ghost use Rattle.rv_word.specs.Logic.{and_by_bits};
-ghost use Rattle.rv_encoding.specs.Rows.{IsInstr, Spells, row_of, word_of, fields_at};
+ghost use Rattle.rv_encoding.specs.Rows.{IsInstr, Spells, row_of_instr, word_of, fields_at};
 ghost use Rattle.rv_encoding.specs.Listing.{IsListed};
 ghost use Rattle.rv_encoding.specs.Decoding.{decoded};
 ghost use Rattle.rv_encoding.specs.declared.instr.Instr.{Instr};
 
 use crate::instr::Instr;
 use codes::{
-    branch_code, csr_code, csr_imm_code, load_code, op_code, op_imm_code, shift_code, store_code,
+    branch_code, csr_code, csr_imm_code, load_code, op_functs, op_imm_code, shift_functs,
+    store_code,
 };
 use places::{
     at_b, at_csr, at_fm, at_i, at_j, at_pred, at_rd, at_rs1, at_rs2, at_s, at_shamt, at_succ, at_u,
@@ -29,14 +30,14 @@ pub const fn encode(instr: &Instr) -> u32
     ensures round_trip { decoded result ≡ Some instr.now }
     // The instruction's row is one of the listing, and the word is the row's match under its mask.
     ensures listed { IsListed instr.now }
-    ensures masked { and_by_bits result (row_of instr.now).mask ≡ (row_of instr.now).match }
+    ensures masked { and_by_bits result (row_of_instr instr.now).mask ≡ (row_of_instr instr.now).match }
 {
     match_of(instr) + fields_of(instr)
 }
 
 /// What the words of an instruction's row share: opcode, funct3 and funct7.
 const fn match_of(instr: &Instr) -> u32
-    ensures { result ≡ (row_of instr.now).match }
+    ensures { result ≡ (row_of_instr instr.now).match }
 {
     match *instr {
         Instr::Lui { .. } => 0b0110111,
@@ -48,12 +49,12 @@ const fn match_of(instr: &Instr) -> u32
         Instr::Store { kind, .. } => 0b0100011 + (store_code(kind) << 12),
         Instr::OpImm { kind, .. } => 0b0010011 + (op_imm_code(kind) << 12),
         Instr::ShiftImm { kind, .. } => {
-            let (funct3, funct7) = shift_code(kind);
-            0b0010011 + (funct3 << 12) + (funct7 << 25)
+            let functs = shift_functs(kind);
+            0b0010011 + (functs.funct3 << 12) + (functs.funct7 << 25)
         }
         Instr::Op { kind, .. } => {
-            let (funct3, funct7) = op_code(kind);
-            0b0110011 + (funct3 << 12) + (funct7 << 25)
+            let functs = op_functs(kind);
+            0b0110011 + (functs.funct3 << 12) + (functs.funct7 << 25)
         }
         Instr::Fence { .. } => 0b0001111,
         Instr::Csr { kind, .. } => 0b1110011 + (csr_code(kind) << 12),
@@ -69,7 +70,7 @@ const fn match_of(instr: &Instr) -> u32
 
 /// An instruction's fields, each at its places.
 const fn fields_of(instr: &Instr) -> u32
-    ensures value { result ≡ fields_at (row_of instr.now).fields }
+    ensures value { result ≡ fields_at (row_of_instr instr.now).fields }
     ensures in_range { IsInstr instr.now }
 {
     match *instr {
@@ -110,8 +111,8 @@ const fn fields_of(instr: &Instr) -> u32
 
 /// The fields of an instruction of opcode 1110011, each at its places.
 const fn system_fields_of(instr: &Instr) -> u32
-    requires { (row_of instr.now).match % 2 ^ 7 ≡ 0b1110011 }
-    ensures value { result ≡ fields_at (row_of instr.now).fields }
+    requires { (row_of_instr instr.now).match % 2 ^ 7 ≡ 0b1110011 }
+    ensures value { result ≡ fields_at (row_of_instr instr.now).fields }
     ensures in_range { IsInstr instr.now }
 {
     match *instr {

@@ -13,7 +13,7 @@ use Rattle.rv_memory.proofs.MemoryLaws.{length-bytes_of, write_at}
 use Rattle.rv_hart.specs.Confinement.{SameIn, AgreeOn, EndAlike, IsConfined}
 use Rattle.rv_hart.specs.HartState.{Hart}
 use Rattle.rv_hart.specs.State.{State, Ended, over}
-use Rattle.rv_hart.specs.Step.{step, attempted, executed, accessed, concluded, data_mode, done, span, fetch_of, load_of, store_of}
+use Rattle.rv_hart.specs.Step.{step, from_fetch, from_decode, from_access, retired_or_trapped, data_mode, from_execute, span, fetch_of, load_of, store_of}
 use Rattle.rv_hart.specs.declared.request.Request.{Request}
 use Rattle.rv_hart.specs.declared.request.Request.TheVariants.{Nothing, Load, Store}
 use Rattle.rv_hart.specs.declared.trap.Trap.{Trap}
@@ -41,8 +41,8 @@ asks-too : (state : State) (n : List ℕ) (word : ℕ) (instr : Instr) (access :
 asks-too state n word instr access same here = record { decode = decodes-too state n word (Some instr) same here.decode; request = here.request }
 
 asked-step : (state : State) (word : ℕ) (instr : Instr) (access : Request) → Asks state word instr access
-    → step state ≡ accessed state.hart state.memory word instr access
-unfolding step attempted executed
+    → step state ≡ from_access state.hart state.memory word instr access
+unfolding step from_fetch from_decode
 asked-step state word instr access here = rw (here.decode.fetch.pending, here.decode.fetch.fetched, here.decode.decoded, here.request) refl
 
 -- ---- the ends
@@ -52,20 +52,20 @@ unchanged : (state : State) (n : List ℕ) (ended : Ended) → ended.outcome.tou
     → EndAlike state.memory n [] (over state.memory ended) (step (with_memory state n))
 unchanged state n ended none other = rw other (record { hart = refl; outcome = refl; here = rw none refl; there = rw none refl })
 
-touched-done : (hart : Hart) (touched : Touched) (written : Option ℕ) (finish : Result Hart Trap) → (concluded hart touched written finish).outcome.touched ≡ touched
-unfolding concluded
-touched-done hart touched written (Ok after) = refl
-touched-done hart touched written (Err trap) = refl
+touched-ended : (hart : Hart) (touched : Touched) (written : Option ℕ) (finish : Result Hart Trap) → (retired_or_trapped hart touched written finish).outcome.touched ≡ touched
+unfolding retired_or_trapped
+touched-ended hart touched written (Ok after) = refl
+touched-ended hart touched written (Err trap) = refl
 
 none-stored : (hart : Hart) (touched : Touched) (written : Option ℕ) (finish : Result Hart Trap) → touched.stored ≡ None
-    → (concluded hart touched written finish).outcome.touched.stored ≡ None
-none-stored hart touched written finish none = ap (λ (t : Touched). t.stored) (touched-done hart touched written finish) ∙ none
+    → (retired_or_trapped hart touched written finish).outcome.touched.stored ≡ None
+none-stored hart touched written finish none = ap (λ (t : Touched). t.stored) (touched-ended hart touched written finish) ∙ none
 
 -- both memories take a store
 stored-alike : (state : State) (n : List ℕ) (word : ℕ) (instr : Instr) (address : ℕ) (width : Width) (value : ℕ) (memory : List ℕ)
     → length state.memory ≡ length n → Stores state address width value (Ok memory)
-    → step (with_memory state n) ≡ over (write_bytes n (address - ram_base) (bytes_of (bytes_in width) value)) (done state.hart (store_of state.hart address width) word instr 0)
-    → EndAlike state.memory n (bytes_of (bytes_in width) value) (over memory (done state.hart (store_of state.hart address width) word instr 0)) (step (with_memory state n))
+    → step (with_memory state n) ≡ over (write_bytes n (address - ram_base) (bytes_of (bytes_in width) value)) (from_execute state.hart (store_of state.hart address width) word instr 0)
+    → EndAlike state.memory n (bytes_of (bytes_in width) value) (over memory (from_execute state.hart (store_of state.hart address width) word instr 0)) (step (with_memory state n))
 stored-alike state n word instr address width value memory sizes is other =
     let here = store_done state.memory state.hart.csrs.pmp (data_mode state.hart) address width value memory is in
     let there = store_done n state.hart.csrs.pmp (data_mode state.hart) address width value _
@@ -73,14 +73,14 @@ stored-alike state n word instr address width value memory sizes is other =
     rw other (record {
       hart = refl;
       outcome = refl;
-      here = rw touched-done (length-bytes_of width value, write_at state.memory address _ memory (rw (length-bytes_of width value) here.0) (sym here.2));
-      there = rw touched-done (length-bytes_of width value, write_at n address _ _ (rw (length-bytes_of width value) there.0) refl);
+      here = rw touched-ended (length-bytes_of width value, write_at state.memory address _ memory (rw (length-bytes_of width value) here.0) (sym here.2));
+      there = rw touched-ended (length-bytes_of width value, write_at n address _ _ (rw (length-bytes_of width value) there.0) refl);
     })
 
 -- ---- the step
 
 pub confined : (state : State) → IsConfined state (step state)
-unfolding step attempted executed accessed
+unfolding step from_fetch from_decode from_access
 confined state = by_ways state (IsConfined state) (record {
   interrupt = λ interrupt is. record { bytes = []; alike = λ n agree. unchanged state n _ refl (rw is refl) };
   fetch_refused = λ fault here. record {
@@ -98,13 +98,13 @@ confined state = by_ways state (IsConfined state) (record {
   no_access = λ word instr here. record {
     bytes = [];
     alike = λ n agree.
-        let reads : AgreeOn state.memory n (fetch_of state.hart) = rw touched-done at agree in
+        let reads : AgreeOn state.memory n (fetch_of state.hart) = rw touched-ended at agree in
         unchanged state n _ (none-stored state.hart (fetch_of state.hart) _ _ refl) (asked-step _ word instr Nothing (asks-too state n word instr Nothing reads.fetched here));
   };
   load = λ word instr address width number here is. record {
     bytes = [];
     alike = λ n agree.
-        let reads : AgreeOn state.memory n (load_of state.hart address width) = rw touched-done at agree in
+        let reads : AgreeOn state.memory n (load_of state.hart address width) = rw touched-ended at agree in
         let there = asked-step _ word instr (Load address width) (asks-too state n word instr (Load address width) reads.fetched here) in
         let loads : Loads (with_memory state n) address width (Ok number) =
         sym (load_same state.memory n state.hart.csrs.pmp (data_mode state.hart) address width reads.loaded) ∙ is in
@@ -120,7 +120,7 @@ confined state = by_ways state (IsConfined state) (record {
   store = λ word instr address width value memory here is. record {
     bytes = bytes_of (bytes_in width) value;
     alike = λ n agree.
-        let reads : AgreeOn state.memory n (store_of state.hart address width) = rw touched-done at agree in
+        let reads : AgreeOn state.memory n (store_of state.hart address width) = rw touched-ended at agree in
         let there = asked-step _ word instr (Store address width value) (asks-too state n word instr (Store address width value) reads.fetched here) in
         let stores = store_done_too state.memory n state.hart.csrs.pmp (data_mode state.hart) address width value memory reads.size is in
         stored-alike state n word instr address width value memory reads.size is (rw stores at there);

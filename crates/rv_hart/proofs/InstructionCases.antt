@@ -17,7 +17,7 @@ use Rattle.rv_hart.specs.CsrInstructions.{is_written, changed, old_word, new_csr
 use Rattle.rv_hart.specs.Exceptions.{misaligned}
 use Rattle.rv_hart.specs.Hart.{advanced, with_result, jumped, branched}
 use Rattle.rv_hart.specs.HartState.{Hart}
-use Rattle.rv_hart.specs.Instructions.{request, finished, where_allowed, unless_refused, unless_illegal, returned_from_machine, returned_from_supervisor, address_of, made_even}
+use Rattle.rv_hart.specs.Instructions.{request, executed, where_allowed, unless_refused, unless_illegal, returned_from_machine, returned_from_supervisor, address_of, made_even}
 use Rattle.rv_hart.specs.declared.request.Request.TheVariants as requests
 use Rattle.rv_hart.specs.declared.trap.Trap.{Trap}
 
@@ -65,38 +65,38 @@ changed-by hart P changes kind rd source operand csr word =
       | Err fault ↦ tt
     ]
 
-finished-by : (hart : Hart) (P : Hart → Type 0) → Changes hart P → (instr : Instr) (word loaded : ℕ) → IfOk (finished instr hart word loaded) P
-unfolding finished
-finished-by hart P changes (Lui rd imm) word loaded = changes.computes _ _
-finished-by hart P changes (Auipc rd imm) word loaded = changes.computes _ _
-finished-by hart P changes (Jal rd offset) word loaded = jumped-by hart P changes rd (sum_of hart.pc (sign_extended offset 21))
-finished-by hart P changes (Jalr rd rs1 offset) word loaded = jumped-by hart P changes rd (made_even (address_of hart rs1 offset))
-finished-by hart P changes (Branch kind rs1 rs2 offset) word loaded =
+executed-by : (hart : Hart) (P : Hart → Type 0) → Changes hart P → (instr : Instr) (word loaded : ℕ) → IfOk (executed instr hart word loaded) P
+unfolding executed
+executed-by hart P changes (Lui rd imm) word loaded = changes.computes _ _
+executed-by hart P changes (Auipc rd imm) word loaded = changes.computes _ _
+executed-by hart P changes (Jal rd offset) word loaded = jumped-by hart P changes rd (sum_of hart.pc (sign_extended offset 21))
+executed-by hart P changes (Jalr rd rs1 offset) word loaded = jumped-by hart P changes rd (made_even (address_of hart rs1 offset))
+executed-by hart P changes (Branch kind rs1 rs2 offset) word loaded =
     branched-by hart P changes (is_taken kind (register hart.regs rs1) (register hart.regs rs2)) (sum_of hart.pc (sign_extended offset 13))
-finished-by hart P changes (Load kind rd rs1 offset) word loaded = changes.computes _ _
-finished-by hart P changes (Store kind rs1 rs2 offset) word loaded = changes.computes _ _
-finished-by hart P changes (OpImm kind rd rs1 imm) word loaded = changes.computes _ _
-finished-by hart P changes (ShiftImm kind rd rs1 shamt) word loaded = changes.computes _ _
-finished-by hart P changes (Op kind rd rs1 rs2) word loaded = changes.computes _ _
-finished-by hart P changes (Fence fm pred succ rd rs1) word loaded = changes.computes _ _
-finished-by hart P changes (Csr kind rd rs1 csr) word loaded = changed-by hart P changes kind rd rs1 (register hart.regs rs1) csr word
-finished-by hart P changes (CsrImm kind rd uimm csr) word loaded = changed-by hart P changes kind rd uimm uimm csr word
-finished-by hart P changes Ecall word loaded = tt
-finished-by hart P changes Ebreak word loaded = tt
-finished-by hart P changes Sret word loaded =
+executed-by hart P changes (Load kind rd rs1 offset) word loaded = changes.computes _ _
+executed-by hart P changes (Store kind rs1 rs2 offset) word loaded = changes.computes _ _
+executed-by hart P changes (OpImm kind rd rs1 imm) word loaded = changes.computes _ _
+executed-by hart P changes (ShiftImm kind rd rs1 shamt) word loaded = changes.computes _ _
+executed-by hart P changes (Op kind rd rs1 rs2) word loaded = changes.computes _ _
+executed-by hart P changes (Fence fm pred succ rd rs1) word loaded = changes.computes _ _
+executed-by hart P changes (Csr kind rd rs1 csr) word loaded = changed-by hart P changes kind rd rs1 (register hart.regs rs1) csr word
+executed-by hart P changes (CsrImm kind rd uimm csr) word loaded = changed-by hart P changes kind rd uimm uimm csr word
+executed-by hart P changes Ecall word loaded = tt
+executed-by hart P changes Ebreak word loaded = tt
+executed-by hart P changes Sret word loaded =
     allowed-by P (unless_refused hart.mode hart.csrs.mstatus.tsr) word (returned_from_supervisor hart) (λ _. changes.sret)
-finished-by hart P changes Mret word loaded = allowed-by P (is_machine hart.mode) word (returned_from_machine hart) changes.mret
-finished-by hart P changes Wfi word loaded = allowed-by P (unless_refused hart.mode hart.csrs.mstatus.tw) word (advanced hart) (λ _. changes.computes _ _)
-finished-by hart P changes (SfenceVma rs1 rs2) word loaded =
+executed-by hart P changes Mret word loaded = allowed-by P (is_machine hart.mode) word (returned_from_machine hart) changes.mret
+executed-by hart P changes Wfi word loaded = allowed-by P (unless_refused hart.mode hart.csrs.mstatus.tw) word (advanced hart) (λ _. changes.computes _ _)
+executed-by hart P changes (SfenceVma rs1 rs2) word loaded =
     allowed-by P (unless_refused hart.mode hart.csrs.mstatus.tvm) word (advanced hart) (λ _. changes.computes _ _)
 
 pub by_changes : (hart : Hart) (P : Hart → Type 0) → Changes hart P → (instr : Instr) (word loaded : ℕ) (after : Hart)
-    → finished instr hart word loaded ≡ Ok after → P after
-by_changes hart P changes instr word loaded after is = subst (λ (r : Result Hart Trap). IfOk r P) is (finished-by hart P changes instr word loaded)
+    → executed instr hart word loaded ≡ Ok after → P after
+by_changes hart P changes instr word loaded after is = subst (λ (r : Result Hart Trap). IfOk r P) is (executed-by hart P changes instr word loaded)
 
 -- an instruction whose store is done ends in no exception
-pub store_finishes : (instr : Instr) (hart : Hart) (address value word : ℕ) (width : Width)
-    → request instr hart ≡ requests.Store address width value → finished instr hart word 0 ≡ Ok (advanced hart)
-unfolding request finished
-store_finishes (Store kind rs1 rs2 offset) hart address value word width is = refl
-store_finishes _ hart address value word width is = cc
+pub store_retires : (instr : Instr) (hart : Hart) (address value word : ℕ) (width : Width)
+    → request instr hart ≡ requests.Store address width value → executed instr hart word 0 ≡ Ok (advanced hart)
+unfolding request executed
+store_retires (Store kind rs1 rs2 offset) hart address value word width is = refl
+store_retires _ hart address value word width is = cc

@@ -11,15 +11,15 @@ use Rattle.rv_memory.specs.declared.touched.Touched.{Touched}
 use Rattle.rv_state.specs.Interrupts.{pending}
 use Rattle.rv_state.specs.declared.cause.Exception.TheVariants.{InstructionAccessFault, LoadAccessFault, StoreAccessFault}
 use Rattle.rv_state.specs.declared.cause.Interrupt.{Interrupt}
-use Rattle.rv_hart.proofs.InstructionCases.{store_finishes}
+use Rattle.rv_hart.proofs.InstructionCases.{store_retires}
 use Rattle.rv_hart.specs.CsrInstructions.{written_csr}
 use Rattle.rv_hart.specs.Exceptions.{illegal, access_fault, interrupted}
 use Rattle.rv_hart.specs.Hart.{advanced}
 use Rattle.rv_hart.specs.HartState.{Hart}
-use Rattle.rv_hart.specs.Instructions.{request, finished}
+use Rattle.rv_hart.specs.Instructions.{request, executed}
 use Rattle.rv_hart.specs.Permitted.{MayTouchAll}
 use Rattle.rv_hart.specs.State.{State, Ended, Stepped, over}
-use Rattle.rv_hart.specs.Step.{step, attempted, executed, accessed, concluded, data_mode, done, trap_end, retired_end, fetch_of, load_of, store_of, nothing}
+use Rattle.rv_hart.specs.Step.{step, from_fetch, from_decode, from_access, retired_or_trapped, data_mode, from_execute, trap_end, retired_end, fetch_of, load_of, store_of, nothing}
 use Rattle.rv_hart.specs.declared.request.Request.{Request}
 use Rattle.rv_hart.specs.declared.request.Request.TheVariants.{Nothing, Load, Store}
 use Rattle.rv_hart.specs.declared.trap.Trap.{Trap}
@@ -55,55 +55,55 @@ pub record Ways (state : State) (P : Stepped → Type 0) : Type 0 where
       → P (over state.memory (trap_end state.hart nothing (access_fault InstructionAccessFault state.hart.pc)))
   pub illegal : (word : ℕ) → Decodes state word None → P (over state.memory (trap_end state.hart (fetch_of state.hart) (illegal word)))
   pub no_access : (word : ℕ) (instr : Instr) → Asks state word instr Nothing
-      → P (over state.memory (done state.hart (fetch_of state.hart) word instr 0))
+      → P (over state.memory (from_execute state.hart (fetch_of state.hart) word instr 0))
   pub load : (word : ℕ) (instr : Instr) (address : ℕ) (width : Width) (number : ℕ) → Asks state word instr (Load address width)
-      → Loads state address width (Ok number) → P (over state.memory (done state.hart (load_of state.hart address width) word instr number))
+      → Loads state address width (Ok number) → P (over state.memory (from_execute state.hart (load_of state.hart address width) word instr number))
   pub load_refused : (word : ℕ) (instr : Instr) (address : ℕ) (width : Width) (fault : AccessFault) → Asks state word instr (Load address width)
       → Loads state address width (Err fault) → P (over state.memory (trap_end state.hart (fetch_of state.hart) (access_fault LoadAccessFault address)))
   pub store : (word : ℕ) (instr : Instr) (address : ℕ) (width : Width) (value : ℕ) (memory : List ℕ) → Asks state word instr (Store address width value)
-      → Stores state address width value (Ok memory) → P (over memory (done state.hart (store_of state.hart address width) word instr 0))
+      → Stores state address width value (Ok memory) → P (over memory (from_execute state.hart (store_of state.hart address width) word instr 0))
   pub store_refused : (word : ℕ) (instr : Instr) (address : ℕ) (width : Width) (value : ℕ) (fault : AccessFault) → Asks state word instr (Store address width value)
       → Stores state address width value (Err fault) → P (over state.memory (trap_end state.hart (fetch_of state.hart) (access_fault StoreAccessFault address)))
 
 by-load : (state : State) (P : Stepped → Type 0) → Ways state P → (word : ℕ) (instr : Instr) (address : ℕ) (width : Width)
     → Asks state word instr (Load address width) → (r : Result ℕ AccessFault) → Loads state address width r
-    → P (result_case r (λ number. over state.memory (done state.hart (load_of state.hart address width) word instr number))
+    → P (result_case r (λ number. over state.memory (from_execute state.hart (load_of state.hart address width) word instr number))
     (λ _. over state.memory (trap_end state.hart (fetch_of state.hart) (access_fault LoadAccessFault address))))
 by-load state P ways word instr address width here (Ok number) is = ways.load word instr address width number here is
 by-load state P ways word instr address width here (Err fault) is = ways.load_refused word instr address width fault here is
 
 by-store : (state : State) (P : Stepped → Type 0) → Ways state P → (word : ℕ) (instr : Instr) (address : ℕ) (width : Width) (value : ℕ)
     → Asks state word instr (Store address width value) → (r : Result (List ℕ) AccessFault) → Stores state address width value r
-    → P (result_case r (λ after. over after (done state.hart (store_of state.hart address width) word instr 0))
+    → P (result_case r (λ after. over after (from_execute state.hart (store_of state.hart address width) word instr 0))
     (λ _. over state.memory (trap_end state.hart (fetch_of state.hart) (access_fault StoreAccessFault address))))
 by-store state P ways word instr address width value here (Ok memory) is = ways.store word instr address width value memory here is
 by-store state P ways word instr address width value here (Err fault) is = ways.store_refused word instr address width value fault here is
 
 by-request : (state : State) (P : Stepped → Type 0) → Ways state P → (word : ℕ) (instr : Instr) (access : Request) → Asks state word instr access
-    → P (accessed state.hart state.memory word instr access)
-unfolding accessed
+    → P (from_access state.hart state.memory word instr access)
+unfolding from_access
 by-request state P ways word instr Nothing here = ways.no_access word instr here
 by-request state P ways word instr (Load address width) here = by-load state P ways word instr address width here _ refl
 by-request state P ways word instr (Store address width value) here = by-store state P ways word instr address width value here _ refl
 
 by-decode : (state : State) (P : Stepped → Type 0) → Ways state P → (word : ℕ) → Fetches state (Ok word) → (o : Option Instr) → decoded word ≡ o
     → P (option_case o (over state.memory (trap_end state.hart (fetch_of state.hart) (illegal word)))
-    (λ instr. accessed state.hart state.memory word instr (request instr state.hart)))
+    (λ instr. from_access state.hart state.memory word instr (request instr state.hart)))
 by-decode state P ways word here None is = ways.illegal word (record { fetch = here; decoded = is })
 by-decode state P ways word here (Some instr) is =
     by-request state P ways word instr _ (record { decode = record { fetch = here; decoded = is }; request = refl })
 
 by-fetch : (state : State) (P : Stepped → Type 0) → Ways state P → (r : Result ℕ AccessFault) → Fetches state r
-    → P (result_case r (executed state.hart state.memory)
+    → P (result_case r (from_decode state.hart state.memory)
     (λ _. over state.memory (trap_end state.hart nothing (access_fault InstructionAccessFault state.hart.pc))))
-unfolding executed
+unfolding from_decode
 by-fetch state P ways (Ok word) here = by-decode state P ways word here _ refl
 by-fetch state P ways (Err fault) here = ways.fetch_refused fault here
 
 by-interrupt : (state : State) (P : Stepped → Type 0) → Ways state P → (o : Option Interrupt) → pending state.hart.csrs state.hart.mode ≡ o
-    → P (option_case o (attempted state.hart state.memory)
+    → P (option_case o (from_fetch state.hart state.memory)
     (λ interrupt. over state.memory (trap_end state.hart nothing (interrupted interrupt))))
-unfolding attempted
+unfolding from_fetch
 by-interrupt state P ways None is = by-fetch state P ways _ (record { pending = is; fetched = refl })
 by-interrupt state P ways (Some interrupt) is = ways.interrupt interrupt is
 
@@ -118,20 +118,20 @@ by_ways state P ways = by-interrupt state P ways _ refl
 pub record Cases (state : State) (P : Stepped → Type 0) : Type 0 where
   pub trap : (touched : Touched) (trap : Trap) → MayTouchAll state touched → touched.stored ≡ None
       → P (over state.memory (trap_end state.hart touched trap))
-  pub no_access : (instr : Instr) (word : ℕ) (after : Hart) → MayTouchAll state (fetch_of state.hart) → finished instr state.hart word 0 ≡ Ok after
+  pub no_access : (instr : Instr) (word : ℕ) (after : Hart) → MayTouchAll state (fetch_of state.hart) → executed instr state.hart word 0 ≡ Ok after
       → P (over state.memory (retired_end state.hart (fetch_of state.hart) (written_csr instr) after))
   pub load : (instr : Instr) (word address : ℕ) (width : Width) (number : ℕ) (after : Hart) → MayTouchAll state (load_of state.hart address width)
-      → Loads state address width (Ok number) → finished instr state.hart word number ≡ Ok after
+      → Loads state address width (Ok number) → executed instr state.hart word number ≡ Ok after
       → P (over state.memory (retired_end state.hart (load_of state.hart address width) (written_csr instr) after))
   pub store : (instr : Instr) (word address : ℕ) (width : Width) (value : ℕ) (memory : List ℕ) (after : Hart) → MayTouchAll state (store_of state.hart address width)
-      → Stores state address width value (Ok memory) → finished instr state.hart word 0 ≡ Ok after
+      → Stores state address width value (Ok memory) → executed instr state.hart word 0 ≡ Ok after
       → P (over memory (retired_end state.hart (store_of state.hart address width) (written_csr instr) after))
 
 -- an instruction retires, or ends in its exception
 by-end : (hart : Hart) (touched : Touched) (written : Option ℕ) (P : Ended → Type 0) (finish : Result Hart Trap)
     → ((after : Hart) → finish ≡ Ok after → P (retired_end hart touched written after))
-    → ((trap : Trap) → finish ≡ Err trap → P (trap_end hart touched trap)) → P (concluded hart touched written finish)
-unfolding concluded
+    → ((trap : Trap) → finish ≡ Err trap → P (trap_end hart touched trap)) → P (retired_or_trapped hart touched written finish)
+unfolding retired_or_trapped
 by-end hart touched written P (Ok after) retires traps = retires after refl
 by-end hart touched written P (Err trap) retires traps = traps trap refl
 
@@ -155,9 +155,9 @@ touches-store state word address width value memory here is =
     record { fetched = (touches-fetch state word here).fetched; loaded = tt; stored = (done.0, done.1) }
 
 stores-without-trap : (state : State) (word : ℕ) (instr : Instr) (address : ℕ) (width : Width) (value : ℕ) (trap : Trap) (P : Type 0)
-    → Asks state word instr (Store address width value) → finished instr state.hart word 0 ≡ Err trap → P
+    → Asks state word instr (Store address width value) → executed instr state.hart word 0 ≡ Err trap → P
 stores-without-trap state word instr address width value trap P here is =
-    let done : finished instr state.hart word 0 ≡ Ok (advanced state.hart) = store_finishes instr state.hart address value word width here.request in
+    let done : executed instr state.hart word 0 ≡ Ok (advanced state.hart) = store_retires instr state.hart address value word width here.request in
     let never : Ok (advanced state.hart) ≡ Err trap = sym done ∙ is in cc
 
 pub by_cases : (state : State) (P : Stepped → Type 0) → Cases state P → P (step state)
@@ -167,16 +167,16 @@ by_cases state P cases = by_ways state P (record {
   illegal = λ word here. cases.trap (fetch_of state.hart) _ (touches-fetch state word here.fetch) refl;
   no_access = λ word instr here.
       let may = touches-fetch state word here.decode.fetch in
-      by-end state.hart (fetch_of state.hart) (written_csr instr) (λ ended. P (over state.memory ended)) (finished instr state.hart word 0)
+      by-end state.hart (fetch_of state.hart) (written_csr instr) (λ ended. P (over state.memory ended)) (executed instr state.hart word 0)
       (λ after is. cases.no_access instr word after may is) (λ trap is. cases.trap _ trap may refl);
   load = λ word instr address width number here is.
       let may = touches-load state word address width number here.decode.fetch is in
-      by-end state.hart (load_of state.hart address width) (written_csr instr) (λ ended. P (over state.memory ended)) (finished instr state.hart word number)
+      by-end state.hart (load_of state.hart address width) (written_csr instr) (λ ended. P (over state.memory ended)) (executed instr state.hart word number)
       (λ after done. cases.load instr word address width number after may is done) (λ trap done. cases.trap _ trap may refl);
   load_refused = λ word instr address width fault here is. cases.trap (fetch_of state.hart) _ (touches-fetch state word here.decode.fetch) refl;
   store = λ word instr address width value memory here is.
       let may = touches-store state word address width value memory here.decode.fetch is in
-      by-end state.hart (store_of state.hart address width) (written_csr instr) (λ ended. P (over memory ended)) (finished instr state.hart word 0)
+      by-end state.hart (store_of state.hart address width) (written_csr instr) (λ ended. P (over memory ended)) (executed instr state.hart word 0)
       (λ after done. cases.store instr word address width value memory after may is done)
       (λ trap done. stores-without-trap state word instr address width value trap _ here done);
   store_refused = λ word instr address width value fault here is. cases.trap (fetch_of state.hart) _ (touches-fetch state word here.decode.fetch) refl;
@@ -185,7 +185,7 @@ by_cases state P cases = by_ways state P (record {
 -- a law of the hart alone: the step ends in a trap, or an instruction retires
 pub by_hart : (state : State) (P : Stepped → Type 0)
     → ((touched : Touched) (trap : Trap) → P (over state.memory (trap_end state.hart touched trap)))
-    → ((memory : List ℕ) (touched : Touched) (instr : Instr) (word loaded : ℕ) (after : Hart) → finished instr state.hart word loaded ≡ Ok after
+    → ((memory : List ℕ) (touched : Touched) (instr : Instr) (word loaded : ℕ) (after : Hart) → executed instr state.hart word loaded ≡ Ok after
     → P (over memory (retired_end state.hart touched (written_csr instr) after)))
     → P (step state)
 by_hart state P traps retires = by_cases state P (record {

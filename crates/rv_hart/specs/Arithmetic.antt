@@ -1,7 +1,7 @@
 -- What instructions compute: whole numbers, modulo 2 ^ 32 at the end. RISC-V Unprivileged ISA 20191213, sections 2.4 (integer
 -- computation), 2.5 (conditions), 2.6 (loads), 7.1 (multiplication) and 7.2 (division).
 use Rattle.std.specs.Prelude.{ℕ, ◌+◌, ◌*◌, ◌%◌, ◌^◌, ◌==◌, Bool, not, nat_lt, int_lt, pos, ◌-ℤ◌, ◌*ℤ◌}
-use Rattle.rv_word.specs.BitFields.{sign_extended}
+use Rattle.rv_word.specs.BitFields.{bits, sign_extended}
 use Rattle.rv_word.specs.Division.{quotient, remainder, unsigned_quotient, unsigned_remainder}
 use Rattle.rv_word.specs.Logic.{digit, and_by_bits, or_by_bits, xor_by_bits}
 use Rattle.rv_word.specs.Products.{high_word}
@@ -34,16 +34,16 @@ is_less left right = int_lt (signed left) (signed right)
 abbrev pub is_less_unsigned : ℕ → ℕ → Bool
 is_less_unsigned left right = nat_lt left right
 
--- two registers; a register shifts by its value modulo 32
+-- two registers; a shift is by the lowest five bits of the second
 abbrev pub op_value : OpKind → ℕ → ℕ → ℕ
 op_value Add rs1 rs2 = sum_of rs1 rs2
 op_value Sub rs1 rs2 = difference_of rs1 rs2
-op_value Sll rs1 rs2 = shifted_left rs1 (rs2 % 32)
+op_value Sll rs1 rs2 = shifted_left rs1 (bits rs2 4 0)
 op_value Slt rs1 rs2 = digit (is_less rs1 rs2)
 op_value Sltu rs1 rs2 = digit (is_less_unsigned rs1 rs2)
 op_value Xor rs1 rs2 = xor_by_bits rs1 rs2
-op_value Srl rs1 rs2 = shifted_right rs1 (rs2 % 32)
-op_value Sra rs1 rs2 = shifted_right_signed rs1 (rs2 % 32)
+op_value Srl rs1 rs2 = shifted_right rs1 (bits rs2 4 0)
+op_value Sra rs1 rs2 = shifted_right_signed rs1 (bits rs2 4 0)
 op_value Or rs1 rs2 = or_by_bits rs1 rs2
 op_value And rs1 rs2 = and_by_bits rs1 rs2
 op_value Mul rs1 rs2 = rs1 * rs2 % 2 ^ 32

@@ -6,7 +6,7 @@ use Rattle.rv_pmp.specs.declared.mode.Mode.{Mode}
 use Rattle.rv_pmp.specs.declared.mode.Mode.TheVariants.{M}
 use Rattle.rv_state.specs.Counters.{ticked}
 use Rattle.rv_state.specs.CsrState.{at_reset as csrs_at_reset}
-use Rattle.rv_state.specs.Traps.{trapped as csrs_trapped, trap_target}
+use Rattle.rv_state.specs.Traps.{after_trap, trap_target}
 use Rattle.rv_hart.specs.Arithmetic.{sum_of}
 use Rattle.rv_hart.specs.Exceptions.{misaligned}
 use Rattle.rv_hart.specs.HartState.{Hart}
@@ -40,11 +40,11 @@ branched hart taken target =
 -- A trap goes to mode M. It writes no integer register.
 abbrev pub trapped : Hart → Trap → Hart
 trapped hart trap = record hart {
-  csrs = csrs_trapped hart.csrs hart.mode hart.pc trap.cause trap.tval;
+  csrs = after_trap hart.csrs hart.mode hart.pc trap.cause trap.tval;
   pc = trap_target hart.csrs.mtvec trap.cause;
   mode = M;
 }
 
 -- a step is counted, by what mcountinhibit was before it and the register that it wrote
-abbrev pub counted : Hart → Bool → ℕ → Option ℕ → Hart
-counted hart retired inhibit written = record hart { csrs = ticked hart.csrs retired inhibit written }
+abbrev pub step_counted : Hart → Bool → ℕ → Option ℕ → Hart
+step_counted hart retired inhibit written = record hart { csrs = ticked hart.csrs retired inhibit written }

@@ -63,32 +63,32 @@ request (Store kind rs1 rs2 offset) hart =
     requests.Store (address_of hart rs1 offset) (store_width kind) (register hart.regs rs2)
 request _ hart = requests.Nothing
 
--- the hart after the instruction that the word spells, with the number that its load gave, or its exception
-unfoldable pub finished : Instr → Hart → ℕ → ℕ → Result Hart Trap
-finished (Lui rd imm) hart word loaded = Ok (with_result hart rd imm)
-finished (Auipc rd imm) hart word loaded = Ok (with_result hart rd (sum_of hart.pc imm))
-finished (Jal rd offset) hart word loaded = jumped hart rd (sum_of hart.pc (sign_extended offset 21))
-finished (Jalr rd rs1 offset) hart word loaded = jumped hart rd (made_even (address_of hart rs1 offset))
-finished (Branch kind rs1 rs2 offset) hart word loaded =
+-- the hart after the instruction that the word spells is executed, with the number that its load gave, or its exception
+unfoldable pub executed : Instr → Hart → ℕ → ℕ → Result Hart Trap
+executed (Lui rd imm) hart word loaded = Ok (with_result hart rd imm)
+executed (Auipc rd imm) hart word loaded = Ok (with_result hart rd (sum_of hart.pc imm))
+executed (Jal rd offset) hart word loaded = jumped hart rd (sum_of hart.pc (sign_extended offset 21))
+executed (Jalr rd rs1 offset) hart word loaded = jumped hart rd (made_even (address_of hart rs1 offset))
+executed (Branch kind rs1 rs2 offset) hart word loaded =
     branched hart (is_taken kind (register hart.regs rs1) (register hart.regs rs2)) (sum_of hart.pc (sign_extended offset 13))
-finished (Load kind rd rs1 offset) hart word loaded = Ok (with_result hart rd (load_value kind loaded))
-finished (Store kind rs1 rs2 offset) hart word loaded = Ok (advanced hart)
-finished (OpImm kind rd rs1 imm) hart word loaded =
+executed (Load kind rd rs1 offset) hart word loaded = Ok (with_result hart rd (load_value kind loaded))
+executed (Store kind rs1 rs2 offset) hart word loaded = Ok (advanced hart)
+executed (OpImm kind rd rs1 imm) hart word loaded =
     Ok (with_result hart rd (op_imm_value kind (register hart.regs rs1) (sign_extended imm 12)))
-finished (ShiftImm kind rd rs1 shamt) hart word loaded =
+executed (ShiftImm kind rd rs1 shamt) hart word loaded =
     Ok (with_result hart rd (shift_value kind (register hart.regs rs1) shamt))
-finished (Op kind rd rs1 rs2) hart word loaded =
+executed (Op kind rd rs1 rs2) hart word loaded =
     Ok (with_result hart rd (op_value kind (register hart.regs rs1) (register hart.regs rs2)))
-finished (Fence fm pred succ rd rs1) hart word loaded = Ok (advanced hart)
-finished (Csr kind rd rs1 csr) hart word loaded =
+executed (Fence fm pred succ rd rs1) hart word loaded = Ok (advanced hart)
+executed (Csr kind rd rs1 csr) hart word loaded =
     unless_illegal word (csr_changed hart kind rd rs1 (register hart.regs rs1) csr)
-finished (CsrImm kind rd uimm csr) hart word loaded =
+executed (CsrImm kind rd uimm csr) hart word loaded =
     unless_illegal word (csr_changed hart kind rd uimm uimm csr)
-finished Ecall hart word loaded = Err (environment_call hart.mode)
-finished Ebreak hart word loaded = Err (breakpoint hart.pc)
-finished Sret hart word loaded =
+executed Ecall hart word loaded = Err (environment_call hart.mode)
+executed Ebreak hart word loaded = Err (breakpoint hart.pc)
+executed Sret hart word loaded =
     where_allowed (unless_refused hart.mode hart.csrs.mstatus.tsr) word (returned_from_supervisor hart)
-finished Mret hart word loaded = where_allowed (is_machine hart.mode) word (returned_from_machine hart)
-finished Wfi hart word loaded = where_allowed (unless_refused hart.mode hart.csrs.mstatus.tw) word (advanced hart)
-finished (SfenceVma rs1 rs2) hart word loaded =
+executed Mret hart word loaded = where_allowed (is_machine hart.mode) word (returned_from_machine hart)
+executed Wfi hart word loaded = where_allowed (unless_refused hart.mode hart.csrs.mstatus.tw) word (advanced hart)
+executed (SfenceVma rs1 rs2) hart word loaded =
     where_allowed (unless_refused hart.mode hart.csrs.mstatus.tvm) word (advanced hart)

@@ -14,9 +14,9 @@ use Rattle.rv_pmp.specs.declared.mode.Mode.{Mode}
 use Rattle.rv_state.specs.Interrupts.{pending}
 use Rattle.rv_hart.specs.CsrInstructions.{written_csr}
 use Rattle.rv_hart.specs.Exceptions.{access_fault, illegal, interrupted}
-use Rattle.rv_hart.specs.Hart.{trapped, counted}
+use Rattle.rv_hart.specs.Hart.{trapped, step_counted}
 use Rattle.rv_hart.specs.HartState.{Hart}
-use Rattle.rv_hart.specs.Instructions.{request, finished}
+use Rattle.rv_hart.specs.Instructions.{request, executed}
 use Rattle.rv_hart.specs.State.{State, Ended, Stepped, over}
 use Rattle.rv_state.specs.declared.cause.Exception.TheVariants.{InstructionAccessFault, LoadAccessFault, StoreAccessFault}
 use Rattle.rv_hart.specs.declared.request.Request.{Request}
@@ -41,62 +41,63 @@ load_of hart address width = record { fetched = span hart.pc Word; loaded = span
 abbrev pub store_of : Hart → ℕ → Width → Touched
 store_of hart address width = record { fetched = span hart.pc Word; loaded = None; stored = span address width }
 
--- ---- how a step ends, counted
+-- ---- how a step ends, with its counters
 
 -- in a trap
 abbrev pub trap_end : Hart → Touched → Trap → Ended
 trap_end hart touched trap = record {
-  hart = counted (trapped hart trap) false hart.csrs.mcountinhibit None;
+  hart = step_counted (trapped hart trap) false hart.csrs.mcountinhibit None;
   outcome = record { trap = Some trap; touched = touched };
 }
 
 -- with an instruction that retires, and the control and status register that it wrote
 abbrev pub retired_end : Hart → Touched → Option ℕ → Hart → Ended
 retired_end hart touched written after = record {
-  hart = counted after true hart.csrs.mcountinhibit written;
+  hart = step_counted after true hart.csrs.mcountinhibit written;
   outcome = record { trap = None; touched = touched };
 }
 
--- as the instruction ends
-unfoldable pub concluded : Hart → Touched → Option ℕ → Result Hart Trap → Ended
-concluded hart touched written finish = result_case finish (retired_end hart touched written) (trap_end hart touched)
+-- as the instruction was executed
+unfoldable pub retired_or_trapped : Hart → Touched → Option ℕ → Result Hart Trap → Ended
+retired_or_trapped hart touched written after = result_case after (retired_end hart touched written) (trap_end hart touched)
 
--- ---- the step
+-- ---- the step, from its last part to its first
 
 -- the mode in which loads and stores are judged: that of MPP where MPRV is set (section 3.1.6.3)
 abbrev pub data_mode : Hart → Mode
 data_mode hart = if hart.csrs.mstatus.mprv then hart.csrs.mstatus.mpp else hart.mode
 
--- an instruction whose access is done
-abbrev pub done : Hart → Touched → ℕ → Instr → ℕ → Ended
-done hart touched word instr loaded = concluded hart touched (written_csr instr) (finished instr hart word loaded)
+-- Execute: the instruction, whose access is done, retires, or ends in its exception.
+abbrev pub from_execute : Hart → Touched → ℕ → Instr → ℕ → Ended
+from_execute hart touched word instr loaded =
+    retired_or_trapped hart touched (written_csr instr) (executed instr hart word loaded)
 
--- an instruction whose access is asked for: the access is done, or refused as an exception
-unfoldable pub accessed : Hart → List ℕ → ℕ → Instr → Request → Stepped
-accessed hart memory word instr Nothing = over memory (done hart (fetch_of hart) word instr 0)
-accessed hart memory word instr (Load address width) =
+-- Access: what the instruction asks for is done, or refused as an exception.
+unfoldable pub from_access : Hart → List ℕ → ℕ → Instr → Request → Stepped
+from_access hart memory word instr Nothing = over memory (from_execute hart (fetch_of hart) word instr 0)
+from_access hart memory word instr (Load address width) =
     result_case (loaded memory hart.csrs.pmp (data_mode hart) address width)
-    (λ number. over memory (done hart (load_of hart address width) word instr number))
+    (λ number. over memory (from_execute hart (load_of hart address width) word instr number))
     (λ _. over memory (trap_end hart (fetch_of hart) (access_fault LoadAccessFault address)))
-accessed hart memory word instr (Store address width value) =
+from_access hart memory word instr (Store address width value) =
     result_case (stored memory hart.csrs.pmp (data_mode hart) address width value)
-    (λ after. over after (done hart (store_of hart address width) word instr 0))
+    (λ after. over after (from_execute hart (store_of hart address width) word instr 0))
     (λ _. over memory (trap_end hart (fetch_of hart) (access_fault StoreAccessFault address)))
 
--- the fetched word is decoded
-unfoldable pub executed : Hart → List ℕ → ℕ → Stepped
-executed hart memory word =
+-- Decode: the fetched word is an instruction, or illegal.
+unfoldable pub from_decode : Hart → List ℕ → ℕ → Stepped
+from_decode hart memory word =
     option_case (decoded word) (over memory (trap_end hart (fetch_of hart) (illegal word)))
-    (λ instr. accessed hart memory word instr (request instr hart))
+    (λ instr. from_access hart memory word instr (request instr hart))
 
--- the word at pc is fetched
-unfoldable pub attempted : Hart → List ℕ → Stepped
-attempted hart memory =
-    result_case (fetched memory hart.csrs.pmp hart.mode hart.pc) (executed hart memory)
+-- Fetch: the word at pc is fetched, or the fetch refused as an exception.
+unfoldable pub from_fetch : Hart → List ℕ → Stepped
+from_fetch hart memory =
+    result_case (fetched memory hart.csrs.pmp hart.mode hart.pc) (from_decode hart memory)
     (λ _. over memory (trap_end hart nothing (access_fault InstructionAccessFault hart.pc)))
 
--- one step: an interrupt is taken, or an instruction is done
+-- One step: an interrupt is taken, or the instruction at pc is fetched, decoded and executed.
 unfoldable pub step : State → Stepped
 step state =
-    option_case (pending state.hart.csrs state.hart.mode) (attempted state.hart state.memory)
+    option_case (pending state.hart.csrs state.hart.mode) (from_fetch state.hart state.memory)
     (λ interrupt. over state.memory (trap_end state.hart nothing (interrupted interrupt)))

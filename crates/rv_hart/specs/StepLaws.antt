@@ -6,7 +6,7 @@ use Rattle.rv_memory.specs.Changes.{ChangesOnly}
 use Rattle.rv_memory.specs.declared.touched.Span.{Span}
 use Rattle.rv_state.specs.MachineParts.{machine_parts}
 use Rattle.rv_state.specs.Interrupts.{is_machine}
-use Rattle.rv_hart.specs.Hart.{trapped, counted}
+use Rattle.rv_hart.specs.Hart.{trapped, step_counted}
 use Rattle.rv_hart.specs.HartState.{Hart}
 use Rattle.rv_hart.specs.State.{State, Stepped}
 
@@ -15,7 +15,7 @@ use Rattle.rv_hart.specs.State.{State, Stepped}
 abbrev pub TrapKeeps : State → Stepped → Type 0
 TrapKeeps before after =
     IfSome after.outcome.trap (λ trap.
-    (after.state.hart ≡ counted (trapped before.hart trap) false before.hart.csrs.mcountinhibit None)
+    (after.state.hart ≡ step_counted (trapped before.hart trap) false before.hart.csrs.mcountinhibit None)
     × (after.state.memory ≡ before.memory))
 
 -- MPRV is 0 below mode M

@@ -45,11 +45,11 @@ fn changed(kind: CsrKind, old: u32, operand: u32) -> u32
 impl Hart {
     ghost use Rattle.std.specs.Prelude.{◌≡◌, Ok, Err, Some, None, MatchResult, OnErr, if◌then◌else◌, true};
     ghost use Rattle.rv_hart.specs.CsrInstructions.{csr_changed, is_written as is_written_of};
-    ghost use Rattle.rv_hart.specs.Hart.{with_result, counted};
+    ghost use Rattle.rv_hart.specs.Hart.{with_result, step_counted};
     ghost use Rattle.rv_hart.specs.Instructions.{unless_illegal};
     ghost use Rattle.rv_state.specs.Registers.{register};
     ghost use Rattle.rv_hart.specs.State.{ended_in};
-    ghost use Rattle.rv_hart.specs.Step.{concluded};
+    ghost use Rattle.rv_hart.specs.Step.{retired_or_trapped};
 
     /// Changes a register by a word of an integer register.
     #[inline(always)]
@@ -62,7 +62,7 @@ impl Hart {
         word: u32,
         touched: Touched,
     ) -> StepOutcome
-        ensures { concluded self.old touched (if is_written_of kind rs1 then Some csr else None)
+        ensures { retired_or_trapped self.old touched (if is_written_of kind rs1 then Some csr else None)
             (unless_illegal word (csr_changed self.old kind rd rs1 (register self.old.regs rs1) csr)) ≡ ended_in self.new result }
     {
         let operand = self.regs.get(rs1);
@@ -88,7 +88,7 @@ impl Hart {
         word: u32,
         touched: Touched,
     ) -> StepOutcome
-        ensures { concluded self.old touched (if is_written_of kind uimm then Some csr else None)
+        ensures { retired_or_trapped self.old touched (if is_written_of kind uimm then Some csr else None)
             (unless_illegal word (csr_changed self.old kind rd uimm uimm csr)) ≡ ended_in self.new result }
     {
         let number = uimm.number();
@@ -97,7 +97,7 @@ impl Hart {
 
     /// Changes a register, or ends the step in an illegal instruction. The source is the number of rs1, or the immediate.
     #[inline(always)]
-    #[tactic(auto, unfolding(crate::specs::Step::concluded))]
+    #[tactic(auto, unfolding(crate::specs::Step::retired_or_trapped))]
     fn change(
         &mut self,
         kind: CsrKind,
@@ -108,7 +108,7 @@ impl Hart {
         word: u32,
         touched: Touched,
     ) -> StepOutcome
-        ensures { concluded self.old touched (if is_written_of kind source then Some csr else None)
+        ensures { retired_or_trapped self.old touched (if is_written_of kind source then Some csr else None)
             (unless_illegal word (csr_changed self.old kind rd source operand csr)) ≡ ended_in self.new result }
     {
         let inhibit = self.csrs.inhibit();

@@ -38,16 +38,16 @@ impl Hart {
     ghost use Rattle.std.specs.Prelude.{◌≡◌, ◌%◌, Some, None, Ok, Err, true, false};
     ghost use Rattle.std.specs.Borrow.{sem};
     ghost use Rattle.rv_hart.specs.HartState.{Hart as HartState};
-    ghost use Rattle.rv_hart.specs.Hart.{at_reset, advanced, with_result, jumped, branched, trapped, counted};
+    ghost use Rattle.rv_hart.specs.Hart.{at_reset, advanced, with_result, jumped, branched, trapped, step_counted};
     ghost use Rattle.rv_hart.specs.Arithmetic.{sum_of, op_value, op_imm_value, shift_value, is_taken as is_taken_of};
-    ghost use Rattle.rv_hart.specs.Instructions.{request, finished, made_even};
+    ghost use Rattle.rv_hart.specs.Instructions.{request, executed, made_even};
     ghost use Rattle.rv_hart.specs.Lending.{HartLendsRegs, HartLendsCsrs};
     ghost use Rattle.rv_state.specs.Registers.{register};
     ghost use Rattle.rv_hart.specs.State.{state_of, ended_in, over, stepped};
     ghost use Rattle.rv_hart.specs.StepLaws.{TrapKeeps, KeepsMprvClear, KeepsMachineParts, ChangesStored};
     ghost use Rattle.rv_hart.specs.Permitted.{TouchesPermitted};
     ghost use Rattle.rv_hart.specs.Confinement.{IsConfined};
-    ghost use Rattle.rv_hart.specs.Step.{step, executed, accessed, concluded, done, trap_end, retired_end, fetch_of, data_mode};
+    ghost use Rattle.rv_hart.specs.Step.{step, from_decode, from_access, retired_or_trapped, from_execute, trap_end, retired_end, fetch_of, data_mode};
 
     /// The hart at reset with the entry next, in this mode.
     pub fn new(entry: u32, mode: Mode) -> Self
@@ -156,7 +156,7 @@ impl Hart {
 
     /// Takes an interrupt, or does the instruction at pc, or its trap.
     #[inline(always)]
-    #[tactic(auto, unfolding(crate::specs::Step::step, crate::specs::Step::attempted))]
+    #[tactic(auto, unfolding(crate::specs::Step::step, crate::specs::Step::from_fetch))]
     fn step_once(&mut self, ram: &mut Ram) -> StepOutcome
         ensures { step (state_of self.old ram.old) ≡ stepped self.new ram.new result }
     {
@@ -164,7 +164,7 @@ impl Hart {
             return self.trap(interrupted(interrupt), Touched::default());
         }
         match ram.fetch(self.csrs.pmp_mut(), self.mode, self.pc) {
-            Ok(word) => self.execute(word, ram),
+            Ok(word) => self.decode(word, ram),
             Err(_) => {
                 let trap = exception(Exception::InstructionAccessFault, self.pc);
                 self.trap(trap, Touched::default())
@@ -172,11 +172,11 @@ impl Hart {
         }
     }
 
-    /// Does the instruction that the fetched word spells.
+    /// Decodes the fetched word, and does the instruction that it spells.
     #[inline(always)]
-    #[tactic(auto, unfolding(crate::specs::Step::executed))]
-    fn execute(&mut self, word: u32, ram: &mut Ram) -> StepOutcome
-        ensures { executed self.old ram.old word ≡ over ram.new (ended_in self.new result) }
+    #[tactic(auto, unfolding(crate::specs::Step::from_decode))]
+    fn decode(&mut self, word: u32, ram: &mut Ram) -> StepOutcome
+        ensures { from_decode self.old ram.old word ≡ over ram.new (ended_in self.new result) }
     {
         let fetched = Touched {
             fetched: Some(Span {
@@ -191,16 +191,16 @@ impl Hart {
         }
     }
 
-    /// Does the access of an instruction, and then the rest of it.
+    /// Does the access of an instruction, and then executes it.
     #[inline(always)]
-    #[tactic(auto, unfolding(crate::specs::Step::accessed))]
+    #[tactic(auto, unfolding(crate::specs::Step::from_access))]
     fn access(&mut self, instr: &Instr, word: u32, fetched: Touched, ram: &mut Ram) -> StepOutcome
         requires { fetched ≡ fetch_of self.old }
-        ensures { accessed self.old ram.old word instr.now (request instr.now self.old) ≡ over ram.new (ended_in self.new result) }
+        ensures { from_access self.old ram.old word instr.now (request instr.now self.old) ≡ over ram.new (ended_in self.new result) }
     {
         let mode = self.data_mode();
         match self.request(instr) {
-            Request::Nothing => self.finish(instr, word, 0, fetched),
+            Request::Nothing => self.execute(instr, word, 0, fetched),
             Request::Load { address, width } => match ram.load(
                 self.csrs.pmp_mut(),
                 mode,
@@ -212,7 +212,7 @@ impl Hart {
                         addr: address,
                         len: width,
                     });
-                    self.finish(instr, word, number, Touched { loaded, ..fetched })
+                    self.execute(instr, word, number, Touched { loaded, ..fetched })
                 }
                 Err(_) => self.trap(exception(Exception::LoadAccessFault, address), fetched),
             },
@@ -226,7 +226,7 @@ impl Hart {
                         addr: address,
                         len: width,
                     });
-                    self.finish(instr, word, 0, Touched { stored, ..fetched })
+                    self.execute(instr, word, 0, Touched { stored, ..fetched })
                 }
                 Err(_) => self.trap(exception(Exception::StoreAccessFault, address), fetched),
             },
@@ -272,11 +272,11 @@ impl Hart {
         }
     }
 
-    /// Does the rest of the instruction that the word spells, once its access is done.
+    /// Executes the instruction that the word spells, whose access is done.
     #[inline(always)]
-    #[tactic(auto, unfolding(crate::specs::Instructions::finished, crate::specs::CsrInstructions::written_csr, crate::specs::Step::concluded))]
-    fn finish(&mut self, instr: &Instr, word: u32, loaded: u32, touched: Touched) -> StepOutcome
-        ensures { done self.old touched word instr.now loaded ≡ ended_in self.new result }
+    #[tactic(auto, unfolding(crate::specs::Instructions::executed, crate::specs::CsrInstructions::written_csr, crate::specs::Step::retired_or_trapped))]
+    fn execute(&mut self, instr: &Instr, word: u32, loaded: u32, touched: Touched) -> StepOutcome
+        ensures { from_execute self.old touched word instr.now loaded ≡ ended_in self.new result }
     {
         match *instr {
             Instr::Lui { rd, imm } => self.write_rd(rd, imm.word(), touched),
@@ -333,7 +333,7 @@ impl Hart {
     #[cold]
     #[inline(never)]
     fn enter_trap(&mut self, cause: Cause, tval: u32)
-        ensures { self.new ≡ counted (trapped self.old (record { cause = cause; tval = tval })) false self.old.csrs.mcountinhibit None }
+        ensures { self.new ≡ step_counted (trapped self.old (record { cause = cause; tval = tval })) false self.old.csrs.mcountinhibit None }
     {
         let inhibit = self.csrs.inhibit();
         self.pc = self.csrs.enter_trap(self.mode, self.pc, cause, tval);
@@ -344,7 +344,7 @@ impl Hart {
     /// Ends the step of an instruction that retires and wrote no control and status register.
     #[inline(always)]
     pub(crate) fn retire(&mut self, touched: Touched) -> StepOutcome
-        ensures { ended_in (counted self.old true self.old.csrs.mcountinhibit None) (record { trap = None; touched = touched }) ≡ ended_in self.new result }
+        ensures { ended_in (step_counted self.old true self.old.csrs.mcountinhibit None) (record { trap = None; touched = touched }) ≡ ended_in self.new result }
     {
         let inhibit = self.csrs.inhibit();
         self.csrs.tick_counters(true, inhibit, None);
@@ -431,9 +431,9 @@ impl Hart {
 
     /// Jumps by an offset from pc.
     #[inline(always)]
-    #[tactic(auto, unfolding(crate::specs::Step::concluded))]
+    #[tactic(auto, unfolding(crate::specs::Step::retired_or_trapped))]
     fn jump_by(&mut self, rd: Reg, offset: u32, touched: Touched) -> StepOutcome
-        ensures { concluded self.old touched None (jumped self.old rd (sum_of self.old.pc offset)) ≡ ended_in self.new result }
+        ensures { retired_or_trapped self.old touched None (jumped self.old rd (sum_of self.old.pc offset)) ≡ ended_in self.new result }
     {
         let target = self.pc.wrapping_add(offset);
         self.jump(rd, target, touched)
@@ -441,9 +441,9 @@ impl Hart {
 
     /// Jumps to an offset from a register, which is read before rd is written, with bit 0 cleared.
     #[inline(always)]
-    #[tactic(auto, unfolding(crate::specs::Step::concluded))]
+    #[tactic(auto, unfolding(crate::specs::Step::retired_or_trapped))]
     fn jump_to(&mut self, rd: Reg, rs1: Reg, offset: u32, touched: Touched) -> StepOutcome
-        ensures { concluded self.old touched None (jumped self.old rd (made_even (sum_of (register self.old.regs rs1) offset))) ≡ ended_in self.new result }
+        ensures { retired_or_trapped self.old touched None (jumped self.old rd (made_even (sum_of (register self.old.regs rs1) offset))) ≡ ended_in self.new result }
     {
         let target = self.regs.get(rs1).wrapping_add(offset);
         self.jump(rd, target / 2 * 2, touched)
@@ -451,9 +451,9 @@ impl Hart {
 
     /// Jumps, and leaves the address of the next instruction in a register.
     #[inline(always)]
-    #[tactic(auto, unfolding(crate::specs::Step::concluded))]
+    #[tactic(auto, unfolding(crate::specs::Step::retired_or_trapped))]
     fn jump(&mut self, rd: Reg, target: u32, touched: Touched) -> StepOutcome
-        ensures { concluded self.old touched None (jumped self.old rd target) ≡ ended_in self.new result }
+        ensures { retired_or_trapped self.old touched None (jumped self.old rd target) ≡ ended_in self.new result }
     {
         let next = self.pc.wrapping_add(4);
         if target % 4 != 0 {
@@ -469,7 +469,7 @@ impl Hart {
 
     /// Branches by an offset from pc where the test of two registers holds, and else goes to the next instruction.
     #[inline(always)]
-    #[tactic(auto, unfolding(crate::specs::Step::concluded))]
+    #[tactic(auto, unfolding(crate::specs::Step::retired_or_trapped))]
     fn branch(
         &mut self,
         kind: BranchKind,
@@ -478,7 +478,7 @@ impl Hart {
         offset: u32,
         touched: Touched,
     ) -> StepOutcome
-        ensures { concluded self.old touched None (branched self.old (is_taken_of kind (register self.old.regs rs1) (register self.old.regs rs2)) (sum_of self.old.pc offset)) ≡ ended_in self.new result }
+        ensures { retired_or_trapped self.old touched None (branched self.old (is_taken_of kind (register self.old.regs rs1) (register self.old.regs rs2)) (sum_of self.old.pc offset)) ≡ ended_in self.new result }
     {
         if !is_taken(kind, self.regs.get(rs1), self.regs.get(rs2)) {
             return self.advance_pc(touched);

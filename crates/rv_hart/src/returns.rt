@@ -24,17 +24,17 @@ const fn unless_refused(mode: Mode, refused: bool) -> bool
 
 impl Hart {
     ghost use Rattle.std.specs.Prelude.{◌≡◌, None, true};
-    ghost use Rattle.rv_hart.specs.Hart.{advanced, counted};
+    ghost use Rattle.rv_hart.specs.Hart.{advanced, step_counted};
     ghost use Rattle.rv_hart.specs.Instructions.{where_allowed, unless_refused as unless_refused_of, returned_from_machine, returned_from_supervisor};
     ghost use Rattle.rv_hart.specs.State.{ended_in};
     ghost use Rattle.rv_state.specs.Interrupts.{is_machine};
-    ghost use Rattle.rv_hart.specs.Step.{concluded};
+    ghost use Rattle.rv_hart.specs.Step.{retired_or_trapped};
 
     /// Does wfi.
     #[inline(always)]
-    #[tactic(auto, unfolding(crate::specs::Step::concluded))]
+    #[tactic(auto, unfolding(crate::specs::Step::retired_or_trapped))]
     pub(crate) fn wait(&mut self, word: u32, touched: Touched) -> StepOutcome
-        ensures { concluded self.old touched None (where_allowed (unless_refused_of self.old.mode self.old.csrs.mstatus.tw) word (advanced self.old)) ≡ ended_in self.new result }
+        ensures { retired_or_trapped self.old touched None (where_allowed (unless_refused_of self.old.mode self.old.csrs.mstatus.tw) word (advanced self.old)) ≡ ended_in self.new result }
     {
         if !unless_refused(self.mode, self.csrs.mstatus().tw) {
             return self.trap(exception(Exception::IllegalInstruction, word), touched);
@@ -44,9 +44,9 @@ impl Hart {
 
     /// Does sfence.vma.
     #[inline(always)]
-    #[tactic(auto, unfolding(crate::specs::Step::concluded))]
+    #[tactic(auto, unfolding(crate::specs::Step::retired_or_trapped))]
     pub(crate) fn order_translations(&mut self, word: u32, touched: Touched) -> StepOutcome
-        ensures { concluded self.old touched None (where_allowed (unless_refused_of self.old.mode self.old.csrs.mstatus.tvm) word (advanced self.old)) ≡ ended_in self.new result }
+        ensures { retired_or_trapped self.old touched None (where_allowed (unless_refused_of self.old.mode self.old.csrs.mstatus.tvm) word (advanced self.old)) ≡ ended_in self.new result }
     {
         if !unless_refused(self.mode, self.csrs.mstatus().tvm) {
             return self.trap(exception(Exception::IllegalInstruction, word), touched);
@@ -56,9 +56,9 @@ impl Hart {
 
     /// Does mret.
     #[inline(always)]
-    #[tactic(auto, unfolding(crate::specs::Step::concluded))]
+    #[tactic(auto, unfolding(crate::specs::Step::retired_or_trapped))]
     pub(crate) fn return_from_machine(&mut self, word: u32, touched: Touched) -> StepOutcome
-        ensures { concluded self.old touched None (where_allowed (is_machine self.old.mode) word (returned_from_machine self.old)) ≡ ended_in self.new result }
+        ensures { retired_or_trapped self.old touched None (where_allowed (is_machine self.old.mode) word (returned_from_machine self.old)) ≡ ended_in self.new result }
     {
         if self.mode != Mode::M {
             return self.trap(exception(Exception::IllegalInstruction, word), touched);
@@ -71,9 +71,9 @@ impl Hart {
 
     /// Does sret.
     #[inline(always)]
-    #[tactic(auto, unfolding(crate::specs::Step::concluded))]
+    #[tactic(auto, unfolding(crate::specs::Step::retired_or_trapped))]
     pub(crate) fn return_from_supervisor(&mut self, word: u32, touched: Touched) -> StepOutcome
-        ensures { concluded self.old touched None (where_allowed (unless_refused_of self.old.mode self.old.csrs.mstatus.tsr) word (returned_from_supervisor self.old)) ≡ ended_in self.new result }
+        ensures { retired_or_trapped self.old touched None (where_allowed (unless_refused_of self.old.mode self.old.csrs.mstatus.tsr) word (returned_from_supervisor self.old)) ≡ ended_in self.new result }
     {
         if !unless_refused(self.mode, self.csrs.mstatus().tsr) {
             return self.trap(exception(Exception::IllegalInstruction, word), touched);

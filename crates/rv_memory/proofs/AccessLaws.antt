@@ -11,7 +11,7 @@ use Rattle.rv_pmp.specs.declared.access.Access.TheVariants.{Fetch, Read, Write}
 use Rattle.rv_pmp.specs.declared.mode.Mode.{Mode}
 use Rattle.rv_pmp.specs.declared.verdict.Verdict.{Verdict}
 use Rattle.rv_memory.specs.Accesses.{loaded, fetched, stored, where_permitted, verdict_on}
-use Rattle.rv_memory.specs.Memory.{ram_base, is_inside, read, write, write_bytes, number_of, bytes_of}
+use Rattle.rv_memory.specs.Memory.{ram_base, is_inside, read, write, write_bytes, number_of_bytes, bytes_of}
 use Rattle.rv_memory.specs.declared.access_fault.AccessFault.{AccessFault}
 use Rattle.rv_memory.specs.declared.access_fault.AccessFault.TheVariants.{Outside, Refused}
 use Rattle.rv_memory.proofs.MemoryLaws.{length-bytes_of}
@@ -35,13 +35,13 @@ pub fetch_done : (m : List ℕ) (entries : Entries) (mode : Mode) (address word 
     → (is_inside m address (bytes_in Word) ≡ true) × (permits (verdict_on entries mode Fetch address Word) ≡ true)
 unfolding read
 fetch_done m entries mode address word is =
-    let done = judged-done (is_inside m address (bytes_in Word)) _ (verdict_on entries mode Fetch address Word) number_of word is in (done.0, done.1)
+    let done = judged-done (is_inside m address (bytes_in Word)) _ (verdict_on entries mode Fetch address Word) number_of_bytes word is in (done.0, done.1)
 
 pub load_done : (m : List ℕ) (entries : Entries) (mode : Mode) (address : ℕ) (width : Width) (number : ℕ) → loaded m entries mode address width ≡ Ok number
     → (is_inside m address (bytes_in width) ≡ true) × (permits (verdict_on entries mode Read address width) ≡ true)
 unfolding read
 load_done m entries mode address width number is =
-    let done = judged-done (is_inside m address (bytes_in width)) _ (verdict_on entries mode Read address width) number_of number is in (done.0, done.1)
+    let done = judged-done (is_inside m address (bytes_in width)) _ (verdict_on entries mode Read address width) number_of_bytes number is in (done.0, done.1)
 
 pub store_done : (m : List ℕ) (entries : Entries) (mode : Mode) (address : ℕ) (width : Width) (value : ℕ) (after : List ℕ)
     → stored m entries mode address width value ≡ Ok after
@@ -69,13 +69,13 @@ pub fetch_refused_too : (m n : List ℕ) (entries : Entries) (mode : Mode) (addr
     → fetched m entries mode address ≡ Err fault → fetched n entries mode address ≡ Err fault
 unfolding read
 fetch_refused_too m n entries mode address fault sizes is =
-    judged-refused (is_inside n address (bytes_in Word)) _ _ (verdict_on entries mode Fetch address Word) number_of fault (rw sizes at is)
+    judged-refused (is_inside n address (bytes_in Word)) _ _ (verdict_on entries mode Fetch address Word) number_of_bytes fault (rw sizes at is)
 
 pub load_refused_too : (m n : List ℕ) (entries : Entries) (mode : Mode) (address : ℕ) (width : Width) (fault : AccessFault) → length m ≡ length n
     → loaded m entries mode address width ≡ Err fault → loaded n entries mode address width ≡ Err fault
 unfolding read
 load_refused_too m n entries mode address width fault sizes is =
-    judged-refused (is_inside n address (bytes_in width)) _ _ (verdict_on entries mode Read address width) number_of fault (rw sizes at is)
+    judged-refused (is_inside n address (bytes_in width)) _ _ (verdict_on entries mode Read address width) number_of_bytes fault (rw sizes at is)
 
 pub store_refused_too : (m n : List ℕ) (entries : Entries) (mode : Mode) (address : ℕ) (width : Width) (value : ℕ) (fault : AccessFault) → length m ≡ length n
     → stored m entries mode address width value ≡ Err fault → stored n entries mode address width value ≡ Err fault

@@ -12,7 +12,7 @@ use Rattle.rv_pmp.specs.declared.access.Access.{Access}
 use Rattle.rv_pmp.specs.declared.access.Access.TheVariants.{Fetch, Read, Write}
 use Rattle.rv_pmp.specs.declared.mode.Mode.{Mode}
 use Rattle.rv_pmp.specs.declared.verdict.Verdict.{Verdict}
-use Rattle.rv_memory.specs.Memory.{read, write, number_of, bytes_of}
+use Rattle.rv_memory.specs.Memory.{read, write, number_of_bytes, bytes_of}
 use Rattle.rv_memory.specs.declared.access_fault.AccessFault.{AccessFault}
 use Rattle.rv_memory.specs.declared.access_fault.AccessFault.TheVariants.{Outside, Refused}
 
@@ -28,13 +28,13 @@ where_permitted given value = if permits given then Ok value else Err (Refused g
 abbrev pub loaded : List ℕ → Entries → Mode → ℕ → Width → Result ℕ AccessFault
 loaded memory entries mode address width =
     option_case (read memory address (bytes_in width)) (Err Outside)
-    (λ bytes. where_permitted (verdict_on entries mode Read address width) (number_of bytes))
+    (λ bytes. where_permitted (verdict_on entries mode Read address width) (number_of_bytes bytes))
 
 -- the word that a fetch gives
 abbrev pub fetched : List ℕ → Entries → Mode → ℕ → Result ℕ AccessFault
 fetched memory entries mode address =
     option_case (read memory address (bytes_in Word)) (Err Outside)
-    (λ bytes. where_permitted (verdict_on entries mode Fetch address Word) (number_of bytes))
+    (λ bytes. where_permitted (verdict_on entries mode Fetch address Word) (number_of_bytes bytes))
 
 -- the memory that a store of the lowest bytes of a word leaves
 abbrev pub stored : List ℕ → Entries → Mode → ℕ → Width → ℕ → Result (List ℕ) AccessFault

@@ -35,9 +35,9 @@ abbrev pub byte_at : List ℕ → ℕ → Option ℕ
 byte_at memory address = option_map (λ bytes. slice_index bytes 0) (read memory address 1)
 
 -- the number that bytes spell, the lowest first
-abbrev pub number_of : List ℕ → ℕ
-number_of [] = 0
-number_of (byte ∷ bytes) = byte + 2 ^ 8 * number_of bytes
+abbrev pub number_of_bytes : List ℕ → ℕ
+number_of_bytes [] = 0
+number_of_bytes (byte ∷ bytes) = byte + 2 ^ 8 * number_of_bytes bytes
 
 -- so many of the lowest bytes of a word, the lowest first
 abbrev pub bytes_of : ℕ → ℕ → List ℕ

@@ -2,7 +2,7 @@
 
 ghost use Rattle.std.specs.Prelude.{◌≡◌, ℕ, ◌+◌, ◌-◌, ◌%◌, ◌^◌, ◌<◌, ◌*◌, ◌≤◌, List, [], ◌∷◌, length, replicate, take, drop, IfOk, OnOk, OnErr, MatchResult, Some, None, Ok, Err, true, false, if◌then◌else◌};
 ghost use Rattle.rv_word.specs.Widths.{bytes_in};
-ghost use Rattle.rv_memory.specs.Memory.{is_ram_size, ram_base, is_inside, read, write, write_bytes, byte_at, number_of, bytes_of};
+ghost use Rattle.rv_memory.specs.Memory.{is_ram_size, ram_base, is_inside, read, write, write_bytes, byte_at, number_of_bytes, bytes_of};
 ghost use Rattle.rv_memory.specs.Accesses.{loaded, stored, fetched, verdict_on};
 ghost use Rattle.rv_memory.specs.Changes.{ChangesOnly};
 
@@ -235,7 +235,7 @@ impl Ram {
     fn number_at(&self, start: usize, count: usize) -> u32
         requires short { count ≤ 4 }
         requires inside { start + count ≤ length self.now }
-        ensures { result ≡ number_of (take count (drop start self.now)) }
+        ensures { result ≡ number_of_bytes (take count (drop start self.now)) }
     {
         let mut bytes = [0; 4];
         bytes[..count].copy_from_slice(&self.bytes[start..start + count]);

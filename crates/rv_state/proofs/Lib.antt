@@ -2,3 +2,4 @@ pub mod MaskLemmas
 pub mod ReadBackLemmas
 pub mod StatusLemmas
 pub mod MachinePartsLemmas
+mod CsrExamples

@@ -1,11 +1,11 @@
 -- Words under a mask, bit by bit.
 use Rattle.std.proofs.Common.{◌≡◌, ℕ, zero, suc, ◌+◌, ◌*◌, ◌/◌, ◌%◌, ◌<◌, ◌≤◌, Bool, true, false, refl, ap, arith}
 use Rattle.std.specs.Prelude.{◌&&◌, ◌==◌}
-use Rattle.rv_word.specs.Logic.{bit_list, number_of, digit, bitwise, by_bits, and_by_bits}
+use Rattle.rv_word.specs.Logic.{bit_list, word_of_bits, digit, bitwise, by_bits, and_by_bits}
 
 -- the bits that two numbers share, of the lowest so many
 abbrev shared : ℕ → ℕ → ℕ → ℕ
-shared count left right = number_of (bitwise (λ x y. x && y) (bit_list count left) (bit_list count right))
+shared count left right = word_of_bits (bitwise (λ x y. x && y) (bit_list count left) (bit_list count right))
 
 -- a number from its lowest bit and the rest, taken apart again
 pub lowest : (bit : Bool) (rest : ℕ) → ((digit bit + 2 * rest) % 2 == 1) ≡ bit

@@ -1,21 +1,22 @@
 -- What a register reads after a write is the word under its mask.
-use Rattle.std.proofs.Common.{◌≡◌, ℕ, zero, suc, ◌+◌, ◌*◌, ◌/◌, ◌%◌, ◌^◌, ◌<◌, Bool, true, false, List, [], ◌∷◌, Option, Some, None, Ok, Err, refl, sym, ap, ◌∙◌, arith}
+use Rattle.std.proofs.Common.{◌≡◌, ℕ, zero, suc, ◌+◌, ◌*◌, ◌/◌, ◌^◌, ◌<◌, Bool, true, false, List, [], ◌∷◌, Option, Some, None, Ok, Err, refl, sym, ap, ◌∙◌, arith}
 use Rattle.std.specs.Prelude.{nat_lt, ◌&&◌, ◌==◌, if◌then◌else◌}
 use Rattle.std.proofs.Math.Nat.{pow-suc, div-div-eq-div-mul, div-one}
-use Rattle.rv_word.specs.Logic.{bit_list, number_of, digit, bitwise, by_bits, and_by_bits}
+use Rattle.rv_word.specs.Logic.{bit_list, word_of_bits, digit, bitwise, by_bits, and_by_bits}
 use Rattle.rv_pmp.specs.Mode.{mode_number}
-use Rattle.rv_state.specs.Bits.{is_set, field, aligned_to_4}
+use Rattle.rv_word.specs.BitFields.{bits, is_set, flag}
+use Rattle.rv_state.specs.Bits.{aligned_to_4}
 use Rattle.rv_state.specs.Mstatus.{mstatus_word, mstatus_of, mode_of_mpp, sstatus_word, with_sstatus}
 use Rattle.rv_state.specs.declared.mstatus.Mstatus.{Mstatus}
 use Rattle.rv_state.specs.Counters.{with_low_half, with_high_half}
 use Rattle.rv_state.specs.CsrState.{CsrState}
-use Rattle.rv_state.specs.CsrTable.{reading, written, is_trapped, on_register, csr_named, least_mode, is_read_only, read_result, write_result}
+use Rattle.rv_state.specs.CsrTable.{reading, written, is_trapped, on_register, csr_numbered, least_mode, is_read_only, read_result, write_result}
 use Rattle.rv_state.specs.Laws.{mstatus_mask, kept, kept_at, ReadsBack}
 use Rattle.rv_state.specs.declared.csr_name.CsrName.{CsrName}
 use Rattle.rv_state.specs.declared.csr_name.CsrName.TheVariants.{Sstatus, Stvec, Sscratch, Sepc, Scause, Stval, Satp, Mstatus as NameMstatus, Misa, Mie, Mtvec, Mscratch, Mepc, Mcause, Mtval, Mip, Pmpcfg, Pmpaddr, Mcycle, Minstret, Mcycleh, Minstreth, Mcountinhibit, Zero}
 use Rattle.rv_state.specs.declared.csr_fault.CsrFault.TheVariants.{Privilege, ReadOnly, Trapped}
 use Rattle.rv_pmp.specs.declared.mode.Mode.{Mode}
-use Rattle.rv_state.proofs.MaskLemmas.{digit-rem}
+use Rattle.rv_state.proofs.MaskLemmas.{digit-rem, masked_again}
 
 -- ---- a word under a mask, as the sum of the bits that the mask has
 
@@ -50,25 +51,25 @@ bit_list-from zero k word = refl
 bit_list-from (suc count) k word =
     rw (halved word k) (ap (λ bits. is_set word k ∷ bits) (bit_list-from count (suc k) word))
 
-by_places : (word mask : ℕ) → and_by_bits word mask ≡ number_of (masked (bit_list 32 mask) (bits_from 32 0 word))
+by_places : (word mask : ℕ) → and_by_bits word mask ≡ word_of_bits (masked (bit_list 32 mask) (bits_from 32 0 word))
 unfolding by_bits
 by_places word mask =
-    ap number_of (bitwise-masked (bit_list 32 word) (bit_list 32 mask)
+    ap word_of_bits (bitwise-masked (bit_list 32 word) (bit_list 32 mask)
     ∙ ap (masked (bit_list 32 mask)) (ap (bit_list 32) (sym (div-one word)) ∙ bit_list-from 32 0 word))
 
 -- ---- bits 1:0 cleared
 
 -- a word below 2 ^ count is its bits, so many
-number_of-bit_list : (count word : ℕ) → word < 2 ^ count → number_of (bit_list count word) ≡ word
-number_of-bit_list zero word below = omega arith
-number_of-bit_list (suc count) word below =
-    let rest = number_of-bit_list count (word / 2) (omega (arith, pow-suc 2 count)) in
+word_of_bit_list : (count word : ℕ) → word < 2 ^ count → word_of_bits (bit_list count word) ≡ word
+word_of_bit_list zero word below = omega arith
+word_of_bit_list (suc count) word below =
+    let rest = word_of_bit_list count (word / 2) (omega (arith, pow-suc 2 count)) in
     omega (arith, rest, digit-rem word)
 
 pub aligned-is : (word : ℕ) → word < 2 ^ 32 → aligned_to_4 word ≡ and_by_bits word 0xFFFFFFFC
 aligned-is word below =
-    let above : number_of (bits_from 30 2 word) ≡ word / 4 =
-    ap number_of (sym (bit_list-from 30 2 word)) ∙ number_of-bit_list 30 (word / 4) (omega arith)
+    let above : word_of_bits (bits_from 30 2 word) ≡ word / 4 =
+    ap word_of_bits (sym (bit_list-from 30 2 word)) ∙ word_of_bit_list 30 (word / 4) (omega arith)
     in
     omega (arith, above, by_places word 0xFFFFFFFC)
 
@@ -85,31 +86,37 @@ mpp-number (suc (suc zero)) below = refl
 mpp-number (suc (suc (suc zero))) below = refl
 mpp-number (suc (suc (suc (suc n)))) below = absurd (omega arith)
 
-mpp-digits : (word : ℕ) → field word 11 2 ≡ digit (is_set word 11) + 2 * digit (is_set word 12)
+mpp-digits : (word : ℕ) → bits word 12 11 ≡ digit (is_set word 11) + 2 * digit (is_set word 12)
 mpp-digits word = omega (arith, digit-rem (word / 2 ^ 11), digit-rem (word / 2 ^ 12))
 
-mstatus-kept-by : (word : ℕ) (is_two : Bool) → (field word 11 2 == 2) ≡ is_two → mstatus_word (mstatus_of word) ≡ and_by_bits word (if is_two then 0x007A01AA else 0x007A19AA)
+mstatus-kept-by : (word : ℕ) (is_two : Bool) → (bits word 12 11 == 2) ≡ is_two → mstatus_word (mstatus_of word) ≡ and_by_bits word (if is_two then 0x007A01AA else 0x007A19AA)
 mstatus-kept-by word true e =
-    let mode : mode_number (mode_of_mpp (field word 11 2)) ≡ 0 =
-    mpp-number (field word 11 2) (omega arith) ∙ ap (λ (b : Bool). if b then 0 else field word 11 2) e
+    let mode : mode_number (mode_of_mpp (bits word 12 11)) ≡ 0 =
+    mpp-number (bits word 12 11) (omega arith) ∙ ap (λ (b : Bool). if b then 0 else bits word 12 11) e
     in
     omega (arith, mode, by_places word 0x007A01AA)
 mstatus-kept-by word false e =
-    let mode : mode_number (mode_of_mpp (field word 11 2)) ≡ field word 11 2 =
-    mpp-number (field word 11 2) (omega arith) ∙ ap (λ (b : Bool). if b then 0 else field word 11 2) e
+    let mode : mode_number (mode_of_mpp (bits word 12 11)) ≡ bits word 12 11 =
+    mpp-number (bits word 12 11) (omega arith) ∙ ap (λ (b : Bool). if b then 0 else bits word 12 11) e
     in
     omega (arith, mode, mpp-digits word, by_places word 0x007A19AA)
 
 pub mstatus-kept : (word : ℕ) → mstatus_word (mstatus_of word) ≡ and_by_bits word (mstatus_mask word)
-mstatus-kept word = mstatus-kept-by word (field word 11 2 == 2) refl
+mstatus-kept word = mstatus-kept-by word (bits word 12 11 == 2) refl
+
+-- ---- mip
+
+-- the bits of mip that software writes are the sum of its three
+pub software_bits : (word : ℕ) → and_by_bits word 0x222 ≡ word → flag 1 (is_set word 1) + flag 5 (is_set word 5) + flag 9 (is_set word 9) ≡ word
+software_bits word own = omega (arith, by_places word 0x222, own)
 
 -- ---- every register
 
-low-half : (counter word : ℕ) → word < 2 ^ 32 → with_low_half counter word % 2 ^ 32 ≡ word
+low-half : (counter word : ℕ) → word < 2 ^ 32 → bits (with_low_half counter word) 31 0 ≡ word
 low-half counter word below = omega arith
 
-high-half : (counter word : ℕ) → with_high_half counter word / 2 ^ 32 ≡ word
-high-half counter word = omega arith
+high-half : (counter word : ℕ) → word < 2 ^ 32 → bits (with_high_half counter word) 63 32 ≡ word
+high-half counter word below = omega arith
 
 reading-written : (name : CsrName) (word : ℕ) (c : CsrState) → word < 2 ^ 32 → reading name (written name word c) ≡ kept name word c
 unfolding reading written
@@ -128,13 +135,13 @@ reading-written Mscratch word c below = refl
 reading-written Mepc word c below = aligned-is word below
 reading-written Mcause word c below = refl
 reading-written Mtval word c below = refl
-reading-written Mip word c below = refl
+reading-written Mip word c below = omega (arith, software_bits (and_by_bits word 0x222) (masked_again word 0x222))
 reading-written (Pmpcfg k) word c below = refl
 reading-written (Pmpaddr i) word c below = refl
 reading-written Mcycle word c below = low-half c.mcycle word below
 reading-written Minstret word c below = low-half c.minstret word below
-reading-written Mcycleh word c below = high-half c.mcycle word
-reading-written Minstreth word c below = high-half c.minstret word
+reading-written Mcycleh word c below = high-half c.mcycle word below
+reading-written Minstreth word c below = high-half c.minstret word below
 reading-written Mcountinhibit word c below = refl
 reading-written Zero word c below = refl
 
@@ -182,4 +189,4 @@ reads-back (Some name) low read_only before after word mode below e =
 pub write_reads_back : (before after : CsrState) (number word : ℕ) (mode : Mode) → word < 2 ^ 32 → write_result before number word mode ≡ Ok after → ReadsBack before after number word mode
 unfolding write_result read_result ReadsBack
 write_reads_back before after number word mode below e =
-    reads-back (csr_named number) (nat_lt (mode_number mode) (least_mode number)) (is_read_only number) before after word mode below e
+    reads-back (csr_numbered number) (nat_lt (mode_number mode) (least_mode number)) (is_read_only number) before after word mode below e

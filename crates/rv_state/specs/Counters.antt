@@ -1,15 +1,15 @@
 -- The counters of 64 bits, their halves, and what a step adds: RISC-V Privileged Architecture 20211203, sections 3.1.10 and
 -- 3.1.12.
-use Rattle.std.specs.Prelude.{ℕ, ◌+◌, ◌*◌, ◌/◌, ◌%◌, ◌^◌, Bool, false, ◌||◌, not, ◌==◌, if◌then◌else◌, Option, Some, None}
-use Rattle.rv_state.specs.Bits.{is_set}
+use Rattle.std.specs.Prelude.{ℕ, ◌+◌, ◌*◌, ◌%◌, ◌^◌, Bool, false, ◌||◌, not, ◌==◌, if◌then◌else◌, Option, Some, None}
+use Rattle.rv_word.specs.BitFields.{bits, is_set}
 use Rattle.rv_state.specs.CsrState.{CsrState}
 
 -- a counter after a write to its lower or its upper half
 abbrev pub with_low_half : ℕ → ℕ → ℕ
-with_low_half counter word = counter / 2 ^ 32 * 2 ^ 32 + word
+with_low_half counter word = bits counter 63 32 * 2 ^ 32 + word
 
 abbrev pub with_high_half : ℕ → ℕ → ℕ
-with_high_half counter word = word * 2 ^ 32 + counter % 2 ^ 32
+with_high_half counter word = word * 2 ^ 32 + bits counter 31 0
 
 -- the step wrote one of these two registers
 abbrev pub wrote : Option ℕ → ℕ → ℕ → Bool
@@ -17,13 +17,13 @@ wrote None low high = false
 wrote (Some number) low high = number == low || number == high
 
 -- a counter after a step that it counts, unless it is held; it wraps
-abbrev pub counted : ℕ → Bool → ℕ
-counted counter is_held = if is_held then counter else (counter + 1) % 2 ^ 64
+abbrev pub incremented : ℕ → Bool → ℕ
+incremented counter is_held = if is_held then counter else (counter + 1) % 2 ^ 64
 
 -- The registers after a step: mcycle counts each step, minstret each retired instruction. A counter is held where its bit of
 -- mcountinhibit was set before the step, and where the step wrote one of its halves.
 abbrev pub ticked : CsrState → Bool → ℕ → Option ℕ → CsrState
 ticked c retired inhibit written = record c {
-  mcycle = counted c.mcycle (is_set inhibit 0 || wrote written 0xB00 0xB80);
-  minstret = counted c.minstret (not retired || is_set inhibit 2 || wrote written 0xB02 0xB82);
+  mcycle = incremented c.mcycle (is_set inhibit 0 || wrote written 0xB00 0xB80);
+  minstret = incremented c.minstret (not retired || is_set inhibit 2 || wrote written 0xB02 0xB82);
 }

@@ -2,14 +2,16 @@
 -- an access is refused. RISC-V Privileged Architecture 20211203, chapter 2: the listing is in the order of tables 2.3, 2.5
 -- and 2.6. What the registers keep: sections 3.1 and 4.1. Which numbers there are, those kept as zero included, is this
 -- machine's profile; any other number is missing.
-use Rattle.std.specs.Prelude.{ℕ, ◌-◌, ◌/◌, ◌%◌, ◌^◌, Bool, false, ◌&&◌, nat_lt, nat_le, ◌==◌, if◌then◌else◌, List, [], ◌∷◌, Option, Some, None, Result, Ok, Err}
+use Rattle.std.specs.Prelude.{ℕ, ◌+◌, ◌-◌, ◌/◌, ◌%◌, Bool, false, ◌&&◌, nat_lt, nat_le, ◌==◌, if◌then◌else◌, List, [], ◌∷◌, ◌++◌, codes, Option, Some, None, Result, Ok, Err}
+use Rattle.std.specs.Option.{option_map}
 use Rattle.rv_word.specs.Logic.{and_by_bits}
 use Rattle.rv_pmp.specs.declared.mode.Mode.{Mode}
 use Rattle.rv_pmp.specs.declared.mode.Mode.TheVariants.{S}
 use Rattle.rv_pmp.specs.Entries.{addr_of}
 use Rattle.rv_pmp.specs.Locks.{cfg_word, with_cfg_word, with_addr}
 use Rattle.rv_pmp.specs.Mode.{mode_number}
-use Rattle.rv_state.specs.Bits.{aligned_to_4, field}
+use Rattle.rv_word.specs.BitFields.{bits}
+use Rattle.rv_state.specs.Bits.{aligned_to_4}
 use Rattle.rv_state.specs.CsrState.{CsrState}
 use Rattle.rv_state.specs.Counters.{with_low_half, with_high_half}
 use Rattle.rv_state.specs.Interrupts.{mip_word}
@@ -23,89 +25,104 @@ use Rattle.rv_state.specs.declared.csr_fault.CsrFault.TheVariants as faults
 
 -- bits 9:8 are the number of the least mode that may access the register
 abbrev pub least_mode : ℕ → ℕ
-least_mode number = field number 8 2
+least_mode number = bits number 9 8
 
 -- bits 11:10 equal to 11 mean that it is only read
 abbrev pub is_read_only : ℕ → Bool
-is_read_only number = field number 10 2 == 3
+is_read_only number = bits number 11 10 == 0b11
 
 -- ---- the listing (section 2.2)
 
--- a row: the numbers that it is of, and the register of each
-pub record Row : Type 0 where
+-- a row: the numbers that it is of, and for each of them the register's name and what stands behind it
+pub record CsrRow : Type 0 where
   pub is_of : ℕ → Bool
-  pub name : ℕ → CsrName
+  pub name : ℕ → List ℕ
+  pub register : ℕ → CsrName
 
-abbrev pub csr : ℕ → CsrName → Row
-csr own name = record { is_of = λ number. number == own; name = λ _. name }
+abbrev pub csr : ℕ → List ℕ → CsrName → CsrRow
+csr own name register = record { is_of = λ number. number == own; name = λ _. name; register = λ _. register }
 
-abbrev pub range : ℕ → ℕ → CsrName → Row
-range first last name = record { is_of = λ number. nat_le first number && nat_le number last; name = λ _. name }
+-- a number below 100 as its digits
+abbrev pub digits_of : ℕ → List ℕ
+digits_of n = if nat_lt n 10 then (48 + n) ∷ [] else (48 + n / 10) ∷ (48 + n % 10) ∷ []
 
--- registers that are counted from the first of them on
-abbrev pub counted_range : ℕ → ℕ → (ℕ → CsrName) → Row
-counted_range first last name =
-    record { is_of = λ number. nat_le first number && nat_le number last; name = λ number. name (number - first) }
+-- registers whose names count on from the first of them: what stands before the count and after it, and the first count
+abbrev pub csr_range : ℕ → ℕ → List ℕ → ℕ → List ℕ → (ℕ → CsrName) → CsrRow
+csr_range first last before from after register = record {
+  is_of = λ number. nat_le first number && nat_le number last;
+  name = λ number. before ++ (digits_of (from + (number - first)) ++ after);
+  register = λ number. register (number - first);
+}
 
-unfoldable pub listing : List Row
-listing =
+abbrev pub zeros : ℕ → CsrName
+zeros _ = Zero
+
+unfoldable pub csr_listing : List CsrRow
+csr_listing =
     -- table 2.3, Supervisor Trap Setup
-    csr 0x100 Sstatus
-    ∷ csr 0x104 Zero  -- sie
-    ∷ csr 0x105 Stvec
-    ∷ csr 0x106 Zero  -- scounteren
+    csr 0x100 (codes "sstatus") Sstatus
+    ∷ csr 0x104 (codes "sie") Zero
+    ∷ csr 0x105 (codes "stvec") Stvec
+    ∷ csr 0x106 (codes "scounteren") Zero
     -- Supervisor Configuration
-    ∷ csr 0x10A Zero  -- senvcfg
+    ∷ csr 0x10A (codes "senvcfg") Zero
     -- Supervisor Trap Handling
-    ∷ csr 0x140 Sscratch
-    ∷ csr 0x141 Sepc
-    ∷ csr 0x142 Scause
-    ∷ csr 0x143 Stval
-    ∷ csr 0x144 Zero  -- sip
+    ∷ csr 0x140 (codes "sscratch") Sscratch
+    ∷ csr 0x141 (codes "sepc") Sepc
+    ∷ csr 0x142 (codes "scause") Scause
+    ∷ csr 0x143 (codes "stval") Stval
+    ∷ csr 0x144 (codes "sip") Zero
     -- Supervisor Protection and Translation
-    ∷ csr 0x180 Satp
+    ∷ csr 0x180 (codes "satp") Satp
     -- table 2.5, Machine Information Registers
-    ∷ range 0xF11 0xF15 Zero  -- mvendorid, marchid, mimpid, mhartid, mconfigptr
+    ∷ csr 0xF11 (codes "mvendorid") Zero
+    ∷ csr 0xF12 (codes "marchid") Zero
+    ∷ csr 0xF13 (codes "mimpid") Zero
+    ∷ csr 0xF14 (codes "mhartid") Zero
+    ∷ csr 0xF15 (codes "mconfigptr") Zero
     -- Machine Trap Setup
-    ∷ csr 0x300 Mstatus
-    ∷ csr 0x301 Misa
-    ∷ csr 0x302 Zero  -- medeleg
-    ∷ csr 0x303 Zero  -- mideleg
-    ∷ csr 0x304 Mie
-    ∷ csr 0x305 Mtvec
-    ∷ csr 0x306 Zero  -- mcounteren
-    ∷ csr 0x310 Zero  -- mstatush
+    ∷ csr 0x300 (codes "mstatus") Mstatus
+    ∷ csr 0x301 (codes "misa") Misa
+    ∷ csr 0x302 (codes "medeleg") Zero
+    ∷ csr 0x303 (codes "mideleg") Zero
+    ∷ csr 0x304 (codes "mie") Mie
+    ∷ csr 0x305 (codes "mtvec") Mtvec
+    ∷ csr 0x306 (codes "mcounteren") Zero
+    ∷ csr 0x310 (codes "mstatush") Zero
     -- Machine Trap Handling
-    ∷ csr 0x340 Mscratch
-    ∷ csr 0x341 Mepc
-    ∷ csr 0x342 Mcause
-    ∷ csr 0x343 Mtval
-    ∷ csr 0x344 Mip
+    ∷ csr 0x340 (codes "mscratch") Mscratch
+    ∷ csr 0x341 (codes "mepc") Mepc
+    ∷ csr 0x342 (codes "mcause") Mcause
+    ∷ csr 0x343 (codes "mtval") Mtval
+    ∷ csr 0x344 (codes "mip") Mip
     -- Machine Configuration
-    ∷ csr 0x30A Zero  -- menvcfg
-    ∷ csr 0x31A Zero  -- menvcfgh
+    ∷ csr 0x30A (codes "menvcfg") Zero
+    ∷ csr 0x31A (codes "menvcfgh") Zero
     -- Machine Memory Protection
-    ∷ counted_range 0x3A0 0x3A3 Pmpcfg  -- pmpcfg0 to pmpcfg3
-    ∷ counted_range 0x3B0 0x3BF Pmpaddr  -- pmpaddr0 to pmpaddr15
+    ∷ csr_range 0x3A0 0x3A3 (codes "pmpcfg") 0 [] Pmpcfg
+    ∷ csr_range 0x3B0 0x3BF (codes "pmpaddr") 0 [] Pmpaddr
     -- table 2.6, Machine Counter/Timers
-    ∷ csr 0xB00 Mcycle
-    ∷ csr 0xB02 Minstret
-    ∷ range 0xB03 0xB1F Zero  -- mhpmcounter3 to mhpmcounter31
-    ∷ csr 0xB80 Mcycleh
-    ∷ csr 0xB82 Minstreth
-    ∷ range 0xB83 0xB9F Zero  -- mhpmcounter3h to mhpmcounter31h
+    ∷ csr 0xB00 (codes "mcycle") Mcycle
+    ∷ csr 0xB02 (codes "minstret") Minstret
+    ∷ csr_range 0xB03 0xB1F (codes "mhpmcounter") 3 [] zeros
+    ∷ csr 0xB80 (codes "mcycleh") Mcycleh
+    ∷ csr 0xB82 (codes "minstreth") Minstreth
+    ∷ csr_range 0xB83 0xB9F (codes "mhpmcounter") 3 (codes "h") zeros
     -- Machine Counter Setup
-    ∷ csr 0x320 Mcountinhibit
-    ∷ range 0x323 0x33F Zero  -- mhpmevent3 to mhpmevent31
+    ∷ csr 0x320 (codes "mcountinhibit") Mcountinhibit
+    ∷ csr_range 0x323 0x33F (codes "mhpmevent") 3 [] zeros
     ∷ []
 
-abbrev pub first_of_number : List Row → ℕ → Option CsrName
-first_of_number [] number = None
-first_of_number (row ∷ rows) number = if row.is_of number then Some (row.name number) else first_of_number rows number
+abbrev pub row_of_number : List CsrRow → ℕ → Option CsrRow
+row_of_number [] number = None
+row_of_number (row ∷ rows) number = if row.is_of number then Some row else row_of_number rows number
 
--- the register of a number, if there is one
-unfoldable pub csr_named : ℕ → Option CsrName
-csr_named number = first_of_number listing number
+-- the register of a number, if there is one, and its name
+unfoldable pub csr_numbered : ℕ → Option CsrName
+csr_numbered number = option_map (λ (row : CsrRow). row.register number) (row_of_number csr_listing number)
+
+abbrev pub name_of_number : ℕ → Option (List ℕ)
+name_of_number number = option_map (λ (row : CsrRow). row.name number) (row_of_number csr_listing number)
 
 -- ---- what each reads
 
@@ -128,10 +145,10 @@ reading Mtval c = c.mtval
 reading Mip c = mip_word c
 reading (Pmpcfg k) c = cfg_word c.pmp k
 reading (Pmpaddr i) c = addr_of c.pmp i
-reading Mcycle c = c.mcycle % 2 ^ 32
-reading Minstret c = c.minstret % 2 ^ 32
-reading Mcycleh c = c.mcycle / 2 ^ 32
-reading Minstreth c = c.minstret / 2 ^ 32
+reading Mcycle c = bits c.mcycle 31 0
+reading Minstret c = bits c.minstret 31 0
+reading Mcycleh c = bits c.mcycle 63 32
+reading Minstreth c = bits c.minstret 63 32
 reading Mcountinhibit c = c.mcountinhibit
 reading Zero c = 0
 
@@ -191,14 +208,14 @@ on_register (Some name) access = access name
 -- what reading a number in a mode gives
 unfoldable pub read_result : CsrState → ℕ → Mode → Result ℕ CsrFault
 read_result c number mode =
-    on_register (csr_named number) (λ name.
+    on_register (csr_numbered number) (λ name.
     if nat_lt (mode_number mode) (least_mode number) then Err faults.Privilege
     else (if is_trapped name mode c then Err faults.Trapped else Ok (reading name c)))
 
 -- what writing a number in a mode gives: the new state
 unfoldable pub write_result : CsrState → ℕ → ℕ → Mode → Result CsrState CsrFault
 write_result c number word mode =
-    on_register (csr_named number) (λ name.
+    on_register (csr_numbered number) (λ name.
     if nat_lt (mode_number mode) (least_mode number) then Err faults.Privilege
     else (if is_read_only number then Err faults.ReadOnly
     else (if is_trapped name mode c then Err faults.Trapped else Ok (written name word c))))

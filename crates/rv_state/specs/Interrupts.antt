@@ -3,15 +3,17 @@
 use Rattle.std.specs.Prelude.{ℕ, ◌+◌, Bool, true, false, ◌&&◌, not, if◌then◌else◌, List, [], ◌∷◌, Option, None, find}
 use Rattle.rv_pmp.specs.declared.mode.Mode.{Mode}
 use Rattle.rv_pmp.specs.declared.mode.Mode.TheVariants.{M}
-use Rattle.rv_state.specs.Bits.{is_set, flag}
+use Rattle.rv_word.specs.BitFields.{is_set, flag}
 use Rattle.rv_state.specs.Causes.{interrupt_number}
 use Rattle.rv_state.specs.CsrState.{CsrState}
 use Rattle.rv_state.specs.declared.cause.Interrupt.{Interrupt}
 use Rattle.rv_state.specs.declared.cause.Interrupt.TheVariants.{SupervisorSoftware, MachineSoftware, SupervisorTimer, MachineTimer, SupervisorExternal, MachineExternal}
 
--- what mip reads: the bits that software wrote, and MTIP, which is the timer line
+-- what mip reads: SSIP, STIP and SEIP, which are the bits that software wrote, and MTIP, which is the timer line
 abbrev pub mip_word : CsrState → ℕ
-mip_word c = c.software_pending + flag 7 c.timer
+mip_word c =
+    flag 1 (is_set c.software_pending 1) + flag 5 (is_set c.software_pending 5) + flag 7 c.timer
+    + flag 9 (is_set c.software_pending 9)
 
 -- the order in which interrupts are taken where several wait
 abbrev pub interrupt_order : List Interrupt

@@ -5,9 +5,9 @@ use Rattle.rv_word.specs.Logic.{and_by_bits}
 use Rattle.rv_pmp.specs.declared.mode.Mode.{Mode}
 use Rattle.rv_pmp.specs.Entries.{addr_of}
 use Rattle.rv_pmp.specs.Locks.{cfg_word, with_cfg_word, with_addr}
-use Rattle.rv_state.specs.Bits.{field, flag}
+use Rattle.rv_word.specs.BitFields.{bits, flag}
 use Rattle.rv_state.specs.CsrState.{CsrState}
-use Rattle.rv_state.specs.CsrTable.{csr_named, read_result}
+use Rattle.rv_state.specs.CsrTable.{csr_numbered, read_result}
 use Rattle.rv_state.specs.Traps.{after_mret}
 use Rattle.rv_state.specs.declared.csr_name.CsrName.{CsrName}
 use Rattle.rv_state.specs.declared.csr_name.CsrName.TheVariants.{Sstatus, Stvec, Sscratch, Sepc, Scause, Stval, Satp, Mstatus, Misa, Mie, Mtvec, Mscratch, Mepc, Mcause, Mtval, Mip, Pmpcfg, Pmpaddr, Mcycle, Minstret, Mcycleh, Minstreth, Mcountinhibit, Zero}
@@ -16,7 +16,7 @@ use Rattle.rv_state.specs.declared.csr_name.CsrName.TheVariants.{Sstatus, Stvec,
 
 -- mstatus has no mode 2 in MPP (bits 12:11)
 abbrev pub mstatus_mask : ℕ → ℕ
-mstatus_mask word = if field word 11 2 == 2 then 0x007A01AA else 0x007A19AA
+mstatus_mask word = if bits word 12 11 == 2 then 0x007A01AA else 0x007A19AA
 
 abbrev pub kept : CsrName → ℕ → CsrState → ℕ
 kept Sstatus word c = and_by_bits word 0x00080122
@@ -51,7 +51,7 @@ kept_at (Some name) word c = kept name word c
 -- the register that was written reads so in the same mode
 unfoldable pub ReadsBack : CsrState → CsrState → ℕ → ℕ → Mode → Type 0
 ReadsBack before after number word mode =
-    read_result after number mode ≡ Ok (kept_at (csr_named number) word before)
+    read_result after number mode ≡ Ok (kept_at (csr_numbered number) word before)
 
 -- ---- a trap and the mret after it
 

@@ -4,7 +4,7 @@ use Rattle.std.specs.Prelude.{ℕ, ◌+◌, ◌*◌, ◌^◌, ◌==◌, false, i
 use Rattle.rv_pmp.specs.declared.mode.Mode.{Mode}
 use Rattle.rv_pmp.specs.declared.mode.Mode.TheVariants.{U, S, M}
 use Rattle.rv_pmp.specs.Mode.{mode_number}
-use Rattle.rv_state.specs.Bits.{is_set, flag, field}
+use Rattle.rv_word.specs.BitFields.{bits, is_set, flag}
 use Rattle.rv_state.specs.declared.mstatus.Mstatus.{Mstatus}
 
 -- what mstatus reads
@@ -25,7 +25,7 @@ mstatus_of word = record {
   spie = is_set word 5;
   mpie = is_set word 7;
   spp = is_set word 8;
-  mpp = mode_of_mpp (field word 11 2);
+  mpp = mode_of_mpp (bits word 12 11);
   mprv = is_set word 17;
   mxr = is_set word 19;
   tvm = is_set word 20;

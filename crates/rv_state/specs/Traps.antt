@@ -3,6 +3,7 @@
 use Rattle.std.specs.Prelude.{ℕ, ◌+◌, ◌*◌, ◌%◌, ◌^◌, Bool, true, false, ◌&&◌, ◌==◌, if◌then◌else◌}
 use Rattle.rv_pmp.specs.declared.mode.Mode.{Mode}
 use Rattle.rv_pmp.specs.declared.mode.Mode.TheVariants.{U, S}
+use Rattle.rv_word.specs.BitFields.{bits}
 use Rattle.rv_state.specs.Bits.{aligned_to_4}
 use Rattle.rv_state.specs.Causes.{cause_code, interrupt_number}
 use Rattle.rv_state.specs.CsrState.{CsrState}
@@ -11,8 +12,8 @@ use Rattle.rv_state.specs.declared.cause.Cause.{Cause}
 use Rattle.rv_state.specs.declared.cause.Cause.TheVariants as causes
 
 -- the registers after a trap from this mode at pc; every trap is taken in mode M
-abbrev pub trapped : CsrState → Mode → ℕ → Cause → ℕ → CsrState
-trapped c mode pc cause tval = record c {
+abbrev pub after_trap : CsrState → Mode → ℕ → Cause → ℕ → CsrState
+after_trap c mode pc cause tval = record c {
   mepc = aligned_to_4 pc;
   mcause = cause_code cause;
   mtval = tval;
@@ -23,7 +24,7 @@ trapped c mode pc cause tval = record c {
 abbrev pub trap_target : ℕ → Cause → ℕ
 trap_target mtvec (causes.Exception exception) = aligned_to_4 mtvec
 trap_target mtvec (causes.Interrupt interrupt) =
-    if mtvec % 4 == 1 then (aligned_to_4 mtvec + 4 * interrupt_number interrupt) % 2 ^ 32 else aligned_to_4 mtvec
+    if bits mtvec 1 0 == 1 then (aligned_to_4 mtvec + 4 * interrupt_number interrupt) % 2 ^ 32 else aligned_to_4 mtvec
 
 -- the registers after mret, which goes on in the mode of MPP at mepc; below M it leaves MPRV 0
 abbrev pub after_mret : CsrState → CsrState

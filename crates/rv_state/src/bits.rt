@@ -1,7 +1,8 @@
 //! Single bits and fields of a word.
 
 ghost use Rattle.std.specs.Prelude.{◌≡◌, ◌%◌, ◌^◌, ◌<◌, ◌≤◌};
-ghost use Rattle.rv_state.specs.Bits.{aligned_to_4, flag, is_set};
+ghost use Rattle.rv_word.specs.BitFields.{flag, is_set};
+ghost use Rattle.rv_state.specs.Bits.{aligned_to_4};
 
 /// Whether bit `k` of the word is 1.
 #[inline(always)]

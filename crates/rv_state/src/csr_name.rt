@@ -1,7 +1,7 @@
 //! Which register a number is.
 
 ghost use Rattle.std.specs.Prelude.{◌≡◌};
-ghost use Rattle.rv_state.specs.CsrTable.{csr_named, is_read_only, least_mode};
+ghost use Rattle.rv_state.specs.CsrTable.{csr_numbered, is_read_only, least_mode};
 
 use rv_pmp::{PmpIndex, PmpRegister};
 
@@ -54,9 +54,9 @@ pub(crate) enum CsrName {
 
 impl CsrName {
     /// The register of this number, if there is one.
-    #[tactic(auto, unfolding(crate::specs::CsrTable::csr_named, crate::specs::CsrTable::listing))]
+    #[tactic(auto, unfolding(crate::specs::CsrTable::csr_numbered, crate::specs::CsrTable::csr_listing))]
     pub(crate) const fn of_number(number: u16) -> Option<Self>
-        ensures { result ≡ csr_named number }
+        ensures { result ≡ csr_numbered number }
     {
         match number {
             0x100 => Some(CsrName::Sstatus),

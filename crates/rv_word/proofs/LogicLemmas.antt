@@ -3,7 +3,7 @@ use Rattle.std.proofs.Common.{◌≡◌, ℕ, zero, suc, ◌+◌, ◌-◌, ◌*�
 use Rattle.std.specs.Prelude.{◌&&◌, ◌||◌, ◌==◌, not}
 use Rattle.std.proofs.lemmas.Nat.{and_block, or_block, xor_block, div-add-mod', and-not, and_comm, and_le_r}
 use Rattle.std.proofs.Math.Nat.{pow-suc}
-use Rattle.rv_word.specs.Logic.{bit_list, number_of, digit, bitwise, by_bits, exclusive_or, and_by_bits, or_by_bits, xor_by_bits, and_not_by_bits}
+use Rattle.rv_word.specs.Logic.{bit_list, word_of_bits, digit, bitwise, by_bits, exclusive_or, and_by_bits, or_by_bits, xor_by_bits, and_not_by_bits}
 
 -- ---- an operation on numbers that goes bit by bit
 
@@ -15,7 +15,7 @@ record GoesByBits (f : Bool → Bool → Bool) (g : ℕ → ℕ → ℕ) : Type 
   none : g 0 0 ≡ 0
   step : (a b : ℕ) → g a b ≡ digit (f (a % 2 == 1) (b % 2 == 1)) + 2 * g (a / 2) (b / 2)
 
-number_of-bitwise : (f : Bool → Bool → Bool) (g : ℕ → ℕ → ℕ) → GoesByBits f g → (k a b : ℕ) → a < 2 ^ k → b < 2 ^ k → number_of (bitwise f (bit_list k a) (bit_list k b)) ≡ g a b
+number_of-bitwise : (f : Bool → Bool → Bool) (g : ℕ → ℕ → ℕ) → GoesByBits f g → (k a b : ℕ) → a < 2 ^ k → b < 2 ^ k → word_of_bits (bitwise f (bit_list k a) (bit_list k b)) ≡ g a b
 number_of-bitwise f g goes zero a b p q =
     let a_is : a ≡ 0 = omega arith in
     let b_is : b ≡ 0 = omega arith in

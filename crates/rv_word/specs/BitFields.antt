@@ -1,5 +1,14 @@
--- Fields of bits, and their signs: RISC-V Unprivileged ISA 20191213, sections 2.2 and 2.3.
-use Rattle.std.specs.Prelude.{ℕ, ◌+◌, ◌-◌, ◌/◌, ◌%◌, ◌^◌, ℤ, pos, ◌-ℤ◌, nat_lt, if◌then◌else◌}
+-- Bits and fields of bits, and their signs: RISC-V Unprivileged ISA 20191213, sections 2.2 and 2.3. Bit k has the weight 2 ^ k.
+use Rattle.std.specs.Prelude.{ℕ, ◌+◌, ◌-◌, ◌*◌, ◌/◌, ◌%◌, ◌^◌, ◌==◌, Bool, ℤ, pos, ◌-ℤ◌, nat_lt, if◌then◌else◌}
+use Rattle.rv_word.specs.Logic.{digit}
+
+-- Whether bit k of a word is 1.
+abbrev pub is_set : ℕ → ℕ → Bool
+is_set word k = word / 2 ^ k % 2 == 1
+
+-- The word with bit k alone, or 0.
+abbrev pub flag : ℕ → Bool → ℕ
+flag k set = digit set * 2 ^ k
 
 -- Bits hi down to lo of a word, as a number.
 abbrev pub bits : ℕ → ℕ → ℕ → ℕ

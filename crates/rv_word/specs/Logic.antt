@@ -11,9 +11,9 @@ digit true = 1
 digit false = 0
 
 -- The number of these bits, the lowest first.
-abbrev pub number_of : List Bool → ℕ
-number_of [] = 0
-number_of (bit ∷ bits) = digit bit + 2 * number_of bits
+abbrev pub word_of_bits : List Bool → ℕ
+word_of_bits [] = 0
+word_of_bits (bit ∷ bits) = digit bit + 2 * word_of_bits bits
 
 -- An operation on each bit of one list and the bit at its place in the other.
 abbrev pub bitwise : (Bool → Bool → Bool) → List Bool → List Bool → List Bool
@@ -23,7 +23,7 @@ bitwise f (x ∷ xs) (y ∷ ys) = f x y ∷ bitwise f xs ys
 
 -- An operation on the lowest bits of two numbers, so many of them.
 unfoldable pub by_bits : (Bool → Bool → Bool) → ℕ → ℕ → ℕ → ℕ
-by_bits f count left right = number_of (bitwise f (bit_list count left) (bit_list count right))
+by_bits f count left right = word_of_bits (bitwise f (bit_list count left) (bit_list count right))
 
 abbrev pub exclusive_or : Bool → Bool → Bool
 exclusive_or true b = not b

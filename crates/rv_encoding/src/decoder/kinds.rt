@@ -1,7 +1,7 @@
 //! The kind of each code (Unprivileged ISA, chapter 24).
 
 ghost use Rattle.std.specs.Prelude.{◌≡◌, IfSome};
-ghost use Rattle.rv_encoding.specs.Codes.{branch_funct3, load_funct3, store_funct3, op_imm_funct3, shift_codes, op_codes, csr_funct3, csr_imm_funct3, branch_kind as branch_kind_of, load_kind as load_kind_of, store_kind as store_kind_of, op_imm_kind as op_imm_kind_of, csr_kind as csr_kind_of, csr_imm_kind as csr_imm_kind_of, shift_kind as shift_kind_of, op_kind as op_kind_of};
+ghost use Rattle.rv_encoding.specs.Codes.{branch_funct3, load_funct3, store_funct3, op_imm_funct3, shift_functs, op_functs, csr_funct3, csr_imm_funct3, branch_kind as branch_kind_of, load_kind as load_kind_of, store_kind as store_kind_of, op_imm_kind as op_imm_kind_of, csr_kind as csr_kind_of, csr_imm_kind as csr_imm_kind_of, shift_kind as shift_kind_of, op_kind as op_kind_of};
 
 use crate::kind::{BranchKind, CsrKind, LoadKind, OpImmKind, OpKind, ShiftKind, StoreKind};
 
@@ -101,8 +101,8 @@ pub(super) const fn csr_imm_kind(funct3: u32) -> Option<CsrKind>
 #[inline(always)]
 pub(super) const fn shift_kind(funct3: u32, funct7: u32) -> Option<ShiftKind>
     ensures exact { result ≡ shift_kind_of funct3 funct7 }
-    ensures found_funct3 { IfSome result (λ kind. (shift_codes kind).0 ≡ funct3) }
-    ensures found_funct7 { IfSome result (λ kind. (shift_codes kind).1 ≡ funct7) }
+    ensures found_funct3 { IfSome result (λ kind. (shift_functs kind).funct3 ≡ funct3) }
+    ensures found_funct7 { IfSome result (λ kind. (shift_functs kind).funct7 ≡ funct7) }
 {
     match (funct3, funct7) {
         (0b001, 0b0000000) => Some(ShiftKind::Slli),
@@ -116,8 +116,8 @@ pub(super) const fn shift_kind(funct3: u32, funct7: u32) -> Option<ShiftKind>
 #[inline(always)]
 pub(super) const fn op_kind(funct3: u32, funct7: u32) -> Option<OpKind>
     ensures exact { result ≡ op_kind_of funct3 funct7 }
-    ensures found_funct3 { IfSome result (λ kind. (op_codes kind).0 ≡ funct3) }
-    ensures found_funct7 { IfSome result (λ kind. (op_codes kind).1 ≡ funct7) }
+    ensures found_funct3 { IfSome result (λ kind. (op_functs kind).funct3 ≡ funct3) }
+    ensures found_funct7 { IfSome result (λ kind. (op_functs kind).funct7 ≡ funct7) }
 {
     match (funct3, funct7) {
         (0b000, 0b0000000) => Some(OpKind::Add),

@@ -45,7 +45,7 @@ pub(super) const fn s_immediate(word: u32) -> Imm12
 
 /// The offset of format B, from bits 31, 7, 30:25 and 11:8, and a 0.
 pub(super) const fn b_offset(word: u32) -> BranchOffset
-    ensures { result ≡ taken b_immediate_at word * 2 }
+    ensures { result ≡ taken b_immediate_at word }
 {
     BranchOffset::new(
         (bits(word, 31, 31) << 12)
@@ -57,7 +57,7 @@ pub(super) const fn b_offset(word: u32) -> BranchOffset
 
 /// The offset of format J, from bits 31, 19:12, 20 and 30:21, and a 0.
 pub(super) const fn j_offset(word: u32) -> JumpOffset
-    ensures { result ≡ taken j_immediate_at word * 2 }
+    ensures { result ≡ taken j_immediate_at word }
 {
     JumpOffset::new(
         (bits(word, 31, 31) << 20)
@@ -69,7 +69,7 @@ pub(super) const fn j_offset(word: u32) -> JumpOffset
 
 /// The immediate of format U, from bits 31:12, and twelve 0s.
 pub(super) const fn u_immediate(word: u32) -> UpperImm
-    ensures { result ≡ taken u_immediate_at word * 2 ^ 12 }
+    ensures { result ≡ taken u_immediate_at word }
 {
     UpperImm::new(bits(word, 31, 12) << 12)
 }

@@ -1,7 +1,8 @@
 //! The codes of the kinds (Unprivileged ISA, chapter 24).
 
 ghost use Rattle.std.specs.Prelude.{◌≡◌, ◌+◌, ◌*◌, ◌^◌, ◌<◌};
-ghost use Rattle.rv_encoding.specs.Codes.{branch_funct3, load_funct3, store_funct3, op_imm_funct3, shift_codes, op_codes, csr_funct3, csr_imm_funct3};
+ghost use Rattle.rv_encoding.specs.Codes.{branch_funct3, load_funct3, store_funct3, op_imm_funct3, csr_funct3, csr_imm_funct3};
+ghost use Rattle.rv_encoding.specs.Codes as spec;
 
 use crate::kind::{BranchKind, CsrKind, LoadKind, OpImmKind, OpKind, ShiftKind, StoreKind};
 
@@ -85,43 +86,57 @@ pub(super) const fn csr_imm_code(kind: CsrKind) -> u32
     }
 }
 
-/// funct3 and funct7 of a shift by an immediate.
-pub(super) const fn shift_code(kind: ShiftKind) -> (u32, u32)
-    ensures value { result ≡ shift_codes kind }
-    ensures funct3_in_range { result.0 < 8 }
-    ensures funct7_in_range { result.1 < 128 }
+/// The two codes of an instruction of format R: funct7 in bits 31:25, funct3 in bits 14:12.
+#[derive(Clone, Copy)]
+pub(super) struct Functs {
+    pub funct7: u32,
+    pub funct3: u32,
+}
+
+/// The codes as one value.
+const fn funct(funct7: u32, funct3: u32) -> Functs
+    ensures { result ≡ record { funct7 = funct7; funct3 = funct3 } }
+{
+    Functs { funct7, funct3 }
+}
+
+/// funct7 and funct3 of a shift by an immediate.
+pub(super) const fn shift_functs(kind: ShiftKind) -> Functs
+    ensures value { result ≡ spec.shift_functs kind }
+    ensures funct3_in_range { result.funct3 < 8 }
+    ensures funct7_in_range { result.funct7 < 128 }
 {
     match kind {
-        ShiftKind::Slli => (0b001, 0b0000000),
-        ShiftKind::Srli => (0b101, 0b0000000),
-        ShiftKind::Srai => (0b101, 0b0100000),
+        ShiftKind::Slli => funct(0b0000000, 0b001),
+        ShiftKind::Srli => funct(0b0000000, 0b101),
+        ShiftKind::Srai => funct(0b0100000, 0b101),
     }
 }
 
-/// funct3 and funct7 of an operation on registers.
-pub(super) const fn op_code(kind: OpKind) -> (u32, u32)
-    ensures value { result ≡ op_codes kind }
-    ensures funct3_in_range { result.0 < 8 }
-    ensures funct7_in_range { result.1 < 128 }
+/// funct7 and funct3 of an operation on registers.
+pub(super) const fn op_functs(kind: OpKind) -> Functs
+    ensures value { result ≡ spec.op_functs kind }
+    ensures funct3_in_range { result.funct3 < 8 }
+    ensures funct7_in_range { result.funct7 < 128 }
 {
     match kind {
-        OpKind::Add => (0b000, 0b0000000),
-        OpKind::Sub => (0b000, 0b0100000),
-        OpKind::Sll => (0b001, 0b0000000),
-        OpKind::Slt => (0b010, 0b0000000),
-        OpKind::Sltu => (0b011, 0b0000000),
-        OpKind::Xor => (0b100, 0b0000000),
-        OpKind::Srl => (0b101, 0b0000000),
-        OpKind::Sra => (0b101, 0b0100000),
-        OpKind::Or => (0b110, 0b0000000),
-        OpKind::And => (0b111, 0b0000000),
-        OpKind::Mul => (0b000, 0b0000001),
-        OpKind::Mulh => (0b001, 0b0000001),
-        OpKind::Mulhsu => (0b010, 0b0000001),
-        OpKind::Mulhu => (0b011, 0b0000001),
-        OpKind::Div => (0b100, 0b0000001),
-        OpKind::Divu => (0b101, 0b0000001),
-        OpKind::Rem => (0b110, 0b0000001),
-        OpKind::Remu => (0b111, 0b0000001),
+        OpKind::Add => funct(0b0000000, 0b000),
+        OpKind::Sub => funct(0b0100000, 0b000),
+        OpKind::Sll => funct(0b0000000, 0b001),
+        OpKind::Slt => funct(0b0000000, 0b010),
+        OpKind::Sltu => funct(0b0000000, 0b011),
+        OpKind::Xor => funct(0b0000000, 0b100),
+        OpKind::Srl => funct(0b0000000, 0b101),
+        OpKind::Sra => funct(0b0100000, 0b101),
+        OpKind::Or => funct(0b0000000, 0b110),
+        OpKind::And => funct(0b0000000, 0b111),
+        OpKind::Mul => funct(0b0000001, 0b000),
+        OpKind::Mulh => funct(0b0000001, 0b001),
+        OpKind::Mulhsu => funct(0b0000001, 0b010),
+        OpKind::Mulhu => funct(0b0000001, 0b011),
+        OpKind::Div => funct(0b0000001, 0b100),
+        OpKind::Divu => funct(0b0000001, 0b101),
+        OpKind::Rem => funct(0b0000001, 0b110),
+        OpKind::Remu => funct(0b0000001, 0b111),
     }
 }

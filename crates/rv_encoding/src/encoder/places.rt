@@ -52,7 +52,7 @@ pub(super) const fn at_s(imm: Imm12) -> u32
 
 /// The offset of format B in bits 31, 7, 30:25 and 11:8.
 pub(super) const fn at_b(offset: BranchOffset) -> u32
-    ensures value { result ≡ placed b_immediate_at (offset / 2) }
+    ensures value { result ≡ placed b_immediate_at offset }
     ensures in_range { IsBranchOffset offset }
 {
     let offset = offset.bits();
@@ -64,7 +64,7 @@ pub(super) const fn at_b(offset: BranchOffset) -> u32
 
 /// The offset of format J in bits 31, 19:12, 20 and 30:21.
 pub(super) const fn at_j(offset: JumpOffset) -> u32
-    ensures value { result ≡ placed j_immediate_at (offset / 2) }
+    ensures value { result ≡ placed j_immediate_at offset }
     ensures in_range { IsJumpOffset offset }
 {
     let offset = offset.bits();
@@ -76,7 +76,7 @@ pub(super) const fn at_j(offset: JumpOffset) -> u32
 
 /// The immediate of format U in bits 31:12.
 pub(super) const fn at_u(imm: UpperImm) -> u32
-    ensures value { result ≡ placed u_immediate_at (imm / 2 ^ 12) }
+    ensures value { result ≡ placed u_immediate_at imm }
     ensures in_range { IsUpperImmediate imm }
 {
     imm.word()
