@@ -1,50 +1,94 @@
--- Where the words are taken, each option of `run` that is given has a value that its parser accepts.
+-- Where a command line takes the words, each value that is given to an option of the subcommand is one that the option's parser
+-- accepts. This is said of any command line: by every rule of a list, and every subcommand.
 use Rattle.std.proofs.Common.{Option, refl, Some, subst, suc, sym, true, zero, ℕ}
-use Rattle.std.proofs.Common.{◌&&◌, ◌++◌, ◌||◌, ◌∙◌, ◌∷◌, ◌≡◌, [], ap, arith, Bool, codes, cond, drop, false, length, List, None, not}
+use Rattle.std.proofs.Common.{◌&&◌, ◌||◌, ◌+◌, min, ◌++◌, ◌∙◌, ◌∷◌, ◌≡◌, [], ap, arith, Bool, cond, drop, false, length, List, None, not}
+use Rattle.std.proofs.lemmas.Bool.Decides.{nat_tests}
 use Rattle.std.proofs.lemmas.Slice.Eq.{bytes_eq-Decides}
-use Rattle.std.specs.List.{AllByRecursion}
+use Rattle.std.specs.List.{AllByRecursion, list_all, list_any}
 use Rattle.std.specs.Option.{option_map_or}
-use Rattle.std.specs.Prelude.{find, fold, is_some, map, option_and_then, option_map, pos, slice_get, unwrap_or}
-use Rattle.std.specs.Str.Parse.{ParsesUnsigned}
+use Rattle.std.specs.Prelude.{encode_utf8, find, fold, is_some, option_map, slice_get, unwrap_or}
 use Rattle.std.specs.Str.{bytes_eq, chars}
-use Rattle.clap.proofs.CallerReads.{signed_reads}
-use Rattle.clap.proofs.ValueTestLemmas.{accepts-Accepts}
 use Rattle.clap.specs.Facts.{parser_of_value}
-use Rattle.clap.specs.Faults.{bundle_fault, bundle_step_fault, entered_fault, flag_word_fault, flags_fault, level_fault, long_fault}
-use Rattle.clap.specs.Faults.{option_fault, react_fault, settle_fault, short_fault, turn_fault, use_fault, values_fault, walk_fault}
-use Rattle.clap.specs.Faults.{word_fault}
-use Rattle.clap.specs.Kinds.{Kinds, or_else, value_kinds}
-use Rattle.clap.specs.Lexer.{long_of, short_of, without_minus}
-use Rattle.clap.specs.Simple.{argument_words, built, entered, filled, help_rule, label_of, names_of, rows_at, Shape}
-use Rattle.clap.specs.ValueTests.{accepts}
-use Rattle.clap.specs.Values.{read_as, refused_kind}
-use Rattle.clap.specs.Walk.{after_flag, after_step, answers_to, arg_by_id, arg_by_long, arg_by_short, at_row, bundle, bundle_met}
-use Rattle.clap.specs.Walk.{bundle_step, done, first_of, has_long, has_row, has_short, Held, idle, long_met, long_or_other}
-use Rattle.clap.specs.Walk.{more_values, next, nothing_held, one_of, option, option_met, option_word, Outcome, plain, plain_word}
-use Rattle.clap.specs.Walk.{positional, reacted, reading_by, refused, Row, row_text, rows_after, Rule, settled, settled_rows}
-use Rattle.clap.specs.Walk.{short_met, short_or_plain, Step, stop_after, subcommand, Text, trailing, used, used_by_id, value, Waiting}
-use Rattle.clap.specs.Walk.{waits, Walk, walk, walk_from, walked, walked_from, with_default, with_values, without, word_met}
-use Rattle.clap.specs.declared.builder.value_parser.Reading.TheVariants as reading
-use Rattle.clap.specs.declared.builder.value_parser.Reading.{Reading}
-use Rattle.clap.specs.declared.builder.value_parser.ValueParser.TheVariants as parser
-use Rattle.clap.specs.declared.parser.matches.ValueSource.TheVariants.{CommandLine}
-use Rattle.rv_command_line.proofs.Numbers.{number_reads}
-use Rattle.rv_command_line.proofs.Places.{rules, shape}
-use Rattle.rv_command_line.specs.CommandLine.{faults_of, kind, kind_names, lent, Names, ram, rvbench}
-use Rattle.rv_command_line.specs.Job.{are_read, kind_of, number_of, run_options}
-use Rattle.rv_command_line.specs.declared.image_kind.ImageKind.TheVariants as image
-use Rattle.rv_command_line.specs.declared.image_kind.ImageKind.{ImageKind}
+use Rattle.clap.specs.Faults.{action_fault, bundle_fault, bundle_step_fault, check_fault, count_fault, default_fault, defaults_fault, entered_fault, flag_word_fault, flags_fault}
+use Rattle.clap.specs.Faults.{given_default_fault, level_fault, long_fault, option_fault, other_fault, positional_fault, react_fault, repeat_fault, settle_fault, short_fault}
+use Rattle.clap.specs.Faults.{step_fault, stray_fault, turn_fault, use_fault, values_fault, walk_fault, word_fault}
+use Rattle.clap.specs.Kinds.{Kinds, or_else, range_kinds, request_kinds, value_kinds}
+use Rattle.clap.specs.Lexer.{long_of, short_of}
+use Rattle.clap.specs.Matches.{count_text}
+use Rattle.clap.specs.Simple.{App, entered, label_of, rows_at, Shape}
+use Rattle.clap.specs.Walk.{action_of, after_flag, after_step, answers_to, arg_by_id, arg_by_index, arg_by_long, arg_by_short, at_row, attached_value}
+use Rattle.clap.specs.Walk.{bundle, bundle_met, bundle_step, default_rows, done, finished, flag_met, has_row, Held, idle, is_pending, long_met, long_or_other}
+use Rattle.clap.specs.Walk.{more_values, new_count, next, nothing_held, option, option_met, option_word, Outcome, plain, plain_word, positional}
+use Rattle.clap.specs.Walk.{reacted, reading_by, refused, Row, rows_after, Rule, settled, settled_rows, short_met, short_or_plain, Step, subcommand}
+use Rattle.clap.specs.Walk.{subcommand_or_other, takes_several, takes_values, Text, to_positional, trailing, used, used_as, used_by_id, value, values_or_missing}
+use Rattle.clap.specs.Walk.{Waiting, waits, Walk, walk, walk_from, walked, walked_from, with_count, with_default, with_values, without, word_met}
+use Rattle.clap.specs.Walk as clap
+use Rattle.clap.specs.declared.builder.action.ArgAction.{ArgAction}
+use Rattle.clap.specs.declared.builder.action.ArgAction.TheVariants.{Set, Append, SetTrue, SetFalse, Count}
+use Rattle.clap.specs.declared.error.kind.ErrorKind.TheVariants as kind
+use Rattle.clap.specs.declared.parser.matches.ValueSource.{ValueSource}
+use Rattle.clap.specs.declared.parser.matches.ValueSource.TheVariants.{CommandLine, DefaultValue}
 
-parts : (a b : Kinds) → or_else a b ≡ [] → (a ≡ []) × (b ≡ [])
+-- where no fault is the first, neither part has one
+pub parts : (a b : Kinds) → or_else a b ≡ [] → (a ≡ []) × (b ≡ [])
 parts [] b e = (refl, e)
 parts (k ∷ ks) b e = cc
 
+-- ---- lists whose items have keys
+
+module _ {X : Type 0} where
+  -- what holds of each holds of the one that is found
+  pub all_found : (P : X → Type 0) (test : X → Bool) (xs : List X) (x : X) → AllByRecursion P xs → find test xs ≡ Some x → P x
+  all_found P test [] x all e = cc
+  all_found P test (y ∷ ys) x all e = go (test y) e (all_found P test ys x all.1)
+    where
+      go : (b : Bool) → cond b (Some y) (find test ys) ≡ Some x → (find test ys ≡ Some x → P x) → P x
+      go true e later = let same : y ≡ x = cc in subst P same all.0
+      go false e later = later e
+
+  pub all_true : (test : X → Bool) (xs : List X) → list_all test xs ≡ true → AllByRecursion (λ x. test x ≡ true) xs
+  all_true test [] e = tt
+  all_true test (x ∷ xs) e = let both = and_parts (test x) (list_all test xs) e in (both.0, all_true test xs both.1)
+    where
+      and_parts : (a b : Bool) → (a && b) ≡ true → (a ≡ true) × (b ≡ true)
+      and_parts true b e = (refl, e)
+      and_parts false b e = cc
+
+  apart : (test : X → Bool) (P Q : X → Type 0) → ((x : X) → test x ≡ false → P x → Q x) → (xs : List X) → list_any test xs ≡ false → AllByRecursion P xs → AllByRecursion Q xs
+  apart test P Q change [] e all = tt
+  apart test P Q change (x ∷ xs) e all = let both = or_parts (test x) (list_any test xs) e in (change x both.0 all.0, apart test P Q change xs both.1 all.1)
+    where
+      or_parts : (a b : Bool) → (a || b) ≡ false → (a ≡ false) × (b ≡ false)
+      or_parts true b e = cc
+      or_parts false b e = (refl, e)
+
+  -- no two items have one key
+  abbrev pub are_distinct : (X → Text) → List X → Bool
+  are_distinct key [] = true
+  are_distinct key (x ∷ xs) = not (list_any (λ y. bytes_eq (key x) (key y)) xs) && are_distinct key xs
+
+  -- then each item is the first with its key
+  pub each_first : (key : X → Text) (xs : List X) → are_distinct key xs ≡ true → AllByRecursion (λ x. find (λ y. bytes_eq (key y) (key x)) xs ≡ Some x) xs
+  each_first key [] e = tt
+  each_first key (x ∷ xs) e = go (list_any (λ y. bytes_eq (key x) (key y)) xs) refl e (each_first key xs)
+    where
+      go : (b : Bool) → list_any (λ y. bytes_eq (key x) (key y)) xs ≡ b → (not b && are_distinct key xs) ≡ true
+          → (are_distinct key xs ≡ true → AllByRecursion (λ z. find (λ y. bytes_eq (key y) (key z)) xs ≡ Some z) xs)
+          → AllByRecursion (λ z. find (λ y. bytes_eq (key y) (key z)) (x ∷ xs) ≡ Some z) (x ∷ xs)
+      go true none e later = cc
+      go false none e later = (
+        rw ((bytes_eq-Decides (key x) (key x)).1 refl) refl,
+        apart (λ y. bytes_eq (key x) (key y)) (λ z. find (λ y. bytes_eq (key y) (key z)) xs ≡ Some z) (λ z. find (λ y. bytes_eq (key y) (key z)) (x ∷ xs) ≡ Some z)
+            (λ z other found. rw other found) xs none (later e),
+      )
+
 -- ---- rows
 
-abbrev Good : List Rule → Row → Type 0
+-- what stands in a row is read as the rule of its id says, and its parser accepts it
+abbrev pub Good : List Rule → Row → Type 0
 Good c r = (a : Rule) → arg_by_id c r.id ≡ Some a → (r.reading ≡ reading_by a) × (values_fault a r.values ≡ [])
 
-abbrev AllGood : List Rule → List Row → Type 0
+abbrev pub AllGood : List Rule → List Row → Type 0
 AllGood c = AllByRecursion (Good c)
 
 values_both : (a : Rule) (xs ys : List Text) → values_fault a xs ≡ [] → values_fault a ys ≡ [] → values_fault a (xs ++ ys) ≡ []
@@ -67,120 +111,158 @@ at_row_all P id change missing (r ∷ rs) changed new all = go (bytes_eq r.id id
     go false e rest = (all.0, rest)
 
 module _ (c : List Rule) where
-  found_is : (x a : Rule) (id : Text) → id ≡ x.id → arg_by_id c x.id ≡ Some x → arg_by_id c id ≡ Some a → x ≡ a
+  -- the rule is the first of its id
+  abbrev Owns : Rule → Type 0
+  Owns x = arg_by_id c x.id ≡ Some x
+
+  found_is : (x a : Rule) (id : Text) → id ≡ x.id → Owns x → arg_by_id c id ≡ Some a → x ≡ a
   found_is x a id e own found = ap (λ o. unwrap_or o x) (sym own ∙ (ap (arg_by_id c) (sym e) ∙ found))
 
-  more_good : (x : Rule) (values : List Text) → arg_by_id c x.id ≡ Some x → values_fault x values ≡ [] → (r : Row) → bytes_eq r.id x.id ≡ true → Good c r
+  more_good : (x : Rule) (values : List Text) → Owns x → values_fault x values ≡ [] → (r : Row) → bytes_eq r.id x.id ≡ true → Good c r
       → (a : Rule) → arg_by_id c r.id ≡ Some a → (r.reading ≡ reading_by a) × (values_fault a (r.values ++ values) ≡ [])
   more_good x values own passed r e g a found =
       let same : x ≡ a = found_is x a r.id ((bytes_eq-Decides r.id x.id).0 e) own found in
       let had = g a found in
       (had.0, values_both a r.values values had.1 (subst (λ (y : Rule). values_fault y values ≡ []) same passed))
 
-  new_good : (x : Rule) (values : List Text) → arg_by_id c x.id ≡ Some x → values_fault x values ≡ []
+  new_good : (x : Rule) (values : List Text) → Owns x → values_fault x values ≡ []
       → (a : Rule) → arg_by_id c x.id ≡ Some a → (reading_by x ≡ reading_by a) × (values_fault a values ≡ [])
   new_good x values own passed a found =
       let same : x ≡ a = found_is x a x.id refl own found in
       (ap reading_by same, subst (λ (y : Rule). values_fault y values ≡ []) same passed)
 
-  set_good : (x : Rule) (values : List Text) (rows : List Row) → arg_by_id c x.id ≡ Some x → values_fault x values ≡ []
-      → AllGood c rows → AllGood c (with_values x.id (reading_by x) CommandLine values (without x.id rows))
-  set_good x values rows own passed good = at_row_all (Good c) x.id (more_values CommandLine values) _ _
-      (λ r e g. (more_good x values own passed r e g, tt)) (new_good x values own passed, tt)
-      (at_row_all (Good c) x.id (λ _. []) [] rows (λ r e g. tt) tt good)
+  -- values are added
+  values_good : (x : Rule) (s : ValueSource) (values : List Text) (rows : List Row) → Owns x → values_fault x values ≡ []
+      → AllGood c rows → AllGood c (with_values x.id (reading_by x) s values rows)
+  values_good x s values rows own passed =
+      at_row_all (Good c) x.id (more_values s values) _ rows (λ r e g. (more_good x values own passed r e g, tt)) (new_good x values own passed, tt)
+
+  -- a count is added
+  count_good : (x : Rule) (s : ValueSource) (n : ℕ) (rows : List Row) → Owns x → values_fault x (count_text n ∷ []) ≡ []
+      → AllGood c rows → AllGood c (with_count x.id (reading_by x) s n rows)
+  count_good x s n rows own passed =
+      at_row_all (Good c) x.id (new_count s n) _ rows (λ r e g. (more_good x (count_text n ∷ []) own passed r e g, tt)) (new_good x (count_text n ∷ []) own passed, tt)
+
+  without_good : (id : Text) (rows : List Row) → AllGood c rows → AllGood c (without id rows)
+  without_good id rows = at_row_all (Good c) id (λ _. []) [] rows (λ r e g. tt) tt
+
+-- ---- one use of an argument
+
+module _ (c : List Rule) (again : Bool) (x : Rule) (own : Owns c x) where
+  set_keeps : (raw : List Text) (rows : List Row) → or_else (repeat_fault again x.id rows) (values_fault x raw) ≡ []
+      → AllGood c rows → AllGood c (with_values x.id (reading_by x) CommandLine raw (without x.id rows))
+  set_keeps raw rows e good = values_good c x CommandLine raw (without x.id rows) own (parts _ _ e).1 (without_good c x.id rows good)
+
+  counted_keeps : (raw : List Text) (rows : List Row) → count_fault x raw rows ≡ [] → AllGood c rows → AllGood c (clap.counted x.id (reading_by x) raw rows)
+  counted_keeps [] rows e good =
+      let passed : values_fault x (count_text (min (clap.count_of x.id rows + 1) 255) ∷ []) ≡ [] = rw e refl in
+      count_good c x CommandLine (min (clap.count_of x.id rows + 1) 255) (without x.id rows) own passed (without_good c x.id rows good)
+  counted_keeps (v ∷ vs) rows e good = values_good c x CommandLine (v ∷ vs) (without x.id rows) own e (without_good c x.id rows good)
+
+  action_keeps : (action : ArgAction) (raw : List Text) (rows : List Row) → action_fault action again x raw rows ≡ []
+      → AllGood c rows → AllGood c (used_as action x.id (reading_by x) raw rows)
+  action_keeps Set raw rows = set_keeps raw rows
+  action_keeps SetTrue raw rows = set_keeps raw rows
+  action_keeps SetFalse raw rows = set_keeps raw rows
+  action_keeps Append raw rows = values_good c x CommandLine raw rows own
+  action_keeps Count raw rows = counted_keeps raw rows
+  action_keeps _ raw rows = λ e good. good
+
+  use_keeps : (values : List Text) (rows : List Row) → use_fault again x values rows ≡ [] → AllGood c rows → AllGood c (used x values rows)
+  use_keeps values rows e = action_keeps (action_of x) (values_or_missing x values) rows (parts _ _ e).1
+
+  -- a default stands for what is not given
+  default_keeps : (rows : List Row) → default_fault rows x ≡ [] → AllGood c rows → AllGood c (with_default rows x)
+  default_keeps rows = go (has_row x.id rows) x.defaults
+    where
+      go : (b : Bool) (ds : List Text) → cond (b || clap.is_empty ds) [] (given_default_fault x ds) ≡ []
+          → AllGood c rows → AllGood c (cond b rows (default_rows x.id (reading_by x) ds rows))
+      go true ds e good = good
+      go false [] e good = good
+      go false (v ∷ vs) e good =
+          let some : clap.is_empty (v ∷ vs) ≡ false = grind (arith, nat_tests) in
+          let given : given_default_fault x (v ∷ vs) ≡ [] = rw some at e in
+          values_good c x DefaultValue (v ∷ vs) rows own (parts (request_kinds (action_of x)) _ given).1 good
 
 -- ---- the walk
 
-module _ (names : Names) where
-  abbrev run_rules : List Rule
-  run_rules = rules names
-
+module _ (c : List Rule) (again : Bool) (owns : AllByRecursion (Owns c) c) where
   abbrev AreGood : List Row → Type 0
-  AreGood = AllGood run_rules
+  AreGood = AllGood c
 
-  -- what holds of each rule holds of the one that is found, if one is
-  by_rule : (P : Option Rule → Type 0) (test : Rule → Bool) → P None → P (Some (filled (kind names))) → P (Some (filled ram)) → P (Some (filled help_rule))
-      → P (find test run_rules)
-  by_rule P test none first second third = go (test (filled (kind names))) (test (filled ram)) (test (filled help_rule))
-    where
-      go : (a b c : Bool) → P (cond a (Some (filled (kind names))) (cond b (Some (filled ram)) (cond c (Some (filled help_rule)) None)))
-      go true b c = first
-      go false true c = second
-      go false false true = third
-      go false false false = none
+  own : (test : Rule → Bool) (x : Rule) → find test c ≡ Some x → Owns c x
+  own test x = all_found (Owns c) test c x owns
 
-  -- a use with no fault keeps the rows good
-  abbrev Keeps : Rule → Type 0
-  Keeps a = (values : List Text) (rows : List Row) → use_fault false a values rows ≡ [] → AreGood rows → AreGood (used a values rows)
-
-  kind_keeps : Keeps (filled (kind names))
-  kind_keeps [] rows e good = cc
-  kind_keeps (v ∷ vs) rows e good = set_good run_rules (filled (kind names)) (v ∷ vs) rows refl (parts _ _ (parts _ _ e).1).1 good
-
-  ram_keeps : Keeps (filled ram)
-  ram_keeps [] rows e good = cc
-  ram_keeps (v ∷ vs) rows e good = set_good run_rules (filled ram) (v ∷ vs) rows refl (parts _ _ (parts _ _ e).1).1 good
-
-  help_keeps : Keeps (filled help_rule)
-  help_keeps values rows e good = good
+  -- a rule that was found, if one was
+  abbrev Found : Option Rule → Type 0
+  Found o = (x : Rule) → o ≡ Some x → Owns c x
 
   pending_keeps : (pending : Option (Text × List Text)) (rows : List Row)
-      → option_map_or (λ x. option_map_or (λ a. use_fault false a x.1 rows) (arg_by_id run_rules x.0) []) pending [] ≡ []
-      → AreGood rows → AreGood (settled_rows run_rules pending rows)
+      → option_map_or (λ x. option_map_or (λ a. use_fault again a x.1 rows) (arg_by_id c x.0) []) pending [] ≡ []
+      → AreGood rows → AreGood (settled_rows c pending rows)
   pending_keeps None rows = λ e good. good
-  pending_keeps (Some x) rows = by_rule (λ o. option_map_or (λ a. use_fault false a x.1 rows) o [] ≡ [] → AreGood rows → AreGood (used_by_id o x.1 rows))
-      (λ a. bytes_eq a.id x.0) (λ e good. good) (kind_keeps x.1 rows) (ram_keeps x.1 rows) (help_keeps x.1 rows)
+  pending_keeps (Some x) rows = go (arg_by_id c x.0) (own (λ a. bytes_eq a.id x.0))
+    where
+      go : (o : Option Rule) → Found o → option_map_or (λ a. use_fault again a x.1 rows) o [] ≡ [] → AreGood rows → AreGood (used_by_id o x.1 rows)
+      go None found = λ e good. good
+      go (Some a) found = use_keeps c again a (found a refl) x.1 rows
 
-  settle_keeps : (h : Held) → settle_fault run_rules false h ≡ [] → AreGood h.rows → AreGood (settled run_rules h).rows
+  settle_keeps : (h : Held) → settle_fault c again h ≡ [] → AreGood h.rows → AreGood (settled c h).rows
   settle_keeps h = pending_keeps h.pending h.rows
 
-  react_keeps : (a : Rule) → Keeps a → (values : List Text) (h : Held) → react_fault run_rules false a values h ≡ []
-      → AreGood h.rows → AreGood (reacted run_rules a values h).rows
-  react_keeps a keeps values h e good =
-      let both = parts (settle_fault run_rules false h) (use_fault false a values (settled run_rules h).rows) e in
-      keeps values (settled run_rules h).rows both.1 (settle_keeps h both.0 good)
+  react_keeps : (a : Rule) → Owns c a → (values : List Text) (h : Held) → react_fault c again a values h ≡ [] → AreGood h.rows → AreGood (reacted c a values h).rows
+  react_keeps a mine values h e good =
+      let both = parts (settle_fault c again h) (use_fault again a values (settled c h).rows) e in
+      use_keeps c again a mine values (settled c h).rows both.1 (settle_keeps h both.0 good)
 
-  option_keeps : (a : Rule) → Keeps a → (v : Option Text) (h : Held) → option_fault run_rules false a v h ≡ []
-      → AreGood h.rows → AreGood (option_met run_rules a v h).0.rows
-  option_keeps a keeps (Some v) h = react_keeps a keeps (v ∷ []) h
-  option_keeps a keeps None h = settle_keeps h
+  option_keeps : (a : Rule) → Owns c a → (v : Option Text) (h : Held) → option_fault c again a v h ≡ [] → AreGood h.rows → AreGood (option_met c a v h).0.rows
+  option_keeps a mine (Some v) h = react_keeps a mine (v ∷ []) h
+  option_keeps a mine None h = settle_keeps h
 
-  flag_keeps : (v : Option Text) (h : Held) → long_fault run_rules false (Some (filled help_rule)) v h ≡ []
-      → AreGood h.rows → AreGood (long_met run_rules (Some (filled help_rule)) v h).0.rows
-  flag_keeps (Some v) h e good = good
-  flag_keeps None h e good = react_keeps (filled help_rule) help_keeps [] h e good
+  flag_keeps : (a : Rule) → Owns c a → (v : Option Text) (h : Held) → cond (is_some v) (kind.TooManyValues ∷ []) (react_fault c again a [] h) ≡ []
+      → AreGood h.rows → AreGood (flag_met c a v h).0.rows
+  flag_keeps a mine (Some v) h = λ e good. good
+  flag_keeps a mine None h = react_keeps a mine [] h
 
-  long_keeps : (name : Text) (v : Option Text) (h : Held) → long_fault run_rules false (arg_by_long run_rules name) v h ≡ []
-      → AreGood h.rows → AreGood (long_met run_rules (arg_by_long run_rules name) v h).0.rows
-  long_keeps name v h = by_rule (λ o. long_fault run_rules false o v h ≡ [] → AreGood h.rows → AreGood (long_met run_rules o v h).0.rows)
-      (λ a. not (is_some a.index) && has_long a name) (λ e good. good) (option_keeps (filled (kind names)) kind_keeps v h) (option_keeps (filled ram) ram_keeps v h) (flag_keeps v h)
+  long_keeps : (o : Option Rule) → Found o → (v : Option Text) (h : Held) → long_fault c again o v h ≡ [] → AreGood h.rows → AreGood (long_met c o v h).0.rows
+  long_keeps None found v h = λ e good. good
+  long_keeps (Some a) found v h = go (takes_values a)
+    where
+      go : (b : Bool) → cond b (option_fault c again a v h) (cond (is_some v) (kind.TooManyValues ∷ []) (react_fault c again a [] h)) ≡ []
+          → AreGood h.rows → AreGood (cond b (option_met c a v h) (flag_met c a v h)).0.rows
+      go true = option_keeps a (found a refl) v h
+      go false = flag_keeps a (found a refl) v h
 
-  help_used : (h : Held) (more : Kinds) → or_else (react_fault run_rules false (filled help_rule) [] h) more ≡ [] → ⊥
-  help_used h more e =
-      let both = parts (settle_fault run_rules false h) (use_fault false (filled help_rule) [] (settled run_rules h).rows) (parts _ more e).0 in
-      cc
+  short_keeps : (o : Option Rule) → Found o → (rest : Text) (h : Held) (f : Held → Kinds) (g : Held → Held × Outcome)
+      → ((s : Held) → f s ≡ [] → AreGood s.rows → AreGood (g s).0.rows)
+      → short_fault c again o rest h f ≡ [] → AreGood h.rows → AreGood (short_met c o rest h g).0.rows
+  short_keeps None found rest h f g later = λ e good. good
+  short_keeps (Some a) found rest h f g later = go (takes_values a)
+    where
+      go : (b : Bool) → cond b (option_fault c again a (attached_value rest) h) (or_else (react_fault c again a [] h) (f (reacted c a [] h))) ≡ []
+          → AreGood h.rows → AreGood (cond b (option_met c a (attached_value rest) h) (g (reacted c a [] h))).0.rows
+      go true = option_keeps a (found a refl) (attached_value rest) h
+      go false = λ e good.
+          let both = parts (react_fault c again a [] h) (f (reacted c a [] h)) e in
+          later (reacted c a [] h) both.1 (react_keeps a (found a refl) [] h both.0 good)
 
-  short_keeps : (x : ℕ) (rest : Text) (h : Held) (f : Held → Kinds) (g : Held → Held × Outcome)
-      → short_fault run_rules false (arg_by_short run_rules x) rest h f ≡ []
-      → AreGood h.rows → AreGood (short_met run_rules (arg_by_short run_rules x) rest h g).0.rows
-  short_keeps x rest h f g = by_rule (λ o. short_fault run_rules false o rest h f ≡ [] → AreGood h.rows → AreGood (short_met run_rules o rest h g).0.rows)
-      (λ a. not (is_some a.index) && has_short a x) (λ e good. good) (option_keeps (filled (kind names)) kind_keeps _ h) (option_keeps (filled ram) ram_keeps _ h) (λ e. absurd (help_used h _ e))
-
-  bundle_keeps : (k : ℕ) (flags : Text) (skip : ℕ) (so_far : Outcome) (h : Held) → flags_fault run_rules false k flags skip h ≡ []
-      → AreGood h.rows → AreGood (bundle_met run_rules k flags skip so_far h).0.rows
+  bundle_keeps : (k : ℕ) (flags : Text) (skip : ℕ) (so_far : Outcome) (h : Held) → flags_fault c again k flags skip h ≡ []
+      → AreGood h.rows → AreGood (bundle_met c k flags skip so_far h).0.rows
   unfolding flags_fault bundle_met
   bundle_keeps zero flags skip so_far h = λ e good. good
-  bundle_keeps (suc k) flags skip so_far h = go (slice_get (chars flags) 0) skip (λ t n. bundle_keeps k t n so_far h)
+  bundle_keeps (suc k) flags skip so_far h = go (slice_get (chars flags) 0) skip (bundle_keeps k)
     where
-      go : (x : Option ℕ) (skip : ℕ) → ((t : Text) (n : ℕ) → flags_fault run_rules false k t n h ≡ [] → AreGood h.rows → AreGood (bundle_met run_rules k t n so_far h).0.rows)
-          → bundle_step_fault run_rules false x flags skip h (flags_fault run_rules false k) ≡ []
-          → AreGood h.rows → AreGood (bundle_step run_rules x flags skip so_far h (bundle_met run_rules k)).0.rows
+      go : (x : Option ℕ) (skip : ℕ) → ((t : Text) (n : ℕ) (o : Outcome) (s : Held) → flags_fault c again k t n s ≡ [] → AreGood s.rows → AreGood (bundle_met c k t n o s).0.rows)
+          → bundle_step_fault c again x flags skip h (flags_fault c again k) ≡ []
+          → AreGood h.rows → AreGood (bundle_step c x flags skip so_far h (bundle_met c k)).0.rows
       go None skip later = λ e good. good
-      go (Some x) zero later = short_keeps x _ h _ _
-      go (Some x) (suc n) later = later _ n
+      go (Some x) zero later =
+          let rest = drop (length (encode_utf8 x)) flags in
+          short_keeps (arg_by_short c x) (own (λ a. not (is_some a.index) && clap.has_short a x)) rest h (flags_fault c again k rest 0) (bundle_met c k rest 0 done) (later rest 0 done)
+      go (Some x) (suc n) later = later _ n so_far h
 
-  plain_rows : (waiting : Waiting) (word : Text) (h : Held) → (plain_word run_rules waiting word h).0.rows ≡ h.rows
-  plain_rows (option id) word h = go (arg_by_id run_rules id)
+  plain_rows : (waiting : Waiting) (word : Text) (h : Held) → (plain_word c waiting word h).0.rows ≡ h.rows
+  plain_rows (option id) word h = go (arg_by_id c id)
     where
       go : (o : Option Rule) → (option_word o id word h).0.rows ≡ h.rows
       go None = refl
@@ -188,174 +270,138 @@ module _ (names : Names) where
   plain_rows idle word h = refl
   plain_rows positional word h = refl
 
-  after_rows : (waiting : Waiting) (word : Text) (h : Held) (o : Outcome) → (after_flag run_rules waiting word h o).0.rows ≡ h.rows
+  after_rows : (waiting : Waiting) (word : Text) (h : Held) (o : Outcome) → (after_flag c waiting word h o).0.rows ≡ h.rows
   after_rows waiting word h done = refl
   after_rows waiting word h (waits id) = refl
   after_rows waiting word h plain = plain_rows waiting word h
   after_rows waiting word h refused = plain_rows waiting word h
 
-  flagged_keeps : (waiting : Waiting) (word : Text) (m : Held × Outcome) → AreGood m.0.rows → AreGood (after_flag run_rules waiting word m.0 m.1).0.rows
-  flagged_keeps waiting word m good = subst (AreGood) (sym (after_rows waiting word m.0 m.1)) good
+  flagged_keeps : (waiting : Waiting) (word : Text) (m : Held × Outcome) → AreGood m.0.rows → AreGood (after_flag c waiting word m.0 m.1).0.rows
+  flagged_keeps waiting word m good = subst AreGood (sym (after_rows waiting word m.0 m.1)) good
 
-  plain_keeps : (waiting : Waiting) (word : Text) (h : Held) → AreGood h.rows → AreGood (plain_word run_rules waiting word h).0.rows
-  plain_keeps waiting word h good = subst (AreGood) (sym (plain_rows waiting word h)) good
+  plain_keeps : (waiting : Waiting) (word : Text) (h : Held) → AreGood h.rows → AreGood (plain_word c waiting word h).0.rows
+  plain_keeps waiting word h good = subst AreGood (sym (plain_rows waiting word h)) good
 
-  short_word_keeps : (waiting : Waiting) (word : Text) (flags : Option Text) (h : Held) → option_map_or (λ flags. bundle_fault run_rules false flags h) flags [] ≡ []
-      → AreGood h.rows → AreGood (short_or_plain run_rules waiting word flags h).0.rows
+  short_word_keeps : (waiting : Waiting) (word : Text) (flags : Option Text) (h : Held) → option_map_or (λ flags. bundle_fault c again flags h) flags [] ≡ []
+      → AreGood h.rows → AreGood (short_or_plain c waiting word flags h).0.rows
   short_word_keeps waiting word (Some flags) h e good =
-      flagged_keeps waiting word (bundle run_rules flags h) (bundle_keeps (length flags) flags h.skip plain (record h { skip = 0 }) e good)
+      flagged_keeps waiting word (bundle c flags h) (bundle_keeps (length flags) flags h.skip plain (record h { skip = 0 }) e good)
   short_word_keeps waiting word None h e good = plain_keeps waiting word h good
 
-  flag_word_keeps : (waiting : Waiting) (word : Text) (name : Option (Text × Option Text)) (h : Held) → flag_word_fault run_rules false name word h ≡ []
-      → AreGood h.rows → AreGood (long_or_other run_rules waiting word name h).0.rows
+  flag_word_keeps : (waiting : Waiting) (word : Text) (name : Option (Text × Option Text)) (h : Held) → flag_word_fault c again name word h ≡ []
+      → AreGood h.rows → AreGood (long_or_other c waiting word name h).0.rows
   flag_word_keeps waiting word (Some x) h e good =
-      flagged_keeps waiting word (long_met run_rules (arg_by_long run_rules x.0) x.1 h) (long_keeps x.0 x.1 h e good)
+      let o = arg_by_long c x.0 in
+      flagged_keeps waiting word (long_met c o x.1 h) (long_keeps o (own (λ a. not (is_some a.index) && clap.has_long a x.0)) x.1 h e good)
   flag_word_keeps waiting word None h e good = short_word_keeps waiting word (short_of word) h e good
 
-  other_keeps : (b : Bool) (waiting : Waiting) (position : ℕ) (word : Text) (h : Held) → cond b [] (flag_word_fault run_rules false (long_of word) word h) ≡ []
-      → AreGood h.rows → AreGood (cond b (h, trailing position) (long_or_other run_rules waiting word (long_of word) h)).0.rows
-  other_keeps true waiting position word h e good = good
-  other_keeps false waiting position word h e good = flag_word_keeps waiting word (long_of word) h e good
-
-  word_keeps : (is_trailing : Bool) (waiting : Waiting) (position : ℕ) (word : Text) (h : Held) → word_fault (shape names) [] is_trailing waiting word h ≡ []
-      → AreGood h.rows → AreGood (word_met run_rules [] is_trailing waiting position word h).0.rows
-  word_keeps true waiting position word h e good = good
-  word_keeps false idle position word h e good = other_keeps _ idle position word h e good
-  word_keeps false (option id) position word h e good = other_keeps _ (option id) position word h e good
-  word_keeps false positional position word h e good = other_keeps _ positional position word h e good
-
-  step_rows : (word : Text) (w : Walk) (h : Held) (s : Step) → (after_step run_rules word w h s).held.rows ≡ h.rows
-  step_rows word w h (next waiting) = refl
-  step_rows word w h (trailing position) = refl
-  step_rows word w h (subcommand name) = refl
-  step_rows word w h value = refl
-
-  met_keeps : (word : Text) (w : Walk) (met : Held × Step) → AreGood met.0.rows → AreGood (after_step run_rules word w met.0 met.1).held.rows
-  met_keeps word w met good = subst (AreGood) (sym (step_rows word w met.0 met.1)) good
-
-  turn_keeps : (stopped : Option (Text × List Text)) (w : Walk) (word : Text) (rest : Kinds)
-      → cond (is_some stopped) [] (or_else (word_fault (shape names) [] w.is_trailing w.waiting word w.held) rest) ≡ []
-      → AreGood w.held.rows → AreGood (walked_from run_rules [] stopped w word).held.rows
-  turn_keeps (Some x) w word rest e good = good
-  turn_keeps None w word rest e good = met_keeps word w (word_met run_rules [] w.is_trailing w.waiting w.position word w.held)
-      (word_keeps w.is_trailing w.waiting w.position word w.held (parts _ rest e).0 good)
-
-  walk_keeps : (w : Walk) (words : List Text) → walk_fault (shape names) [] w words ≡ [] → AreGood w.held.rows → AreGood (fold (walked run_rules []) w words).held.rows
-  unfolding walk_fault walked
-  walk_keeps w [] e good = good
-  walk_keeps w (word ∷ words) e good =
-      let both = parts (turn_fault (shape names) [] w word) (walk_fault (shape names) [] (walked run_rules [] w word) words) e in
-      walk_keeps (walked run_rules [] w word) words both.1 (turn_keeps w.stopped w word _ both.0 good)
-
-  default_none : (id : Text) (rows : List Row) → cond (has_row id rows) rows rows ≡ rows
-  default_none id rows = go (has_row id rows)
+  positional_keeps : (o : Option Rule) (word : Text) (w : Walk) (h : Held) (stray : Kinds) → option_map_or (λ a. positional_fault c again a h) o stray ≡ []
+      → AreGood h.rows → AreGood (to_positional c o word w h).held.rows
+  positional_keeps None word w h stray = λ e good. good
+  positional_keeps (Some a) word w h stray = go (is_pending a h.pending && takes_several a)
     where
-      go : (b : Bool) → cond b rows rows ≡ rows
-      go true = refl
-      go false = refl
+      go : (b : Bool) → cond b [] (settle_fault c again h) ≡ [] → AreGood h.rows → AreGood (clap.pushed a.id word (cond b h (settled c h))).rows
+      go true = λ e good. good
+      go false = settle_keeps h
 
-  defaults_none : (rows : List Row) → fold with_default rows run_rules ≡ rows
-  defaults_none rows = default_none (codes "help") _ ∙ (default_none (codes "ram") _ ∙ default_none (codes "kind") rows)
+  defaults_keep : (rest : List Rule) → AllByRecursion (Owns c) rest → (rows : List Row) → defaults_fault rows rest ≡ [] → AreGood rows → AreGood (fold with_default rows rest)
+  unfolding defaults_fault
+  defaults_keep [] mine rows e good = good
+  defaults_keep (a ∷ rest) mine rows e good =
+      let both = parts (default_fault rows a) (defaults_fault (with_default rows a) rest) e in
+      defaults_keep rest mine.1 (with_default rows a) both.1 (default_keeps c again a mine.0 rows both.0 good)
 
-  level_good : (words : List Text) → level_fault (shape names) [] nothing_held words false [] ≡ [] → AreGood (rows_after run_rules [] words)
-  level_good words e =
-      let end = (walk run_rules [] nothing_held words).held in
-      let both = parts (walk_fault (shape names) [] (walk_from nothing_held) words) _ e in
-      let settles = parts (settle_fault run_rules false end) _ both.1 in
-      subst (AreGood) (sym (defaults_none (settled run_rules end).rows)) (settle_keeps end settles.0 (walk_keeps (walk_from nothing_held) words both.0 tt))
+-- ---- one level of a command line
 
--- ---- values that the parsers accept
+module _ (s : Shape) (distinct : are_distinct (λ (a : Rule). a.id) s.rules ≡ true) where
+  owns : AllByRecursion (Owns s.rules) s.rules
+  owns = each_first (λ (a : Rule). a.id) s.rules distinct
 
-accepted : (b : Bool) (k : Kinds) → cond b [] k ≡ [] → (k ≡ [] → ⊥) → b ≡ true
-accepted true k e had = refl
-accepted false k e had = absurd (had e)
+  other_keeps : (name : Option Text) (waiting : Waiting) (position : ℕ) (word : Text) (h : Held) → other_fault s name word h ≡ []
+      → AllGood s.rules h.rows → AllGood s.rules (subcommand_or_other s.rules name waiting position word h).0.rows
+  other_keeps (Some name) waiting position word h = λ e good. good
+  other_keeps None waiting position word h = go (bytes_eq word (45 ∷ 45 ∷ []))
+    where
+      go : (b : Bool) → cond b [] (flag_word_fault s.rules s.args_override_self (long_of word) word h) ≡ []
+          → AllGood s.rules h.rows → AllGood s.rules (cond b (h, trailing position) (long_or_other s.rules waiting word (long_of word) h)).0.rows
+      go true = λ e good. good
+      go false = flag_word_keeps s.rules s.args_override_self owns waiting word (long_of word) h
 
-passed : (a : Rule) (v : Text) (vs : List Text) → values_fault a (v ∷ vs) ≡ [] → accepts a.ignore_case (parser_of_value a.parser) v ≡ true
-passed a v vs e = accepted (accepts a.ignore_case (parser_of_value a.parser) v) (refused_kind (parser_of_value a.parser) ∷ [])
-    (parts (value_kinds a.ignore_case (parser_of_value a.parser) v) (values_fault a vs) e).0 (λ h. cc)
+  word_keeps : (names : clap.Names) (is_trailing : Bool) (waiting : Waiting) (position : ℕ) (word : Text) (h : Held) → word_fault s names is_trailing waiting word h ≡ []
+      → AllGood s.rules h.rows → AllGood s.rules (word_met s.rules names is_trailing waiting position word h).0.rows
+  word_keeps names true waiting position word h = λ e good. good
+  word_keeps names false waiting position word h = other_keeps (clap.subcommand_met names waiting word) waiting position word h
 
--- where the definition has the names
-abbrev at_first : Names
-at_first = lent (map lent kind_names)
+  step_keeps : (word : Text) (w : Walk) (h : Held) (step : Step) → step_fault s w.position h step ≡ [] → AllGood s.rules h.rows → AllGood s.rules (after_step s.rules word w h step).held.rows
+  step_keeps word w h (next waiting) = λ e good. good
+  step_keeps word w h (trailing position) = λ e good. good
+  step_keeps word w h (subcommand name) = λ e good. good
+  step_keeps word w h value = positional_keeps s.rules s.args_override_self owns (arg_by_index s.rules w.position) word w h (stray_fault s)
 
-kind_named : (v : Text) → accepts false (parser.Names at_first) v ≡ true → is_some (kind_of v) ≡ true
-kind_named v = go (bytes_eq (codes "auto") v) (bytes_eq (codes "raw") v) (bytes_eq (codes "elf") v)
-  where
-    go : (a b c : Bool) → (a || (b || (c || false))) ≡ true
-        → is_some (option_map (λ (row : Text × ImageKind). row.1) (cond a (Some (codes "auto", image.Auto)) (cond b (Some (codes "raw", image.Raw)) (cond c (Some (codes "elf", image.Elf)) None)))) ≡ true
-    go true b c e = refl
-    go false true c e = refl
-    go false false true e = refl
-    go false false false e = e
+  turn_keeps : (names : clap.Names) (stopped : Option (Text × List Text)) (w : Walk) (word : Text)
+      → (let met = word_met s.rules names w.is_trailing w.waiting w.position word w.held in
+      cond (is_some stopped) [] (or_else (word_fault s names w.is_trailing w.waiting word w.held) (step_fault s w.position met.0 met.1))) ≡ []
+      → AllGood s.rules w.held.rows → AllGood s.rules (walked_from s.rules names stopped w word).held.rows
+  turn_keeps names (Some x) w word e good = good
+  turn_keeps names None w word e good =
+      let met = word_met s.rules names w.is_trailing w.waiting w.position word w.held in
+      let both = parts (word_fault s names w.is_trailing w.waiting word w.held) (step_fault s w.position met.0 met.1) e in
+      step_keeps word w met.0 met.1 both.1 (word_keeps names w.is_trailing w.waiting w.position word w.held both.0 good)
 
-some_given : {X : Type 0} (o : Option X) (n : X) → o ≡ Some n → is_some o ≡ true
-some_given o n e = rw e refl
+  walk_keeps : (names : clap.Names) (w : Walk) (words : List Text) → walk_fault s names w words ≡ []
+      → AllGood s.rules w.held.rows → AllGood s.rules (fold (walked s.rules names) w words).held.rows
+  unfolding walk_fault walked
+  walk_keeps names w [] e good = good
+  walk_keeps names w (word ∷ words) e good =
+      let both = parts (turn_fault s names w word) (walk_fault s names (walked s.rules names w word) words) e in
+      walk_keeps names (walked s.rules names w word) words both.1 (turn_keeps names w.stopped w word both.0 good)
 
-ram_read : (v : Text) → accepts false (parser.Signed (pos 0) (pos 4294967295)) v ≡ true → is_some (number_of (without_minus v)) ≡ true
-ram_read v e =
-    let got = signed_reads Bool (λ u x. ParsesUnsigned 32 10 u x) 32 0 4294967295 v (number_of (without_minus v)) (number_reads (without_minus v)) (λ u x given. given) (omega arith)
-    (accepts-Accepts false (parser.Signed (pos 0) (pos 4294967295)) v e) in
-    some_given (number_of (without_minus v)) got.0 got.1
+  -- where the words are taken, all rows are good
+  level_keeps : (names : clap.Names) (words : List Text) (has_subcommand : Bool) (below : Kinds) → level_fault s names nothing_held words has_subcommand below ≡ []
+      → AllGood s.rules (rows_after s.rules names words)
+  level_keeps names words has_subcommand below e =
+      let end = (walk s.rules names nothing_held words).held in
+      let both = parts (walk_fault s names (walk_from nothing_held) words) _ e in
+      let settles = parts (settle_fault s.rules s.args_override_self end) _ (parts below _ both.1).1 in
+      let defaults = parts (defaults_fault (settled s.rules end).rows s.rules) _ settles.1 in
+      defaults_keep s.rules s.args_override_self owns s.rules owns (settled s.rules end).rows defaults.0
+      (settle_keeps s.rules s.args_override_self owns end settles.0 (walk_keeps names (walk_from nothing_held) words both.0 tt))
 
-first_kind : (vs : List Text) → values_fault (filled (kind at_first)) vs ≡ [] → option_map_or (λ text. is_some (kind_of text)) (slice_get vs 0) true ≡ true
-first_kind [] e = refl
-first_kind (v ∷ vs) e = kind_named v (passed (filled (kind at_first)) v vs e)
+-- ---- the subcommand
 
-first_ram : (how : Reading) (vs : List Text) → how ≡ reading.WithoutMinus → values_fault (filled ram) vs ≡ []
-    → option_map_or (λ text. is_some (number_of text)) (option_map (read_as how) (slice_get vs 0)) true ≡ true
-first_ram how [] is e = refl
-first_ram how (v ∷ vs) is e = rw is (ram_read v (passed (filled ram) v vs e))
+-- the rules of the subcommand of this name
+abbrev pub rules_named : App → Text → List Rule
+rules_named a name = option_map_or (λ (s : Shape). s.rules) (find (λ (s : Shape). bytes_eq s.name name) a.subs) []
 
--- what holds of each good row of an id holds of the one that is found, if one is
-row_found : (a : Rule) (P : Option Row → Type 0) → arg_by_id (rules at_first) a.id ≡ Some a → P None
-    → ((r : Row) → r.reading ≡ reading_by a → values_fault a r.values ≡ [] → P (Some r))
-    → (rows : List Row) → AllGood (rules at_first) rows → P (find (λ r. bytes_eq r.id a.id) rows)
-row_found a P own none some [] good = none
-row_found a P own none some (r ∷ rs) good = go (bytes_eq r.id a.id) refl (row_found a P own none some rs good.1)
-  where
-    go : (b : Bool) → bytes_eq r.id a.id ≡ b → P (find (λ r. bytes_eq r.id a.id) rs) → P (cond b (Some r) (find (λ r. bytes_eq r.id a.id) rs))
-    go true e rest =
-        let had = good.0 a (ap (arg_by_id (rules at_first)) ((bytes_eq-Decides r.id a.id).0 e) ∙ own) in
-        some r had.0 had.1
-    go false e rest = rest
+-- no two subcommands have one name, and no two options of one
+abbrev pub has_distinct_names : App → Bool
+has_distinct_names a = are_distinct (λ (s : Shape). s.name) a.subs && list_all (λ (s : Shape). are_distinct (λ (a : Rule). a.id) s.rules) a.subs
 
-rows_read : (rows : List Row) → AllGood (rules at_first) rows → are_read rows ≡ true
-rows_read rows good =
-    let kind_is : option_map_or (λ text. is_some (kind_of text)) (first_of (codes "kind") rows) true ≡ true =
-    row_found (filled (kind at_first)) (λ o. option_map_or (λ text. is_some (kind_of text)) (option_and_then (λ r. slice_get r.values 0) o) true ≡ true) refl refl
-    (λ r how e. first_kind r.values e) rows good in
-    let ram_is : option_map_or (λ text. is_some (number_of text)) (one_of (codes "ram") rows) true ≡ true =
-    row_found (filled ram) (λ o. option_map_or (λ text. is_some (number_of text)) (option_and_then row_text o) true ≡ true) refl refl
-    (λ r how e. first_ram r.reading r.values how e) rows good in
-    rw (kind_is, ram_is) refl
+-- the options of the subcommand that is entered are good
+abbrev pub EntersGood : App → Option (Text × List Row) → Type 0
+EntersGood a None = Unit {0}
+EntersGood a (Some met) = AllGood (rules_named a met.0) met.1
 
--- ---- the program
+module _ (a : App) (distinct : has_distinct_names a ≡ true) where
+  both_distinct : (are_distinct (λ (s : Shape). s.name) a.subs ≡ true) × (list_all (λ (s : Shape). are_distinct (λ (a : Rule). a.id) s.rules) a.subs ≡ true)
+  both_distinct = go (are_distinct (λ (s : Shape). s.name) a.subs) distinct
+    where
+      go : (b : Bool) → (b && list_all (λ (s : Shape). are_distinct (λ (a : Rule). a.id) s.rules) a.subs) ≡ true
+          → (b ≡ true) × (list_all (λ (s : Shape). are_distinct (λ (a : Rule). a.id) s.rules) a.subs ≡ true)
+      go true e = (refl, e)
+      go false e = cc
 
-abbrev options_in : Option (Text × List Row) → List Row
-options_in met = option_map_or (λ met. cond (bytes_eq met.0 (codes "run")) met.1 []) met []
-
-other_read : (words : List Text) (test : Shape → Bool) (shapes : List Shape) → AllByRecursion (λ s. bytes_eq s.name (codes "run") ≡ false) shapes
-    → are_read (options_in (option_map (λ s. rows_at s words) (find test shapes))) ≡ true
-other_read words test [] others = refl
-other_read words test (s ∷ rest) others = go (test s) (other_read words test rest others.1)
-  where
-    go : (b : Bool) → are_read (options_in (option_map (λ s. rows_at s words) (find test rest))) ≡ true
-        → are_read (options_in (option_map (λ s. rows_at s words) (cond b (Some s) (find test rest)))) ≡ true
-    go true e = rw others.0 refl
-    go false e = e
-
-entered_read : (stop : Option (Text × List Text)) → entered_fault (built rvbench) stop ≡ [] → are_read (options_in (entered (built rvbench) stop)) ≡ true
-entered_read None = λ e. refl
-entered_read (Some x) = go (answers_to x.0 (codes "run", [])) (other_read x.1 (λ s. answers_to x.0 (label_of s)) (drop 1 (built rvbench).subs) (refl, (refl, (refl, tt))))
-  where
-    go : (b : Bool) → are_read (options_in (option_map (λ s. rows_at s x.1) (find (λ s. answers_to x.0 (label_of s)) (drop 1 (built rvbench).subs)))) ≡ true
-        → option_map_or (λ s. level_fault s [] nothing_held x.1 false []) (cond b (Some (shape at_first)) (find (λ s. answers_to x.0 (label_of s)) (drop 1 (built rvbench).subs))) [] ≡ []
-        → are_read (options_in (option_map (λ s. rows_at s x.1) (cond b (Some (shape at_first)) (find (λ s. answers_to x.0 (label_of s)) (drop 1 (built rvbench).subs))))) ≡ true
-    go true rest e = rows_read (rows_after (rules at_first) [] x.1) (level_good at_first x.1 e)
-    go false rest e = rest
-
-pub taken_read : (words : List Text) → faults_of words ≡ [] → are_read (run_options words) ≡ true
-taken_read words e =
-    let a = built rvbench in
-    let stop = stop_after a.top.rules (names_of a) (argument_words a words) in
-    entered_read stop (parts (entered_fault a stop) _ (parts (walk_fault a.top (names_of a) (walk_from nothing_held) (argument_words a words)) _ e).1).0
+  pub entered_good : (stop : Option (Text × List Text)) → entered_fault a stop ≡ [] → EntersGood a (entered a stop)
+  entered_good None = λ e. tt
+  entered_good (Some x) = go (find (λ s. answers_to x.0 (label_of s)) a.subs) refl
+    where
+      go : (o : Option Shape) → find (λ s. answers_to x.0 (label_of s)) a.subs ≡ o → option_map_or (λ s. level_fault s [] nothing_held x.1 false []) o [] ≡ []
+          → EntersGood a (option_map (λ s. rows_at s x.1) o)
+      go None found e = tt
+      go (Some s) found e =
+          let test = λ (s : Shape). answers_to x.0 (label_of s) in
+          let named : rules_named a s.name ≡ s.rules =
+          ap (λ o. option_map_or (λ (s : Shape). s.rules) o [])
+          (all_found (λ (s : Shape). find (λ (t : Shape). bytes_eq t.name s.name) a.subs ≡ Some s) test a.subs s (each_first (λ (s : Shape). s.name) a.subs both_distinct.0) found) in
+          let own = all_found (λ (s : Shape). are_distinct (λ (a : Rule). a.id) s.rules ≡ true) test a.subs s (all_true _ a.subs both_distinct.1) found in
+          subst (λ c. AllGood c (rows_after s.rules [] x.1)) (sym named) (level_keeps s own [] x.1 false [] e)

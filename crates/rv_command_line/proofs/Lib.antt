@@ -2,3 +2,4 @@ mod FaultKinds
 mod Given
 mod Numbers
 mod Places
+mod Taken

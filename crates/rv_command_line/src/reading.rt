@@ -66,7 +66,7 @@ fn fault(alloc: Global, error: &Error) -> WordsFault
 /// Words that the command line takes give their job, where a default stands only for an option that is not given. Words that
 /// ask for help give its text, and any others are refused.
 /// Memory may be refused at any words.
-#[tactic(auto, using(crate::proofs::Given::taken_read))]
+#[tactic(auto, using(crate::proofs::Taken::taken_read))]
 pub fn read_words<'a>(alloc: Global, words: &'a [&'a str]) -> Result<Job, WordsFault>
     ensures taken { OnOk result (faults_of (texts words.entry.now) ≡ []) }
     ensures job { IfOk result (λ job. job ≡ job_of (texts words.entry.now)) }

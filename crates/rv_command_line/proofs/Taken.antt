@@ -1,0 +1,121 @@
+-- Where the words are taken, each option of `run` that is given has a value that is read.
+use Rattle.std.proofs.Common.{Option, refl, Some, subst, sym, true, ℕ}
+use Rattle.std.proofs.Common.{◌&&◌, ◌||◌, ◌∙◌, ◌∷◌, ◌≡◌, [], ap, arith, Bool, codes, cond, false, List, None}
+use Rattle.std.proofs.lemmas.Slice.Eq.{bytes_eq-Decides}
+use Rattle.std.specs.List.{AllByRecursion, list_any}
+use Rattle.std.specs.Option.{option_map_or}
+use Rattle.std.specs.Prelude.{find, is_some, map, option_and_then, option_map, pos, slice_get}
+use Rattle.std.specs.Str.Parse.{ParsesUnsigned}
+use Rattle.std.specs.Str.{bytes_eq}
+use Rattle.clap.proofs.CallerReads.{signed_reads}
+use Rattle.clap.proofs.ValueTestLemmas.{accepts-Accepts}
+use Rattle.clap.specs.Facts.{parser_of_value}
+use Rattle.clap.specs.Faults.{entered_fault, values_fault, walk_fault}
+use Rattle.clap.specs.Kinds.{Kinds, or_else, value_kinds}
+use Rattle.clap.specs.Lexer.{without_minus}
+use Rattle.clap.specs.Simple.{argument_words, built, entered, filled, names_of}
+use Rattle.clap.specs.ValueTests.{accepts}
+use Rattle.clap.specs.Values.{read_as, refused_kind}
+use Rattle.clap.specs.Walk.{arg_by_id, first_of, one_of, reading_by, Row, row_text, Rule, stop_after, Text, walk_from, nothing_held}
+use Rattle.clap.specs.declared.builder.value_parser.Reading.TheVariants as reading
+use Rattle.clap.specs.declared.builder.value_parser.Reading.{Reading}
+use Rattle.clap.specs.declared.builder.value_parser.ValueParser.TheVariants as parser
+use Rattle.rv_command_line.proofs.Given.{AllGood, EntersGood, entered_good, parts, rules_named}
+use Rattle.rv_command_line.proofs.Numbers.{number_reads}
+use Rattle.rv_command_line.specs.CommandLine.{faults_of, kind, kind_names, kinds, lent, Names, ram, rvbench}
+use Rattle.rv_command_line.specs.Job.{are_read, kind_of, number_of, run_options}
+use Rattle.rv_command_line.specs.declared.image_kind.ImageKind.{ImageKind}
+
+-- ---- values that the parsers accept
+
+accepted : (b : Bool) (k : Kinds) → cond b [] k ≡ [] → (k ≡ [] → ⊥) → b ≡ true
+accepted true k e had = refl
+accepted false k e had = absurd (had e)
+
+passed : (a : Rule) (v : Text) (vs : List Text) → values_fault a (v ∷ vs) ≡ [] → accepts a.ignore_case (parser_of_value a.parser) v ≡ true
+passed a v vs e = accepted (accepts a.ignore_case (parser_of_value a.parser) v) (refused_kind (parser_of_value a.parser) ∷ [])
+    (parts (value_kinds a.ignore_case (parser_of_value a.parser) v) (values_fault a vs) e).0 (λ h. cc)
+
+-- where the definition has the names
+abbrev at_first : Names
+at_first = lent (map lent kind_names)
+
+-- one of the names of a table is found in it
+named : (v : Text) (rows : List (Text × ImageKind)) → list_any (λ name. bytes_eq name.now v) (map lent (map (λ row. row.0) rows)) ≡ true
+    → is_some (option_map (λ (row : Text × ImageKind). row.1) (find (λ row. bytes_eq row.0 v) rows)) ≡ true
+named v [] e = e
+named v (row ∷ rows) e = go (bytes_eq row.0 v) e (named v rows)
+  where
+    go : (b : Bool) → (b || list_any (λ name. bytes_eq name.now v) (map lent (map (λ row. row.0) rows))) ≡ true
+        → (list_any (λ name. bytes_eq name.now v) (map lent (map (λ row. row.0) rows)) ≡ true → is_some (option_map (λ (row : Text × ImageKind). row.1) (find (λ row. bytes_eq row.0 v) rows)) ≡ true)
+        → is_some (option_map (λ (row : Text × ImageKind). row.1) (cond b (Some row) (find (λ row. bytes_eq row.0 v) rows))) ≡ true
+    go true e later = refl
+    go false e later = later e
+
+kind_named : (v : Text) → accepts false (parser.Names at_first) v ≡ true → is_some (kind_of v) ≡ true
+kind_named v = named v kinds
+
+some_given : {X : Type 0} (o : Option X) (n : X) → o ≡ Some n → is_some o ≡ true
+some_given o n e = rw e refl
+
+ram_read : (v : Text) → accepts false (parser.Signed (pos 0) (pos 4294967295)) v ≡ true → is_some (number_of (without_minus v)) ≡ true
+ram_read v e =
+    let got = signed_reads Bool (λ u x. ParsesUnsigned 32 10 u x) 32 0 4294967295 v (number_of (without_minus v)) (number_reads (without_minus v)) (λ u x given. given) (omega arith)
+    (accepts-Accepts false (parser.Signed (pos 0) (pos 4294967295)) v e) in
+    some_given (number_of (without_minus v)) got.0 got.1
+
+first_kind : (vs : List Text) → values_fault (filled (kind at_first)) vs ≡ [] → option_map_or (λ text. is_some (kind_of text)) (slice_get vs 0) true ≡ true
+first_kind [] e = refl
+first_kind (v ∷ vs) e = kind_named v (passed (filled (kind at_first)) v vs e)
+
+first_ram : (how : Reading) (vs : List Text) → how ≡ reading.WithoutMinus → values_fault (filled ram) vs ≡ []
+    → option_map_or (λ text. is_some (number_of text)) (option_map (read_as how) (slice_get vs 0)) true ≡ true
+first_ram how [] is e = refl
+first_ram how (v ∷ vs) is e = rw is (ram_read v (passed (filled ram) v vs e))
+
+-- ---- the rows of the options
+
+-- what holds of each good row of an id holds of the one that is found, if one is
+row_found : (c : List Rule) (a : Rule) (P : Option Row → Type 0) → arg_by_id c a.id ≡ Some a → P None
+    → ((r : Row) → r.reading ≡ reading_by a → values_fault a r.values ≡ [] → P (Some r))
+    → (rows : List Row) → AllGood c rows → P (find (λ r. bytes_eq r.id a.id) rows)
+row_found c a P own none some [] good = none
+row_found c a P own none some (r ∷ rs) good = go (bytes_eq r.id a.id) refl (row_found c a P own none some rs good.1)
+  where
+    go : (b : Bool) → bytes_eq r.id a.id ≡ b → P (find (λ r. bytes_eq r.id a.id) rs) → P (cond b (Some r) (find (λ r. bytes_eq r.id a.id) rs))
+    go true e rest =
+        let had = good.0 a (ap (arg_by_id c) ((bytes_eq-Decides r.id a.id).0 e) ∙ own) in
+        some r had.0 had.1
+    go false e rest = rest
+
+-- the options of `run`
+abbrev rules_of_run : List Rule
+rules_of_run = rules_named (built rvbench) (codes "run")
+
+rows_read : (rows : List Row) → AllGood rules_of_run rows → are_read rows ≡ true
+rows_read rows good =
+    let kind_is : option_map_or (λ text. is_some (kind_of text)) (first_of (codes "kind") rows) true ≡ true =
+    row_found rules_of_run (filled (kind at_first)) (λ o. option_map_or (λ text. is_some (kind_of text)) (option_and_then (λ r. slice_get r.values 0) o) true ≡ true) refl refl
+    (λ r how e. first_kind r.values e) rows good in
+    let ram_is : option_map_or (λ text. is_some (number_of text)) (one_of (codes "ram") rows) true ≡ true =
+    row_found rules_of_run (filled ram) (λ o. option_map_or (λ text. is_some (number_of text)) (option_and_then row_text o) true ≡ true) refl refl
+    (λ r how e. first_ram r.reading r.values how e) rows good in
+    rw (kind_is, ram_is) refl
+
+-- ---- the program
+
+entered_read : (met : Option (Text × List Row)) → EntersGood (built rvbench) met
+    → are_read (option_map_or (λ met. cond (bytes_eq met.0 (codes "run")) met.1 []) met []) ≡ true
+entered_read None good = refl
+entered_read (Some met) good = go (bytes_eq met.0 (codes "run")) refl
+  where
+    go : (b : Bool) → bytes_eq met.0 (codes "run") ≡ b → are_read (cond b met.1 []) ≡ true
+    go true e = rows_read met.1 (subst (λ name. AllGood (rules_named (built rvbench) name) met.1) ((bytes_eq-Decides met.0 (codes "run")).0 e) good)
+    go false e = refl
+
+pub taken_read : (words : List Text) → faults_of words ≡ [] → are_read (run_options words) ≡ true
+taken_read words e =
+    let a = built rvbench in
+    let stop = stop_after a.top.rules (names_of a) (argument_words a words) in
+    entered_read (entered a stop)
+    (entered_good a refl stop (parts (entered_fault a stop) _ (parts (walk_fault a.top (names_of a) (walk_from nothing_held) (argument_words a words)) _ e).1).0)
