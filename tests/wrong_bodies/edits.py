@@ -79,13 +79,21 @@ def text_of(folder, file):
 
 
 class Place:
-    """A function as the prover names it, and where it stands: its file, and its first and last line."""
+    """A function as the prover names it, the type that it is a method of, if it is one, with the trait that has it, and where
+    it stands: its file, and its first and last line."""
 
-    def __init__(self, name, file, first, last):
-        self.name, self.file, self.first, self.last = name, file, first, last
+    def __init__(self, name, of, file, first, last):
+        self.name, self.type, self.file, self.first, self.last = name, of, file, first, last
 
     def holds(self, file, line):
         return file == self.file and self.first <= line <= self.last
+
+    def is_among(self, names):
+        """Whether the prover has it, perhaps a method by the module of its type, which is then its name here too."""
+        if self.name not in names and self.type:
+            found = [it for it in names if it.endswith(f"::{self.type}::{self.name.split('::')[-1]}")]
+            self.name = found[0] if len(found) == 1 else self.name
+        return self.name in names
 
     def proofs(self):
         """The folder of its proof files."""
@@ -99,7 +107,7 @@ def place_of(folder, edit, names):
     for file, old, _ in edit.pairs:
         text = text_of(folder, file)
         place = function_at(edit.crate, file, text, text.find(old)) if file.endswith(".rt") else None
-        if place is None or place.name not in names:
+        if place is None or not place.is_among(names):
             return None
         places[place.name] = place
     return places.popitem()[1] if len(places) == 1 else None
@@ -119,7 +127,8 @@ def function_at(crate, file, text, at):
     impls = [it for it in IMPL.finditer(text) if it.start() < head.start()] if indent else []
     if indent and not impls:
         return None
-    of = [(impls[-1][2] + (impls[-1][1] or "").split("::")[-1])] if impls else []
+    of = impls[-1][2] + (impls[-1][1] or "").split("::")[-1] if impls else None
     module = [it for it in file[len("src/"):-len(".rt")].split("/") if it not in ("lib", "main", "mod")]
+    path = "::".join([crate, *module, *([of] if of else []), name])
     line = lambda place: text.count("\n", 0, place) + 1
-    return Place("::".join([crate, *module, *of, name]), file, line(head.start()), line(closing.start()))
+    return Place(path, of, file, line(head.start()), line(closing.start()))

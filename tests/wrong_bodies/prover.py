@@ -85,16 +85,16 @@ class Answer:
 
 
 class Prover:
-    """Checks one crate in a scratch folder. The crate's own folder is only read."""
+    """Checks one crate in a scratch folder, from a copy of its sources that is made here. The crate's own folder is only read."""
 
     def __init__(self, rt, crate, scratch):
         self.rt, self.crate, self.scratch = rt, crate, scratch
-        self.kept = f"{scratch}/kept"
-        own = f"{crate.folder}/out/incremental"
-        if os.path.isdir(own):
-            shutil.copytree(own, self.kept)
-        else:
-            os.makedirs(self.kept)
+        self.sources, self.kept = f"{scratch}/sources", f"{scratch}/kept"
+        for part in [*rt.rtlib.PARTS, "out/incremental"]:
+            to = self.kept if part.startswith("out") else f"{self.sources}/{part}"
+            if os.path.isdir(f"{crate.folder}/{part}"):
+                shutil.copytree(f"{crate.folder}/{part}", to)
+        os.makedirs(self.kept, exist_ok=True)
 
     def check(self, texts, from_nothing=False):
         """Checks the crate with these texts in place of its own. A check that is killed, as for memory, is tried once more."""
@@ -112,9 +112,7 @@ class Prover:
 
     def run(self, texts, from_nothing):
         with tempfile.TemporaryDirectory(dir=self.scratch) as room:
-            for part in self.rt.rtlib.PARTS:
-                if os.path.isdir(f"{self.crate.folder}/{part}"):
-                    shutil.copytree(f"{self.crate.folder}/{part}", f"{room}/{part}")
+            shutil.copytree(self.sources, room, dirs_exist_ok=True)
             for file, text in texts.items():
                 with open(f"{room}/{file}", "w", encoding="utf-8") as it:
                     it.write(text)
