@@ -7,6 +7,7 @@ use Rattle.std.proofs.lemmas.Bool.Decides.{nat_tests}
 use Rattle.rv_asm.specs.Tables.{looked_up}
 use Rattle.rv_asm.specs.RegisterNames.{registers}
 use Rattle.rv_asm.specs.CsrNames.{csrs}
+use Rattle.rv_state.specs.CsrTable.{csr_listing}
 
 both : (a b : Bool) → a && b ≡ true → (a ≡ true) × (b ≡ true)
 both true true is = (refl, refl)
@@ -33,5 +34,5 @@ registers_in_range name n is =
     omega (arith, small)
 
 pub csrs_in_range : (name : List ℕ) (n : ℕ) → looked_up csrs name ≡ Some n → n < 4096
-unfolding csrs
+unfolding csrs csr_listing
 csrs_in_range name n is = rw is at (looked_up-in_range 4096 csrs name refl)

@@ -12,6 +12,7 @@ use Rattle.std.proofs.lemmas.Fmt.{decimal_is_IsNumeral, length-decimal-le}
 use Rattle.std.proofs.lemmas.List.Folds.{list_all-append}
 use Rattle.rv_text.specs.Digits.{hex_digits}
 use Rattle.rv_asm.specs.CsrNames.{csrs}
+use Rattle.rv_state.specs.CsrTable.{csr_listing}
 use Rattle.rv_asm.specs.Cuts.{is_name}
 use Rattle.rv_asm.specs.FenceSets.{fence_sets}
 use Rattle.rv_asm.specs.RegisterNames.{registers}
@@ -101,7 +102,7 @@ read-hex places n some few small = let written = written-hex places n some few s
 
 -- no register's name begins with a digit
 pub read-csr : (n : ℕ) → n < 2 ^ 12 → csr_at (csr_text n) ≡ Ok (plus n)
-unfolding csrs
+unfolding csrs csr_listing
 read-csr n small = let written = written-hex 3 n (omega arith) (omega arith) (omega (arith, small)) in rw written refl
 
 -- ---- signed numbers

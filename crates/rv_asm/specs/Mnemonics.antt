@@ -1,6 +1,8 @@
 -- The mnemonics: the names of the instructions, RISC-V Unprivileged ISA 20191213, chapter 24, and Privileged Architecture
 -- 20211203, chapter "RISC-V Privileged Instruction Set Listings"; and four more, the Unprivileged ISA's chapter 25.
-use Rattle.std.specs.Prelude.{ℕ, List, [], ◌∷◌, codes, Option}
+use Rattle.std.specs.Prelude.{ℕ, List, [], ◌∷◌, map, codes, Option}
+use Rattle.rv_encoding.specs.Listing.{name_of, branch_name, load_name, store_name, op_imm_name, shift_name, op_name, csr_name, csr_imm_name}
+use Rattle.rv_encoding.specs.declared.instr.Instr.TheVariants as instr
 use Rattle.rv_encoding.specs.declared.kind.BranchKind.TheVariants.{Beq, Bne, Blt, Bge, Bltu, Bgeu}
 use Rattle.rv_encoding.specs.declared.kind.LoadKind.TheVariants.{Lb, Lh, Lw, Lbu, Lhu}
 use Rattle.rv_encoding.specs.declared.kind.StoreKind.TheVariants.{Sb, Sh, Sw}
@@ -12,32 +14,51 @@ use Rattle.rv_asm.specs.Tables.{looked_up}
 use Rattle.rv_asm.specs.declared.mnemonic.Mnemonic.{Mnemonic}
 use Rattle.rv_asm.specs.declared.mnemonic.Mnemonic.TheVariants.{Lui, Auipc, Jal, Jalr, Branch, Load, Store, OpImm, ShiftImm, Op, Fence, Csr, CsrImm, Ecall, Ebreak, Sret, Mret, Wfi, SfenceVma, Word, Nop, Ret, Li}
 
-unfoldable pub mnemonics : List (List ℕ × Mnemonic)
-mnemonics =
-    -- RV32I: upper immediates, jumps, branches, loads and stores
-    (codes "lui", Lui) ∷ (codes "auipc", Auipc) ∷ (codes "jal", Jal) ∷ (codes "jalr", Jalr)
-    ∷ (codes "beq", Branch Beq) ∷ (codes "bne", Branch Bne) ∷ (codes "blt", Branch Blt) ∷ (codes "bge", Branch Bge)
-    ∷ (codes "bltu", Branch Bltu) ∷ (codes "bgeu", Branch Bgeu) ∷ (codes "lb", Load Lb) ∷ (codes "lh", Load Lh)
-    ∷ (codes "lw", Load Lw) ∷ (codes "lbu", Load Lbu) ∷ (codes "lhu", Load Lhu) ∷ (codes "sb", Store Sb)
-    ∷ (codes "sh", Store Sh) ∷ (codes "sw", Store Sw)
-    -- RV32I: operations on immediates and registers
-    ∷ (codes "addi", OpImm Addi) ∷ (codes "slti", OpImm Slti) ∷ (codes "sltiu", OpImm Sltiu)
-    ∷ (codes "xori", OpImm Xori) ∷ (codes "ori", OpImm Ori) ∷ (codes "andi", OpImm Andi)
-    ∷ (codes "slli", ShiftImm Slli) ∷ (codes "srli", ShiftImm Srli) ∷ (codes "srai", ShiftImm Srai)
-    ∷ (codes "add", Op Add) ∷ (codes "sub", Op Sub) ∷ (codes "sll", Op Sll) ∷ (codes "slt", Op Slt)
-    ∷ (codes "sltu", Op Sltu) ∷ (codes "xor", Op Xor) ∷ (codes "srl", Op Srl) ∷ (codes "sra", Op Sra)
-    ∷ (codes "or", Op Or) ∷ (codes "and", Op And)
-    -- RV32I: fence, ecall and ebreak; Zicsr; the privileged instructions
-    ∷ (codes "fence", Fence) ∷ (codes "ecall", Ecall) ∷ (codes "ebreak", Ebreak) ∷ (codes "csrrw", Csr Write)
-    ∷ (codes "csrrs", Csr Set) ∷ (codes "csrrc", Csr Clear) ∷ (codes "csrrwi", CsrImm Write)
-    ∷ (codes "csrrsi", CsrImm Set) ∷ (codes "csrrci", CsrImm Clear) ∷ (codes "sret", Sret) ∷ (codes "mret", Mret)
-    ∷ (codes "wfi", Wfi) ∷ (codes "sfence.vma", SfenceVma)
+-- The name of each: that of its instructions in the listing, and four names that an assembler adds.
+abbrev pub mnemonic_name : Mnemonic → List ℕ
+mnemonic_name Lui = name_of (instr.Lui 0 0)
+mnemonic_name Auipc = name_of (instr.Auipc 0 0)
+mnemonic_name Jal = name_of (instr.Jal 0 0)
+mnemonic_name Jalr = name_of (instr.Jalr 0 0 0)
+mnemonic_name (Branch kind) = branch_name kind
+mnemonic_name (Load kind) = load_name kind
+mnemonic_name (Store kind) = store_name kind
+mnemonic_name (OpImm kind) = op_imm_name kind
+mnemonic_name (ShiftImm kind) = shift_name kind
+mnemonic_name (Op kind) = op_name kind
+mnemonic_name Fence = name_of (instr.Fence 0 0 0 0 0)
+mnemonic_name Ecall = name_of instr.Ecall
+mnemonic_name Ebreak = name_of instr.Ebreak
+mnemonic_name (Csr kind) = csr_name kind
+mnemonic_name (CsrImm kind) = csr_imm_name kind
+mnemonic_name Sret = name_of instr.Sret
+mnemonic_name Mret = name_of instr.Mret
+mnemonic_name Wfi = name_of instr.Wfi
+mnemonic_name SfenceVma = name_of (instr.SfenceVma 0 0)
+mnemonic_name Word = codes ".word"
+mnemonic_name Nop = codes "nop"
+mnemonic_name Ret = codes "ret"
+mnemonic_name Li = codes "li"
+
+abbrev pub all_mnemonics : List Mnemonic
+all_mnemonics =
+    -- RV32I
+    Lui ∷ Auipc ∷ Jal ∷ Jalr ∷ Branch Beq ∷ Branch Bne ∷ Branch Blt ∷ Branch Bge ∷ Branch Bltu ∷ Branch Bgeu
+    ∷ Load Lb ∷ Load Lh ∷ Load Lw ∷ Load Lbu ∷ Load Lhu ∷ Store Sb ∷ Store Sh ∷ Store Sw
+    ∷ OpImm Addi ∷ OpImm Slti ∷ OpImm Sltiu ∷ OpImm Xori ∷ OpImm Ori ∷ OpImm Andi ∷ ShiftImm Slli ∷ ShiftImm Srli ∷ ShiftImm Srai
+    ∷ Op Add ∷ Op Sub ∷ Op Sll ∷ Op Slt ∷ Op Sltu ∷ Op Xor ∷ Op Srl ∷ Op Sra ∷ Op Or ∷ Op And ∷ Fence ∷ Ecall ∷ Ebreak
+    -- Zicsr
+    ∷ Csr Write ∷ Csr Set ∷ Csr Clear ∷ CsrImm Write ∷ CsrImm Set ∷ CsrImm Clear
+    -- the privileged instructions
+    ∷ Sret ∷ Mret ∷ Wfi ∷ SfenceVma
     -- RV32M
-    ∷ (codes "mul", Op Mul) ∷ (codes "mulh", Op Mulh) ∷ (codes "mulhsu", Op Mulhsu) ∷ (codes "mulhu", Op Mulhu)
-    ∷ (codes "div", Op Div) ∷ (codes "divu", Op Divu) ∷ (codes "rem", Op Rem) ∷ (codes "remu", Op Remu)
+    ∷ Op Mul ∷ Op Mulh ∷ Op Mulhsu ∷ Op Mulhu ∷ Op Div ∷ Op Divu ∷ Op Rem ∷ Op Remu
     -- what an assembler adds
-    ∷ (codes ".word", Word) ∷ (codes "nop", Nop) ∷ (codes "ret", Ret) ∷ (codes "li", Li)
-    ∷ []
+    ∷ Word ∷ Nop ∷ Ret ∷ Li ∷ []
+
+-- the table of names
+unfoldable pub mnemonics : List (List ℕ × Mnemonic)
+mnemonics = map (λ mnemonic. (mnemonic_name mnemonic, mnemonic)) all_mnemonics
 
 -- the mnemonic that a name is, if it is one; upper and lower case differ
 abbrev pub mnemonic_named : List ℕ → Option Mnemonic
