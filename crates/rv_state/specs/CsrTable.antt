@@ -42,7 +42,7 @@ pub record CsrRow : Type 0 where
 abbrev pub csr : ℕ → List ℕ → CsrName → CsrRow
 csr own name register = record { is_of = λ number. number == own; name = λ _. name; register = λ _. register }
 
--- a number below 100 as its digits
+-- a number below 100 as its digits; 48 is the code of 0
 abbrev pub digits_of : ℕ → List ℕ
 digits_of n = if nat_lt n 10 then (48 + n) ∷ [] else (48 + n / 10) ∷ (48 + n % 10) ∷ []
 
@@ -54,6 +54,7 @@ csr_range first last before from after register = record {
   register = λ number. register (number - first);
 }
 
+-- they read 0
 abbrev pub zeros : ℕ → CsrName
 zeros _ = Zero
 
