@@ -15,7 +15,7 @@ use Rattle.rv_bench.specs.Run.{Outcome, RunsToEnd, FailsToRead, FailsToWrite, St
 use Rattle.rv_bench.specs.Unread.{held, unread}
 
 module _ {S W : Type 0} {g : SourceGhosts S} (h : SinkGhosts W) (setup : Setup) (old new : Lines S g) (before after : W) where
-  -- what the input denotes, where the source tells it: the output, or its fault
+  -- the input has this fault in place of an output
   abbrev pub IsFault : BenchFault → Type 0
   IsFault fault = IsTrue g.tells → output setup (unread old) ≡ Err fault
 

@@ -1,12 +1,15 @@
-use Rattle.std.proofs.Common.{rules, ◌≡◌, ◌≤◌, ◌∙◌, ◌++◌, Global, IsTrue, List, ℕ, length, Ok, Err, refl, ap, sym, subst, arith}
+use Rattle.std.proofs.Common.{rules, ◌≡◌, ◌≢◌, ◌≤◌, ◌∙◌, ◌++◌, Global, IsTrue, List, ℕ, length, Ok, Err, refl, ap, sym, subst, arith}
 use Rattle.std.proofs.lemmas.List.{length-append}
 use Rattle.std.proofs.lemmas.Result.{IfOk-at_ok, IfErr-at_err}
 use Rattle.rv_text.specs.Lines.{lines_of}
+use Rattle.rv_asm.specs.Program.{assembled}
+use Rattle.rv_asm.specs.declared.fault.AsmFault.{AsmFault}
+use Rattle.rv_asm.specs.declared.fault.AsmFaultKind.TheVariants as asm
 use Rattle.rv_bench.specs.declared.device.Sink.{Ghosts as SinkGhosts}
 use Rattle.rv_bench.specs.declared.device.Source.{Ghosts as SourceGhosts}
 use Rattle.rv_bench.specs.declared.fault.BenchFault.{BenchFault}
-use Rattle.rv_bench.specs.declared.fault.BenchFault.TheVariants.{Read, Write, TooLong, NoMemory}
-use Rattle.rv_bench.specs.Assemble.{ReadsText, RunsAsm}
+use Rattle.rv_bench.specs.declared.fault.BenchFault.TheVariants.{Read, Write, TooLong, NoMemory, Asm}
+use Rattle.rv_bench.specs.Assemble.{ReadsText, ReadsWholeText, RunsAsm}
 use Rattle.rv_bench.specs.AssemblyText.{asm_text, asm_output}
 use Rattle.rv_bench.specs.Transfer.{WritesFront}
 use Rattle.rv_bench.proofs.Assembling.{asm_output-ok, asm_output-fault, asm_output-too_long}
@@ -58,11 +61,20 @@ returns-in-Ok g c =
       λ tells. IsOkAnd-at _ _ _ (whole tells) (λ told. subst (λ ws. WritesFront (g.W.Sink.taken c.args.sink.now) (g.W.Sink.taken c.write_words.new.sink) (asm_text ws)) words (c.write_words.ensures.front told)),
     ))
 
+-- a text that has a fault
+faulty : {S W : Type 0} (g : SourceGhosts S) (h : SinkGhosts W) (old new : S) (sink : W) (text : List ℕ) (fault : AsmFault)
+    → ReadsWholeText g old new → (IsTrue g.tells → text ≡ g.remaining old) → length text ≤ 4194304
+    → (1 ≤ fault.line) × (fault.line ≤ length (lines_of text)) → (fault.kind ≢ asm.NoMemory → assembled text ≡ Err fault)
+    → RunsAsm g h old new sink sink (Err (Asm fault))
+faulty g h old new sink text fault reads is short line told = (
+  reads,
+  λ tells. subst (λ t. (1 ≤ fault.line) × (fault.line ≤ length (lines_of t))) (is tells) line,
+  λ tells other. ap asm_output (sym (is tells)) ∙ asm_output-fault text fault short (told other),
+  refl,
+)
+
 pub returns : goal.returns
 returns g c =
-    let read = λ (tells : IsTrue g.S.Source.tells). c.as_slice.ensures.value ∙ c.in_ok-text.ensures.2 tells in (
-      c.in_ok-text.ensures.0,
-      λ tells. subst (λ t. (1 ≤ c.in-Err.fault.line) × (c.in-Err.fault.line ≤ length (lines_of t))) (read tells) c.in-Err.ensures.line,
-      λ tells other. ap asm_output (sym (read tells)) ∙ asm_output-fault _ _ (few _ _ c.as_slice.ensures.value c.in_ok-text.ensures.1) (c.in-Err.ensures.fault other),
-      refl,
-    )
+    faulty g.S.Source g.W.Sink c.args.source.now c.read_whole.new.source c.args.sink.now c.as_slice.result.now c.in-Err.fault
+    c.in_ok-text.ensures.0 (λ tells. c.as_slice.ensures.value ∙ c.in_ok-text.ensures.2 tells) (few _ _ c.as_slice.ensures.value c.in_ok-text.ensures.1)
+    c.in-Err.ensures.line c.in-Err.ensures.fault

@@ -8,7 +8,7 @@ use Rattle.rv_bench.specs.declared.lines.Lines.{Lines}
 use Rattle.rv_bench.specs.Calls.{SourceWorked}
 use Rattle.rv_bench.specs.Image.{line_word, AddsBytes}
 use Rattle.rv_bench.specs.LineText.{TakesLine}
-use Rattle.rv_bench.specs.ReadImage.{ReadsImage}
+use Rattle.rv_bench.specs.ReadImage.{FindsFault, ReadsImage}
 use Rattle.rv_bench.specs.Unread.{held, unread}
 use Rattle.rv_bench.proofs.Ends.{TellsEnd-more}
 use Rattle.rv_bench.proofs.ImageLemmas.{TakesInImage, SpellsImage-going, SpellsImage-read, SpellsImage-more, SpellsImage-refused, SpellsImage-no_word, SpellsImage-no_digits, SpellsImage-many, SpellsImage-marker, SpellsImage-end}
@@ -62,21 +62,25 @@ returns-in_err-line-clause-outcome g c =
 
 pub returns-in_default-only_word-clause-outcome : goal.returns-in_default-only_word-clause-outcome
 returns-in_default-only_word-clause-outcome g c =
-    let at = taken g (goal.at.returns-in_default-only_word-clause-outcome g c).After-as_slice in record {
+    let at = taken g (goal.at.returns-in_default-only_word-clause-outcome g c).After-as_slice in
+    let finds : FindsFault Hex c.args.lines.now c.next_line.new.self = record {
       source = search rules;
       emptied = search rules;
       image = λ tells. (SpellsImage-no_word (at tells) c.in_default-only_word.ensures).0;
       reads = λ tells. (SpellsImage-no_word (at tells) c.in_default-only_word.ensures).1;
-    }
+    } in
+    finds
 
 pub returns-then-is_dashes-clause-outcome : goal.returns-then-is_dashes-clause-outcome
 returns-then-is_dashes-clause-outcome g c =
     let at = taken g (goal.at.returns-then-is_dashes-clause-outcome g c).After-as_slice in
-    let marked = λ (tells : IsTrue g.S.Source.tells). SpellsImage-marker (at tells) c.in-Some-only_word.ensures (sym c.is_dashes.ensures ∙ c.if-is_dashes.true) in (
+    let marked = λ (tells : IsTrue g.S.Source.tells). SpellsImage-marker (at tells) c.in-Some-only_word.ensures (sym c.is_dashes.ensures ∙ c.if-is_dashes.true) in
+    let reads : ReadsImage c.args.lines.now c.next_line.new.self (Ok c.loop-image.image) = (
       record { source = search rules; emptied = search rules; rest = λ tells. (marked tells).1; ended = inr (λ tells. (marked tells).2) },
       omega arith,
       λ tells. (marked tells).0,
-    )
+    ) in
+    reads
 
 pub add_bytes-requires-clause-word : goal.add_bytes-requires-clause-word
 add_bytes-requires-clause-word g c = length-line_word _ _ (sym c.in-Some-only_word.ensures)
