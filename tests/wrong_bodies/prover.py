@@ -62,8 +62,9 @@ class Answer:
         return [it for it in self.lines if re.search(r":\d+:\d+: error", it)]
 
     def first(self):
-        """The first error, or else the first line."""
-        return (self.errors() or [it for it in self.lines if it] or ["no line"])[0][:300]
+        """The first error, or else the first thing that is not proved, or else the first line."""
+        unproved = [it for it in self.lines if re.match(r"\w+ \S+: (?!proved)", it)]
+        return (self.errors() or unproved or [it for it in self.lines if it] or ["no line"])[0][:300]
 
     def called(self, name):
         """The functions, not proved, that the function calls, where that is all that is said of it."""
@@ -71,17 +72,28 @@ class Answer:
         return set(re.findall(r"`([^`]+)`", said[1])) if said else set()
 
     def refuses(self, name):
-        """Whether the function, or a closure in it, is refused by itself."""
+        """Whether the function, or a closure in it, is refused, and not for what it calls."""
         within = "{}::fn::{}::".format(*name.rsplit("::", 1))
         return any(REFUSED.fullmatch(said) for it, said in self.functions.items() if it == name or it.startswith(within))
 
+    def goals(self, place):
+        """The notes on goals of a function that are not proved, by the lines of its text; of the crate, where no place is given."""
+        notes = re.findall(r"^note: (src/\S+?):(\d+):\d+: it is not proved.*", "\n".join(self.lines), re.M)
+        return [it for it in notes if place is None or place.holds(it[0], int(it[1]))]
+
+    def proof_errors(self, place):
+        """The errors in the proof files of a function, or all errors, where no place is given."""
+        folder = rf"(?:\./)?{re.escape(place.proofs())}/" if place else ""
+        return [it for it in self.errors() if re.match(folder, it)]
+
+    def shows_why(self, place):
+        """Whether a goal of the function itself is not proved, or an answer in its own proof files is refused."""
+        return bool(self.goals(place) or self.proof_errors(place) or "`search` did not prove" in self.functions[place.name])
+
     def of_names_alone(self, place):
         """Whether a function, or with no place the crate, is refused only because its proof files name what an edit took away."""
-        folder = re.escape(place.proofs() if place else "proofs") + "/"
-        told = [it for it in self.errors() if re.match(rf"(?:\./)?{folder}", it)] if place else self.errors()
-        notes = re.findall(r"^note: (src/\S+?):(\d+):\d+: it is not proved", "\n".join(self.lines), re.M)
-        is_meant = any(place is None or place.holds(file, int(line)) for file, line in notes)
-        return bool(told) and not is_meant and all(OF_NAMES.search(it) for it in told)
+        errors = self.proof_errors(place)
+        return bool(errors) and not self.goals(place) and all(OF_NAMES.search(it) for it in errors)
 
 
 class Prover:
