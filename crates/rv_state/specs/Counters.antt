@@ -1,5 +1,5 @@
 -- The counters of 64 bits, their halves, and what a step adds: RISC-V Privileged Architecture 20211203, sections 3.1.10 and
--- 3.1.12.
+-- 3.1.12; Unprivileged ISA 20191213, section 9.1 (a write is done instead of the increment).
 use Rattle.std.specs.Prelude.{ℕ, ◌+◌, ◌*◌, ◌%◌, ◌^◌, Bool, false, ◌||◌, not, ◌==◌, if◌then◌else◌, Option, Some, None}
 use Rattle.rv_word.specs.BitFields.{bits, is_set}
 use Rattle.rv_state.specs.CsrState.{CsrState}
