@@ -7,7 +7,7 @@ use Rattle.std.proofs.lemmas.Bool.{and_parts, and_from, false_from_ne_true}
 use Rattle.std.proofs.lemmas.Bool.Decides.{nat_tests}
 use Rattle.rv_encoding.specs.Rows.{word_of}
 use Rattle.rv_encoding.specs.declared.instr.Instr.{Instr}
-use Rattle.rv_asm.specs.Cuts.{before_comment, label_text, statement_text, colon}
+use Rattle.rv_asm.specs.Cuts.{before_comment, label_text, statement_text, colon_place}
 use Rattle.rv_text.specs.Lines.{lines_of, onto_first}
 use Rattle.rv_text.specs.GoodLines.{is_text, is_good_line}
 use Rattle.rv_asm.specs.LineReading.{line_at}
@@ -69,7 +69,7 @@ uncommented line of_line =
     let none = none_found 35 line (λ b. line_byte-other b 35 refl) of_line in
     rw none (take-length line)
 
-no_colon : (line : List ℕ) → list_all is_line_byte line ≡ true → nat_lt (colon line) (length line) ≡ false
+no_colon : (line : List ℕ) → list_all is_line_byte line ≡ true → nat_lt (colon_place line) (length line) ≡ false
 no_colon line of_line =
     let none = none_found 58 line (λ b. line_byte-other b 58 refl) of_line in
     grind (arith, nat_tests, none)

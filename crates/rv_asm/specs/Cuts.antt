@@ -1,6 +1,7 @@
 -- How a line of an assembler text falls into pieces. (This project's own grammar.)
 use Rattle.std.specs.Prelude.{ℕ, Bool, false, ◌+◌, ◌==◌, ◌||◌, ◌&&◌, nat_le, nat_lt, List, [], ◌∷◌, length, take, drop, map, reverse, Option, Some, None, if◌then◌else◌}
 use Rattle.std.specs.List.{slice_split, position_or_len, list_all}
+use Rattle.rv_text.specs.Characters.{number_sign, comma, full_stop, colon, low_line}
 use Rattle.rv_text.specs.GoodLines.{is_blank}
 
 -- ---- blanks and commas
@@ -19,7 +20,7 @@ trimmed text = before_blanks (after_blanks text)
 
 -- what stands between the commas, without the blanks around it
 unfoldable pub fields_of : List ℕ → List (List ℕ)
-fields_of text = map trimmed (slice_split (λ b. b == 44) text)
+fields_of text = map trimmed (slice_split (λ b. b == comma) text)
 
 -- the operands: none where there are only blanks
 abbrev pub operands_of : List ℕ → List (List ℕ)
@@ -29,18 +30,18 @@ operands_of text = if length (trimmed text) == 0 then [] else fields_of text
 
 -- the line up to the first `#`
 abbrev pub before_comment : List ℕ → List ℕ
-before_comment line = take (position_or_len (λ b. b == 35) line) line
+before_comment line = take (position_or_len (λ b. b == number_sign) line) line
 
-abbrev pub colon : List ℕ → ℕ
-colon text = position_or_len (λ b. b == 58) text
+abbrev pub colon_place : List ℕ → ℕ
+colon_place text = position_or_len (λ b. b == colon) text
 
 -- what stands before the first `:`, if there is one, without the blanks at its front
 unfoldable pub label_text : List ℕ → Option (List ℕ)
-label_text text = if nat_lt (colon text) (length text) then Some (after_blanks (take (colon text) text)) else None
+label_text text = if nat_lt (colon_place text) (length text) then Some (after_blanks (take (colon_place text) text)) else None
 
 -- what stands after it, or all, without the blanks at its front
 unfoldable pub statement_text : List ℕ → List ℕ
-statement_text text = after_blanks (if nat_lt (colon text) (length text) then drop (colon text + 1) text else text)
+statement_text text = after_blanks (if nat_lt (colon_place text) (length text) then drop (colon_place text + 1) text else text)
 
 -- ---- mnemonic and operands
 
@@ -55,7 +56,7 @@ after_word text = drop (position_or_len is_blank text) text
 
 -- a letter, `_` or `.`
 abbrev pub is_letter : ℕ → Bool
-is_letter b = nat_le 97 b && nat_le b 122 || nat_le 65 b && nat_le b 90 || b == 95 || b == 46
+is_letter b = nat_le 97 b && nat_le b 122 || nat_le 65 b && nat_le b 90 || b == low_line || b == full_stop
 
 -- or a digit
 unfoldable pub is_name_byte : ℕ → Bool

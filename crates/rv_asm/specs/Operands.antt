@@ -4,6 +4,7 @@ use Rattle.std.specs.Prelude.{ℕ, ◌-◌, ◌==◌, List, length, take, drop, 
 use Rattle.std.specs.Option.{ok_or, option_map}
 use Rattle.std.specs.List.{starts_with, ends_with, position_or_len}
 use Rattle.rv_word.specs.Cases.{option_case}
+use Rattle.rv_text.specs.Characters.{left_parenthesis}
 use Rattle.rv_asm.specs.Tables.{looked_up}
 use Rattle.rv_asm.specs.Cuts.{is_name}
 use Rattle.rv_asm.specs.CsrNames.{csr_named}
@@ -38,7 +39,7 @@ base_of text =
     else None
 
 abbrev pub opening : List ℕ → ℕ
-opening text = position_or_len (λ b. b == 40) text
+opening text = position_or_len (λ b. b == left_parenthesis) text
 
 -- `n(rs1)`, an offset and a base register
 unfoldable pub address_of : List ℕ → Option (Number × ℕ)

@@ -5,7 +5,7 @@ use Rattle.rv_memory.specs.Memory.{is_ram_size}
 use Rattle.rv_debug.specs.BenchState.{BenchState, bare}
 use Rattle.rv_hart.specs.Hart.{at_reset}
 use Rattle.rv_pmp.specs.declared.mode.Mode.TheVariants.{M}
-use Rattle.rv_elf.specs.Loaded.{loaded}
+use Rattle.rv_elf.specs.Loaded.{loaded_memory}
 use Rattle.rv_elf.specs.Plans.{LoadPlan}
 use Rattle.rv_elf.specs.declared.elf_fault.ElfFault.{ElfFault}
 use Rattle.rv_command_line.specs.declared.setup.Setup.{Setup}
@@ -16,7 +16,7 @@ use Rattle.rv_bench.specs.Loaded.{planned, reset_over, started}
 -- a RAM that is made, loaded by the image's plan and given to a bench
 pub started_ok : (image : List ℕ) (setup : Setup) (plan : LoadPlan) (zeros memory : List ℕ) (entry : ℕ) (bench : BenchState)
     → is_ram_size setup.ram ≡ true → planned image setup ≡ Ok plan → zeros ≡ replicate setup.ram 0
-    → memory ≡ loaded image plan.segments zeros → entry ≡ plan.entry
+    → memory ≡ loaded_memory image plan.segments zeros → entry ≡ plan.entry
     → bench ≡ bare (record { hart = at_reset entry M; memory = memory }) → started image setup ≡ Ok bench
 unfolding started
 started_ok image setup plan zeros memory entry bench lawful plans made loads enters is =

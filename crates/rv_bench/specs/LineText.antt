@@ -2,6 +2,7 @@
 use Rattle.std.specs.Prelude.{◌≡◌, ℕ, Bool, true, false, List, [], ◌∷◌, ◌++◌, take, length, Result, Ok, Err}
 use Rattle.rv_bench.specs.declared.line.Stop.{Stop}
 use Rattle.rv_bench.specs.declared.line.Stop.TheVariants.{LineFeed, End}
+use Rattle.rv_text.specs.Characters.{line_feed}
 use Rattle.rv_text.specs.Lines.{has_feed, lines_of, through_last_feed, after_line, after_lines}
 
 -- of the unread bytes a text with no line feed was read, up to those that are left, and its first 122 bytes are kept
@@ -34,7 +35,7 @@ pub record ReadsLines (unread left : List ℕ) (is_at_end : Bool) (lines : List 
 
 -- the bytes from the end of a text on, of which the line feed is read already
 abbrev pub left_from : {E : Type 0} → Result Stop E → List ℕ → List ℕ
-left_from (Ok LineFeed) remaining = 10 ∷ remaining
+left_from (Ok LineFeed) remaining = line_feed ∷ remaining
 left_from (Ok End) remaining = remaining
 left_from (Err e) remaining = remaining
 

@@ -8,7 +8,7 @@ use Rattle.rv_memory.specs.Memory.{is_ram_size}
 use Rattle.rv_memory.specs.declared.ram_fault.RamFault.TheVariants.{BadSize, NoMemory as NoRamMemory}
 use Rattle.rv_debug.specs.BenchState.{BenchState, bare}
 use Rattle.rv_elf.specs.Fields.{magic}
-use Rattle.rv_elf.specs.Loaded.{loaded}
+use Rattle.rv_elf.specs.Loaded.{loaded_memory}
 use Rattle.rv_elf.specs.Plans.{LoadPlan, file_plan, raw_plan}
 use Rattle.rv_elf.specs.declared.elf_fault.ElfFault.{ElfFault}
 use Rattle.rv_command_line.specs.declared.image_kind.ImageKind.{ImageKind}
@@ -31,7 +31,7 @@ planned image setup =
 -- the bench at reset over the loaded memory, every other byte of which is 0
 abbrev pub reset_over : List ℕ → Setup → LoadPlan → BenchState
 reset_over image setup plan =
-    bare (record { hart = at_reset plan.entry M; memory = loaded image plan.segments (replicate setup.ram 0) })
+    bare (record { hart = at_reset plan.entry M; memory = loaded_memory image plan.segments (replicate setup.ram 0) })
 
 -- the bench at reset, or the first fault: of the RAM's size, then of the image
 unfoldable pub started : List ℕ → Setup → Result BenchState BenchFault

@@ -7,7 +7,7 @@ use Rattle.std.specs.Str.Parse.{AllDigits, ParsesUnsigned, digits_value, without
 use Rattle.std.proofs.lemmas.Bool.{lt-ltb, ltb-true}
 use Rattle.clap.specs.ValueTests.{is_numeral}
 use Rattle.clap.specs.Words.{ReadsOne}
-use Rattle.rv_command_line.specs.Job.{number_of}
+use Rattle.rv_command_line.specs.Job.{number_in_text}
 
 both : (a b : Bool) → (a && b) ≡ true → (a ≡ true) × (b ≡ true)
 both true b e = (refl, e)
@@ -28,14 +28,14 @@ is_word ds = is_numeral ds && nat_lt (digits_value 10 ds) (2 ^ 32)
 
 -- the value that `get_one::<u32>` reads of a text
 pub reads_number : (E : Type 0) (G : List ℕ → Result ℕ E → Type 0) (text : List ℕ) (r : Option ℕ) → ReadsOne G text r
-    → ((u : List ℕ) (x : Result ℕ E) → G u x → ParsesUnsigned 32 10 u x) → r ≡ number_of text
+    → ((u : List ℕ) (x : Result ℕ E) → G u x → ParsesUnsigned 32 10 u x) → r ≡ number_in_text text
 reads_number E G text (Some n) read only =
     let ds = without_leading_plus text in
     let h = only text (Ok n) read in
     rw (lt-ltb 0 (length ds) h.0.0.0, digits_pass ds h.0.0.1, lt-ltb (digits_value 10 ds) (2 ^ 32) h.0.1) (ap Some h.1)
 reads_number E G text None read only = go (is_word (without_leading_plus text)) refl
   where
-    go : (b : Bool) → is_word (without_leading_plus text) ≡ b → None ≡ number_of text
+    go : (b : Bool) → is_word (without_leading_plus text) ≡ b → None ≡ number_in_text text
     go false t = rw t refl
     go true t =
         let outer = both _ _ t in
@@ -43,7 +43,7 @@ reads_number E G text None read only = go (is_word (without_leading_plus text)) 
         absurd (only text (Err read.0) read.1 ((ltb-true _ _ inner.0, digits_from (without_leading_plus text) inner.1), ltb-true _ _ outer.1))
 
 -- which number it is, as a fact of a text
-pub number_reads : (text : List ℕ) → ReadsOne {E = Bool} (λ u x. ParsesUnsigned 32 10 u x) text (number_of text)
+pub number_reads : (text : List ℕ) → ReadsOne {E = Bool} (λ u x. ParsesUnsigned 32 10 u x) text (number_in_text text)
 number_reads text = go (is_word (without_leading_plus text)) refl
   where
     go : (b : Bool) → is_word (without_leading_plus text) ≡ b

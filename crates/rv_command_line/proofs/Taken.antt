@@ -23,7 +23,7 @@ use Rattle.clap.specs.declared.builder.value_parser.ValueParser.TheVariants as p
 use Rattle.rv_command_line.proofs.Given.{AllGood, EntersGood, entered_good, parts, rules_named}
 use Rattle.rv_command_line.proofs.Numbers.{number_reads}
 use Rattle.rv_command_line.specs.CommandLine.{faults_of, kind, kind_names, kinds, lent, Names, ram, rvbench}
-use Rattle.rv_command_line.specs.Job.{are_read, kind_of, number_of, run_options}
+use Rattle.rv_command_line.specs.Job.{are_read, kind_of, number_in_text, run_options}
 use Rattle.rv_command_line.specs.declared.image_kind.ImageKind.{ImageKind}
 
 -- ---- values that the parsers accept
@@ -58,18 +58,18 @@ kind_named v = named v kinds
 some_given : {X : Type 0} (o : Option X) (n : X) → o ≡ Some n → is_some o ≡ true
 some_given o n e = rw e refl
 
-ram_read : (v : Text) → accepts false (parser.Signed (pos 0) (pos 4294967295)) v ≡ true → is_some (number_of (without_minus v)) ≡ true
+ram_read : (v : Text) → accepts false (parser.Signed (pos 0) (pos 4294967295)) v ≡ true → is_some (number_in_text (without_minus v)) ≡ true
 ram_read v e =
-    let got = signed_reads Bool (λ u x. ParsesUnsigned 32 10 u x) 32 0 4294967295 v (number_of (without_minus v)) (number_reads (without_minus v)) (λ u x given. given) (omega arith)
+    let got = signed_reads Bool (λ u x. ParsesUnsigned 32 10 u x) 32 0 4294967295 v (number_in_text (without_minus v)) (number_reads (without_minus v)) (λ u x given. given) (omega arith)
     (accepts-Accepts false (parser.Signed (pos 0) (pos 4294967295)) v e) in
-    some_given (number_of (without_minus v)) got.0 got.1
+    some_given (number_in_text (without_minus v)) got.0 got.1
 
 first_kind : (vs : List Text) → values_fault (filled (kind at_first)) vs ≡ [] → option_map_or (λ text. is_some (kind_of text)) (slice_get vs 0) true ≡ true
 first_kind [] e = refl
 first_kind (v ∷ vs) e = kind_named v (passed (filled (kind at_first)) v vs e)
 
 first_ram : (how : Reading) (vs : List Text) → how ≡ reading.WithoutMinus → values_fault (filled ram) vs ≡ []
-    → option_map_or (λ text. is_some (number_of text)) (option_map (read_as how) (slice_get vs 0)) true ≡ true
+    → option_map_or (λ text. is_some (number_in_text text)) (option_map (read_as how) (slice_get vs 0)) true ≡ true
 first_ram how [] is e = refl
 first_ram how (v ∷ vs) is e = rw is (ram_read v (passed (filled ram) v vs e))
 
@@ -97,8 +97,8 @@ rows_read rows good =
     let kind_is : option_map_or (λ text. is_some (kind_of text)) (first_of (codes "kind") rows) true ≡ true =
     row_found rules_of_run (filled (kind at_first)) (λ o. option_map_or (λ text. is_some (kind_of text)) (option_and_then (λ r. slice_get r.values 0) o) true ≡ true) refl refl
     (λ r how e. first_kind r.values e) rows good in
-    let ram_is : option_map_or (λ text. is_some (number_of text)) (one_of (codes "ram") rows) true ≡ true =
-    row_found rules_of_run (filled ram) (λ o. option_map_or (λ text. is_some (number_of text)) (option_and_then row_text o) true ≡ true) refl refl
+    let ram_is : option_map_or (λ text. is_some (number_in_text text)) (one_of (codes "ram") rows) true ≡ true =
+    row_found rules_of_run (filled ram) (λ o. option_map_or (λ text. is_some (number_in_text text)) (option_and_then row_text o) true ≡ true) refl refl
     (λ r how e. first_ram r.reading r.values how e) rows good in
     rw (kind_is, ram_is) refl
 

@@ -18,8 +18,8 @@ abbrev pub kind_of : Text → Option ImageKind
 kind_of name = option_map (λ row. row.1) (find (λ row. bytes_eq row.0 name) kinds)
 
 -- the number of 32 bits that a text of decimal digits spells, after a plus or none
-abbrev pub number_of : Text → Option ℕ
-number_of text =
+abbrev pub number_in_text : Text → Option ℕ
+number_in_text text =
     let digits = without_leading_plus text in
     if is_numeral digits && nat_lt (digits_value 10 digits) (2 ^ 32) then Some (digits_value 10 digits) else None
 
@@ -27,13 +27,13 @@ number_of text =
 abbrev pub setup_of : List Row → Setup
 setup_of options = record {
   kind = unwrap_or (option_and_then kind_of (first_of (codes "kind") options)) image.Auto;
-  ram = unwrap_or (option_and_then number_of (one_of (codes "ram") options)) 1048576;
+  ram = unwrap_or (option_and_then number_in_text (one_of (codes "ram") options)) 1048576;
 }
 
 -- each of them that is given has a value that is read, so that a default stands only for one that is not given
 abbrev pub are_read : List Row → Bool
 are_read options = option_map_or (λ text. is_some (kind_of text)) (first_of (codes "kind") options) true
-    && option_map_or (λ text. is_some (number_of text)) (one_of (codes "ram") options) true
+    && option_map_or (λ text. is_some (number_in_text text)) (one_of (codes "ram") options) true
 
 -- the job of a subcommand with its options, or of none
 abbrev pub named_job : Option (Text × List Row) → Job

@@ -74,28 +74,28 @@ four first second third fourth make (t ∷ u ∷ v ∷ w ∷ []) =
 four first second third fourth make _ = None
 
 -- a row of the table of commands: the first word, and the command that the words after it make
-pub record Row : Type 0 where
+pub record CommandRow : Type 0 where
   pub spelling : List ℕ
   pub operands : List (List ℕ) → Option Command
 
-abbrev pub row_of : Keyword → Row
-row_of keyword.Step = record { spelling = codes "step"; operands = one (decimal_within 1 1000000) command.Step }
-row_of keyword.Run = record { spelling = codes "run"; operands = one (decimal_within 1 1000000) command.Run }
-row_of keyword.Break = record { spelling = codes "break"; operands = one hexadecimal_of command.Break }
-row_of keyword.Clear = record { spelling = codes "clear"; operands = one hexadecimal_of command.Clear }
-row_of keyword.Watch = record { spelling = codes "watch"; operands = one hexadecimal_of command.Watch }
-row_of keyword.Unwatch = record { spelling = codes "unwatch"; operands = one hexadecimal_of command.Unwatch }
-row_of keyword.Reg = record { spelling = codes "reg"; operands = one register_of command.Reg }
-row_of keyword.Regs = record { spelling = codes "regs"; operands = none command.Regs }
-row_of keyword.SetReg = record { spelling = codes "setreg"; operands = two register_of hexadecimal_of command.SetReg }
-row_of keyword.Csr = record { spelling = codes "csr"; operands = one csr_number_of command.Csr }
-row_of keyword.Mem = record { spelling = codes "mem"; operands = two hexadecimal_of (decimal_within 1 64) command.Mem }
-row_of keyword.Poke = record { spelling = codes "poke"; operands = two hexadecimal_of byte_of_text command.Poke }
-row_of keyword.Dis = record { spelling = codes "dis"; operands = one hexadecimal_of command.Dis }
-row_of keyword.Pmp = record { spelling = codes "pmp"; operands = none command.Pmp }
-row_of keyword.Enclaves = record { spelling = codes "enclaves"; operands = none command.Enclaves }
-row_of keyword.Access = record { spelling = codes "access"; operands = four mode_of access_of hexadecimal_of width_of command.Access }
-row_of keyword.Timer = record { spelling = codes "timer"; operands = one switch_of command.Timer }
+abbrev pub command_row : Keyword → CommandRow
+command_row keyword.Step = record { spelling = codes "step"; operands = one (decimal_within 1 1000000) command.Step }
+command_row keyword.Run = record { spelling = codes "run"; operands = one (decimal_within 1 1000000) command.Run }
+command_row keyword.Break = record { spelling = codes "break"; operands = one hexadecimal_of command.Break }
+command_row keyword.Clear = record { spelling = codes "clear"; operands = one hexadecimal_of command.Clear }
+command_row keyword.Watch = record { spelling = codes "watch"; operands = one hexadecimal_of command.Watch }
+command_row keyword.Unwatch = record { spelling = codes "unwatch"; operands = one hexadecimal_of command.Unwatch }
+command_row keyword.Reg = record { spelling = codes "reg"; operands = one register_of command.Reg }
+command_row keyword.Regs = record { spelling = codes "regs"; operands = none command.Regs }
+command_row keyword.SetReg = record { spelling = codes "setreg"; operands = two register_of hexadecimal_of command.SetReg }
+command_row keyword.Csr = record { spelling = codes "csr"; operands = one csr_number_of command.Csr }
+command_row keyword.Mem = record { spelling = codes "mem"; operands = two hexadecimal_of (decimal_within 1 64) command.Mem }
+command_row keyword.Poke = record { spelling = codes "poke"; operands = two hexadecimal_of byte_of_text command.Poke }
+command_row keyword.Dis = record { spelling = codes "dis"; operands = one hexadecimal_of command.Dis }
+command_row keyword.Pmp = record { spelling = codes "pmp"; operands = none command.Pmp }
+command_row keyword.Enclaves = record { spelling = codes "enclaves"; operands = none command.Enclaves }
+command_row keyword.Access = record { spelling = codes "access"; operands = four mode_of access_of hexadecimal_of width_of command.Access }
+command_row keyword.Timer = record { spelling = codes "timer"; operands = one switch_of command.Timer }
 
 abbrev pub keywords : List Keyword
 keywords =
@@ -103,10 +103,10 @@ keywords =
     ∷ keyword.Csr ∷ keyword.Mem ∷ keyword.Poke ∷ keyword.Dis ∷ keyword.Pmp ∷ keyword.Enclaves ∷ keyword.Access ∷ keyword.Timer ∷ []
 
 abbrev pub spelling_of : Keyword → List ℕ
-spelling_of k = (row_of k).spelling
+spelling_of k = (command_row k).spelling
 
 abbrev pub operands_of : Keyword → List (List ℕ) → Option Command
-operands_of k = (row_of k).operands
+operands_of k = (command_row k).operands
 
 -- the keyword that a word spells
 unfoldable pub keyword_of : List ℕ → Option Keyword

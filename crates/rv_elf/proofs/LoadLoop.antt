@@ -5,15 +5,15 @@ use Rattle.std.proofs.lemmas.List.{drop_more}
 use Rattle.std.specs.List.{list_all, list_any}
 use Rattle.std.proofs.lemmas.Bool.{or_parts, and_parts}
 use Rattle.rv_elf.specs.declared.segment.Segment.{Segment}
-use Rattle.rv_elf.specs.Loaded.{loaded}
+use Rattle.rv_elf.specs.Loaded.{loaded_memory}
 use Rattle.rv_elf.specs.Plans.{LoadPlan, IsValid, fits}
 use Rattle.rv_elf.specs.Segments.{has_overlap, share_a_byte}
-use Rattle.rv_elf.proofs.LoadedBytes.{length-loaded, load_first, load_none}
+use Rattle.rv_elf.proofs.LoadedBytes.{length-loaded_memory, load_first, load_none}
 
 -- what is so when the rest of the segments is still to be loaded into this memory
 unfoldable pub Loads : List ℕ → LoadPlan → List ℕ → List Segment → List ℕ → Type 0
 Loads image plan before rest now =
-    (loaded image rest now ≡ loaded image plan.segments before)
+    (loaded_memory image rest now ≡ loaded_memory image plan.segments before)
     × (length now ≡ length before)
     × (list_all (fits plan.image_size plan.ram_size) rest ≡ true)
     × (has_overlap rest ≡ false)
@@ -29,12 +29,12 @@ unfolding Loads
 first_fits image plan before now segment others loads = (and_parts (fits plan.image_size plan.ram_size segment) _ loads.2).0
 
 others_load : (image : List ℕ) (plan : LoadPlan) (before now : List ℕ) (segment : Segment) (others : List Segment)
-    → Loads image plan before (segment ∷ others) now → Loads image plan before others (loaded image (segment ∷ []) now)
+    → Loads image plan before (segment ∷ others) now → Loads image plan before others (loaded_memory image (segment ∷ []) now)
 unfolding Loads
 others_load image plan before now segment others loads =
     let apart = or_parts (list_any (share_a_byte segment) others) (has_overlap others) loads.3 in (
       load_first image segment others now apart.0 ∙ loads.0,
-      length-loaded image (segment ∷ []) now ∙ loads.1,
+      length-loaded_memory image (segment ∷ []) now ∙ loads.1,
       (and_parts (fits plan.image_size plan.ram_size segment) _ loads.2).1,
       apart.1,
     )
@@ -52,13 +52,13 @@ loads_fits image plan before now i default inside loads =
 
 pub loads_more : (image : List ℕ) (plan : LoadPlan) (before now : List ℕ) (i : ℕ) (default : Segment) → i < length plan.segments
     → Loads image plan before (drop i plan.segments) now
-    → Loads image plan before (drop (i + 1) plan.segments) (loaded image (slice_index_or plan.segments i default ∷ []) now)
+    → Loads image plan before (drop (i + 1) plan.segments) (loaded_memory image (slice_index_or plan.segments i default ∷ []) now)
 loads_more image plan before now i default inside loads =
     others_load image plan before now (slice_index_or plan.segments i default) (drop (i + 1) plan.segments)
     (rw (drop_more plan.segments i default inside) at loads)
 
 pub loads_end : (image : List ℕ) (plan : LoadPlan) (before now : List ℕ) (i : ℕ) → length plan.segments ≤ i
-    → Loads image plan before (drop i plan.segments) now → now ≡ loaded image plan.segments before
+    → Loads image plan before (drop i plan.segments) now → now ≡ loaded_memory image plan.segments before
 unfolding Loads
 loads_end image plan before now i past loads =
     let none : drop i plan.segments ≡ [] = drop_of_length-le plan.segments past in

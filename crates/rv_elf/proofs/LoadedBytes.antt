@@ -7,9 +7,9 @@ use Rattle.std.proofs.lemmas.List.FromFn.{get_or-map-range_with_len, length-map-
 use Rattle.rv_memory.specs.Memory.{ram_base, byte_at, is_inside}
 use Rattle.rv_memory.proofs.MemoryLaws.{byte_at-index}
 use Rattle.rv_elf.specs.declared.segment.Segment.{Segment}
-use Rattle.rv_elf.specs.Loaded.{loaded, byte_after, LoadsEach}
+use Rattle.rv_elf.specs.Loaded.{loaded_memory, byte_after, LoadsEach}
 use Rattle.rv_elf.specs.Plans.{LoadPlan, IsValid, fits}
-use Rattle.rv_elf.specs.Segments.{covers, share_a_byte, has_overlap}
+use Rattle.rv_elf.specs.Segments.{has_address, share_a_byte, has_overlap}
 use Rattle.rv_elf.proofs.SharedBytes.{not_in_other}
 
 -- two functions that agree on some numbers
@@ -19,14 +19,14 @@ map_same f g a (suc n) same =
     rw (same a (omega arith) (omega arith), map_same f g (a + 1) n (λ b low high. same b (omega arith) (omega arith))) refl
 
 -- the size stays
-pub length-loaded : (image : List ℕ) (segments : List Segment) (memory : List ℕ) → length (loaded image segments memory) ≡ length memory
-unfolding loaded
-length-loaded image segments memory = length-map-range_with_len (byte_after image segments memory) ram_base (length memory)
+pub length-loaded_memory : (image : List ℕ) (segments : List Segment) (memory : List ℕ) → length (loaded_memory image segments memory) ≡ length memory
+unfolding loaded_memory
+length-loaded_memory image segments memory = length-map-range_with_len (byte_after image segments memory) ram_base (length memory)
 
 -- the byte at an index
 pub loaded_at : (image : List ℕ) (segments : List Segment) (memory : List ℕ) (address : ℕ) → ram_base ≤ address → address < ram_base + length memory
-    → slice_index (loaded image segments memory) (address - ram_base) ≡ byte_after image segments memory address
-unfolding loaded
+    → slice_index (loaded_memory image segments memory) (address - ram_base) ≡ byte_after image segments memory address
+unfolding loaded_memory
 loaded_at image segments memory address low high =
     get_or-map-range_with_len (byte_after image segments memory) ram_base (length memory) (address - ram_base) address 0 (omega (arith, low, high)) (omega (arith, low))
 
@@ -41,56 +41,56 @@ find_none test (x ∷ xs) none =
     rw parts.0 (find_none test xs parts.1)
 
 -- no segment apart from another has its addresses
-none_covers : (segment : Segment) (others : List Segment) (address : ℕ) → list_any (share_a_byte segment) others ≡ false → covers address segment ≡ true
-    → list_any (covers address) others ≡ false
+none_covers : (segment : Segment) (others : List Segment) (address : ℕ) → list_any (share_a_byte segment) others ≡ false → has_address address segment ≡ true
+    → list_any (has_address address) others ≡ false
 none_covers segment [] address none inside = refl
 none_covers segment (other ∷ others) address none inside =
     let parts = or_parts (share_a_byte segment other) (list_any (share_a_byte segment) others) none in
     rw (not_in_other segment other address parts.0 inside) (none_covers segment others address parts.1 inside)
 
-pub found_alone : (segment : Segment) (others : List Segment) (address : ℕ) → list_any (share_a_byte segment) others ≡ false → covers address segment ≡ true
-    → find (covers address) others ≡ None
-found_alone segment others address none inside = find_none (covers address) others (none_covers segment others address none inside)
+pub found_alone : (segment : Segment) (others : List Segment) (address : ℕ) → list_any (share_a_byte segment) others ≡ false → has_address address segment ≡ true
+    → find (has_address address) others ≡ None
+found_alone segment others address none inside = find_none (has_address address) others (none_covers segment others address none inside)
 
 -- the byte after a segment and then others were loaded
 byte_first : (image : List ℕ) (segment : Segment) (others : List Segment) (memory : List ℕ) (address : ℕ) → ram_base ≤ address → address < ram_base + length memory
     → list_any (share_a_byte segment) others ≡ false
-    → byte_after image others (loaded image (segment ∷ []) memory) address ≡ byte_after image (segment ∷ others) memory address
+    → byte_after image others (loaded_memory image (segment ∷ []) memory) address ≡ byte_after image (segment ∷ others) memory address
 byte_first image segment others memory address low high none =
     let before = loaded_at image (segment ∷ []) memory address low high in
-    elim (cases_Bool (covers address segment)) [
+    elim (cases_Bool (has_address address segment)) [
       | inl inside ↦ rw (before, inside, found_alone segment others address none inside) refl
       | inr outside ↦ rw (before, outside) refl
     ]
 
 -- a segment that shares no byte with the others may be loaded before them
 pub load_first : (image : List ℕ) (segment : Segment) (others : List Segment) (memory : List ℕ) → list_any (share_a_byte segment) others ≡ false
-    → loaded image others (loaded image (segment ∷ []) memory) ≡ loaded image (segment ∷ others) memory
-unfolding loaded
+    → loaded_memory image others (loaded_memory image (segment ∷ []) memory) ≡ loaded_memory image (segment ∷ others) memory
+unfolding loaded_memory
 load_first image segment others memory none =
-    rw (length-loaded image (segment ∷ []) memory)
-    (map_same (byte_after image others (loaded image (segment ∷ []) memory)) (byte_after image (segment ∷ others) memory) ram_base (length memory)
+    rw (length-loaded_memory image (segment ∷ []) memory)
+    (map_same (byte_after image others (loaded_memory image (segment ∷ []) memory)) (byte_after image (segment ∷ others) memory) ram_base (length memory)
     (λ address low high. byte_first image segment others memory address low high none))
 
 -- without segments the memory is as before
-pub load_none : (image memory : List ℕ) → loaded image [] memory ≡ memory
+pub load_none : (image memory : List ℕ) → loaded_memory image [] memory ≡ memory
 load_none image memory =
-    same_number_lists (loaded image [] memory) memory (length-loaded image [] memory)
-    (λ k below. let inside : k < length memory = rw (length-loaded image [] memory) at below in
-    let at : slice_index (loaded image [] memory) (ram_base + k - ram_base) ≡ slice_index memory (ram_base + k - ram_base) =
+    same_number_lists (loaded_memory image [] memory) memory (length-loaded_memory image [] memory)
+    (λ k below. let inside : k < length memory = rw (length-loaded_memory image [] memory) at below in
+    let at : slice_index (loaded_memory image [] memory) (ram_base + k - ram_base) ≡ slice_index memory (ram_base + k - ram_base) =
     loaded_at image [] memory (ram_base + k) (omega arith) (omega (arith, inside)) in
     let index : ram_base + k - ram_base ≡ k = omega arith in
     rw index at at)
 
 -- the one segment that has an address is found
 pub found : (segments : List Segment) (segment : Segment) (address : ℕ) → has_overlap segments ≡ false → Contains segments segment
-    → covers address segment ≡ true → find (covers address) segments ≡ Some segment
+    → has_address address segment ≡ true → find (has_address address) segments ≡ Some segment
 found [] segment address apart (k, below, is) inside = absurd (omega (arith, below))
-found (first ∷ others) segment address apart (zero, below, is) inside = rw (ap (covers address) is ∙ inside) (ap Some is)
+found (first ∷ others) segment address apart (zero, below, is) inside = rw (ap (has_address address) is ∙ inside) (ap Some is)
 found (first ∷ others) segment address apart (suc k, below, is) inside =
     let parts = or_parts (list_any (share_a_byte first) others) (has_overlap others) apart in
     let rest = found others segment address parts.1 (k, omega (arith, below), is) inside in
-    elim (cases_Bool (covers address first)) [
+    elim (cases_Bool (has_address address first)) [
       | inl both ↦ absurd (none_some segment _ (found_alone first others address parts.0 both) rest)
       | inr other ↦ rw other rest
     ]
@@ -102,7 +102,7 @@ all_at test (first ∷ others) segment all (zero, below, is) = ap test (sym is) 
 all_at test (first ∷ others) segment all (suc k, below, is) = all_at test others segment (and_parts (test first) _ all).1 (k, omega (arith, below), is)
 
 -- the addresses of a segment that fits are in RAM
-in_ram : (memory : List ℕ) (image_size address : ℕ) (segment : Segment) → fits image_size (length memory) segment ≡ true → covers address segment ≡ true
+in_ram : (memory : List ℕ) (image_size address : ℕ) (segment : Segment) → fits image_size (length memory) segment ≡ true → has_address address segment ≡ true
     → is_inside memory address 1 ≡ true
 in_ram memory image_size address segment fit inside = grind (arith, common_steps)
 
@@ -111,28 +111,28 @@ in_ram_low memory address inside = (grind (arith, common_steps), grind (arith, c
 
 -- the byte at an address after the segments were loaded
 byte_loaded : (image : List ℕ) (segments : List Segment) (memory : List ℕ) (address : ℕ) → is_inside memory address 1 ≡ true
-    → byte_at (loaded image segments memory) address ≡ Some (byte_after image segments memory address)
+    → byte_at (loaded_memory image segments memory) address ≡ Some (byte_after image segments memory address)
 byte_loaded image segments memory address inside =
     let bounds = in_ram_low memory address inside in
-    rw (byte_at-index (loaded image segments memory) address, length-loaded image segments memory, inside, loaded_at image segments memory address bounds.0 bounds.1) refl
+    rw (byte_at-index (loaded_memory image segments memory) address, length-loaded_memory image segments memory, inside, loaded_at image segments memory address bounds.0 bounds.1) refl
 
 byte_outside : (image : List ℕ) (segments : List Segment) (memory : List ℕ) (address : ℕ) → is_inside memory address 1 ≡ false
-    → byte_at (loaded image segments memory) address ≡ byte_at memory address
+    → byte_at (loaded_memory image segments memory) address ≡ byte_at memory address
 byte_outside image segments memory address outside =
-    rw (byte_at-index (loaded image segments memory) address, byte_at-index memory address, length-loaded image segments memory, outside) refl
+    rw (byte_at-index (loaded_memory image segments memory) address, byte_at-index memory address, length-loaded_memory image segments memory, outside) refl
 
 -- what was loaded, byte by byte
 pub loads_each : (image : List ℕ) (plan : LoadPlan) (old : List ℕ) → IsValid plan → length old ≡ plan.ram_size
-    → LoadsEach image plan.segments old (loaded image plan.segments old)
+    → LoadsEach image plan.segments old (loaded_memory image plan.segments old)
 loads_each image plan old valid size = record {
-  size = length-loaded image plan.segments old;
+  size = length-loaded_memory image plan.segments old;
   inside = λ segment address contains covered.
       let fit = rw (sym size) at (all_at (fits plan.image_size plan.ram_size) plan.segments segment valid.0 contains) in
       byte_loaded image plan.segments old address (in_ram old plan.image_size address segment fit covered)
       ∙ rw (found plan.segments segment address valid.1 contains covered) refl;
   elsewhere = λ address none. elim (cases_Bool (is_inside old address 1)) [
     | inl inside ↦ byte_loaded image plan.segments old address inside
-        ∙ rw (find_none (covers address) plan.segments none, byte_at-index old address, inside) refl
+        ∙ rw (find_none (has_address address) plan.segments none, byte_at-index old address, inside) refl
     | inr outside ↦ byte_outside image plan.segments old address outside
   ];
 }

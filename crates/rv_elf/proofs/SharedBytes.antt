@@ -3,26 +3,26 @@ use Rattle.std.proofs.Common.{◌≡◌, ℕ, ◌+◌, ◌<◌, ◌≤◌, true,
 use Rattle.std.proofs.lemmas.Grind.{common_steps}
 use Rattle.rv_pmp.proofs.VerdictLemmas.{any_at, any_none, none_from_any}
 use Rattle.rv_elf.specs.declared.segment.Segment.{Segment}
-use Rattle.rv_elf.specs.Segments.{covers, share_a_byte}
+use Rattle.rv_elf.specs.Segments.{has_address, share_a_byte}
 
 pub shared : (one other : Segment) → max one.address other.address < min (one.address + one.memory_size) (other.address + other.memory_size)
     → share_a_byte one other ≡ true
 unfolding share_a_byte
 shared one other meet =
-    any_at (λ address. covers address other) one.address one.memory_size (max one.address other.address)
+    any_at (λ address. has_address address other) one.address one.memory_size (max one.address other.address)
     (grind (arith, common_steps)) (grind (arith, common_steps)) (grind (arith, common_steps))
 
 outside : (one other : Segment) (address : ℕ) → min (one.address + one.memory_size) (other.address + other.memory_size) ≤ max one.address other.address
-    → one.address ≤ address → address < one.address + one.memory_size → covers address other ≡ false
+    → one.address ≤ address → address < one.address + one.memory_size → has_address address other ≡ false
 outside one other address apart low high = grind (arith, common_steps)
 
 pub unshared : (one other : Segment) → min (one.address + one.memory_size) (other.address + other.memory_size) ≤ max one.address other.address
     → share_a_byte one other ≡ false
 unfolding share_a_byte
-unshared one other apart = any_none (λ address. covers address other) one.address one.memory_size (λ address low high. outside one other address apart low high)
+unshared one other apart = any_none (λ address. has_address address other) one.address one.memory_size (λ address low high. outside one other address apart low high)
 
 -- an address of one of two segments that share no byte is not the other's
-pub not_in_other : (one other : Segment) (address : ℕ) → share_a_byte one other ≡ false → covers address one ≡ true → covers address other ≡ false
+pub not_in_other : (one other : Segment) (address : ℕ) → share_a_byte one other ≡ false → has_address address one ≡ true → has_address address other ≡ false
 unfolding share_a_byte
 not_in_other one other address none inside =
-    none_from_any (λ address. covers address other) one.address one.memory_size none address (grind (arith, common_steps)) (grind (arith, common_steps))
+    none_from_any (λ address. has_address address other) one.address one.memory_size none address (grind (arith, common_steps)) (grind (arith, common_steps))

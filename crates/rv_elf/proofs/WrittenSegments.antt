@@ -6,8 +6,8 @@ use Rattle.std.proofs.lemmas.Grind.{common_steps, same_number_lists}
 use Rattle.rv_memory.specs.Memory.{ram_base, write, write_bytes}
 use Rattle.rv_memory.proofs.MemoryLaws.{length-write, write-is}
 use Rattle.rv_elf.specs.declared.segment.Segment.{Segment}
-use Rattle.rv_elf.specs.Loaded.{loaded, byte_after}
-use Rattle.rv_elf.proofs.LoadedBytes.{length-loaded, loaded_at}
+use Rattle.rv_elf.specs.Loaded.{loaded_memory, byte_after}
+use Rattle.rv_elf.proofs.LoadedBytes.{length-loaded_memory, loaded_at}
 
 -- the byte at an index after two writes from the same index on, the second no longer: in the second, behind it, and elsewhere
 in_second : (memory part : List ℕ) (index size k : ℕ) → length part ≤ size → index + size ≤ length memory → index ≤ k → k < index + length part
@@ -69,7 +69,7 @@ same_byte image memory part segment k is len sized low high =
 pub written : (image memory between after : List ℕ) (segment : Segment) (part : List ℕ) → part ≡ take segment.file_size (drop segment.offset image)
     → length part ≡ segment.file_size → segment.file_size ≤ segment.memory_size
     → write memory segment.address (replicate segment.memory_size 0) ≡ Some between → write between segment.address part ≡ Some after
-    → after ≡ loaded image (segment ∷ []) memory
+    → after ≡ loaded_memory image (segment ∷ []) memory
 written image memory between after segment part is len sized zeroed put =
     let zeros : List ℕ = replicate segment.memory_size 0 in
     let index = segment.address - ram_base in
@@ -79,9 +79,9 @@ written image memory between after segment part is len sized zeroed put =
     let sizes : length after ≡ length memory =
     length-write between segment.address part after put ∙ length-write memory segment.address zeros between zeroed in
     let after_is : after ≡ write_bytes (write_bytes memory index zeros) index part = two.2 ∙ rw one.2 refl in
-    same_number_lists after (loaded image (segment ∷ []) memory) (sizes ∙ sym (length-loaded image (segment ∷ []) memory))
+    same_number_lists after (loaded_memory image (segment ∷ []) memory) (sizes ∙ sym (length-loaded_memory image (segment ∷ []) memory))
     (λ k below. let inside : k < length memory = rw sizes at below in
     let same = same_byte image memory part segment k is len sized one.0 high in
     let at = loaded_at image (segment ∷ []) memory (ram_base + k) (omega arith) (omega (arith, inside)) in
     let place : ram_base + k - ram_base ≡ k = omega arith in
-    ap (λ xs. slice_index xs k) after_is ∙ same ∙ sym at ∙ ap (slice_index (loaded image (segment ∷ []) memory)) place)
+    ap (λ xs. slice_index xs k) after_is ∙ same ∙ sym at ∙ ap (slice_index (loaded_memory image (segment ∷ []) memory)) place)

@@ -4,7 +4,7 @@ use Rattle.std.specs.List.{range_with_len, find, list_any, Contains}
 use Rattle.rv_word.specs.Cases.{option_case}
 use Rattle.rv_memory.specs.Memory.{ram_base, byte_at}
 use Rattle.rv_elf.specs.declared.segment.Segment.{Segment}
-use Rattle.rv_elf.specs.Segments.{covers}
+use Rattle.rv_elf.specs.Segments.{has_address}
 
 -- the byte that a segment has at an address: of its part of the file, and 0 behind that
 abbrev pub byte_in : List ℕ → ℕ → Segment → ℕ
@@ -15,14 +15,14 @@ byte_in image address segment =
 -- the byte at an address after the segments were loaded: that of the segment which has the address, else the one before
 abbrev pub byte_after : List ℕ → List Segment → List ℕ → ℕ → ℕ
 byte_after image segments memory address =
-    option_case (find (covers address) segments) (slice_index memory (address - ram_base)) (byte_in image address)
+    option_case (find (has_address address) segments) (slice_index memory (address - ram_base)) (byte_in image address)
 
 -- the memory after that
-unfoldable pub loaded : List ℕ → List Segment → List ℕ → List ℕ
-loaded image segments memory = map (byte_after image segments memory) (range_with_len ram_base (length memory))
+unfoldable pub loaded_memory : List ℕ → List Segment → List ℕ → List ℕ
+loaded_memory image segments memory = map (byte_after image segments memory) (range_with_len ram_base (length memory))
 
 -- each byte of each segment is the segment's, and each byte of none is as before
 pub record LoadsEach (image : List ℕ) (segments : List Segment) (old new : List ℕ) : Type 0 where
   pub size : length new ≡ length old
-  pub inside : (segment : Segment) (address : ℕ) → Contains segments segment → covers address segment ≡ true → byte_at new address ≡ Some (byte_in image address segment)
-  pub elsewhere : (address : ℕ) → list_any (covers address) segments ≡ false → byte_at new address ≡ byte_at old address
+  pub inside : (segment : Segment) (address : ℕ) → Contains segments segment → has_address address segment ≡ true → byte_at new address ≡ Some (byte_in image address segment)
+  pub elsewhere : (address : ℕ) → list_any (has_address address) segments ≡ false → byte_at new address ≡ byte_at old address

@@ -51,12 +51,12 @@ abbrev pub is_outside : ℕ → Segment → Bool
 is_outside ram_size segment = not (lies_inside ram_size segment.address segment.memory_size)
 
 -- the byte at an address is one of the segment's
-abbrev pub covers : ℕ → Segment → Bool
-covers address segment = nat_le segment.address address && nat_lt address (segment.address + segment.memory_size)
+abbrev pub has_address : ℕ → Segment → Bool
+has_address address segment = nat_le segment.address address && nat_lt address (segment.address + segment.memory_size)
 
 -- a byte of one segment is a byte of the other
 unfoldable pub share_a_byte : Segment → Segment → Bool
-share_a_byte one other = list_any (λ address. covers address other) (range_with_len one.address one.memory_size)
+share_a_byte one other = list_any (λ address. has_address address other) (range_with_len one.address one.memory_size)
 
 -- two of them share a byte
 abbrev pub has_overlap : List Segment → Bool

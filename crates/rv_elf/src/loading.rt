@@ -1,7 +1,7 @@
 //! How an image comes into RAM.
 
 ghost use Rattle.std.specs.Prelude.{◌≡◌, ◌∷◌, [], length, take, drop, true, false};
-ghost use Rattle.rv_elf.specs.Loaded.{loaded, LoadsEach};
+ghost use Rattle.rv_elf.specs.Loaded.{loaded_memory, LoadsEach};
 ghost use Rattle.rv_elf.specs.Plans.{fits};
 ghost use Rattle.rv_elf.specs.Segments.{is_truncated};
 
@@ -26,7 +26,7 @@ fn part_of<'a>(segment: &Segment, image: &'a [u8]) -> &'a [u8]
 #[tactic(auto, using(crate::proofs::WrittenSegments::written))]
 fn load_segment(segment: &Segment, image: &[u8], ram: &mut Ram)
     requires { fits (length image.now) (length ram.old) segment.now ≡ true }
-    ensures { ram.new ≡ loaded image.now (segment.now ∷ []) ram.old }
+    ensures { ram.new ≡ loaded_memory image.now (segment.now ∷ []) ram.old }
 {
     ram.zero(segment.address, segment.memory_size);
     ram.write_part(segment.address, part_of(segment, image));
@@ -38,7 +38,7 @@ fn load_segment(segment: &Segment, image: &[u8], ram: &mut Ram)
 pub fn load(plan: &Plan, bytes: &[u8], ram: &mut Ram)
     requires of_image { length bytes.now ≡ plan.now.image_size }
     requires of_ram { length ram.old ≡ plan.now.ram_size }
-    ensures memory { ram.new ≡ loaded bytes.now plan.now.segments ram.old }
+    ensures memory { ram.new ≡ loaded_memory bytes.now plan.now.segments ram.old }
     ensures each { LoadsEach bytes.now plan.now.segments ram.old ram.new }
 {
     for segment in plan.segments() {

@@ -1,4 +1,4 @@
--- The codes that tell the kinds of a group of instructions apart: RISC-V Unprivileged ISA 20191213, chapter 24.
+-- The opcodes, and the codes that tell the kinds of a group of instructions apart: RISC-V Unprivileged ISA 20191213, chapter 24.
 use Rattle.std.specs.Prelude.{ℕ, ◌==◌, ◌&&◌, [], ◌∷◌, find, Option}
 use Rattle.rv_encoding.specs.declared.kind.BranchKind.{BranchKind}
 use Rattle.rv_encoding.specs.declared.kind.BranchKind.TheVariants.{Beq, Bne, Blt, Bge, Bltu, Bgeu}
@@ -15,6 +15,41 @@ use Rattle.rv_encoding.specs.declared.kind.OpKind.TheVariants.{Add, Sub, Sll, Sl
 use Rattle.rv_encoding.specs.declared.encoder.codes.Functs.{Functs}
 use Rattle.rv_encoding.specs.declared.kind.CsrKind.{CsrKind}
 use Rattle.rv_encoding.specs.declared.kind.CsrKind.TheVariants.{Write, Set, Clear}
+
+-- ---- opcodes, by the names of the base opcode map (table 24.1)
+
+abbrev pub lui_opcode : ℕ
+lui_opcode = 0b0110111
+
+abbrev pub auipc_opcode : ℕ
+auipc_opcode = 0b0010111
+
+abbrev pub jal_opcode : ℕ
+jal_opcode = 0b1101111
+
+abbrev pub jalr_opcode : ℕ
+jalr_opcode = 0b1100111
+
+abbrev pub branch_opcode : ℕ
+branch_opcode = 0b1100011
+
+abbrev pub load_opcode : ℕ
+load_opcode = 0b0000011
+
+abbrev pub store_opcode : ℕ
+store_opcode = 0b0100011
+
+abbrev pub op_imm_opcode : ℕ
+op_imm_opcode = 0b0010011
+
+abbrev pub op_opcode : ℕ
+op_opcode = 0b0110011
+
+abbrev pub misc_mem_opcode : ℕ
+misc_mem_opcode = 0b0001111
+
+abbrev pub system_opcode : ℕ
+system_opcode = 0b1110011
 
 -- ---- funct3 alone
 

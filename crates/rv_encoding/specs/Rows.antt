@@ -4,7 +4,7 @@
 use Rattle.std.specs.Prelude.{◌≡◌, ℕ, ◌+◌, ◌*◌, ◌^◌, ◌<◌, List, [], ◌∷◌, sum_by}
 use Rattle.rv_encoding.specs.Places.{Places, rd_at, rs1_at, rs2_at, i_immediate_at, s_immediate_at, b_immediate_at, j_immediate_at, u_immediate_at, shamt_at, fm_at, pred_at, succ_at, csr_at, uimm_at, placed}
 use Rattle.rv_encoding.specs.Ranges.{IsUpperImmediate, IsBranchOffset, IsJumpOffset}
-use Rattle.rv_encoding.specs.Codes.{branch_funct3, load_funct3, store_funct3, op_imm_funct3, shift_functs, op_functs, csr_funct3, csr_imm_funct3}
+use Rattle.rv_encoding.specs.Codes.{lui_opcode, auipc_opcode, jal_opcode, jalr_opcode, branch_opcode, load_opcode, store_opcode, op_imm_opcode, op_opcode, misc_mem_opcode, system_opcode, branch_funct3, load_funct3, store_funct3, op_imm_funct3, shift_functs, op_functs, csr_funct3, csr_imm_funct3}
 use Rattle.rv_encoding.specs.declared.encoder.codes.Functs.{Functs}
 use Rattle.rv_encoding.specs.declared.instr.Instr.{Instr}
 use Rattle.rv_encoding.specs.declared.instr.Instr.TheVariants.{Lui, Auipc, Jal, Jalr, Branch, Load, Store, OpImm, ShiftImm, Op, Fence, Csr, CsrImm, Ecall, Ebreak, Sret, Mret, Wfi, SfenceVma}
@@ -39,19 +39,19 @@ word_row word = record { mask = 0xFFFFFFFF; match = word; fields = [] }
 -- ---- the rows, by groups with the same fields
 
 abbrev pub row_of_instr : Instr → InstrRow
-row_of_instr (Lui rd imm) = opcode_row 0b0110111 ((rd_at, rd) ∷ (u_immediate_at, imm) ∷ [])
-row_of_instr (Auipc rd imm) = opcode_row 0b0010111 ((rd_at, rd) ∷ (u_immediate_at, imm) ∷ [])
-row_of_instr (Jal rd offset) = opcode_row 0b1101111 ((rd_at, rd) ∷ (j_immediate_at, offset) ∷ [])
-row_of_instr (Jalr rd rs1 offset) = funct3_row 0b1100111 0b000 ((rd_at, rd) ∷ (rs1_at, rs1) ∷ (i_immediate_at, offset) ∷ [])
-row_of_instr (Branch kind rs1 rs2 offset) = funct3_row 0b1100011 (branch_funct3 kind) ((rs1_at, rs1) ∷ (rs2_at, rs2) ∷ (b_immediate_at, offset) ∷ [])
-row_of_instr (Load kind rd rs1 offset) = funct3_row 0b0000011 (load_funct3 kind) ((rd_at, rd) ∷ (rs1_at, rs1) ∷ (i_immediate_at, offset) ∷ [])
-row_of_instr (Store kind rs1 rs2 offset) = funct3_row 0b0100011 (store_funct3 kind) ((rs1_at, rs1) ∷ (rs2_at, rs2) ∷ (s_immediate_at, offset) ∷ [])
-row_of_instr (OpImm kind rd rs1 imm) = funct3_row 0b0010011 (op_imm_funct3 kind) ((rd_at, rd) ∷ (rs1_at, rs1) ∷ (i_immediate_at, imm) ∷ [])
-row_of_instr (ShiftImm kind rd rs1 shamt) = funct7_row 0b0010011 (shift_functs kind) ((rd_at, rd) ∷ (rs1_at, rs1) ∷ (shamt_at, shamt) ∷ [])
-row_of_instr (Op kind rd rs1 rs2) = funct7_row 0b0110011 (op_functs kind) ((rd_at, rd) ∷ (rs1_at, rs1) ∷ (rs2_at, rs2) ∷ [])
-row_of_instr (Fence fm pred succ rd rs1) = funct3_row 0b0001111 0b000 ((fm_at, fm) ∷ (pred_at, pred) ∷ (succ_at, succ) ∷ (rd_at, rd) ∷ (rs1_at, rs1) ∷ [])
-row_of_instr (Csr kind rd rs1 csr) = funct3_row 0b1110011 (csr_funct3 kind) ((rd_at, rd) ∷ (rs1_at, rs1) ∷ (csr_at, csr) ∷ [])
-row_of_instr (CsrImm kind rd uimm csr) = funct3_row 0b1110011 (csr_imm_funct3 kind) ((rd_at, rd) ∷ (uimm_at, uimm) ∷ (csr_at, csr) ∷ [])
+row_of_instr (Lui rd imm) = opcode_row lui_opcode ((rd_at, rd) ∷ (u_immediate_at, imm) ∷ [])
+row_of_instr (Auipc rd imm) = opcode_row auipc_opcode ((rd_at, rd) ∷ (u_immediate_at, imm) ∷ [])
+row_of_instr (Jal rd offset) = opcode_row jal_opcode ((rd_at, rd) ∷ (j_immediate_at, offset) ∷ [])
+row_of_instr (Jalr rd rs1 offset) = funct3_row jalr_opcode 0b000 ((rd_at, rd) ∷ (rs1_at, rs1) ∷ (i_immediate_at, offset) ∷ [])
+row_of_instr (Branch kind rs1 rs2 offset) = funct3_row branch_opcode (branch_funct3 kind) ((rs1_at, rs1) ∷ (rs2_at, rs2) ∷ (b_immediate_at, offset) ∷ [])
+row_of_instr (Load kind rd rs1 offset) = funct3_row load_opcode (load_funct3 kind) ((rd_at, rd) ∷ (rs1_at, rs1) ∷ (i_immediate_at, offset) ∷ [])
+row_of_instr (Store kind rs1 rs2 offset) = funct3_row store_opcode (store_funct3 kind) ((rs1_at, rs1) ∷ (rs2_at, rs2) ∷ (s_immediate_at, offset) ∷ [])
+row_of_instr (OpImm kind rd rs1 imm) = funct3_row op_imm_opcode (op_imm_funct3 kind) ((rd_at, rd) ∷ (rs1_at, rs1) ∷ (i_immediate_at, imm) ∷ [])
+row_of_instr (ShiftImm kind rd rs1 shamt) = funct7_row op_imm_opcode (shift_functs kind) ((rd_at, rd) ∷ (rs1_at, rs1) ∷ (shamt_at, shamt) ∷ [])
+row_of_instr (Op kind rd rs1 rs2) = funct7_row op_opcode (op_functs kind) ((rd_at, rd) ∷ (rs1_at, rs1) ∷ (rs2_at, rs2) ∷ [])
+row_of_instr (Fence fm pred succ rd rs1) = funct3_row misc_mem_opcode 0b000 ((fm_at, fm) ∷ (pred_at, pred) ∷ (succ_at, succ) ∷ (rd_at, rd) ∷ (rs1_at, rs1) ∷ [])
+row_of_instr (Csr kind rd rs1 csr) = funct3_row system_opcode (csr_funct3 kind) ((rd_at, rd) ∷ (rs1_at, rs1) ∷ (csr_at, csr) ∷ [])
+row_of_instr (CsrImm kind rd uimm csr) = funct3_row system_opcode (csr_imm_funct3 kind) ((rd_at, rd) ∷ (uimm_at, uimm) ∷ (csr_at, csr) ∷ [])
 row_of_instr Ecall = word_row 0x00000073
 row_of_instr Ebreak = word_row 0x00100073
 row_of_instr Sret = word_row 0x10200073

@@ -1,14 +1,15 @@
 -- Which lines of a text are good (ASCII, ISO/IEC 646).
 use Rattle.std.specs.Prelude.{ℕ, Bool, ◌==◌, ◌||◌, ◌&&◌, nat_le, List, length}
 use Rattle.std.specs.List.{list_all}
+use Rattle.rv_text.specs.Characters.{tab, space, tilde}
 
 -- a space or a tab
 abbrev pub is_blank : ℕ → Bool
-is_blank byte = byte == 32 || byte == 9
+is_blank byte = byte == space || byte == tab
 
 -- a tab, or from a space to a tilde
 unfoldable pub is_text : ℕ → Bool
-is_text byte = byte == 9 || nat_le 32 byte && nat_le byte 126
+is_text byte = byte == tab || nat_le space byte && nat_le byte tilde
 
 -- at most 120 bytes, all of them text
 abbrev pub is_good_line : List ℕ → Bool

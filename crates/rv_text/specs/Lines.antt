@@ -1,15 +1,16 @@
--- The lines of a text (this project's own rule; the line feed is byte 10 and the carriage return byte 13 of ASCII, ISO/IEC 646).
+-- The lines of a text. (This project's own rule; the characters are those of ASCII, ISO/IEC 646.)
 use Rattle.std.specs.Prelude.{ℕ, suc, zero, ◌==◌, Bool, true, false, ◌&&◌, ◌||◌, List, [], ◌∷◌, if◌then◌else◌}
+use Rattle.rv_text.specs.Characters.{line_feed, carriage_return}
 
 -- a line feed stands in the text
 abbrev pub has_feed : List ℕ → Bool
 has_feed [] = false
-has_feed (b ∷ bs) = (b == 10) || has_feed bs
+has_feed (b ∷ bs) = (b == line_feed) || has_feed bs
 
 -- a line feed comes next
 abbrev pub starts_with_feed : List ℕ → Bool
 starts_with_feed [] = false
-starts_with_feed (b ∷ bs) = b == 10
+starts_with_feed (b ∷ bs) = b == line_feed
 
 -- the byte goes to the front of the first line
 abbrev pub onto_first : ℕ → List (List ℕ) → List (List ℕ)
@@ -20,18 +21,18 @@ onto_first b (line ∷ lines) = (b ∷ line) ∷ lines
 abbrev pub lines_of : List ℕ → List (List ℕ)
 lines_of [] = []
 lines_of (b ∷ bs) =
-    if b == 10 then [] ∷ lines_of bs
-    else (if (b == 13) && starts_with_feed bs then lines_of bs else onto_first b (lines_of bs))
+    if b == line_feed then [] ∷ lines_of bs
+    else (if (b == carriage_return) && starts_with_feed bs then lines_of bs else onto_first b (lines_of bs))
 
 -- the front of the text up to its last line feed
 abbrev pub through_last_feed : List ℕ → List ℕ
 through_last_feed [] = []
-through_last_feed (b ∷ bs) = if (b == 10) || has_feed bs then b ∷ through_last_feed bs else []
+through_last_feed (b ∷ bs) = if (b == line_feed) || has_feed bs then b ∷ through_last_feed bs else []
 
 -- what follows the first line
 abbrev pub after_line : List ℕ → List ℕ
 after_line [] = []
-after_line (b ∷ bs) = if b == 10 then bs else after_line bs
+after_line (b ∷ bs) = if b == line_feed then bs else after_line bs
 
 -- what follows the first n lines
 abbrev pub after_lines : ℕ → List ℕ → List ℕ
@@ -45,4 +46,4 @@ is_empty (b ∷ bs) = false
 -- the text before a line feed, without the carriage return at its end
 abbrev pub without_return : List ℕ → List ℕ
 without_return [] = []
-without_return (b ∷ bs) = if (b == 13) && is_empty bs then [] else b ∷ without_return bs
+without_return (b ∷ bs) = if (b == carriage_return) && is_empty bs then [] else b ∷ without_return bs
