@@ -4,7 +4,8 @@ use Rattle.rv_bench.specs.declared.fault.BenchFault.TheVariants.{Hex}
 use Rattle.rv_text.specs.GoodLines.{is_text}
 use Rattle.rv_text.specs.Words.{words_of}
 use Rattle.rv_text.specs.Lines.{lines_of}
-use Rattle.rv_bench.specs.Image.{line_word, bytes_of_digits, image_in, after_image}
+use Rattle.rv_bench.specs.Image.{bytes_of_digits, image_in}
+use Rattle.rv_bench.specs.Separator.{line_word, after_separator}
 
 lines_of-example : lines_of (codes "a\r\n\nb\rc\nd\r") ≡ codes "a" ∷ [] ∷ codes "b\rc" ∷ codes "d\r" ∷ []
 lines_of-example = refl
@@ -13,9 +14,9 @@ image_in-example : image_in (codes "93 \r\n\n00F0ff\n--\nstep 1\n") ≡ Ok (147 
 unfolding line_word words_of is_text bytes_of_digits
 image_in-example = refl
 
-after_image-example : after_image (codes "93 \r\n\n00F0ff\n--\nstep 1\n") ≡ codes "step 1\n"
+after_separator-example : after_separator (codes "93 \r\n\n00F0ff\n--\nstep 1\n") ≡ codes "step 1\n"
 unfolding line_word words_of is_text bytes_of_digits
-after_image-example = refl
+after_separator-example = refl
 
 image_in-faulty_example : image_in (codes "93\n0\n") ≡ Err Hex
 unfolding line_word words_of is_text bytes_of_digits

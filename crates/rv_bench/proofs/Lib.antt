@@ -6,8 +6,10 @@ mod LineTextLemmas
 mod Mapped
 mod RepliesLemmas
 mod Runs
+mod ScriptLemmas
 mod Starts
 mod Streams
+mod TakeWhileLemmas
 mod WordLengths
 mod Writing
 mod WrittenLines

@@ -10,13 +10,15 @@ use Rattle.rv_bench.specs.declared.device.Source.{Ghosts as SourceGhosts}
 use Rattle.rv_bench.specs.declared.fault.BenchFault.{BenchFault}
 use Rattle.rv_bench.specs.declared.fault.BenchFault.TheVariants.{Image, Ram, Read, Write}
 use Rattle.rv_bench.specs.declared.lines.Lines.{Lines}
+use Rattle.rv_bench.specs.declared.separator.ScriptEnd.TheVariants.{Input}
 use Rattle.rv_bench.specs.Calls.{SourceFailed}
-use Rattle.rv_bench.specs.Image.{after_image, image_in}
+use Rattle.rv_bench.specs.Image.{image_in}
 use Rattle.rv_bench.specs.Loaded.{started}
 use Rattle.rv_bench.specs.Output.{bench_in, output, replies_of}
-use Rattle.rv_bench.specs.ReadImage.{ReadsWholeImage}
 use Rattle.rv_bench.specs.Replies.{replies}
 use Rattle.rv_bench.specs.Run.{Outcome, RunsBench, StopsAtRead, StopsAtWrite}
+use Rattle.rv_bench.specs.Script.{ReadsThroughSeparator}
+use Rattle.rv_bench.specs.Separator.{after_separator}
 use Rattle.rv_bench.specs.Stream.{RunsStream}
 use Rattle.rv_bench.specs.Transfer.{WritesFront}
 use Rattle.rv_bench.specs.Unread.{held, unread, TellsEnd}
@@ -27,18 +29,18 @@ ok_and (Ok x) P h = (x, refl, h)
 ok_and (Err e) P h = absurd h
 
 module _ {S W : Type 0} {g : SourceGhosts S} (h : SinkGhosts W) (setup : Setup) (image : List ℕ) (old mid new : Lines S g) (before after : W)
-    (reads : ReadsWholeImage old mid) (is : IsTrue g.tells → image_in (unread old) ≡ Ok image) (end : TellsEnd old new) where
+    (reads : ReadsThroughSeparator old mid) (is : IsTrue g.tells → image_in (unread old) ≡ Ok image) (end : TellsEnd old new) where
   -- the bench of the input is that of the image
   bench_is : (r : Result BenchState BenchFault) → started image setup ≡ r → IsTrue g.tells → bench_in setup (unread old) ≡ r
   bench_is r starts tells = rw (is tells) starts
 
   output_is : (state : BenchState) → started image setup ≡ Ok state → IsTrue g.tells → output setup (unread old) ≡ Ok (replies state (lines_of (unread mid)))
   output_is state starts tells =
-      ap (λ m. replies_of m (lines_of (after_image (unread old)))) (bench_is (Ok state) starts tells)
+      ap (λ m. replies_of m (lines_of (after_separator (unread old)))) (bench_is (Ok state) starts tells)
       ∙ ap (λ t. Ok (replies state (lines_of t))) (sym (reads.rest tells))
 
   fault_is : (fault : BenchFault) → started image setup ≡ Err fault → IsTrue g.tells → output setup (unread old) ≡ Err fault
-  fault_is fault starts tells = ap (λ m. replies_of m (lines_of (after_image (unread old)))) (bench_is (Err fault) starts tells)
+  fault_is fault starts tells = ap (λ m. replies_of m (lines_of (after_separator (unread old)))) (bench_is (Err fault) starts tells)
 
   failed : SourceFailed g mid.source new.source → SourceFailed g old.source new.source
   failed risen = let same = reads.source in omega (arith, risen, same)
@@ -62,8 +64,8 @@ module _ {S W : Type 0} {g : SourceGhosts S} (h : SinkGhosts W) (setup : Setup) 
       let (state, starts, run) = ok_and (started image setup) _ runs in (
         record { source = failed run.0.source; sink = run.0.sink; going = run.0.going },
         λ tells. inr (
-            subst (λ m. IsOkAnd m (λ state. StopsAtRead state h.tells (after_image (unread old)) (g.remaining new.source) (held new) (h.taken before) (h.taken after))) (sym (bench_is (Ok state) starts tells))
-            (subst (λ t. StopsAtRead state h.tells t (g.remaining new.source) (held new) (h.taken before) (h.taken after)) (reads.rest tells) (run.1 tells))
+            subst (λ m. IsOkAnd m (λ state. StopsAtRead Input state h.tells (after_separator (unread old)) (g.remaining new.source) (held new) (h.taken before) (h.taken after))) (sym (bench_is (Ok state) starts tells))
+            (subst (λ t. StopsAtRead Input state h.tells t (g.remaining new.source) (held new) (h.taken before) (h.taken after)) (reads.rest tells) (run.1 tells))
             ),
       )
   streamed (Err Write) runs =
@@ -76,13 +78,13 @@ module _ {S W : Type 0} {g : SourceGhosts S} (h : SinkGhosts W) (setup : Setup) 
           front = λ tells. subst (λ o. IsOkAnd o (λ text. IsTrue h.tells → WritesFront (h.taken before) (h.taken after) text)) (sym (output_is state starts tells)) (run.0.front tells);
         },
         λ tells.
-            subst (λ m. IsOkAnd m (λ state. StopsAtWrite state h.tells (after_image (unread old)) (unread new) (h.taken before) (h.taken after))) (sym (bench_is (Ok state) starts tells))
-            (subst (λ t. StopsAtWrite state h.tells t (unread new) (h.taken before) (h.taken after)) (reads.rest tells) (run.1 tells)),
+            subst (λ m. IsOkAnd m (λ state. StopsAtWrite Input state h.tells (after_separator (unread old)) (unread new) (h.taken before) (h.taken after))) (sym (bench_is (Ok state) starts tells))
+            (subst (λ t. StopsAtWrite Input state h.tells t (unread new) (h.taken before) (h.taken after)) (reads.rest tells) (run.1 tells)),
       )
   streamed (Err (Ram BadSize)) (none, same, unwritten) =
-      (none, subst (ReadsWholeImage old) (sym same) reads, fault_is (Ram BadSize) (no_ram image setup none), unwritten)
+      (none, subst (ReadsThroughSeparator old) (sym same) reads, fault_is (Ram BadSize) (no_ram image setup none), unwritten)
   streamed (Err (Ram NoRamMemory)) (some, same, unwritten) =
-      (some, subst (ReadsWholeImage old) (sym same) reads, λ tells. rw (is tells) refl, unwritten)
+      (some, subst (ReadsThroughSeparator old) (sym same) reads, λ tells. rw (is tells) refl, unwritten)
   streamed (Err (Image fault)) (faulty, same, unwritten) =
-      (fault_has_ram image setup fault faulty, subst (ReadsWholeImage old) (sym same) reads, fault_is (Image fault) faulty, unwritten)
+      (fault_has_ram image setup fault faulty, subst (ReadsThroughSeparator old) (sym same) reads, fault_is (Image fault) faulty, unwritten)
   streamed (Err _) runs = absurd (ok_and (started image setup) _ runs).2

@@ -4,7 +4,7 @@ use Rattle.std.proofs.lemmas.Bool.Decides.{nat_tests}
 use Rattle.std.specs.List.{slice_split, onto_first, list_all}
 use Rattle.rv_text.specs.GoodLines.{is_blank, is_text, is_good_line}
 use Rattle.rv_text.specs.Words.{is_filled, words_of}
-use Rattle.rv_bench.specs.Image.{only_word, line_word}
+use Rattle.rv_bench.specs.Separator.{only_word, line_word}
 
 -- each part has at most n bytes
 AllWithin : ℕ → List (List ℕ) → Type 0

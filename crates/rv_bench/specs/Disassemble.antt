@@ -7,20 +7,21 @@ use Rattle.rv_bench.specs.declared.lines.Lines.{Lines}
 use Rattle.rv_bench.specs.Calls.{SinkWorked, SinkFailed}
 use Rattle.rv_bench.specs.DisassemblyText.{dis_output}
 use Rattle.rv_bench.specs.Image.{image_in}
-use Rattle.rv_bench.specs.ReadImage.{ReadsWholeImage, FailsInImage, FindsFault, LacksMemory}
+use Rattle.rv_bench.specs.ReadImage.{FailsInImage, FindsFault, LacksMemory}
 use Rattle.rv_bench.specs.Run.{Outcome}
+use Rattle.rv_bench.specs.Script.{ReadsThroughSeparator}
 use Rattle.rv_bench.specs.Transfer.{WritesFront}
 use Rattle.rv_bench.specs.Unread.{unread}
 
 module _ {S W : Type 0} {g : SourceGhosts S} (h : SinkGhosts W) (old new : Lines S g) (before after : W) where
   -- The number of the image's bytes is no multiple of 4, which is asked of the whole image.
   abbrev pub FindsPartOfWord : Type 0
-  FindsPartOfWord = ReadsWholeImage old new × (IsTrue g.tells → IsOk (image_in (unread old)))
+  FindsPartOfWord = ReadsThroughSeparator old new × (IsTrue g.tells → IsOk (image_in (unread old)))
 
   -- what each result of `run_dis` means: nothing is written before the whole image was read
   abbrev pub RunsDis : Outcome → Type 0
   RunsDis (Ok _) =
-      ReadsWholeImage old new × SinkWorked h before after
+      ReadsThroughSeparator old new × SinkWorked h before after
       × (IsTrue g.tells → IsOkAnd (dis_output (unread old)) (λ text. IsTrue h.tells → h.taken after ≡ h.taken before ++ text))
   RunsDis (Err Read) = FailsInImage old new × (after ≡ before)
   RunsDis (Err Hex) =
@@ -28,6 +29,6 @@ module _ {S W : Type 0} {g : SourceGhosts S} (h : SinkGhosts W) (old new : Lines
   RunsDis (Err TooLong) = FindsFault TooLong old new × (IsTrue g.tells → dis_output (unread old) ≡ Err TooLong) × (after ≡ before)
   RunsDis (Err NoMemory) = LacksMemory old new × (after ≡ before)
   RunsDis (Err Write) =
-      ReadsWholeImage old new × SinkFailed h before after
+      ReadsThroughSeparator old new × SinkFailed h before after
       × (IsTrue g.tells → IsOkAnd (dis_output (unread old)) (λ text. IsTrue h.tells → WritesFront (h.taken before) (h.taken after) text))
   RunsDis (Err _) = ⊥

@@ -1,32 +1,12 @@
 -- The image in a text of hexadecimal lines. (This project's own format; the text is ASCII, ISO/IEC 646.)
-use Rattle.std.specs.Prelude.{◌≡◌, ℕ, ◌+◌, ◌*◌, ◌%◌, ◌<◌, ◌++◌, ◌==◌, ◌&&◌, nat_lt, Bool, false, not, List, [], ◌∷◌, length, codes, flat_map, take_while, is_some, unwrap_or, option_and_then, Option, IsSomeAnd, ◌≤◌, Some, None, Result, Ok, Err, if◌then◌else◌}
-use Rattle.std.specs.List.{list_all, list_any}
+use Rattle.std.specs.Prelude.{◌≡◌, ℕ, ◌+◌, ◌*◌, ◌%◌, ◌<◌, ◌++◌, ◌==◌, ◌&&◌, nat_lt, Bool, false, List, [], ◌∷◌, length, flat_map, take_while, is_some, unwrap_or, option_and_then, Option, IsSomeAnd, ◌≤◌, Some, None, Result, Ok, Err, if◌then◌else◌}
+use Rattle.std.specs.List.{list_all}
 use Rattle.std.specs.Char.{is_digit, digit_value}
-use Rattle.std.specs.Str.{bytes_eq}
 use Rattle.rv_bench.specs.declared.fault.BenchFault.{BenchFault}
 use Rattle.rv_bench.specs.declared.fault.BenchFault.TheVariants.{Hex, TooLong, NoMemory}
 use Rattle.rv_text.specs.Lines.{lines_of, after_lines}
 use Rattle.rv_bench.specs.LineText.{ReadsText, ReadsLines}
-use Rattle.rv_text.specs.GoodLines.{is_good_line}
-use Rattle.rv_text.specs.Words.{words_of}
-
--- one word, or none, which is a word of no bytes
-abbrev pub only_word : List (List ℕ) → Option (List ℕ)
-only_word [] = Some []
-only_word (word ∷ []) = Some word
-only_word (first ∷ second ∷ words) = None
-
--- the only word of a good line; a line that is not good is faulty, and so is one with more words
-unfoldable pub line_word : List ℕ → Option (List ℕ)
-line_word line = if is_good_line line then only_word (words_of line) else None
-
-abbrev pub is_dashes : Option (List ℕ) → Bool
-is_dashes None = false
-is_dashes (Some word) = bytes_eq word (codes "--")
-
--- the line whose only word is `--` ends the image
-abbrev pub is_marker : List ℕ → Bool
-is_marker line = is_dashes (line_word line)
+use Rattle.rv_bench.specs.Separator.{line_word, before_separator}
 
 -- the bytes that pairs of hexadecimal digits write, the high digit first
 abbrev pub pair_values : List ℕ → List ℕ
@@ -55,28 +35,16 @@ image_of lines =
     if nat_lt 33554432 (length (bytes_of_lines (take_while is_image_line lines))) then Err TooLong
     else (if list_all is_image_line lines then Ok (bytes_of_lines lines) else Err Hex)
 
--- the lines before the line `--`, or all
-abbrev pub image_lines : List (List ℕ) → List (List ℕ)
-image_lines lines = take_while (λ line. not (is_marker line)) lines
-
 -- the image at the front of an input
 abbrev pub image_in : List ℕ → Result (List ℕ) BenchFault
-image_in input = image_of (image_lines (lines_of input))
-
--- the input has a line `--`
-abbrev pub has_marker : List ℕ → Bool
-has_marker input = list_any is_marker (lines_of input)
-
--- what follows the line `--`
-abbrev pub after_image : List ℕ → List ℕ
-after_image input = after_lines (length (image_lines (lines_of input)) + 1) input
+image_in input = image_of (before_separator (lines_of input))
 
 -- Lines of the image were read, none of them `--`, none faulty and not too many, and then the front of a line, which is kept.
 pub record ReadsInImage (unread left kept : List ℕ) : Type 0 where
   pub lines : List (List ℕ)
   pub others : List ℕ
   pub reads : ReadsLines unread others false lines
-  pub unmarked : image_lines lines ≡ lines
+  pub unmarked : before_separator lines ≡ lines
   pub image : image_of lines ≡ Ok (bytes_of_lines lines)
   pub begun : ReadsText others left kept
 
@@ -84,7 +52,7 @@ pub record ReadsInImage (unread left kept : List ℕ) : Type 0 where
 pub record ReadsUnmarked (unread left : List ℕ) (lines : List (List ℕ)) : Type 0 where
   pub all : lines_of unread ≡ lines ++ lines_of left
   pub rest : left ≡ after_lines (length lines) unread
-  pub unmarked : image_lines lines ≡ lines
+  pub unmarked : before_separator lines ≡ lines
 
 -- Lines of the image were read, one or more, none of them `--`, none faulty and not too many.
 pub record ReadsFrontOfImage (unread left : List ℕ) : Type 0 where

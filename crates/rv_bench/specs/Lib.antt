@@ -14,6 +14,8 @@ pub mod Output
 pub mod ReadImage
 pub mod Replies
 pub mod Run
+pub mod Script
+pub mod Separator
 pub mod Stream
 pub mod Transfer
 pub mod Unread

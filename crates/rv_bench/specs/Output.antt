@@ -2,7 +2,8 @@
 use Rattle.std.specs.Prelude.{ℕ, List, Result, Ok, Err}
 use Rattle.rv_bench.specs.Replies.{replies}
 use Rattle.rv_word.specs.Cases.{result_case}
-use Rattle.rv_bench.specs.Image.{image_in, after_image}
+use Rattle.rv_bench.specs.Image.{image_in}
+use Rattle.rv_bench.specs.Separator.{after_separator}
 use Rattle.rv_text.specs.Lines.{lines_of}
 use Rattle.rv_bench.specs.Loaded.{started}
 use Rattle.rv_command_line.specs.declared.setup.Setup.{Setup}
@@ -19,4 +20,4 @@ bench_in setup input = result_case (image_in input) (λ image. started image set
 
 -- the replies to the script in an input, or the fault
 abbrev pub output : Setup → List ℕ → Result (List ℕ) BenchFault
-output setup input = replies_of (bench_in setup input) (lines_of (after_image input))
+output setup input = replies_of (bench_in setup input) (lines_of (after_separator input))

@@ -1,21 +1,15 @@
 -- What reading an image does, result by result. (This project's own format.)
-use Rattle.std.specs.Prelude.{◌≡◌, ◌≤◌, ◌⊎◌, ℕ, true, false, [], IsTrue, Vec, vec_len, Result, Ok, Err}
+use Rattle.std.specs.Prelude.{◌≡◌, ◌≤◌, ℕ, false, [], IsTrue, Vec, vec_len, Result, Ok, Err}
 use Rattle.rv_bench.specs.declared.device.Source.{Ghosts}
 use Rattle.rv_bench.specs.declared.fault.BenchFault.{BenchFault}
 use Rattle.rv_bench.specs.declared.fault.BenchFault.TheVariants.{Read, Hex, TooLong, NoMemory}
 use Rattle.rv_bench.specs.declared.lines.Lines.{Lines}
 use Rattle.rv_bench.specs.Calls.{SourceWorked, SourceFailed}
-use Rattle.rv_bench.specs.Image.{has_marker, image_in, after_image, ReadsInImage, ReadsFrontOfImage, StopsAtFault}
+use Rattle.rv_bench.specs.Image.{image_in, ReadsInImage, ReadsFrontOfImage, StopsAtFault}
+use Rattle.rv_bench.specs.Script.{ReadsThroughSeparator}
 use Rattle.rv_bench.specs.Unread.{held, unread}
 
 module _ {S : Type 0} {g : Ghosts S} where
-  -- The whole image was read: through the line `--`, or else to the end that the source answered.
-  pub record ReadsWholeImage (old new : Lines S g) : Type 0 where
-    pub source : SourceWorked g old.source new.source
-    pub emptied : held new ≡ []
-    pub rest : IsTrue g.tells → unread new ≡ after_image (unread old)
-    pub ended : (new.is_at_end ≡ true) ⊎ (IsTrue g.tells → IsTrue (has_marker (unread old)))
-
   -- The source failed in a line of the image, the front of which is kept.
   pub record FailsInImage (old new : Lines S g) : Type 0 where
     pub source : SourceFailed g old.source new.source
@@ -38,7 +32,7 @@ module _ {S : Type 0} {g : Ghosts S} where
   -- what each result of `read_image` means
   abbrev pub ReadsImage : {Z : Type 0} → Lines S g → Lines S g → Result (Vec ℕ Z) BenchFault → Type 0
   ReadsImage old new (Ok image) =
-      ReadsWholeImage old new × (vec_len image ≤ 33554432) × (IsTrue g.tells → image_in (unread old) ≡ Ok image.items)
+      ReadsThroughSeparator old new × (vec_len image ≤ 33554432) × (IsTrue g.tells → image_in (unread old) ≡ Ok image.items)
   ReadsImage old new (Err Read) = FailsInImage old new
   ReadsImage old new (Err Hex) = FindsFault Hex old new
   ReadsImage old new (Err TooLong) = FindsFault TooLong old new

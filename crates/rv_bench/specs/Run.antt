@@ -1,5 +1,5 @@
 -- What a run over the lines of a script does, result by result. (This project's own streams.)
-use Rattle.std.specs.Prelude.{◌≡◌, ℕ, ◌≤◌, Bool, true, false, List, [], ◌++◌, length, take, IsTrue, IsOkAnd, Result, Ok, Err}
+use Rattle.std.specs.Prelude.{◌≡◌, ℕ, ◌+◌, ◌≤◌, Bool, true, false, List, [], ◌++◌, length, take, IsTrue, IsOkAnd, Result, Ok, Err}
 use Rattle.rv_text.specs.Lines.{has_feed, lines_of, through_last_feed}
 use Rattle.rv_debug.specs.BenchState.{BenchState}
 use Rattle.rv_memory.specs.Memory.{is_ram_size}
@@ -10,32 +10,36 @@ use Rattle.rv_bench.specs.declared.device.Source.{Ghosts as SourceGhosts}
 use Rattle.rv_bench.specs.declared.fault.BenchFault.{BenchFault}
 use Rattle.rv_bench.specs.declared.fault.BenchFault.TheVariants.{Image, Ram, Read, Write}
 use Rattle.rv_bench.specs.declared.lines.Lines.{Lines}
+use Rattle.rv_bench.specs.declared.separator.ScriptEnd.{ScriptEnd}
+use Rattle.rv_bench.specs.declared.separator.ScriptEnd.TheVariants.{Input, Separator}
 use Rattle.rv_bench.specs.Calls.{SourceWorked, SourceFailed, SinkWorked, SinkFailed}
 use Rattle.rv_bench.specs.Loaded.{started}
 use Rattle.rv_bench.specs.Replies.{replies, state_after}
+use Rattle.rv_bench.specs.Script.{script_lines, ReadsThroughSeparator}
 use Rattle.rv_bench.specs.Transfer.{WritesFront}
 use Rattle.rv_bench.specs.Unread.{held, unread, HasEnded}
 
--- The source failed. A text of whole lines has its replies, and the line that was begun is kept, at most 122 bytes of it,
--- so that a later call goes on from there. What was written is known where the sink tells.
-pub record StopsAtRead (start : BenchState) (tells : Bool) (unread left kept old new : List ℕ) : Type 0 where
+-- The source failed. A text of whole lines of the script has its replies, and the line that was begun is kept, at most 122
+-- bytes of it, so that a later call goes on from there. What was written is known where the sink tells.
+pub record StopsAtRead (end : ScriptEnd) (start : BenchState) (tells : Bool) (unread left kept old new : List ℕ) : Type 0 where
   pub text : List ℕ
   pub begun : List ℕ
   pub split : unread ≡ text ++ (begun ++ left)
   pub whole : through_last_feed text ≡ text
   pub unfinished : has_feed begun ≡ false
   pub front : kept ≡ take 122 begun
+  pub inside : script_lines end (lines_of text) ≡ lines_of text
   pub written : IsTrue tells → new ≡ old ++ replies start (lines_of text)
 
--- The sink failed, or took nothing. Lines were answered and at most one more was read, of whose reply a beginning was
--- written; a later call goes on after these.
-pub record StopsAtWrite (start : BenchState) (tells : Bool) (unread left old new : List ℕ) : Type 0 where
+-- The sink failed, or took nothing. Lines of the script were answered and at most one more line was read: the next of the
+-- script, of whose reply a beginning was written, or the line that ends the script. A later call goes on after these.
+pub record StopsAtWrite (end : ScriptEnd) (start : BenchState) (tells : Bool) (unread left old new : List ℕ) : Type 0 where
   pub text : List ℕ
   pub answered : List (List ℕ)
   pub next : List (List ℕ)
-  pub one : length next ≤ 1
+  pub one : length (lines_of text) ≤ length answered + 1
   pub split : unread ≡ text ++ left
-  pub are_lines : lines_of text ≡ answered ++ next
+  pub are_lines : script_lines end (lines_of text) ≡ answered ++ next
   pub all : lines_of unread ≡ lines_of text ++ lines_of left
   pub written : IsTrue tells → WritesFront (old ++ replies start answered) new (replies (state_after start answered) next)
 
@@ -54,6 +58,17 @@ module _ {S W : Type 0} {g : SourceGhosts S} (h : SinkGhosts W) where
     pub used_up : IsTrue g.tells → unread new ≡ []
     pub written : IsTrue g.tells → IsOkAnd output (λ text. IsTrue h.tells → h.taken after ≡ h.taken before ++ text)
 
+  -- All was read through the first separator, or to the end that the source answered, and just the output was written.
+  pub record RunsToSeparator (output : Result (List ℕ) BenchFault) (old new : Lines S g) (before after : W) : Type 0 where
+    pub reads : ReadsThroughSeparator old new
+    pub sink : SinkWorked h before after
+    pub written : IsTrue g.tells → IsOkAnd output (λ text. IsTrue h.tells → h.taken after ≡ h.taken before ++ text)
+
+  -- the script was run, up to its end
+  abbrev pub RunsScript : ScriptEnd → Result (List ℕ) BenchFault → Lines S g → Lines S g → W → W → Type 0
+  RunsScript Input = RunsToEnd
+  RunsScript Separator = RunsToSeparator
+
   -- The source failed, and not the sink.
   pub record FailsToRead (old new : Lines S g) (before after : W) : Type 0 where
     pub source : SourceFailed g old.source new.source
@@ -67,16 +82,16 @@ module _ {S W : Type 0} {g : SourceGhosts S} (h : SinkGhosts W) where
     pub emptied : held new ≡ []
     pub front : IsTrue g.tells → IsOkAnd output (λ text. IsTrue h.tells → WritesFront (h.taken before) (h.taken after) text)
 
-  -- what each result of a run over the lines means, from the state of the bench before it
-  abbrev pub RunsLines : BenchState → Lines S g → Lines S g → W → W → Outcome → Type 0
-  RunsLines bench old new before after (Ok _) = RunsToEnd (Ok (replies bench (lines_of (unread old)))) old new before after
-  RunsLines bench old new before after (Err Read) =
+  -- what each result of a run over the lines of a script means, from the state of the bench before it
+  abbrev pub RunsLines : ScriptEnd → BenchState → Lines S g → Lines S g → W → W → Outcome → Type 0
+  RunsLines end bench old new before after (Ok _) = RunsScript end (Ok (replies bench (script_lines end (lines_of (unread old))))) old new before after
+  RunsLines end bench old new before after (Err Read) =
       FailsToRead old new before after
-      × (IsTrue g.tells → StopsAtRead bench h.tells (unread old) (g.remaining new.source) (held new) (h.taken before) (h.taken after))
-  RunsLines bench old new before after (Err Write) =
-      FailsToWrite (Ok (replies bench (lines_of (unread old)))) old new before after
-      × (IsTrue g.tells → StopsAtWrite bench h.tells (unread old) (unread new) (h.taken before) (h.taken after))
-  RunsLines bench old new before after (Err _) = ⊥
+      × (IsTrue g.tells → StopsAtRead end bench h.tells (unread old) (g.remaining new.source) (held new) (h.taken before) (h.taken after))
+  RunsLines end bench old new before after (Err Write) =
+      FailsToWrite (Ok (replies bench (script_lines end (lines_of (unread old))))) old new before after
+      × (IsTrue g.tells → StopsAtWrite end bench h.tells (unread old) (unread new) (h.taken before) (h.taken after))
+  RunsLines end bench old new before after (Err _) = ⊥
 
   -- What each result of `run_bench` means. Where the setup or the image has a fault, nothing is read or written; else the lines
   -- are run by the bench that the image starts.
@@ -84,4 +99,4 @@ module _ {S W : Type 0} {g : SourceGhosts S} (h : SinkGhosts W) where
   RunsBench image setup old new before after (Err (Ram BadSize)) = (is_ram_size setup.ram ≡ false) × (new ≡ old) × (after ≡ before)
   RunsBench image setup old new before after (Err (Ram NoRamMemory)) = (is_ram_size setup.ram ≡ true) × (new ≡ old) × (after ≡ before)
   RunsBench image setup old new before after (Err (Image fault)) = (started image setup ≡ Err (Image fault)) × (new ≡ old) × (after ≡ before)
-  RunsBench image setup old new before after outcome = IsOkAnd (started image setup) (λ state. RunsLines state old new before after outcome)
+  RunsBench image setup old new before after outcome = IsOkAnd (started image setup) (λ state. RunsLines Input state old new before after outcome)

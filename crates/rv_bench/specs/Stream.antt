@@ -8,10 +8,13 @@ use Rattle.rv_bench.specs.declared.device.Source.{Ghosts as SourceGhosts}
 use Rattle.rv_bench.specs.declared.fault.BenchFault.{BenchFault}
 use Rattle.rv_bench.specs.declared.fault.BenchFault.TheVariants.{Image, Ram, Read, Write, Hex, TooLong, NoMemory}
 use Rattle.rv_bench.specs.declared.lines.Lines.{Lines}
-use Rattle.rv_bench.specs.Image.{after_image, image_in, ReadsInImage}
+use Rattle.rv_bench.specs.declared.separator.ScriptEnd.TheVariants.{Input}
+use Rattle.rv_bench.specs.Image.{image_in, ReadsInImage}
 use Rattle.rv_bench.specs.Output.{bench_in, output}
-use Rattle.rv_bench.specs.ReadImage.{ReadsWholeImage, FindsFault, LacksMemory}
+use Rattle.rv_bench.specs.ReadImage.{FindsFault, LacksMemory}
 use Rattle.rv_bench.specs.Run.{Outcome, RunsToEnd, FailsToRead, FailsToWrite, StopsAtRead, StopsAtWrite}
+use Rattle.rv_bench.specs.Script.{ReadsThroughSeparator}
+use Rattle.rv_bench.specs.Separator.{after_separator}
 use Rattle.rv_bench.specs.Unread.{held, unread}
 
 module _ {S W : Type 0} {g : SourceGhosts S} (h : SinkGhosts W) (setup : Setup) (old new : Lines S g) (before after : W) where
@@ -24,13 +27,13 @@ module _ {S W : Type 0} {g : SourceGhosts S} (h : SinkGhosts W) (setup : Setup) 
   StopsStreamAtRead =
       (ReadsInImage (unread old) (g.remaining new.source) (held new) × (after ≡ before))
       ⊎ IsOkAnd (bench_in setup (unread old)) (λ state.
-      StopsAtRead state h.tells (after_image (unread old)) (g.remaining new.source) (held new) (h.taken before) (h.taken after))
+      StopsAtRead Input state h.tells (after_separator (unread old)) (g.remaining new.source) (held new) (h.taken before) (h.taken after))
 
   -- The sink failed in the script.
   abbrev pub StopsStreamAtWrite : Type 0
   StopsStreamAtWrite =
       IsOkAnd (bench_in setup (unread old)) (λ state.
-      StopsAtWrite state h.tells (after_image (unread old)) (unread new) (h.taken before) (h.taken after))
+      StopsAtWrite Input state h.tells (after_separator (unread old)) (unread new) (h.taken before) (h.taken after))
 
   -- What each result of `run_stream` means. The image's text, the RAM's size and the image are asked in this order, before a
   -- byte is written.
@@ -42,8 +45,8 @@ module _ {S W : Type 0} {g : SourceGhosts S} (h : SinkGhosts W) (setup : Setup) 
   RunsStream (Err Hex) = FindsFault Hex old new × IsFault Hex × (after ≡ before)
   RunsStream (Err TooLong) = FindsFault TooLong old new × IsFault TooLong × (after ≡ before)
   RunsStream (Err NoMemory) = LacksMemory old new × (after ≡ before)
-  RunsStream (Err (Ram BadSize)) = (is_ram_size setup.ram ≡ false) × ReadsWholeImage old new × IsFault (Ram BadSize) × (after ≡ before)
+  RunsStream (Err (Ram BadSize)) = (is_ram_size setup.ram ≡ false) × ReadsThroughSeparator old new × IsFault (Ram BadSize) × (after ≡ before)
   RunsStream (Err (Ram NoRamMemory)) =
-      (is_ram_size setup.ram ≡ true) × ReadsWholeImage old new × (IsTrue g.tells → IsOk (image_in (unread old))) × (after ≡ before)
-  RunsStream (Err (Image fault)) = (is_ram_size setup.ram ≡ true) × ReadsWholeImage old new × IsFault (Image fault) × (after ≡ before)
+      (is_ram_size setup.ram ≡ true) × ReadsThroughSeparator old new × (IsTrue g.tells → IsOk (image_in (unread old))) × (after ≡ before)
+  RunsStream (Err (Image fault)) = (is_ram_size setup.ram ≡ true) × ReadsThroughSeparator old new × IsFault (Image fault) × (after ≡ before)
   RunsStream (Err _) = ⊥

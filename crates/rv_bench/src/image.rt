@@ -1,40 +1,18 @@
 //! The image in a text of hexadecimal lines.
-ghost use Rattle.std.specs.Prelude.{◌≡◌, ◌≤◌, codes, vec_len, length, option_map};
-ghost use Rattle.std.specs.Str.{bytes_eq};
-ghost use Rattle.rv_bench.specs.Image.{line_word, AddsBytes};
+ghost use Rattle.std.specs.Prelude.{◌≤◌, vec_len, length};
+ghost use Rattle.rv_bench.specs.Image.{AddsBytes};
 ghost use Rattle.rv_bench.specs.ReadImage.{ReadsImage};
 ghost use Rattle.rv_bench.specs.Unread.{TellsEnd};
 
 use crate::device::Source;
 use crate::fault::BenchFault;
 use crate::lines::Lines;
-use rv_text::{MAX_LINE, first_words, is_good_line};
+use crate::separator::{ScriptEnd, only_word};
+use rv_text::MAX_LINE;
 use std::alloc::Global;
 
 /// The most bytes of an image.
 pub const IMAGE_MAX: usize = 33554432;
-
-/// The only word of an image line, of no bytes where the line has none; or `None` where the line is faulty.
-#[tactic(auto, unfolding(crate::specs::Image::line_word))]
-fn only_word(line: &[u8]) -> Option<&[u8]>
-    ensures { option_map (λ word. word.now) result ≡ line_word line.now }
-{
-    if !is_good_line(line) {
-        return None;
-    }
-    match first_words(line).as_slice() {
-        [] => Some(&[]),
-        [word] => Some(*word),
-        _ => None,
-    }
-}
-
-/// Whether a word ends the image.
-fn is_dashes(word: &[u8]) -> bool
-    ensures { result ≡ bytes_eq word.now (codes "--") }
-{
-    word == b"--".as_slice()
-}
 
 /// Adds the bytes that hexadecimal digits stand for. An `Err` changes nothing.
 ///
@@ -78,13 +56,13 @@ pub fn read_image<S: Source>(alloc: Global, lines: &mut Lines<S>) -> Result<Vec<
     ensures end { TellsEnd lines.old lines.new }
 {
     let mut image = Vec::new(alloc);
-    while let Some(line) = lines.next_line().map_err(|_| BenchFault::Read)? {
+    while let Some(line) = lines
+        .next_line_before(ScriptEnd::Separator)
+        .map_err(|_| BenchFault::Read)?
+    {
         let Some(word) = only_word(line.as_slice()) else {
             return Err(BenchFault::Hex);
         };
-        if is_dashes(word) {
-            return Ok(image);
-        }
         add_bytes(&mut image, word)?;
     }
     Ok(image)

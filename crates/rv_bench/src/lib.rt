@@ -25,6 +25,7 @@ mod line;
 mod lines;
 mod memory;
 mod run;
+mod separator;
 mod start;
 mod stdio;
 mod transfer;

@@ -4,6 +4,7 @@ ghost use Rattle.rv_text.specs.Lines.{has_feed};
 
 use crate::device::{DeviceFault, Source};
 use crate::line::{KEPT_MAX, Line, SHOWN_MAX, Stop, read_text, shown_len, take_front};
+use crate::separator::ScriptEnd;
 use arrayvec::ArrayVec;
 
 /// Reads the lines of a source, which it owns.
@@ -26,6 +27,7 @@ impl<S: Source> Lines<S> {
     ghost use Rattle.std.specs.Prelude.{◌≡◌, ◌<◌, true, false, [], IsTrue, IfOk, OnOk, OnErr, IfSome, IfNone, OnSome, is_err};
     ghost use Rattle.rv_bench.specs.Device.{counted};
     ghost use Rattle.rv_bench.specs.LineText.{ReadsText, TakesLine};
+    ghost use Rattle.rv_bench.specs.Script.{ends_script, FindsEnd};
     ghost use Rattle.rv_bench.specs.Unread.{held, unread, calls_left, TellsEnd};
 
     /// The lines of this source.
@@ -103,6 +105,34 @@ impl<S: Source> Lines<S> {
                 }
                 Ok(Some(take_front(&mut self.line, SHOWN_MAX)))
             }
+        }
+    }
+
+    /// The next line of a script, or `None` where the script ends: once the source has answered its end and no line is left, or
+    /// at a line that ends it, which is read.
+    ///
+    /// # Errors
+    ///
+    /// As `next_line`.
+    pub(crate) fn next_line_before(&mut self, end: ScriptEnd) -> Result<Option<Line>, DeviceFault>
+        ensures line { IsTrue S.tells → IfOk result (λ found. IfSome found (λ line. TakesLine (unread self.old) (unread self.new) self.new.is_at_end line.items)) }
+        ensures inside { IfOk result (λ found. IfSome found (λ line. ends_script end line.items ≡ false)) }
+        ensures going { IfOk result (λ found. OnSome found (self.old.is_at_end ≡ false)) }
+        ensures none { IfOk result (λ found. IfNone found (FindsEnd end self.old self.new)) }
+        ensures end { TellsEnd self.old self.new }
+        ensures failures { S.failures self.new.source ≡ counted (is_err result) (S.failures self.old.source) }
+        ensures err { OnErr result ((self.old.is_at_end ≡ false) × (self.new.is_at_end ≡ false)) }
+        ensures kept { IsTrue S.tells → OnErr result (ReadsText (unread self.old) (S.remaining self.new.source) (held self.new)) }
+        ensures emptied { OnOk result (held self.new ≡ []) }
+        ensures falls { IfOk result (λ found. OnSome found (calls_left self.new < calls_left self.old)) }
+    {
+        let Some(line) = self.next_line()? else {
+            return Ok(None);
+        };
+        if end.is_at(line.as_slice()) {
+            Ok(None)
+        } else {
+            Ok(Some(line))
         }
     }
 }

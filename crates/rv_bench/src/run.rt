@@ -8,6 +8,7 @@ use crate::device::{Sink, Source};
 use crate::fault::BenchFault;
 use crate::image::read_image;
 use crate::lines::Lines;
+use crate::separator::ScriptEnd;
 use crate::start::start;
 use crate::transfer::write_all;
 use rv_command_line::Setup;
@@ -15,17 +16,18 @@ use rv_debug::Bench;
 use rv_text::Reply;
 use std::alloc::Global;
 
-/// Writes the reply to each line, until the source answers its end. It takes no memory.
+/// Writes the reply to each line of a script. It takes no memory.
 fn run_lines<S: Source, W: Sink>(
     bench: &mut Bench,
     lines: &mut Lines<S>,
     sink: &mut W,
+    end: ScriptEnd,
 ) -> Result<(), BenchFault>
-    ensures outcome { RunsLines W.Sink bench.old lines.old lines.new sink.old sink.new result }
+    ensures outcome { RunsLines W.Sink end bench.old lines.old lines.new sink.old sink.new result }
     ensures end { TellsEnd lines.old lines.new }
 {
     let mut reply = Reply::new();
-    while let Some(line) = lines.next_line().map_err(|_| BenchFault::Read)? {
+    while let Some(line) = lines.next_line_before(end).map_err(|_| BenchFault::Read)? {
         bench.answer_line(line.as_slice(), &mut reply);
         write_all(sink, reply.as_slice()).map_err(|_| BenchFault::Write)?;
     }
@@ -56,7 +58,7 @@ pub fn run_bench<S: Source, W: Sink>(
     ensures end { TellsEnd lines.old lines.new }
 {
     let mut bench = start(alloc, image, setup)?;
-    run_lines(&mut bench, lines, sink)
+    run_lines(&mut bench, lines, sink, ScriptEnd::Input)
 }
 
 /// Reads an image, and then runs the lines after it as `run_bench` does.

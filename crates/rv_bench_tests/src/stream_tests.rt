@@ -151,7 +151,7 @@ fn reads_an_image(rt: HostRuntime) {
 }
 
 #[test]
-fn a_padded_marker_is_a_bad_line(rt: HostRuntime) {
+fn a_padded_separator_is_a_bad_line(rt: HostRuntime) {
     let mut text = [b' '; 122];
     text[0] = b'-';
     text[1] = b'-';

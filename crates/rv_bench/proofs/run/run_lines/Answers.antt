@@ -6,12 +6,13 @@ use Rattle.rv_bench.specs.Run.{RunsLines}
 use Rattle.rv_bench.specs.Transfer.{WritesFront}
 use Rattle.rv_bench.proofs.Ends.{TellsEnd-none, TellsEnd-more}
 use Rattle.rv_bench.proofs.Mapped.{ok_mapped, err_mapped, mapped}
-use Rattle.rv_bench.proofs.Runs.{AnswersFronts, AnswersLines-none, AnswersLines-more, AnswersLines-read, AnswersLines-written, AnswersLines-stopped, AnswersLines-all, StopsAtWrite-front, going_on}
+use Rattle.rv_bench.proofs.Runs.{RunsScript-whole, AnswersFronts, AnswersLines-none, AnswersLines-more, AnswersLines-read, AnswersLines-written, AnswersLines-stopped, AnswersLines-all, StopsAtWrite-front, going_on}
+use Rattle.rv_bench.proofs.ScriptLemmas.{FindsEnd-whole}
 use Rattle.rv_bench.proofs.run.run_lines.Goals as goal
 
 pub loop-line-init : goal.loop-line-init
 loop-line-init g c = record {
-  answered = λ _. AnswersLines-none _ _ _ _ _;
+  answered = λ _. AnswersLines-none _ _ _ _ _ _;
   end = TellsEnd-none _;
   source_failures = refl;
   sink_failures = refl;
@@ -21,30 +22,31 @@ loop-line-init g c = record {
 pub returns-in_err-line-clause-outcome : goal.returns-in_err-line-clause-outcome
 returns-in_err-line-clause-outcome g c =
     let is : c.from_residual.result ≡ Err Read = search rules in
-    let failed = err_mapped _ c.next_line.result c.map_err.result _ c.map_err.ensures.cases c.in_err-line.was in
-    let going = IfErr-at_err _ failed.1 c.next_line.ensures.err in
+    let failed = err_mapped _ c.next_line_before.result c.map_err.result _ c.map_err.ensures.cases c.in_err-line.was in
+    let going = IfErr-at_err _ failed.1 c.next_line_before.ensures.err in
     rw is (
       record { source = search rules; sink = (c.loop-line.invariant.sink_failures, c.loop-line.invariant.sink_refusals); going = going.1 },
-      λ tells. AnswersLines-read _ _ _ _ _ _ _ _ _ (going_on going.0 (c.loop-line.invariant.answered tells)) (IfErr-at_err _ failed.1 (c.next_line.ensures.kept tells)),
+      λ tells. AnswersLines-read _ _ _ _ _ _ _ _ _ _ (going_on going.0 (c.loop-line.invariant.answered tells)) (IfErr-at_err _ failed.1 (c.next_line_before.ensures.kept tells)),
     )
 
 pub returns-in_err-line-clause-end : goal.returns-in_err-line-clause-end
-returns-in_err-line-clause-end g c = TellsEnd-more _ _ _ c.loop-line.invariant.end c.next_line.ensures.end
+returns-in_err-line-clause-end g c = TellsEnd-more _ _ _ c.loop-line.invariant.end c.next_line_before.ensures.end
 
 pub loop-line-preserved : goal.loop-line-preserved
 loop-line-preserved g c =
-    let found = ok_mapped _ c.next_line.result c.map_err.result _ c.map_err.ensures.cases c.in_ok-line.was ∙ ap Ok c.in-Some.is in
+    let found = ok_mapped _ c.next_line_before.result c.map_err.result _ c.map_err.ensures.cases c.in_ok-line.was ∙ ap Ok c.in-Some.is in
     let wrote = ok_mapped _ c.write_all.result c.map_err-in-Some.result _ c.map_err-in-Some.ensures.cases c.in_ok-map_err.was in
     let same = IfOk-at_ok _ wrote c.write_all.ensures.ok in
     record {
       answered = λ tells.
-          AnswersLines-more _ _ _ _ _ _ _ _ _ _ _ _ _ _
-          (going_on (IfOk-at_ok _ found c.next_line.ensures.going) (c.loop-line.invariant.answered tells))
-          (IfOk-at_ok _ found (c.next_line.ensures.line tells))
+          AnswersLines-more _ _ _ _ _ _ _ _ _ _ _ _ _ _ _
+          (going_on (IfOk-at_ok _ found c.next_line_before.ensures.going) (c.loop-line.invariant.answered tells))
+          (IfOk-at_ok _ found (c.next_line_before.ensures.line tells))
+          (IfOk-at_ok _ found c.next_line_before.ensures.inside)
           (subst (AnswersFronts c.loop-line.bench) c.as_slice.ensures.value c.answer_line.ensures.front)
           (ap (line_answer c.loop-line.bench) (sym c.as_slice.ensures.value) ∙ c.answer_line.ensures.answer)
           (λ told. IfOk-at_ok _ wrote c.write_all.ensures.written told ∙ ap (λ t. g.W.Sink.taken c.loop-line.sink ++ t) c.as_slice-in-Some.ensures.value);
-      end = TellsEnd-more _ _ _ c.loop-line.invariant.end c.next_line.ensures.end;
+      end = TellsEnd-more _ _ _ c.loop-line.invariant.end c.next_line_before.ensures.end;
       source_failures = search rules;
       sink_failures = same.0 ∙ c.loop-line.invariant.sink_failures;
       sink_refusals = same.1 ∙ c.loop-line.invariant.sink_refusals;
@@ -53,37 +55,33 @@ loop-line-preserved g c =
 pub returns-in_err-map_err-clause-outcome : goal.returns-in_err-map_err-clause-outcome
 returns-in_err-map_err-clause-outcome g c =
     let is : c.from_residual-in_err-map_err.result ≡ Err Write = search rules in
-    let found = ok_mapped _ c.next_line.result c.map_err.result _ c.map_err.ensures.cases c.in_ok-line.was ∙ ap Ok c.in-Some.is in
+    let found = ok_mapped _ c.next_line_before.result c.map_err.result _ c.map_err.ensures.cases c.in_ok-line.was ∙ ap Ok c.in-Some.is in
     let stops = λ (tells : IsTrue g.S.Source.tells).
-    AnswersLines-stopped _ _ _ _ _ _ _ _ _ _ _ _ _ _
-    (going_on (IfOk-at_ok _ found c.next_line.ensures.going) (c.loop-line.invariant.answered tells))
-    (IfOk-at_ok _ found (c.next_line.ensures.line tells))
+    AnswersLines-stopped _ _ _ _ _ _ _ _ _ _ _ _ _ _ _
+    (going_on (IfOk-at_ok _ found c.next_line_before.ensures.going) (c.loop-line.invariant.answered tells))
+    (IfOk-at_ok _ found (c.next_line_before.ensures.line tells))
+    (IfOk-at_ok _ found c.next_line_before.ensures.inside)
     (subst (AnswersFronts c.loop-line.bench) c.as_slice.ensures.value c.answer_line.ensures.front)
     (ap (line_answer c.loop-line.bench) (sym c.as_slice.ensures.value) ∙ c.answer_line.ensures.answer)
     (λ told. subst (λ t. WritesFront (g.W.Sink.taken c.loop-line.sink) (g.W.Sink.taken c.write_all.new.sink) t) c.as_slice-in-Some.ensures.value (c.write_all.ensures.front told)) in
     rw is (
-      record { source = search rules; sink = search rules; emptied = search rules; front = λ tells told. StopsAtWrite-front _ _ _ _ _ _ (stops tells) told },
+      record { source = search rules; sink = search rules; emptied = search rules; front = λ tells told. StopsAtWrite-front _ _ _ _ _ _ _ (stops tells) told },
       stops,
     )
 
 pub returns-clause-outcome : goal.returns-clause-outcome
 returns-clause-outcome g c =
-    let found = ok_mapped _ c.next_line.result c.map_err.result _ c.map_err.ensures.cases c.in_ok-line.was ∙ ap Ok c.in_default.is in
-    let at_end = IfOk-at_ok _ found c.next_line.ensures.none in
-    let none = λ (tells : IsTrue g.S.Source.tells). IfOk-at_ok _ found (c.next_line.ensures.nothing tells) in
-    let end = TellsEnd-more _ _ _ c.loop-line.invariant.end c.next_line.ensures.end in
-    mapped (RunsLines g.W.Sink c.args.bench.now c.args.lines.now c.next_line.new.self c.args.sink.now c.flush.new.self) _ Write c.flush.result c.map_err-2.result c.map_err-2.ensures.cases (λ e d is. search rules)
-    (λ _ flushed. record {
-      at_end = at_end;
-      ended = end.ended at_end;
-      emptied = search rules;
-      source = search rules;
-      sink = search rules;
-      used_up = λ tells. (none tells).1;
-      written = λ tells told. c.flush.ensures.bytes told ∙ AnswersLines-all _ _ _ _ _ _ _ _ (c.loop-line.invariant.answered tells) (none tells).0 told;
-    })
+    let found = ok_mapped _ c.next_line_before.result c.map_err.result _ c.map_err.ensures.cases c.in_ok-line.was ∙ ap Ok c.in_default.is in
+    let none = IfOk-at_ok _ found c.next_line_before.ensures.none in
+    let answered = c.loop-line.invariant.answered in
+    let whole = λ (tells : IsTrue g.S.Source.tells). FindsEnd-whole c.args.lines.now c.loop-line.lines c.next_line_before.new.self c.args.end _ none (answered tells).taken tells in
+    mapped (RunsLines g.W.Sink c.args.end c.args.bench.now c.args.lines.now c.next_line_before.new.self c.args.sink.now c.flush.new.self) _ Write c.flush.result c.map_err-2.result c.map_err-2.ensures.cases (λ e d is. search rules)
+    (λ _ flushed.
+    RunsScript-whole g.W.Sink _ _ _ _ _ _ _ (search rules) (search rules) (search rules) (TellsEnd-more _ _ _ c.loop-line.invariant.end c.next_line_before.ensures.end) none
+    (λ tells. ((answered tells).lines, (answered tells).taken))
+    (λ tells told. c.flush.ensures.bytes told ∙ AnswersLines-all _ _ _ _ _ _ _ _ _ _ (answered tells) (whole tells) told))
     (λ _ failed.
-    let stops = λ (tells : IsTrue g.S.Source.tells). AnswersLines-written _ _ _ _ _ _ _ _ _ _ (c.loop-line.invariant.answered tells) ((none tells).1 ∙ sym (none tells).0) c.flush.ensures.bytes in (
-      record { source = search rules; sink = search rules; emptied = search rules; front = λ tells told. StopsAtWrite-front _ _ _ _ _ _ (stops tells) told },
+    let stops = λ (tells : IsTrue g.S.Source.tells). AnswersLines-written _ _ _ _ _ _ _ _ _ _ _ (answered tells) (whole tells) c.flush.ensures.bytes in (
+      record { source = search rules; sink = search rules; emptied = search rules; front = λ tells told. StopsAtWrite-front _ _ _ _ _ _ _ (stops tells) told },
       stops,
     ))

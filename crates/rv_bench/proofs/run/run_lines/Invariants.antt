@@ -7,7 +7,7 @@ use Rattle.rv_bench.proofs.run.run_lines.Given as goal
 abbrev pub invariant-loop-line : goal.invariant-loop-line
 invariant-loop-line g l = record {
   answered : IsTrue g.S.Source.tells →
-      AnswersLines l.initial.bench g.W.Sink.tells (unread l.initial.lines) (g.W.Sink.taken l.initial.sink)
+      AnswersLines l.initial.end l.initial.bench g.W.Sink.tells (unread l.initial.lines) (g.W.Sink.taken l.initial.sink)
       l.bench (unread l.lines) l.lines.is_at_end (g.W.Sink.taken l.sink);
   end : TellsEnd l.initial.lines l.lines;
   source_failures : g.S.Source.failures l.lines.source ≡ g.S.Source.failures l.initial.lines.source;

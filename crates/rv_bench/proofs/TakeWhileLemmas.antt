@@ -1,0 +1,46 @@
+-- The lines up to the first that does not pass a test.
+use Rattle.std.proofs.Common.{◌≡◌, ℕ, Bool, true, false, cond, ◌&&◌, List, [], ◌∷◌, ◌++◌, refl, sym, ◌∙◌, ap, append-nil}
+use Rattle.std.proofs.lemmas.List.Folds.{list_all-append}
+use Rattle.std.proofs.lemmas.List.Sums.{take_while-cons}
+use Rattle.std.specs.List.{list_all, take_while}
+
+-- lines that all pass, and others
+take_while-append : (p : List ℕ → Bool) (xs ys : List (List ℕ)) → list_all p xs ≡ true → take_while p (xs ++ ys) ≡ xs ++ take_while p ys
+take_while-append p [] ys h = refl
+take_while-append p (x ∷ xs) ys h = take_while-cons p x (xs ++ ys) ∙ go (p x) h (λ all. take_while-append p xs ys all) where
+  go : (b : Bool) → b && list_all p xs ≡ true → (list_all p xs ≡ true → take_while p (xs ++ ys) ≡ xs ++ take_while p ys) → cond b (x ∷ take_while p (xs ++ ys)) [] ≡ x ∷ (xs ++ take_while p ys)
+  go true all more = ap (λ t. x ∷ t) (more all)
+  go false all more = cc
+
+take_while-cons_yes : (p : List ℕ → Bool) (x : List ℕ) (xs : List (List ℕ)) → p x ≡ true → take_while p (x ∷ xs) ≡ x ∷ take_while p xs
+take_while-cons_yes p x xs e = take_while-cons p x xs ∙ ap (λ b. cond b (x ∷ take_while p xs) []) e
+
+take_while-cons_no : (p : List ℕ → Bool) (x : List ℕ) (xs : List (List ℕ)) → p x ≡ false → take_while p (x ∷ xs) ≡ []
+take_while-cons_no p x xs e = take_while-cons p x xs ∙ ap (λ b. cond b (x ∷ take_while p xs) []) e
+
+pub take_while-all : (p : List ℕ → Bool) (xs : List (List ℕ)) → list_all p xs ≡ true → take_while p xs ≡ xs
+take_while-all p xs all = ap (take_while p) (sym (append-nil xs)) ∙ (take_while-append p xs [] all ∙ append-nil xs)
+
+pub take_while-stop : (p : List ℕ → Bool) (xs : List (List ℕ)) (x : List ℕ) (ys : List (List ℕ)) → list_all p xs ≡ true → p x ≡ false → take_while p (xs ++ x ∷ ys) ≡ xs
+take_while-stop p xs x ys all e = take_while-append p xs (x ∷ ys) all ∙ (ap (λ t. xs ++ t) (take_while-cons_no p x ys e) ∙ append-nil xs)
+
+pub take_while-pass : (p : List ℕ → Bool) (xs : List (List ℕ)) (x : List ℕ) (ys : List (List ℕ)) → list_all p xs ≡ true → p x ≡ true → take_while p (xs ++ x ∷ ys) ≡ xs ++ x ∷ take_while p ys
+take_while-pass p xs x ys all e = take_while-append p xs (x ∷ ys) all ∙ ap (λ t. xs ++ t) (take_while-cons_yes p x ys e)
+
+pub list_all-push : (p : List ℕ → Bool) (xs : List (List ℕ)) (x : List ℕ) → list_all p xs ≡ true → p x ≡ true → list_all p (xs ++ x ∷ []) ≡ true
+list_all-push p xs x all e = list_all-append p xs (x ∷ []) ∙ (rw (all, e) refl)
+
+pub list_all-stop : (p : List ℕ → Bool) (xs : List (List ℕ)) (x : List ℕ) (ys : List (List ℕ)) → list_all p xs ≡ true → p x ≡ false → list_all p (xs ++ x ∷ ys) ≡ false
+list_all-stop p xs x ys all e = list_all-append p xs (x ∷ ys) ∙ (rw (all, e) refl)
+
+-- those of a front are a front of those of all
+pub take_while-front : (p : List ℕ → Bool) (xs ys : List (List ℕ)) → (others : List (List ℕ)) × (take_while p (xs ++ ys) ≡ take_while p xs ++ others)
+take_while-front p [] ys = (take_while p ys, refl)
+take_while-front p (x ∷ xs) ys =
+    let (others, more) = take_while-front p xs ys in
+    let (rest, is) = go (p x) others more in
+    (rest, take_while-cons p x (xs ++ ys) ∙ (is ∙ ap (λ t. t ++ rest) (sym (take_while-cons p x xs)))) where
+      go : (b : Bool) (others : List (List ℕ)) → take_while p (xs ++ ys) ≡ take_while p xs ++ others
+          → (rest : List (List ℕ)) × (cond b (x ∷ take_while p (xs ++ ys)) [] ≡ cond b (x ∷ take_while p xs) [] ++ rest)
+      go true others more = (others, ap (λ t. x ∷ t) more)
+      go false others more = ([], refl)
