@@ -1,4 +1,9 @@
-//! A Keystone-style enclave monitor over one hart.
+//! A security monitor in the manner of Keystone (EuroSys 2020) over one hart: enclaves that the host, in mode S, creates, enters and
+//! ends by calls, and that the sixteen PMP entries keep apart from it and from one another.
+//!
+//! [`Monitored`] is the machine with its monitor. Its step is the hart's own, and after each trap the monitor's work: a call, the
+//! stop of an enclave by the timer, or the trap passed on to mode S. The definitions in `specs/` say all of it; docs/MONITOR.md says
+//! it for those who write hosts and enclaves.
 #![tactic(auto)]
 
 mod block;
