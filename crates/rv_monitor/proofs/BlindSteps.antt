@@ -1,17 +1,15 @@
 -- A bare step of a kept state neither depends on a region that is not the world's nor changes it.
-use Rattle.std.proofs.Common.{◌≡◌, ◌≢◌, ℕ, Bool, true, false, List, Option, Some, None, refl, sym, ◌∙◌}
+use Rattle.std.proofs.Common.{◌≡◌, ℕ, Bool, false, List, Option, Some, None}
 use Rattle.rv_word.specs.Widths.{bytes_in}
 use Rattle.rv_pmp.specs.declared.access.Access.{Access}
 use Rattle.rv_pmp.specs.declared.access.Access.TheVariants.{Fetch, Read}
 use Rattle.rv_pmp.specs.declared.mode.Mode.{Mode}
-use Rattle.rv_pmp.specs.declared.mode.Mode.TheVariants.{M}
 use Rattle.rv_memory.specs.declared.touched.Span.{Span}
 use Rattle.rv_memory.specs.declared.touched.Touched.{Touched}
 use Rattle.rv_state.specs.Interrupts.{is_machine}
 use Rattle.rv_hart.proofs.Confined.{confined}
 use Rattle.rv_hart.proofs.StepLaws.{touches_permitted}
 use Rattle.rv_hart.specs.Confinement.{SameIn, AgreeOn, Stores}
-use Rattle.rv_hart.specs.HartState.{Hart}
 use Rattle.rv_hart.specs.Permitted.{MayTouch, MayTouchAll}
 use Rattle.rv_hart.specs.State.{State}
 use Rattle.rv_hart.specs.Step.{step, data_mode}

@@ -21,7 +21,6 @@ use Rattle.rv_state.specs.declared.cause.Cause.TheVariants as causes
 use Rattle.rv_state.specs.declared.cause.Exception.{Exception}
 use Rattle.rv_state.specs.declared.cause.Exception.TheVariants.{InstructionAddressMisaligned, InstructionAccessFault, IllegalInstruction, Breakpoint, LoadAccessFault, StoreAccessFault, EnvironmentCallFromU, EnvironmentCallFromS, EnvironmentCallFromM}
 use Rattle.rv_hart.specs.Confinement.{IsConfined, Stores, AgreeOn}
-use Rattle.rv_hart.specs.HartState.{Hart}
 use Rattle.rv_hart.specs.Permitted.{MayTouch, TouchesPermitted}
 use Rattle.rv_hart.specs.State.{State, Stepped}
 use Rattle.rv_hart.specs.Step.{step, data_mode}

@@ -1,12 +1,8 @@
 -- In every kept state the entries permit S and U exactly what is in reach.
-use Rattle.std.proofs.Common.{◌≡◌, ◌≢◌, ℕ, true, false, refl, sym, ◌∙◌, subst}
-use Rattle.rv_word.specs.declared.width.Width.{Width}
-use Rattle.rv_pmp.specs.declared.access.Access.{Access}
+use Rattle.std.proofs.Common.{◌≡◌, ◌≢◌, true, false, refl, sym, ◌∙◌, subst}
 use Rattle.rv_pmp.specs.declared.mode.Mode.{Mode}
 use Rattle.rv_pmp.specs.declared.mode.Mode.TheVariants.{M}
-use Rattle.rv_memory.specs.Memory.{is_inside}
 use Rattle.rv_state.specs.Interrupts.{is_machine}
-use Rattle.rv_monitor.specs.State.{MonitoredState, IsKept}
 use Rattle.rv_word.specs.Widths.{bytes_in}
 use Rattle.rv_pmp.specs.Entries.{Entries}
 use Rattle.rv_pmp.specs.Verdicts.{bytes_from, permits, verdict}

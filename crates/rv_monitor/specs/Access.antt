@@ -1,5 +1,5 @@
--- What the entries permit in every kept state, and that what they permit lies in no other enclave's region. (Keystone, EuroSys
--- 2020, in this project's profile.)
+-- What the entries permit in every state of the machine, and that it lies in no region but the world's own: the law of Reach with
+-- the entries as they stand. (A law of the monitor's definitions; Keystone, EuroSys 2020, in this project's profile.)
 use Rattle.std.specs.Prelude.{ℕ, ◌+◌, ◌≡◌, ◌≢◌, ◌≤◌, ◌<◌, true, false, List}
 use Rattle.rv_word.specs.Widths.{bytes_in}
 use Rattle.rv_word.specs.declared.width.Width.{Width}

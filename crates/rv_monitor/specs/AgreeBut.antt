@@ -1,5 +1,5 @@
 -- Two states of the monitored machine that agree but for what is private to one enclave: the bytes of its region and its context.
--- (Keystone, EuroSys 2020, in this project's profile.)
+-- (No rule of a standard: what the laws of confidentiality speak of.)
 use Rattle.std.specs.Prelude.{◌≡◌, ◌≢◌, ℕ, ◌+◌, Bool, false, List, length, slice_index}
 use Rattle.rv_memory.specs.Memory.{ram_base}
 use Rattle.rv_monitor.specs.Blocks.{has}

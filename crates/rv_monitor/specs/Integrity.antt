@@ -1,5 +1,5 @@
 -- A step leaves what is private to an enclave that does not run, where it neither enters nor ends it: its record, the bytes of its
--- region and its kept context. (Keystone, EuroSys 2020, in this project's profile.)
+-- region and its kept context. (A law of the monitor's definitions, no rule of a standard.)
 use Rattle.std.specs.Prelude.{ℕ, ◌≡◌, ◌==◌, Bool, true, false, Option, Some, None}
 use Rattle.rv_memory.specs.Memory.{byte_at}
 use Rattle.rv_monitor.specs.Blocks.{has}

@@ -1,4 +1,4 @@
--- What each world reaches, as sets of bytes, and the law that the entries of its layout give exactly that. (Keystone, EuroSys
+-- What each world reaches, as sets of bytes, and the law that the entries of its layout permit exactly that. (Keystone, EuroSys
 -- 2020, in this project's profile. No entry is named here but by the law.)
 use Rattle.std.specs.Prelude.{ℕ, ◌≡◌, ◌≢◌, ◌&&◌, Bool, true, not, List, [], ◌∷◌}
 use Rattle.std.specs.List.{list_any, list_all}
