@@ -169,3 +169,13 @@ returned_kept h done =
 -- after a trap no entry is locked
 pub trapped_unlocked : (seat : Seat) (shared : Shared) → IsTrapped seat shared → HasNoLock seat.hart.csrs.pmp
 trapped_unlocked seat shared trapped = subst HasNoLock (sym trapped.ready.entries) (layout_unlocked shared.table seat.world)
+
+-- ---- a debugger's write of memory
+
+pub kept_by_size : (state : MonitoredState) (memory : List ℕ) → IsKept state → length state.shared.memory ≡ length memory
+    → IsKept (record { seat = state.seat; shared = record state.shared { memory = memory } })
+kept_by_size state memory kept size = record {
+  shared = sound_by_size state.shared (state.seat.world ∷ []) memory kept.shared size;
+  host = kept.host;
+  layout = kept.layout;
+}
