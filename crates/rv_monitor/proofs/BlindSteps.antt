@@ -1,0 +1,71 @@
+-- A bare step of a kept state neither depends on a region that is not the world's nor changes it.
+use Rattle.std.proofs.Common.{◌≡◌, ℕ, Bool, false, List, Option, Some, None}
+use Rattle.rv_word.specs.Widths.{bytes_in}
+use Rattle.rv_pmp.specs.declared.access.Access.{Access}
+use Rattle.rv_pmp.specs.declared.access.Access.TheVariants.{Fetch, Read}
+use Rattle.rv_pmp.specs.declared.mode.Mode.{Mode}
+use Rattle.rv_memory.specs.declared.touched.Span.{Span}
+use Rattle.rv_memory.specs.declared.touched.Touched.{Touched}
+use Rattle.rv_state.specs.Interrupts.{is_machine}
+use Rattle.rv_hart.proofs.Confined.{confined}
+use Rattle.rv_hart.proofs.StepLaws.{touches_permitted}
+use Rattle.rv_hart.specs.Confinement.{SameIn, AgreeOn, Stores}
+use Rattle.rv_hart.specs.Permitted.{MayTouch, MayTouchAll}
+use Rattle.rv_hart.specs.State.{State}
+use Rattle.rv_hart.specs.Step.{step, data_mode}
+use Rattle.rv_monitor.specs.AgreeBut.{AgreeOutside, is_private}
+use Rattle.rv_monitor.specs.Confidentiality.{BareLaw, StepAlike, bare}
+use Rattle.rv_monitor.specs.State.{MonitoredState, IsKept}
+use Rattle.rv_monitor.specs.Table.{is_world_of}
+use Rattle.rv_monitor.proofs.Agreement.{IsSeen, same_read, same_write}
+use Rattle.rv_monitor.proofs.KeptReaches.{below_M, clear_mode}
+use Rattle.rv_monitor.proofs.Reaches.{permitted_apart, small_ram, inside_is, some_bytes}
+
+module _ (e : ℕ) (state : MonitoredState) (kept : IsKept state) (other : is_world_of e state.seat.world ≡ false) where
+  abbrev before : State
+  before = bare state
+
+  abbrev hidden : ℕ → Bool
+  hidden = is_private state.shared.table e
+
+  -- what is touched is not hidden
+  seen : (mode : Mode) (access : Access) (span : Span) → is_machine mode ≡ false → MayTouch before mode access (Some span) → IsSeen hidden span.addr (bytes_in span.len)
+  seen mode access span below may byte low high =
+      let entries = kept.layout.entries in
+      permitted_apart state.shared.memory state.shared.table state.seat.world mode access span.addr (bytes_in span.len)
+      (small_ram state.shared.memory kept.shared.valid.ram) kept.shared.valid (below_M mode below) (some_bytes span.len)
+      (inside_is state.shared.memory span.addr (bytes_in span.len) may.0) e other (rw (← entries) may.1) byte low high
+
+  same_in : (mode : Mode) (access : Access) (touched : Option Span) (n : List ℕ) → is_machine mode ≡ false → MayTouch before mode access touched
+      → AgreeOutside hidden before.memory n → SameIn before.memory n touched
+  same_in mode access None n below may agree = tt
+  same_in mode access (Some span) n below may agree = same_read hidden before.memory n span.addr (bytes_in span.len) agree may.0 (seen mode access span below may)
+
+  data_below : is_machine (data_mode before.hart) ≡ false
+  data_below = rw (clear_mode before.hart kept.layout.mprv) kept.layout.mode
+
+  agree_on : (touched : Touched) (n : List ℕ) → MayTouchAll before touched → AgreeOutside hidden before.memory n → AgreeOn before.memory n touched
+  agree_on touched n may agree = record {
+    size = agree.size;
+    fetched = same_in before.hart.mode Fetch touched.fetched n kept.layout.mode may.fetched agree;
+    loaded = same_in (data_mode before.hart) Read touched.loaded n data_below may.loaded agree;
+  }
+
+  same_stores : (stored : Option Span) (n bytes one two : List ℕ) → AgreeOutside hidden before.memory n → Stores bytes before.memory one stored → Stores bytes n two stored
+      → AgreeOutside hidden one two
+  same_stores None n bytes one two agree here there = rw (here, there) agree
+  same_stores (Some span) n bytes one two agree here there = same_write hidden before.memory n span.addr bytes one two agree here.1 there.1
+
+  pub blind_step : (n : List ℕ) → AgreeOutside hidden before.memory n → StepAlike hidden (step before) (step (record before { memory = n }))
+  blind_step n agree =
+      let after = step before in
+      let is = confined before in
+      let alike = is.alike n (agree_on after.outcome.touched n (touches_permitted before) agree) in
+      record {
+        hart = alike.hart;
+        outcome = alike.outcome;
+        memory = same_stores after.outcome.touched.stored n is.bytes after.state.memory (step (record before { memory = n })).state.memory agree alike.here alike.there;
+      }
+
+pub bare_law : BareLaw
+bare_law e state memory kept other agree = blind_step e state kept other memory agree

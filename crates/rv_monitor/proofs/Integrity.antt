@@ -1,0 +1,394 @@
+-- A step leaves what is private to an enclave that does not run, where it neither enters nor ends it.
+use Rattle.std.proofs.Common.{◌≡◌, ◌≢◌, ℕ, ◌+◌, ◌<◌, ◌≤◌, ◌⊎◌, ◌==◌, Bool, true, false, List, length, Option, Some, None, Result, Ok, Err, IfSome, replicate, refl, sym, ◌∙◌, ap, subst, inl, inr, arith, lit<}
+use Rattle.std.specs.Prelude.{if◌then◌else◌, is_some}
+use Rattle.std.proofs.lemmas.List.{length-replicate}
+use Rattle.std.proofs.lemmas.Bool.{cases_eq, cases_lt, cases_Bool, both_ways, eq-eqb, and_from, and_parts, le-leb, lt-ltb}
+use Rattle.rv_word.specs.Cases.{option_case, result_case}
+use Rattle.rv_word.specs.Widths.{bytes_in}
+use Rattle.rv_pmp.proofs.VerdictLemmas.{each_from_all}
+use Rattle.rv_pmp.specs.Entries.{Entries}
+use Rattle.rv_pmp.specs.Verdicts.{bytes_from, permits, verdict}
+use Rattle.rv_pmp.specs.declared.access.Access.TheVariants.{Write}
+use Rattle.rv_pmp.specs.declared.mode.Mode.{Mode}
+use Rattle.rv_pmp.specs.declared.mode.Mode.TheVariants.{S}
+use Rattle.rv_memory.specs.Memory.{byte_at, is_inside, write}
+use Rattle.rv_memory.specs.declared.touched.Span.{Span}
+use Rattle.rv_memory.proofs.MemoryLaws.{byte_at-write}
+use Rattle.rv_state.specs.Interrupts.{is_machine}
+use Rattle.rv_state.specs.Registers.{register}
+use Rattle.rv_state.specs.declared.cause.Cause.{Cause}
+use Rattle.rv_state.specs.declared.cause.Cause.TheVariants as causes
+use Rattle.rv_state.specs.declared.cause.Exception.{Exception}
+use Rattle.rv_state.specs.declared.cause.Exception.TheVariants.{InstructionAddressMisaligned, InstructionAccessFault, IllegalInstruction, Breakpoint, LoadAccessFault, StoreAccessFault, EnvironmentCallFromU, EnvironmentCallFromS, EnvironmentCallFromM}
+use Rattle.rv_hart.specs.Confinement.{IsConfined, Stores, AgreeOn}
+use Rattle.rv_hart.specs.Permitted.{MayTouch, TouchesPermitted}
+use Rattle.rv_hart.specs.State.{State, Stepped}
+use Rattle.rv_hart.specs.Step.{step, data_mode}
+use Rattle.rv_hart.specs.StepLaws.{TrapKeeps}
+use Rattle.rv_hart.specs.declared.trap.Trap.{Trap}
+use Rattle.rv_hart.proofs.Confined.{confined}
+use Rattle.rv_hart.proofs.StepLaws.{touches_permitted, trap_keeps}
+use Rattle.rv_monitor.specs.Blocks.{has, is_lawful}
+use Rattle.rv_monitor.specs.Calls.{asked_call, status_of, takes}
+use Rattle.rv_monitor.specs.Contexts.{with_context, first_context, exited_context, saved}
+use Rattle.rv_monitor.specs.Create.{Called, called, refused, created, proposed, is_entry, overlaps, recorded, with_enclave}
+use Rattle.rv_monitor.specs.Destroy.{destroyed, without, zeroed}
+use Rattle.rv_monitor.specs.Integrity.{enters, IsSpared, IntegrityLaw}
+use Rattle.rv_monitor.specs.Layout.{layout}
+use Rattle.rv_monitor.specs.Measure.{measured, measured_slot, may_store, may_store_all, with_bytes}
+use Rattle.rv_monitor.specs.State.{MonitoredState, IsKept}
+use Rattle.rv_monitor.specs.Step.{answered, answer_of, entry_of, performed, call_handled, timer_stopped, handled, handled_cause, handled_exception, past_call, stopped_context, with_line_down, trapped_pc, trapped_mode, a0, a1, monitored_step, MonitoredStepped, returned, unhandled}
+use Rattle.rv_monitor.specs.Switches.{Handled, goes_on, entered, enterable, left, left_slot, slot_of}
+use Rattle.rv_monitor.specs.Table.{Slots, slot_at, with_slot, with_state, free_slot, region, region_of, is_live, is_window, is_world_of, IsValid, IsLawfulSlot}
+use Rattle.rv_monitor.specs.declared.block.Block.{Block}
+use Rattle.rv_monitor.specs.declared.call.Call.{Call}
+use Rattle.rv_monitor.specs.declared.call.Call.TheVariants.{Create, Destroy, Run, Resume, Measure, Stop, Exit}
+use Rattle.rv_monitor.specs.declared.context.Context.{Context}
+use Rattle.rv_monitor.specs.declared.proposal.Proposal.{Proposal}
+use Rattle.rv_monitor.specs.declared.refusal.Refusal.{Refusal}
+use Rattle.rv_monitor.specs.declared.refusal.Refusal.TheVariants.{NotSupported, NoEnclave, BadState, BadAddress, NoSlot}
+use Rattle.rv_monitor.specs.declared.seat.Seat.{Seat}
+use Rattle.rv_monitor.specs.declared.shared.Shared.{Shared}
+use Rattle.rv_monitor.specs.declared.slot_info.EnclaveState.{EnclaveState}
+use Rattle.rv_monitor.specs.declared.slot_info.EnclaveState.TheVariants.{Running, Stopped, Exited}
+use Rattle.rv_monitor.specs.declared.slot_info.SlotInfo.{SlotInfo}
+use Rattle.rv_monitor.specs.declared.world.World.{World}
+use Rattle.rv_monitor.specs.declared.world.World.TheVariants.{Host, Enclave}
+use Rattle.rv_monitor.proofs.Slots.{at_same, at_other}
+use Rattle.rv_monitor.proofs.Sound.{live_in_range, free_slot_from}
+use Rattle.rv_monitor.proofs.Owners.{apart_at}
+use Rattle.rv_monitor.proofs.Reaches.{permitted_apart, small_ram, inside_is, some_bytes}
+use Rattle.rv_monitor.proofs.KeptReaches.{below_M, clear_mode}
+use Rattle.rv_monitor.proofs.Ready.{IsReady}
+use Rattle.rv_monitor.proofs.StepKept.{after_trap, same_in}
+
+itself : (k : ℕ) (shared : Shared) → IsSpared k shared shared
+itself k shared = record { slot = refl; bytes = λ byte inside. refl; context = refl }
+
+-- ---- another slot changes
+
+-- the bytes of slot k's region are the same in two memories
+abbrev KeepsRegion : ℕ → Slots → List ℕ → List ℕ → Type 0
+KeepsRegion k slots old new = (byte : ℕ) → has (region slots k) byte ≡ true → byte_at new byte ≡ byte_at old byte
+
+other_slot : (k j : ℕ) (shared : Shared) (o : Option SlotInfo) (c : Option Context) (memory : List ℕ) → k ≢ j → KeepsRegion k shared.table shared.memory memory
+    → IsSpared k shared (record { memory = memory; table = with_slot shared.table j o; contexts = with_context shared.contexts j c })
+other_slot k j shared o c memory other bytes =
+    record { slot = at_other shared.table j k o other; bytes = bytes; context = at_other shared.contexts j k c other }
+
+state_by : (slots : Slots) (k j : ℕ) (o : Option SlotInfo) (state : EnclaveState) → k ≢ j
+    → slot_at (option_case o slots (λ info. with_slot slots j (Some (record info { state = state })))) k ≡ slot_at slots k
+state_by slots k j None state other = refl
+state_by slots k j (Some info) state other = at_other slots j k (Some (record info { state = state })) other
+
+other_state : (k j : ℕ) (shared : Shared) (state : EnclaveState) (c : Option Context) → k ≢ j
+    → IsSpared k shared (record shared { table = with_state shared.table j state; contexts = with_context shared.contexts j c })
+other_state k j shared state c other = record {
+  slot = state_by shared.table k j (slot_at shared.table j) state other;
+  bytes = λ byte inside. refl;
+  context = at_other shared.contexts j k c other;
+}
+
+not_it : (k j : ℕ) → (j == k) ≡ false → k ≢ j
+not_it k j other same = both_ways _ other (eq-eqb j k (sym same))
+
+-- ---- bytes that are put elsewhere
+
+put_by : (memory : List ℕ) (address : ℕ) (bytes : List ℕ) (byte : ℕ) (o : Option (List ℕ)) → write memory address bytes ≡ o
+    → byte < address ⊎ address + length bytes ≤ byte → byte_at (option_case o memory (λ after. after)) byte ≡ byte_at memory byte
+put_by memory address bytes byte None is apart = refl
+put_by memory address bytes byte (Some after) is apart = byte_at-write memory address bytes after byte is apart
+
+outside : (block : Block) (byte : ℕ) → has block byte ≡ false → byte < block.base ⊎ block.base + block.size ≤ byte
+outside block byte none = elim (cases_lt byte block.base) [
+  | inl below ↦ inl below
+  | inr low ↦ elim (cases_lt byte (block.base + block.size)) [
+    | inl high ↦ absurd (both_ways _ none (and_from _ _ (le-leb block.base byte low) (lt-ltb byte (block.base + block.size) high)))
+    | inr past ↦ inr past
+  ]
+]
+
+zeroed_spares : (memory : List ℕ) (block : Block) (byte : ℕ) → has block byte ≡ false → byte_at (zeroed memory block) byte ≡ byte_at memory byte
+zeroed_spares memory block byte none =
+    let long : length (replicate block.size 0) ≡ block.size = length-replicate {A = ℕ} block.size 0 in
+    put_by memory block.base (replicate block.size 0) byte (write memory block.base (replicate block.size 0)) refl (rw long (outside block byte none))
+
+-- ---- what a hart may store
+
+-- what S or U may store is in no region of another enclave, so the bytes of such a region are not stored
+store_apart : (memory : List ℕ) (slots : Slots) (world : World) (mode : Mode) (address count k byte : ℕ) → IsValid memory slots
+    → is_machine mode ≡ false → 0 < count → is_world_of k world ≡ false → is_inside memory address count ≡ true
+    → permits (verdict (layout slots world) mode Write (bytes_from address count)) ≡ true → has (region slots k) byte ≡ true
+    → byte < address ⊎ address + count ≤ byte
+store_apart memory slots world mode address count k byte valid below some rests inside permitted own = elim (cases_lt byte address) [
+  | inl less ↦ inl less
+  | inr low ↦ elim (cases_lt byte (address + count)) [
+    | inl high ↦
+        absurd (both_ways _
+        (permitted_apart memory slots world mode Write address count (small_ram memory valid.ram) valid (below_M mode below) some (inside_is memory address count inside) k rests permitted byte low high)
+        own)
+    | inr past ↦ inr past
+  ]
+]
+
+-- ---- leaving
+
+left_slot_spares : (k j : ℕ) (seat : Seat) (shared : Shared) (state : EnclaveState) (kept host : Context) (x y : ℕ) → k ≢ j
+    → IsSpared k shared (left_slot seat shared j state kept host x y).shared
+unfolding left_slot
+left_slot_spares k j seat shared state kept host x y other = other_state k j shared state (Some kept) other
+
+left_by : (k : ℕ) (seat : Seat) (shared : Shared) (state : EnclaveState) (kept : Context) (x y : ℕ) (w : World) (h : Option Context) → is_world_of k w ≡ false
+    → IsSpared k shared (option_case (slot_of w) (goes_on seat shared kept.pc kept.mode) (λ j. option_case h (goes_on seat shared kept.pc kept.mode) (λ host. left_slot seat shared j state kept host x y))).shared
+left_by k seat shared state kept x y Host h rests = itself k shared
+left_by k seat shared state kept x y (Enclave j) None rests = itself k shared
+left_by k seat shared state kept x y (Enclave j) (Some host) rests = left_slot_spares k j seat shared state kept host x y (not_it k j rests)
+
+left_spares : (k : ℕ) (seat : Seat) (shared : Shared) (state : EnclaveState) (kept : Context) (x y : ℕ) → is_world_of k seat.world ≡ false
+    → IsSpared k shared (left seat shared state kept x y).shared
+unfolding left
+left_spares k seat shared state kept x y rests = left_by k seat shared state kept x y seat.world seat.host_context rests
+
+-- ---- the calls
+
+-- what the monitor leaves spares slot k, where it does not enter it, and it is live
+abbrev Spares : ℕ → Shared → Handled → Type 0
+Spares k before h = enters k h.next.entered ≡ false → is_live h.shared.table k ≡ true → IsSpared k before h.shared
+
+answer_by : (k : ℕ) (seat : Seat) (shared after : Shared) (r : Result ℕ Refusal) → (is_live after.table k ≡ true → IsSpared k shared after)
+    → Spares k shared (answer_of seat (record { shared = after; result = r }))
+unfolding answer_of
+answer_by k seat shared after (Ok result) spared passes live = spared live
+answer_by k seat shared after (Err refusal) spared passes live = spared live
+
+free_by : (k : ℕ) (shared : Shared) (new : Proposal) (o : Option ℕ) → is_live shared.table k ≡ true → free_slot shared.table ≡ o
+    → IsSpared k shared (option_case o (refused shared NoSlot) (λ j. called (with_enclave shared j (recorded shared.memory new)) (Ok j))).shared
+free_by k shared new None live is = itself k shared
+free_by k shared new (Some j) live is =
+    let free = (free_slot_from shared.table j is).free in
+    let other : k ≢ j = λ same. both_ways _ (ap (λ (o : Option SlotInfo). is_some o) free) (rw (← same) live) in
+    other_slot k j shared (Some (recorded shared.memory new)) (Some (first_context (recorded shared.memory new))) shared.memory other (λ byte inside. refl)
+
+created_spares : (k : ℕ) (shared : Shared) (new : Proposal) → is_live shared.table k ≡ true → IsSpared k shared (created shared new).shared
+unfolding created
+created_spares k shared new live = elim (cases_Bool (is_lawful shared.memory new.region)) [
+  | inr fails ↦ rw fails (itself k shared)
+  | inl lawful ↦ elim (cases_Bool (is_window shared.memory new.window)) [
+    | inr fails ↦ rw (lawful, fails) (itself k shared)
+    | inl window ↦ elim (cases_Bool (overlaps shared.table new)) [
+      | inl holds ↦ rw (lawful, window, holds) (itself k shared)
+      | inr apart ↦ elim (cases_Bool (is_entry new)) [
+        | inr fails ↦ rw (lawful, window, apart, fails) (itself k shared)
+        | inl entry ↦ rw (lawful, window, apart, entry) (free_by k shared new (free_slot shared.table) live refl)
+      ]
+    ]
+  ]
+]
+
+gone_spares : (k j : ℕ) (shared : Shared) (info : SlotInfo) → IsValid shared.memory shared.table → slot_at shared.table j ≡ Some info
+    → is_live (with_slot shared.table j None) k ≡ true → IsSpared k shared (without shared j info.region)
+gone_spares k j shared info valid is live = elim (cases_eq k j) [
+  | inl same ↦
+      let inside = live_in_range shared.table j info valid.count is in
+      let gone : slot_at (with_slot shared.table j None) j ≡ None = at_same shared.table j None (omega (arith, valid.count)) in
+      absurd (both_ways _ (ap (λ (o : Option SlotInfo). is_some o) gone) (rw same at live))
+  | inr other ↦
+      let region_is : region shared.table j ≡ info.region = ap region_of is in
+      other_slot k j shared None None (zeroed shared.memory info.region) other
+      (λ byte own. zeroed_spares shared.memory info.region byte
+      (subst (λ (b : Block). has b byte ≡ false) region_is
+      (apart_at (region shared.table k) (region shared.table j) byte (valid.regions_apart k j other) own)))
+]
+
+taken_by : (k j : ℕ) (shared : Shared) (info : SlotInfo) (taken : Bool) → IsValid shared.memory shared.table → slot_at shared.table j ≡ Some info
+    → is_live (if taken then called (without shared j info.region) (Ok 0) else refused shared BadState).shared.table k ≡ true
+    → IsSpared k shared (if taken then called (without shared j info.region) (Ok 0) else refused shared BadState).shared
+taken_by k j shared info false valid is live = itself k shared
+taken_by k j shared info true valid is live = gone_spares k j shared info valid is live
+
+destroyed_by : (k j : ℕ) (shared : Shared) (o : Option SlotInfo) → IsValid shared.memory shared.table → slot_at shared.table j ≡ o
+    → is_live (option_case o (refused shared NoEnclave) (λ info. if takes Destroy info.state then called (without shared j info.region) (Ok 0) else refused shared BadState)).shared.table k ≡ true
+    → IsSpared k shared (option_case o (refused shared NoEnclave) (λ info. if takes Destroy info.state then called (without shared j info.region) (Ok 0) else refused shared BadState)).shared
+destroyed_by k j shared None valid is live = itself k shared
+destroyed_by k j shared (Some info) valid is live = taken_by k j shared info (takes Destroy info.state) valid is live
+
+destroyed_spares : (k j : ℕ) (shared : Shared) → IsValid shared.memory shared.table → is_live (destroyed shared j).shared.table k ≡ true
+    → IsSpared k shared (destroyed shared j).shared
+unfolding destroyed
+destroyed_spares k j shared valid live = destroyed_by k j shared (slot_at shared.table j) valid refl live
+
+-- ---- measure
+
+stored_apart : (memory : List ℕ) (slots : Slots) (world : World) (address k byte : ℕ) → IsValid memory slots
+    → is_world_of k world ≡ false → may_store_all memory (layout slots world) address ≡ true → has (region slots k) byte ≡ true
+    → byte < address ⊎ address + 32 ≤ byte
+unfolding may_store_all
+stored_apart memory slots world address k byte valid rests may own = elim (cases_lt byte address) [
+  | inl less ↦ inl less
+  | inr low ↦ elim (cases_lt byte (address + 32)) [
+    | inl high ↦
+        let one = each_from_all (may_store memory (layout slots world)) address 32 may byte low high in
+        let parts = and_parts (is_inside memory byte 1) (permits (verdict (layout slots world) S Write (bytes_from byte 1))) one in
+        absurd (elim (store_apart memory slots world S byte 1 k byte valid refl (lit< tt) rests parts.0 parts.1 own) [ inl below ↦ omega arith | inr past ↦ omega arith ])
+    | inr past ↦ inr past
+  ]
+]
+
+module _ (k j address : ℕ) (shared : Shared) (world : World) (valid : IsValid shared.memory shared.table) (rests : is_world_of k world ≡ false) where
+  put_spares : (info : SlotInfo) → length info.measurement ≡ 32 → may_store_all shared.memory (layout shared.table world) address ≡ true
+      → IsSpared k shared (record shared { memory = with_bytes shared.memory address info.measurement })
+  put_spares info long may = record {
+    slot = refl;
+    bytes = λ byte own. put_by shared.memory address info.measurement byte (write shared.memory address info.measurement) refl
+        (rw long (stored_apart shared.memory shared.table world address k byte valid rests may own));
+    context = refl;
+  }
+
+  may_by : (info : SlotInfo) (may : Bool) → length info.measurement ≡ 32 → may_store_all shared.memory (layout shared.table world) address ≡ may
+      → IsSpared k shared (if may then called (record shared { memory = with_bytes shared.memory address info.measurement }) (Ok 0) else refused shared BadAddress).shared
+  may_by info false long is = itself k shared
+  may_by info true long is = put_spares info long is
+
+  measured_by : (o : Option SlotInfo) → IfSome o (IsLawfulSlot shared.memory)
+      → IsSpared k shared (option_case o (refused shared NoEnclave) (λ info.
+      if may_store_all shared.memory (layout shared.table world) address
+      then called (record shared { memory = with_bytes shared.memory address info.measurement }) (Ok 0)
+      else refused shared BadAddress)).shared
+  measured_by None lawful = itself k shared
+  measured_by (Some info) lawful = may_by info (may_store_all shared.memory (layout shared.table world) address) lawful.measured refl
+
+  measured_spares : IsSpared k shared (measured shared (layout shared.table world) j address).shared
+  unfolding measured
+  measured_spares = measured_by (slot_at shared.table j) (valid.lawful j)
+
+-- ---- entering
+
+entered_spares : (k j : ℕ) (seat : Seat) (shared : Shared) (context : Context) (past : ℕ) → Spares k shared (entered seat shared j context past)
+unfolding entered
+entered_spares k j seat shared context past passes live = other_state k j shared Running None (not_it k j passes)
+
+entry_by : (k : ℕ) (seat : Seat) (shared : Shared) (r : Result Context Refusal)
+    → Spares k shared (result_case r (λ context. entered seat shared (a0 seat) context (past_call seat)) (λ refusal. answered seat shared (status_of refusal) 0))
+entry_by k seat shared (Ok context) passes live = entered_spares k (a0 seat) seat shared context (past_call seat) passes live
+entry_by k seat shared (Err refusal) passes live = itself k shared
+
+entry_spares : (k : ℕ) (seat : Seat) (shared : Shared) (call : Call) → Spares k shared (entry_of seat shared call)
+unfolding entry_of
+entry_spares k seat shared call = entry_by k seat shared (enterable shared call (a0 seat))
+
+-- ---- all that the monitor does after a trap
+
+module _ (k : ℕ) (seat : Seat) (shared : Shared) (ready : IsReady seat shared)
+    (rests : is_world_of k seat.world ≡ false) (live : is_live shared.table k ≡ true) where
+  measure_spares : IsSpared k shared (measured shared seat.hart.csrs.pmp (measured_slot seat.world (a0 seat)) (a1 seat)).shared
+  measure_spares =
+      subst (λ (entries : Entries). IsSpared k shared (measured shared entries (measured_slot seat.world (a0 seat)) (a1 seat)).shared) (sym ready.entries)
+      (measured_spares k (measured_slot seat.world (a0 seat)) (a1 seat) shared seat.world ready.sound.valid rests)
+
+  answer_spares : (call : Called) → (is_live call.shared.table k ≡ true → IsSpared k shared call.shared) → Spares k shared (answer_of seat call)
+  answer_spares call spared = answer_by k seat shared call.shared call.result spared
+
+  performed_spares : (call : Call) → Spares k shared (performed seat shared call)
+  unfolding performed
+  performed_spares Create = answer_spares (created shared (proposed seat.hart.regs)) (λ after. created_spares k shared (proposed seat.hart.regs) live)
+  performed_spares Destroy = answer_spares (destroyed shared (a0 seat)) (λ after. destroyed_spares k (a0 seat) shared ready.sound.valid after)
+  performed_spares Run = entry_spares k seat shared Run
+  performed_spares Resume = entry_spares k seat shared Resume
+  performed_spares Measure =
+      answer_spares (measured shared seat.hart.csrs.pmp (measured_slot seat.world (a0 seat)) (a1 seat)) (λ after. measure_spares)
+  performed_spares Stop = λ passes after. left_spares k seat shared Stopped (stopped_context seat) 1 (a0 seat) rests
+  performed_spares Exit = λ passes after. left_spares k seat shared Exited exited_context 0 (a0 seat) rests
+
+  call_by : (o : Option Call) → Spares k shared (option_case o (answered seat shared (status_of NotSupported) 0) (performed seat shared))
+  call_by None passes after = itself k shared
+  call_by (Some call) passes after = performed_spares call passes after
+
+  call_spares : Spares k shared (call_handled seat shared)
+  unfolding call_handled
+  call_spares = call_by (asked_call seat.world (register seat.hart.regs 17) (register seat.hart.regs 16))
+
+  timer_spares : Spares k shared (timer_stopped seat shared)
+  unfolding timer_stopped
+  timer_spares passes after =
+      let lowered = with_line_down seat in
+      left_spares k lowered shared Stopped (saved lowered.hart (trapped_pc seat) (trapped_mode seat)) 2 0 rests
+
+  exception_spares : (trap : Trap) (e : Exception) → Spares k shared (handled_exception seat shared trap e)
+  exception_spares trap EnvironmentCallFromS = call_spares
+  exception_spares trap InstructionAddressMisaligned = λ passes after. itself k shared
+  exception_spares trap InstructionAccessFault = λ passes after. itself k shared
+  exception_spares trap IllegalInstruction = λ passes after. itself k shared
+  exception_spares trap Breakpoint = λ passes after. itself k shared
+  exception_spares trap LoadAccessFault = λ passes after. itself k shared
+  exception_spares trap StoreAccessFault = λ passes after. itself k shared
+  exception_spares trap EnvironmentCallFromU = λ passes after. itself k shared
+  exception_spares trap EnvironmentCallFromM = λ passes after. itself k shared
+
+  cause_spares : (trap : Trap) (cause : Cause) → Spares k shared (handled_cause seat shared trap cause)
+  cause_spares trap (causes.Interrupt i) = timer_spares
+  cause_spares trap (causes.Exception e) = exception_spares trap e
+
+  pub handled_spares : (trap : Trap) → Spares k shared (handled seat shared trap)
+  unfolding handled
+  handled_spares trap = cause_spares trap trap.cause
+
+-- ---- the bare step
+
+abbrev bare_of : MonitoredState → State
+bare_of state = record { hart = state.seat.hart; memory = state.shared.memory }
+
+module _ (state : MonitoredState) (k : ℕ) (kept : IsKept state) (rests : is_world_of k state.seat.world ≡ false) where
+  data_below : is_machine (data_mode state.seat.hart) ≡ false
+  data_below = rw (clear_mode state.seat.hart kept.layout.mprv) kept.layout.mode
+
+  stores_spare : (stored : Option Span) (bytes after : List ℕ) → MayTouch (bare_of state) (data_mode state.seat.hart) Write stored
+      → Stores bytes state.shared.memory after stored → KeepsRegion k state.shared.table state.shared.memory after
+  stores_spare None bytes after may is byte own = ap (λ m. byte_at m byte) is
+  stores_spare (Some span) bytes after may stores byte own =
+      let entries = kept.layout.entries in
+      let count = stores.0 in
+      byte_at-write state.shared.memory span.addr bytes after byte stores.1
+      (rw count
+      (store_apart state.shared.memory state.shared.table state.seat.world (data_mode state.seat.hart) span.addr (bytes_in span.len) k byte kept.shared.valid
+      data_below (some_bytes span.len) rests may.0 (rw (← entries) may.1) own))
+
+  bare_spares : (after : Stepped) → IsConfined (bare_of state) after → TouchesPermitted (bare_of state) after
+      → KeepsRegion k state.shared.table state.shared.memory after.state.memory
+  bare_spares after is may =
+      let agree : AgreeOn state.shared.memory state.shared.memory after.outcome.touched =
+      record { size = refl; fetched = same_in state.shared.memory after.outcome.touched.fetched; loaded = same_in state.shared.memory after.outcome.touched.loaded } in
+      stores_spare after.outcome.touched.stored is.bytes after.state.memory may.stored (is.alike state.shared.memory agree).here
+
+  abbrev seat_after : Stepped → Seat
+  seat_after after = record state.seat { hart = after.state.hart }
+
+  abbrev shared_after : Stepped → Shared
+  shared_after after = record state.shared { memory = after.state.memory }
+
+  abbrev ended : Stepped → Option Trap → MonitoredStepped
+  ended after o =
+      option_case o (unhandled after.outcome (seat_after after) (shared_after after))
+      (λ trap. returned after.outcome (handled (seat_after after) (shared_after after) trap))
+
+  by_trap : (after : Stepped) (o : Option Trap) → after.outcome.trap ≡ o → IsConfined (bare_of state) after → TrapKeeps (bare_of state) after
+      → is_live state.shared.table k ≡ true → enters k (ended after o).outcome.entered ≡ false → is_live (ended after o).state.shared.table k ≡ true
+      → IsSpared k (shared_after after) (ended after o).state.shared
+  by_trap after None is confined_by keeps live passes stays = itself k (shared_after after)
+  by_trap after (Some trap) is confined_by keeps live passes stays =
+      let trapped = after_trap state after trap is kept keeps confined_by in
+      handled_spares k (seat_after after) (shared_after after) trapped.ready rests live trap passes stays
+
+  pub spared_from : (after : Stepped) → IsConfined (bare_of state) after → TouchesPermitted (bare_of state) after → TrapKeeps (bare_of state) after
+      → is_live state.shared.table k ≡ true → enters k (ended after after.outcome.trap).outcome.entered ≡ false
+      → is_live (ended after after.outcome.trap).state.shared.table k ≡ true
+      → IsSpared k state.shared (ended after after.outcome.trap).state.shared
+  spared_from after confined_by may keeps live passes stays =
+      let last = by_trap after after.outcome.trap refl confined_by keeps live passes stays in
+      let first = bare_spares after confined_by may in
+      record { slot = last.slot; bytes = λ byte own. last.bytes byte own ∙ first byte own; context = last.context }
+
+pub integrity : IntegrityLaw
+unfolding monitored_step
+integrity state kept k rests live passes stays =
+    let before = bare_of state in
+    spared_from state k kept rests (step before) (confined before) (touches_permitted before) (trap_keeps before) live passes stays

@@ -1,0 +1,27 @@
+-- In every kept state the entries permit S and U exactly what is in reach.
+use Rattle.std.proofs.Common.{◌≡◌, ◌≢◌, true, false, refl, sym, ◌∙◌, subst}
+use Rattle.rv_pmp.specs.declared.mode.Mode.{Mode}
+use Rattle.rv_pmp.specs.declared.mode.Mode.TheVariants.{M}
+use Rattle.rv_state.specs.Interrupts.{is_machine}
+use Rattle.rv_word.specs.Widths.{bytes_in}
+use Rattle.rv_pmp.specs.Entries.{Entries}
+use Rattle.rv_pmp.specs.Verdicts.{bytes_from, permits, verdict}
+use Rattle.rv_hart.specs.HartState.{Hart}
+use Rattle.rv_hart.specs.Step.{data_mode}
+use Rattle.rv_monitor.specs.Access.{KeptReachLaw}
+use Rattle.rv_monitor.specs.Reach.{in_reach}
+use Rattle.rv_monitor.proofs.Reaches.{reach_law}
+
+pub kept_reach : KeptReachLaw
+kept_reach state mode access address width kept below inside =
+    subst (λ (entries : Entries). permits (verdict entries mode access (bytes_from address (bytes_in width)))
+    ≡ in_reach state.shared.memory state.shared.table state.seat.world access (bytes_from address (bytes_in width)))
+    (sym kept.layout.entries)
+    (reach_law state.shared.memory state.shared.table state.seat.world mode access address width kept.shared.valid below inside)
+
+pub below_M : (mode : Mode) → is_machine mode ≡ false → mode ≢ M
+below_M mode below same = let machine : is_machine mode ≡ true = rw same refl in let never : true ≡ false = sym machine ∙ below in cc
+
+-- where MPRV is 0, loads and stores go in the hart's own mode
+pub clear_mode : (hart : Hart) → hart.csrs.mstatus.mprv ≡ false → data_mode hart ≡ hart.mode
+clear_mode hart clear = rw clear refl

@@ -1,0 +1,82 @@
+-- So many steps, by the laws of one.
+use Rattle.std.proofs.Common.{◌≡◌, ℕ, zero, suc, ◌⊎◌, List, [], ◌∷◌, Option, Some, None, refl, sym, ap, ap₂, inl, inr}
+use Rattle.rv_word.specs.Cases.{option_case}
+use Rattle.rv_hart.proofs.Confined.{confined}
+use Rattle.rv_hart.proofs.StepLaws.{trap_keeps, keeps_mprv_clear, keeps_machine_parts}
+use Rattle.rv_hart.specs.State.{Stepped}
+use Rattle.rv_hart.specs.Step.{step}
+use Rattle.rv_hart.specs.declared.trap.Trap.{Trap}
+use Rattle.rv_monitor.specs.Confidentiality.{bare}
+use Rattle.rv_monitor.specs.Runs.{Ran, run, after_one, BothRunIn, BothRunPast, RunLaw, KeptLaw}
+use Rattle.rv_monitor.specs.State.{MonitoredState, IsKept}
+use Rattle.rv_monitor.specs.Step.{handled, monitored_step, returned, unhandled}
+use Rattle.rv_monitor.specs.declared.outcome.Outcome.{Outcome}
+use Rattle.rv_monitor.specs.declared.seat.Seat.{Seat}
+use Rattle.rv_monitor.specs.declared.shared.Shared.{Shared}
+use Rattle.rv_monitor.proofs.MonitoredAlike.{confidentiality}
+use Rattle.rv_monitor.proofs.Ready.{handled_done}
+use Rattle.rv_monitor.proofs.StepKept.{after_none, after_trap, returned_kept}
+
+-- ---- a step keeps what is true
+
+module _ (state : MonitoredState) (kept : IsKept state) where
+  abbrev after : Stepped
+  after = step (bare state)
+
+  abbrev seat : Seat
+  seat = record state.seat { hart = after.state.hart }
+
+  abbrev shared : Shared
+  shared = record state.shared { memory = after.state.memory }
+
+  kept_by_trap : (o : Option Trap) → after.outcome.trap ≡ o
+      → IsKept (option_case o (unhandled after.outcome seat shared) (λ trap. returned after.outcome (handled seat shared trap))).state
+  kept_by_trap None is = after_none state after is kept (keeps_machine_parts (bare state)) (keeps_mprv_clear (bare state)) (confined (bare state))
+  kept_by_trap (Some trap) is =
+      returned_kept (handled seat shared trap)
+      (handled_done seat shared trap (after_trap state after trap is kept (trap_keeps (bare state)) (confined (bare state))))
+
+pub kept_law : KeptLaw
+unfolding monitored_step
+kept_law state kept = kept_by_trap state kept (step (bare state)).outcome.trap refl
+
+-- ---- runs
+
+first_enters : (e : ℕ) (a b : Outcome) (one other : Ran) → a.entered ≡ Some e → b.entered ≡ Some e → BothRunIn e (after_one a one) (after_one b other)
+first_enters e a b one other here there = record {
+  before = [];
+  entry_here = a;
+  entry_there = b;
+  rest_here = one.outcomes;
+  rest_there = other.outcomes;
+  here = refl;
+  there = refl;
+  enters_here = here;
+  enters_there = there;
+}
+
+later : (e : ℕ) (a b : Outcome) (one other : Ran) → a ≡ b → BothRunIn e one other ⊎ BothRunPast e one other
+    → BothRunIn e (after_one a one) (after_one b other) ⊎ BothRunPast e (after_one a one) (after_one b other)
+later e a b one other same (inl enter) = inl (record {
+  before = a ∷ enter.before;
+  entry_here = enter.entry_here;
+  entry_there = enter.entry_there;
+  rest_here = enter.rest_here;
+  rest_there = enter.rest_there;
+  here = ap (λ (xs : List Outcome). a ∷ xs) enter.here;
+  there = let add : Outcome → List Outcome → List Outcome = λ x xs. x ∷ xs in ap₂ add (sym same) enter.there;
+  enters_here = enter.enters_here;
+  enters_there = enter.enters_there;
+})
+later e a b one other same (inr past) =
+    let add : Outcome → List Outcome → List Outcome = λ x xs. x ∷ xs in
+    inr (record { outcomes = ap₂ add same past.outcomes; state = past.state })
+
+pub run_law : RunLaw
+run_law e zero one other here there agree = inr (record { outcomes = refl; state = agree })
+run_law e (suc n) one other here there agree = elim (confidentiality one here e other there agree) [
+  | inl enter ↦ inl (first_enters e (monitored_step one).outcome (monitored_step other).outcome (run n (monitored_step one).state) (run n (monitored_step other).state) enter.here enter.there)
+  | inr past ↦
+      later e (monitored_step one).outcome (monitored_step other).outcome (run n (monitored_step one).state) (run n (monitored_step other).state) past.outcome
+      (run_law e n (monitored_step one).state (monitored_step other).state (kept_law one here) (kept_law other there) past.state)
+]
