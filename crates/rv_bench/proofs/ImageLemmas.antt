@@ -36,7 +36,7 @@ SpellsImage-none unread is_at_end = record {
 pub SpellsImage-going : (unread left : List ℕ) (is_at_end : Bool) (image : List ℕ) → SpellsImage unread left is_at_end image → is_at_end ≡ false → SpellsImage unread left false image
 SpellsImage-going unread left is_at_end image so_far going = subst (λ b. SpellsImage unread left b image) going so_far
 
--- The lines so far spell an image that is not too long, and one more was taken, of which the front is shown.
+-- The lines so far spell an image that is not too long, and one more that is no separator was taken, of which the front is shown.
 pub record TakesInImage (unread left rest : List ℕ) (ends : Bool) (image shown : List ℕ) : Type 0 where
   pub so_far : SpellsImage unread left false image
   pub takes : TakesLine left rest ends shown
