@@ -1,4 +1,6 @@
 use Rattle.std.proofs.Common.{arith}
+use Rattle.std.proofs.lemmas.Grind.{common_steps}
+use Rattle.rv_debug.specs.ReplyText.{pmp_text}
 use Rattle.rv_debug.proofs.RegisterLines.{flat_map-range_more}
 use Rattle.rv_debug.proofs.reply.push_pmp.Goals as goal
 
@@ -7,3 +9,8 @@ loop-number-preserved c = record {
   items = rw (c.push_entry.ensures.items, c.loop-number.invariant.items, c.cfg.ensures.value, c.addr.ensures.value, c.new-index.ensures) (flat_map-range_more _ c.args.out.now.items c.loop-number.number);
   len = omega (arith, c.push_entry.ensures.len, c.loop-number.invariant.len);
 }
+
+-- bounded, so that a wrong body is refused soon
+pub returns-clause-items : goal.returns-clause-items
+unfolding pmp_text
+returns-clause-items c = grind (arith, common_steps) steps 400000

@@ -1,4 +1,6 @@
 use Rattle.std.proofs.Common.{arith, length-append}
+use Rattle.std.proofs.lemmas.Grind.{common_steps}
+use Rattle.rv_debug.specs.ReplyText.{registers_text}
 use Rattle.rv_debug.proofs.RegisterLines.{flat_map-range_more, length-register_text}
 use Rattle.rv_debug.proofs.reply.push_registers.Goals as goal
 
@@ -9,3 +11,8 @@ loop-number-preserved c =
       items = rw (c.push_register.ensures.items, c.loop-number.invariant.items, c.get.ensures.value, c.new-register.ensures) (flat_map-range_more _ c.args.out.now.items c.loop-number.number);
       len = rw c.push_register.ensures.items (simp length-append (rw (c.new-register.ensures) (omega (arith, line))));
     }
+
+-- bounded, so that a wrong body is refused soon
+pub returns-clause-items : goal.returns-clause-items
+unfolding registers_text
+returns-clause-items c = grind (arith, common_steps) steps 400000
