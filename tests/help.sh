@@ -28,8 +28,11 @@ for subcommand in run asm dis; do
 done
 help_has ' *--ram <BYTES>' run --help
 help_has ' *--kind <' run --help
+help_has ' *--monitor ' run --help
 help_has ' *--ram <BYTES>' help run
 help_has ' *--kind <' help run
+help_has ' *--monitor ' run --help
+help_has ' *--monitor ' help run
 help_has 'Usage: rvbench run' run --ram 65536 --help
 help_has 'Example: ' run --help
 for name in step run break watch reg csr mem dis pmp, enclaves; do help_has "  $name " run --help; done

@@ -7,6 +7,7 @@ mod Mapped
 mod RepliesLemmas
 mod Runs
 mod ScriptLemmas
+mod Spared
 mod Starts
 mod Streams
 mod TakeWhileLemmas

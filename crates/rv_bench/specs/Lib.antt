@@ -6,6 +6,7 @@ pub mod Disassemble
 pub mod DisassemblyText
 pub mod Faults
 pub mod Image
+pub mod Integrity
 pub mod Jobs
 pub mod LineText
 pub mod Loaded

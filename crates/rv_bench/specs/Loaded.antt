@@ -6,7 +6,8 @@ use Rattle.rv_pmp.specs.declared.mode.Mode.TheVariants.{M}
 use Rattle.rv_hart.specs.Hart.{at_reset}
 use Rattle.rv_memory.specs.Memory.{is_ram_size}
 use Rattle.rv_memory.specs.declared.ram_fault.RamFault.TheVariants.{BadSize, NoMemory as NoRamMemory}
-use Rattle.rv_debug.specs.BenchState.{BenchState, bare}
+use Rattle.rv_monitor.specs.State.{at_start}
+use Rattle.rv_debug.specs.BenchState.{BenchState, bare, monitored as monitored_bench}
 use Rattle.rv_elf.specs.Fields.{magic}
 use Rattle.rv_elf.specs.Loaded.{loaded_memory}
 use Rattle.rv_elf.specs.Plans.{LoadPlan, file_plan, raw_plan}
@@ -26,18 +27,22 @@ is_read_as_elf Elf image = true
 -- what is loaded where, or the fault of the least number
 abbrev pub planned : List ℕ → Setup → Result LoadPlan ElfFault
 planned image setup =
-    if is_read_as_elf setup.kind image then file_plan image setup.ram else raw_plan (length image) setup.ram
+    if is_read_as_elf setup.kind image then file_plan image setup.ram setup.monitored else raw_plan (length image) setup.ram setup.monitored
 
--- the bench at reset over the loaded memory, every other byte of which is 0
-abbrev pub reset_over : List ℕ → Setup → LoadPlan → BenchState
-reset_over image setup plan =
-    bare (record { hart = at_reset plan.entry M; memory = loaded_memory image plan.segments (replicate setup.ram 0) })
+-- the loaded memory, every other byte of which is 0
+abbrev pub memory_loaded : List ℕ → Setup → LoadPlan → List ℕ
+memory_loaded image setup plan = loaded_memory image plan.segments (replicate setup.ram 0)
+
+-- the bench at reset over a memory: the image alone in mode M, or the host above the monitor
+abbrev pub reset_over : Bool → List ℕ → ℕ → BenchState
+reset_over monitored memory entry =
+    if monitored then monitored_bench (at_start memory entry) else bare (record { hart = at_reset entry M; memory = memory })
 
 -- the bench at reset, or the first fault: of the RAM's size, then of the image
 unfoldable pub started : List ℕ → Setup → Result BenchState BenchFault
 started image setup =
     if is_ram_size setup.ram
-    then result_case (planned image setup) (λ plan. Ok (reset_over image setup plan)) (λ fault. Err (Image fault))
+    then result_case (planned image setup) (λ plan. Ok (reset_over setup.monitored (memory_loaded image setup plan) plan.entry)) (λ fault. Err (Image fault))
     else Err (Ram BadSize)
 
 -- what each result of starting a bench means: the size of the RAM is asked before the image

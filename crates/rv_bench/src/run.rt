@@ -1,8 +1,12 @@
 //! From lines read to replies written.
 
+ghost use Rattle.std.specs.Prelude.{IfOk};
+ghost use Rattle.rv_bench.specs.Integrity.{SparesThrough};
+ghost use Rattle.rv_bench.specs.Loaded.{started};
+ghost use Rattle.rv_bench.specs.Output.{bench_in};
 ghost use Rattle.rv_bench.specs.Run.{RunsBench, RunsLines};
 ghost use Rattle.rv_bench.specs.Stream.{RunsStream};
-ghost use Rattle.rv_bench.specs.Unread.{TellsEnd};
+ghost use Rattle.rv_bench.specs.Unread.{unread, TellsEnd};
 
 use crate::device::{Sink, Source};
 use crate::fault::BenchFault;
@@ -35,7 +39,8 @@ fn run_lines<S: Source, W: Sink>(
 }
 
 /// Loads an image into the RAM of a new machine, and writes the reply to each line, until the source answers its end. Once
-/// the RAM is made, no memory is taken.
+/// the RAM is made, no memory is taken. Under the monitor every part of a script spares each enclave that rests through it
+/// (`integrity`).
 ///
 /// # Errors
 ///
@@ -56,12 +61,13 @@ pub fn run_bench<S: Source, W: Sink>(
 ) -> Result<(), BenchFault>
     ensures outcome { RunsBench W.Sink image.now setup.now lines.old lines.new sink.old sink.new result }
     ensures end { TellsEnd lines.old lines.new }
+    ensures integrity { IfOk (started image.now setup.now) SparesThrough }
 {
     let mut bench = start(alloc, image, setup)?;
     run_lines(&mut bench, lines, sink, ScriptEnd::Input)
 }
 
-/// Reads an image, and then runs the lines after it as `run_bench` does.
+/// Reads an image, and then runs the lines after it as `run_bench` does, under the same law of integrity.
 ///
 /// # Errors
 ///
@@ -80,6 +86,7 @@ pub fn run_stream<S: Source, W: Sink>(
 ) -> Result<(), BenchFault>
     ensures outcome { RunsStream W.Sink setup.now lines.old lines.new sink.old sink.new result }
     ensures end { TellsEnd lines.old lines.new }
+    ensures integrity { IfOk (bench_in setup.now (unread lines.old)) SparesThrough }
 {
     let image = read_image(alloc, lines)?;
     run_bench(alloc, image.as_slice(), setup, lines, sink)

@@ -1,7 +1,7 @@
 //! The bench that an image starts.
 
-ghost use Rattle.std.specs.Prelude.{◌≡◌, length, IfOk};
-ghost use Rattle.rv_bench.specs.Loaded.{is_read_as_elf as is_read_as_elf_of, planned as planned_of, Starts};
+ghost use Rattle.std.specs.Prelude.{◌≡◌, ◌%◌, length, IfOk};
+ghost use Rattle.rv_bench.specs.Loaded.{is_read_as_elf as is_read_as_elf_of, planned as planned_of, reset_over, Starts};
 
 use crate::fault::BenchFault;
 use rv_command_line::{ImageKind, Setup};
@@ -9,6 +9,7 @@ use rv_debug::Bench;
 use rv_elf::{ElfFault, Plan, is_elf, load, plan, plan_raw};
 use rv_hart::Machine;
 use rv_memory::Ram;
+use rv_monitor::Monitored;
 use rv_pmp::Mode;
 use std::alloc::Global;
 
@@ -33,9 +34,21 @@ fn planned(image: &[u8], setup: &Setup) -> Result<Plan, ElfFault>
     ensures of_these { IfOk result (λ plan. (plan.image_size ≡ length image.now) × (plan.ram_size ≡ setup.now.ram)) }
 {
     if is_read_as_elf(setup.kind, image) {
-        plan(image, setup.ram)
+        plan(image, setup.ram, setup.monitored)
     } else {
-        plan_raw(image.len(), setup.ram)
+        plan_raw(image.len(), setup.ram, setup.monitored)
+    }
+}
+
+/// The bench at reset over a RAM: its image alone in mode M, or the host above the monitor.
+fn reset(ram: Ram, entry: u32, monitored: bool) -> Bench
+    requires { entry % 4 ≡ 0 }
+    ensures { result ≡ reset_over monitored ram entry }
+{
+    if monitored {
+        Bench::monitored(Monitored::new(ram, entry))
+    } else {
+        Bench::bare(Machine::new(ram, entry, Mode::M))
     }
 }
 
@@ -50,8 +63,7 @@ pub(crate) fn start(alloc: Global, image: &[u8], setup: &Setup) -> Result<Bench,
     match planned(image, setup) {
         Ok(plan) => {
             load(&plan, image, &mut ram);
-            let machine = Machine::new(ram, plan.entry(), Mode::M);
-            Ok(Bench::bare(machine))
+            Ok(reset(ram, plan.entry(), setup.monitored))
         }
         Err(fault) => Err(BenchFault::Image(fault)),
     }

@@ -42,6 +42,28 @@ fn answers_a_script(rt: HostRuntime) {
     assert_eq!(rt; sink.bytes(), OUTPUT);
 }
 
+/// The image is the host above the monitor: it begins in mode S at 80010000, and its load of the monitor's range is passed on to it.
+#[test]
+fn answers_under_the_monitor(rt: HostRuntime) {
+    let setup = Setup {
+        monitored: true,
+        ..Setup::default()
+    };
+    let mut buffer = [0u8; 256];
+    let mut lines = Lines::new(MemorySource::new(
+        b"83220300\n--\nsetreg 6 8000fffc\nstep 1\ncsr 141\nenclaves",
+    ));
+    let mut sink = MemorySink::new(&mut buffer);
+    let outcome = run_stream(rt.alloc(), &setup, &mut lines, &mut sink);
+    assert_eq!(rt; outcome, Ok(()));
+    assert_eq!(rt;
+        sink.bytes(),
+        b"ok\nran 1 pc=00000000 mode=S world=host why=done trap=00000005:8000fffc\n\
+          csr 141=80010000\n"
+            .as_slice()
+    );
+}
+
 #[test]
 fn answers_csr_and_timer(rt: HostRuntime) {
     let mut buffer = [0u8; 128];

@@ -9,10 +9,10 @@ use Rattle.std.specs.Option.{option_map_or}
 use Rattle.std.specs.Prelude.{encode_utf8, find, fold, is_some, option_map, slice_get, unwrap_or}
 use Rattle.std.specs.Str.{bytes_eq, chars}
 use Rattle.clap.specs.Facts.{parser_of_value}
-use Rattle.clap.specs.Faults.{action_fault, bundle_fault, bundle_step_fault, check_fault, count_fault, default_fault, defaults_fault, entered_fault, flag_word_fault, flags_fault}
+use Rattle.clap.specs.Faults.{action_fault, bundle_fault, bundle_step_fault, count_fault, default_fault, defaults_fault, entered_fault, flag_word_fault, flags_fault}
 use Rattle.clap.specs.Faults.{given_default_fault, level_fault, long_fault, option_fault, other_fault, positional_fault, react_fault, repeat_fault, settle_fault, short_fault}
 use Rattle.clap.specs.Faults.{step_fault, stray_fault, turn_fault, use_fault, values_fault, walk_fault, word_fault}
-use Rattle.clap.specs.Kinds.{Kinds, or_else, range_kinds, request_kinds, value_kinds}
+use Rattle.clap.specs.Kinds.{Kinds, or_else, request_kinds, value_kinds}
 use Rattle.clap.specs.Lexer.{long_of, short_of}
 use Rattle.clap.specs.Matches.{count_text}
 use Rattle.clap.specs.Simple.{App, entered, label_of, rows_at, Shape}

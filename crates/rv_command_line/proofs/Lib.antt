@@ -3,3 +3,4 @@ mod Given
 mod Numbers
 mod Places
 mod Taken
+mod Truths

@@ -1,6 +1,6 @@
 -- A command line reads the names that an option takes alike, wherever they lie in memory. This is said of any command line: by
 -- every rule of a list, and every subcommand.
-use Rattle.std.proofs.Common.{◌∙◌, ◌∷◌, ◌≡◌, ◌+◌, ◌&&◌, [], ap, Bool, false, length, List, map, None, not, ℕ, Option, option_map, refl, Some, suc, sym, true, zero}
+use Rattle.std.proofs.Common.{◌∙◌, ◌∷◌, ◌≡◌, ◌&&◌, [], ap, Bool, false, length, List, map, None, not, ℕ, Option, option_map, refl, Some, suc, sym, true, zero}
 use Rattle.std.specs.List.{list_any}
 use Rattle.std.specs.Option.{option_map_or}
 use Rattle.std.specs.Prelude.{drop, encode_utf8, Err, find, fold, IfOk, is_some, nat_eq, Ok, Result, slice_get}
@@ -11,11 +11,10 @@ use Rattle.clap.specs.Faults.{action_fault, bundle_step_fault, built_fault, chec
 use Rattle.clap.specs.Faults.{fault_of, flag_word_fault, bundle_fault, flags_fault, level_fault, long_fault, option_fault, other_fault}
 use Rattle.clap.specs.Faults.{positional_fault, react_fault, settle_fault, short_fault, step_fault, stray_fault, turn_fault, use_fault}
 use Rattle.clap.specs.Faults.{values_fault, walk_fault, word_fault}
-use Rattle.clap.specs.Kinds.{check_kinds, Kinds, or_else, request_kinds, value_kinds}
+use Rattle.clap.specs.Kinds.{Kinds, or_else, value_kinds}
 use Rattle.clap.specs.Lexer.{long_of, short_of}
 use Rattle.clap.specs.Simple.{App, app_of, argument_words, built, entered, label_of, names_of, rows_at, Shape, subcommand_of}
 use Rattle.clap.specs.Takes.{is_given}
-use Rattle.clap.specs.ValueTests.{accepts}
 use Rattle.clap.specs.Values.{reading_of, same_text}
 use Rattle.clap.specs.Walk.{action_of, after_flag, after_step, answers_to, arg_by_id, arg_by_index, arg_by_long, arg_by_short, bundle_met}
 use Rattle.clap.specs.Walk.{bundle_step, done, finished, flag_met, Held, idle, long_met, long_or_other, next, nothing_held, option, option_met}

@@ -1,8 +1,8 @@
 -- Where the words are taken, each option of `run` that is given has a value that is read.
-use Rattle.std.proofs.Common.{Option, refl, Some, subst, sym, true, ℕ}
-use Rattle.std.proofs.Common.{◌&&◌, ◌||◌, ◌∙◌, ◌∷◌, ◌≡◌, [], ap, arith, Bool, codes, cond, false, List, None}
+use Rattle.std.proofs.Common.{Option, refl, Some, subst, true}
+use Rattle.std.proofs.Common.{◌||◌, ◌∙◌, ◌∷◌, ◌≡◌, [], ap, arith, Bool, codes, cond, false, List, None}
 use Rattle.std.proofs.lemmas.Slice.Eq.{bytes_eq-Decides}
-use Rattle.std.specs.List.{AllByRecursion, list_any}
+use Rattle.std.specs.List.{list_any}
 use Rattle.std.specs.Option.{option_map_or}
 use Rattle.std.specs.Prelude.{find, is_some, map, option_and_then, option_map, pos, slice_get}
 use Rattle.std.specs.Str.Parse.{ParsesUnsigned}
@@ -11,7 +11,7 @@ use Rattle.clap.proofs.CallerReads.{signed_reads}
 use Rattle.clap.proofs.ValueTestLemmas.{accepts-Accepts}
 use Rattle.clap.specs.Facts.{parser_of_value}
 use Rattle.clap.specs.Faults.{entered_fault, values_fault, walk_fault}
-use Rattle.clap.specs.Kinds.{Kinds, or_else, value_kinds}
+use Rattle.clap.specs.Kinds.{Kinds, value_kinds}
 use Rattle.clap.specs.Lexer.{without_minus}
 use Rattle.clap.specs.Simple.{argument_words, built, entered, filled, names_of}
 use Rattle.clap.specs.ValueTests.{accepts}
@@ -22,8 +22,9 @@ use Rattle.clap.specs.declared.builder.value_parser.Reading.{Reading}
 use Rattle.clap.specs.declared.builder.value_parser.ValueParser.TheVariants as parser
 use Rattle.rv_command_line.proofs.Given.{AllGood, EntersGood, entered_good, parts, rules_named}
 use Rattle.rv_command_line.proofs.Numbers.{number_reads}
-use Rattle.rv_command_line.specs.CommandLine.{faults_of, kind, kind_names, kinds, lent, Names, ram, rvbench}
-use Rattle.rv_command_line.specs.Job.{are_read, kind_of, number_in_text, run_options}
+use Rattle.rv_command_line.proofs.Truths.{truth_spelled}
+use Rattle.rv_command_line.specs.CommandLine.{faults_of, kind, kind_names, kinds, lent, monitor, Names, ram, rvbench}
+use Rattle.rv_command_line.specs.Job.{are_read, kind_of, number_in_text, run_options, truth_in_text}
 use Rattle.rv_command_line.specs.declared.image_kind.ImageKind.{ImageKind}
 
 -- ---- values that the parsers accept
@@ -64,6 +65,9 @@ ram_read v e =
     (accepts-Accepts false (parser.Signed (pos 0) (pos 4294967295)) v e) in
     some_given (number_in_text (without_minus v)) got.0 got.1
 
+truth_read : (v : Text) → accepts false parser.Bool v ≡ true → is_some (truth_in_text v) ≡ true
+truth_read v e = truth_spelled (bytes_eq v (codes "true")) (bytes_eq v (codes "false")) e
+
 first_kind : (vs : List Text) → values_fault (filled (kind at_first)) vs ≡ [] → option_map_or (λ text. is_some (kind_of text)) (slice_get vs 0) true ≡ true
 first_kind [] e = refl
 first_kind (v ∷ vs) e = kind_named v (passed (filled (kind at_first)) v vs e)
@@ -72,6 +76,11 @@ first_ram : (how : Reading) (vs : List Text) → how ≡ reading.WithoutMinus �
     → option_map_or (λ text. is_some (number_in_text text)) (option_map (read_as how) (slice_get vs 0)) true ≡ true
 first_ram how [] is e = refl
 first_ram how (v ∷ vs) is e = rw is (ram_read v (passed (filled ram) v vs e))
+
+first_truth : (how : Reading) (vs : List Text) → how ≡ reading.AsWritten → values_fault (filled monitor) vs ≡ []
+    → option_map_or (λ text. is_some (truth_in_text text)) (option_map (read_as how) (slice_get vs 0)) true ≡ true
+first_truth how [] is e = refl
+first_truth how (v ∷ vs) is e = rw is (truth_read v (passed (filled monitor) v vs e))
 
 -- ---- the rows of the options
 
@@ -100,7 +109,10 @@ rows_read rows good =
     let ram_is : option_map_or (λ text. is_some (number_in_text text)) (one_of (codes "ram") rows) true ≡ true =
     row_found rules_of_run (filled ram) (λ o. option_map_or (λ text. is_some (number_in_text text)) (option_and_then row_text o) true ≡ true) refl refl
     (λ r how e. first_ram r.reading r.values how e) rows good in
-    rw (kind_is, ram_is) refl
+    let monitor_is : option_map_or (λ text. is_some (truth_in_text text)) (one_of (codes "monitor") rows) true ≡ true =
+    row_found rules_of_run (filled monitor) (λ o. option_map_or (λ text. is_some (truth_in_text text)) (option_and_then row_text o) true ≡ true) refl refl
+    (λ r how e. first_truth r.reading r.values how e) rows good in
+    rw (kind_is, ram_is, monitor_is) refl
 
 -- ---- the program
 

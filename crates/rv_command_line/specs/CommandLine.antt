@@ -3,6 +3,7 @@ use Rattle.std.specs.Prelude.{List, [], ◌∷◌, codes, map, Some, pos}
 use Rattle.std.specs.Borrow.{Bor}
 use Rattle.clap.specs.Kinds.{Kinds}
 use Rattle.clap.specs.Words.{App, Rule, Text, fault_of, new_app, new_rule, with_rule, with_subcommand}
+use Rattle.clap.specs.declared.builder.action.ArgAction.TheVariants as action
 use Rattle.clap.specs.declared.builder.value_parser.ValueParser.TheVariants as parser
 use Rattle.rv_command_line.specs.declared.image_kind.ImageKind.{ImageKind}
 use Rattle.rv_command_line.specs.declared.image_kind.ImageKind.TheVariants as image
@@ -34,8 +35,15 @@ ram = record (new_rule (codes "ram")) {
   parser = Some (parser.Signed (pos 0) (pos 4294967295));
 }
 
+-- `--monitor`: a flag
+abbrev pub monitor : Rule
+monitor = record (new_rule (codes "monitor")) {
+  long = Some (codes "monitor");
+  action = Some action.SetTrue;
+}
+
 abbrev pub run : Names → App
-run names = with_rule (with_rule (new_app (codes "run")) (kind names)) ram
+run names = with_rule (with_rule (with_rule (new_app (codes "run")) (kind names)) ram) monitor
 
 abbrev pub asm : App
 asm = new_app (codes "asm")

@@ -1,4 +1,4 @@
--- The faults of a command line, and their numbers.
+-- The faults of a command line, and their numbers. (This project's own command line.)
 use Rattle.std.specs.Prelude.{◌≡◌, ⊤, ℕ, Bool, true, false, not}
 use Rattle.std.specs.List.{list_any}
 use Rattle.clap.specs.Kinds.{Kinds}

@@ -3,10 +3,10 @@
 ghost use Rattle.std.specs.Prelude.{◌≡◌, false, IfOk, List, true};
 ghost use Rattle.clap.specs.Words.{Text, app_of, fault_of, is_simple, is_simple_and_free, rule_of, subcommand_of};
 ghost use Rattle.clap.specs.declared.builder.command.Command.TheViews.{out-Command as fields_of};
-ghost use Rattle.rv_command_line.specs.CommandLine.{asm, dis, faults_of, kind, program, ram, run, rvbench};
+ghost use Rattle.rv_command_line.specs.CommandLine.{asm, dis, faults_of, kind, monitor, program, ram, run, rvbench};
 
 use crate::image_kind::KIND_NAMES;
-use clap::{Arg, Command, value_parser};
+use clap::{Arg, ArgAction, Command, value_parser};
 use std::alloc::{AllocError, Global};
 
 /// What the help of the program ends with: a first input.
@@ -56,6 +56,17 @@ fn ram_option<'a>(alloc: Global) -> Arg<'a>
         .help("The size of the RAM, a multiple of 65536, from 65536 to 16777216 [default: 1048576]")
 }
 
+/// `--monitor`, by default what `Setup::default` has.
+fn monitor_flag<'a>(alloc: Global) -> Arg<'a>
+    ensures rule { rule_of result ≡ monitor }
+    ensures local { result.global ≡ false }
+{
+    Arg::new(alloc, "monitor")
+        .long("monitor")
+        .action(ArgAction::SetTrue)
+        .help("Run the image as the host above the monitor, from 80010000 on and in mode S")
+}
+
 /// `run`: the bench itself.
 fn run_command<'a>(alloc: Global, kind_names: &'a [&'a str]) -> Result<Command<'a>, AllocError>
     ensures app { IfOk result (λ command. app_of command ≡ run kind_names.entry) }
@@ -68,7 +79,8 @@ fn run_command<'a>(alloc: Global, kind_names: &'a [&'a str]) -> Result<Command<'
         .after_help(FIRST_SCRIPT);
     command
         .arg(kind_option(alloc, kind_names))?
-        .arg(ram_option(alloc))
+        .arg(ram_option(alloc))?
+        .arg(monitor_flag(alloc))
 }
 
 /// `asm`: the assembler.

@@ -1,11 +1,12 @@
 //! The command line of the bench: what the program's words ask for, read with the crate `clap`.
 //!
-//! `rvbench` and `rvbench run` run the bench, `rvbench run --ram 65536` with a RAM of that size and `rvbench run --kind elf` with
-//! an ELF file as its image; `rvbench asm` assembles and `rvbench dis` disassembles. The specs name what the words mean: `Job` has the definition of the command line, and the job
-//! that it gives to words.
+//! `rvbench` and `rvbench run` run the bench, `rvbench run --ram 65536` with a RAM of that size, `rvbench run --kind elf` with an ELF
+//! file as its image and `rvbench run --monitor` with the image as the host above the monitor; `rvbench asm` assembles and
+//! `rvbench dis` disassembles. The specs name what the words mean: `CommandLine` defines the command line, and `Job` the job that it
+//! gives to words.
 //!
 //! ```text
-//! read_words(alloc, &["rvbench", "run", "--ram", "65536"])?; // Job::Run(Setup { kind: ImageKind::Auto, ram: 65536 })
+//! read_words(alloc, &["rvbench", "run", "--ram", "65536"])?; // Job::Run(Setup { ram: 65536, ..Setup::default() })
 //! read_words(alloc, &["rvbench", "dis"])?; // Job::Dis
 //! read_words(alloc, &["rvbench", "fly"]); // Err(WordsFault::Refused)
 //! ```

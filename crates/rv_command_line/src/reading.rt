@@ -3,10 +3,10 @@
 ghost use Rattle.std.specs.Prelude.{◌≡◌, IfErr, IfOk, OnOk, List, [], codes, option_and_then, true};
 ghost use Rattle.clap.specs.Kinds.{HasKind, Kinds};
 ghost use Rattle.clap.specs.Walk.{texts};
-ghost use Rattle.clap.specs.Words.{first_value, found_of, rows_of, subcommand_rows_of};
+ghost use Rattle.clap.specs.Words.{first_value, found_of, one_text, rows_of, subcommand_rows_of};
 ghost use Rattle.rv_command_line.specs.CommandLine.{faults_of};
 ghost use Rattle.rv_command_line.specs.Faults.{IsFaultOf};
-ghost use Rattle.rv_command_line.specs.Job.{are_read, job_of, kind_of, named_job, run_options, setup_of};
+ghost use Rattle.rv_command_line.specs.Job.{are_read, job_of, kind_of, named_job, number_in_text, run_options, setup_of, truth_in_text};
 
 use crate::command_line::rvbench_command;
 use crate::image_kind::ImageKind;
@@ -17,11 +17,25 @@ use clap::error::ErrorKind;
 use clap::{ArgMatches, Error};
 use std::alloc::Global;
 
-/// The kind of image that the options of `run` name, if they name one.
+/// The kind of image that the options name, if they name one.
 fn matched_kind(matches: &ArgMatches<'_>) -> Option<ImageKind>
     ensures { result ≡ option_and_then kind_of (first_value (found_of matches.now) (codes "kind")) }
 {
     ImageKind::named(matches.get_str("kind")?)
+}
+
+/// The number that an option names, if it is given.
+fn matched_number(matches: &ArgMatches<'_>, id: &str) -> Option<u32>
+    ensures { result ≡ option_and_then number_in_text (one_text (found_of matches.now) id.now) }
+{
+    matches.get_one(id)
+}
+
+/// Whether a flag is set, if the command line has it.
+fn matched_flag(matches: &ArgMatches<'_>, id: &str) -> Option<bool>
+    ensures { result ≡ option_and_then truth_in_text (one_text (found_of matches.now) id.now) }
+{
+    matches.get_one(id)
 }
 
 /// The setup that the options of `run` give.
@@ -31,7 +45,8 @@ fn matched_setup(matches: &ArgMatches<'_>) -> Setup
     let default = Setup::default();
     Setup {
         kind: matched_kind(matches).unwrap_or(default.kind),
-        ram: matches.get_one::<u32>("ram").unwrap_or(default.ram),
+        ram: matched_number(matches, "ram").unwrap_or(default.ram),
+        monitored: matched_flag(matches, "monitor").unwrap_or(default.monitored),
     }
 }
 

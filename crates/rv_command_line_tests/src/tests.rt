@@ -31,7 +31,11 @@ fn help(rt: &HostRuntime, words: &[&str]) -> Result<String, Fail> {
 
 /// A run with an image of this kind and so much RAM.
 fn run_with(kind: ImageKind, ram: u32) -> Answer {
-    Answer::Named(Job::Run(Setup { kind, ram }))
+    Answer::Named(Job::Run(Setup {
+        kind,
+        ram,
+        monitored: false,
+    }))
 }
 
 /// A run with so much RAM.
@@ -85,6 +89,84 @@ fn names_kinds(rt: HostRuntime) -> Result<(), Fail> {
         for (words, want) in lines {
             assert_eq!(rt; answer_to(&rt, words)?, want, "at {words:?}");
         }
+    }
+    Ok(())
+}
+
+/// A run above the monitor with an image of this kind and so much RAM.
+fn monitored(kind: ImageKind, ram: u32) -> Answer {
+    Answer::Named(Job::Run(Setup {
+        kind,
+        ram,
+        monitored: true,
+    }))
+}
+
+#[test]
+fn names_the_monitor(rt: HostRuntime) -> Result<(), Fail> {
+    let cases: [(&[&str], Answer); 7] = [
+        (
+            &["rvbench", "run", "--monitor"],
+            monitored(ImageKind::Auto, 1_048_576),
+        ),
+        (
+            &["rvbench", "run", "--monitor", "--ram", "65536"],
+            monitored(ImageKind::Auto, 65_536),
+        ),
+        (
+            &["rvbench", "run", "--ram=65536", "--monitor"],
+            monitored(ImageKind::Auto, 65_536),
+        ),
+        (
+            &["rvbench", "run", "--kind", "elf", "--monitor"],
+            monitored(ImageKind::Elf, 1_048_576),
+        ),
+        (
+            &["rvbench", "run", "--monitor", "--kind=raw"],
+            monitored(ImageKind::Raw, 1_048_576),
+        ),
+        (
+            &["rvbench", "run", "--kind", "raw", "--monitor", "--ram", "0"],
+            monitored(ImageKind::Raw, 0),
+        ),
+        (
+            &["rvbench", "run", "--ram", "0", "--kind", "raw"],
+            run_with(ImageKind::Raw, 0),
+        ),
+    ];
+    for (words, want) in cases {
+        assert_eq!(rt; answer_to(&rt, words)?, want, "at {words:?}");
+    }
+    Ok(())
+}
+
+/// It stands once, behind `run`, by its whole name, and takes no value.
+#[test]
+fn refuses_the_monitor(rt: HostRuntime) -> Result<(), Fail> {
+    let cases: [&[&str]; 20] = [
+        &["rvbench", "--monitor"],
+        &["rvbench", "--monitor", "run"],
+        &["rvbench", "run", "--monitor", "--monitor"],
+        &["rvbench", "run", "--monitor", "--ram", "65536", "--monitor"],
+        &["rvbench", "run", "--monitor="],
+        &["rvbench", "run", "--monitor=true"],
+        &["rvbench", "run", "--monitor=false"],
+        &["rvbench", "run", "--monitor", "true"],
+        &["rvbench", "run", "--monitor", "false"],
+        &["rvbench", "run", "--monito"],
+        &["rvbench", "run", "--monitored"],
+        &["rvbench", "run", "--Monitor"],
+        &["rvbench", "run", "--no-monitor"],
+        &["rvbench", "run", "-m"],
+        &["rvbench", "run", "monitor"],
+        &["rvbench", "run", "--", "--monitor"],
+        &["rvbench", "run", "--ram", "--monitor"],
+        &["rvbench", "run", "--kind", "--monitor"],
+        &["rvbench", "asm", "--monitor"],
+        &["rvbench", "dis", "--monitor"],
+    ];
+    for words in cases {
+        assert_eq!(rt; answer_to(&rt, words)?, Answer::Refused, "at {words:?}");
     }
     Ok(())
 }
@@ -172,7 +254,7 @@ fn refuses_other_words(rt: HostRuntime) -> Result<(), Fail> {
 
 #[test]
 fn gives_help(rt: HostRuntime) -> Result<(), Fail> {
-    let cases: [&[&str]; 11] = [
+    let cases: [&[&str]; 12] = [
         &["rvbench", "--help"],
         &["rvbench", "-h"],
         &["rvbench", "help"],
@@ -182,6 +264,7 @@ fn gives_help(rt: HostRuntime) -> Result<(), Fail> {
         &["rvbench", "run", "-h"],
         &["rvbench", "run", "--ram", "65536", "--help"],
         &["rvbench", "run", "--kind", "raw", "--help"],
+        &["rvbench", "run", "--monitor", "--help"],
         &["rvbench", "asm", "--help"],
         &["rvbench", "help", "dis"],
     ];
@@ -212,6 +295,8 @@ fn help_shows_a_first_input(rt: HostRuntime) -> Result<(), Fail> {
         "65536",
         "16777216",
         "[default: 1048576]",
+        "--monitor",
+        "80010000",
     ] {
         assert!(rt; run.contains(part), "at {part}");
     }

@@ -1,10 +1,11 @@
 mod AddressLaws
 pub mod AddressLemmas
 mod Answers
-mod BareRuns
 mod CommandExamples
 mod Commands
+pub mod Isolation
 mod Keywords
 mod RegisterLines
 mod ReplyExamples
 mod Stepping
+mod TargetRuns

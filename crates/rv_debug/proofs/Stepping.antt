@@ -3,7 +3,6 @@ use Rattle.std.proofs.Common.{◌≡◌, ℕ, zero, suc, ◌+◌, ◌-◌, ◌<�
 use Rattle.std.proofs.lemmas.Bool.{cases_eq}
 use Rattle.rv_word.specs.Cases.{option_case}
 use Rattle.std.specs.Option.{option_or}
-use Rattle.rv_hart.specs.declared.trap.StepOutcome.{StepOutcome}
 use Rattle.rv_hart.specs.declared.trap.Trap.{Trap}
 use Rattle.rv_debug.specs.Addresses.{is_among}
 use Rattle.rv_debug.specs.Stops.{lowest_accessed}

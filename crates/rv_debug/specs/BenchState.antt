@@ -1,8 +1,9 @@
 -- The state of a bench: what its commands show and change. (This project's own debugger.)
 use Rattle.std.specs.Prelude.{ℕ, List, []}
 use Rattle.rv_hart.specs.State.{State}
+use Rattle.rv_monitor.specs.State.{MonitoredState}
 use Rattle.rv_debug.specs.declared.target.Target.{Target}
-use Rattle.rv_debug.specs.declared.target.Target.TheVariants.{Bare}
+use Rattle.rv_debug.specs.declared.target.Target.TheVariants.{Bare, Monitored}
 
 -- what it steps; the addresses at which a run breaks off; and those of the bytes that it watches, both in rising order
 pub record BenchState : Type 0 where
@@ -13,3 +14,7 @@ pub record BenchState : Type 0 where
 -- a bench over a machine as it is, with no break and no watch
 abbrev pub bare : State → BenchState
 bare machine = record { target = Bare machine; breaks = []; watches = [] }
+
+-- the same over a monitored machine
+abbrev pub monitored : MonitoredState → BenchState
+monitored machine = record { target = Monitored machine; breaks = []; watches = [] }

@@ -2,6 +2,8 @@ pub mod Addresses
 pub mod Answer
 pub mod BenchState
 pub mod Command
+pub mod EnclaveText
+pub mod Isolation
 pub mod Numbers
 pub mod ReplyText
 pub mod Steps

@@ -1,30 +1,45 @@
 -- What commands work on, in the few words in which the answers speak of it. (This project's own debugger.)
-use Rattle.std.specs.Prelude.{ℕ, Bool, List, [], ◌∷◌, codes, Option, Some, None}
+use Rattle.std.specs.Prelude.{ℕ, Bool, List, [], ◌∷◌, ◌++◌, codes, decimal, Option, None}
 use Rattle.std.specs.Option.{option_map}
 use Rattle.rv_memory.specs.Memory.{write}
 use Rattle.rv_state.specs.Registers.{with_register}
 use Rattle.rv_hart.specs.HartState.{Hart}
 use Rattle.rv_hart.specs.State.{State}
 use Rattle.rv_hart.specs.Step.{step}
+use Rattle.rv_monitor.specs.Debugger.{with_reg, with_timer, with_memory}
+use Rattle.rv_monitor.specs.State.{MonitoredState, IsKept}
+use Rattle.rv_monitor.specs.Step.{monitored_step}
+use Rattle.rv_monitor.specs.declared.world.World.{World}
+use Rattle.rv_monitor.specs.declared.world.World.TheVariants.{Host, Enclave}
+use Rattle.rv_debug.specs.EnclaveText.{table_text}
 use Rattle.rv_debug.specs.Steps.{Stepped}
 use Rattle.rv_debug.specs.declared.target.Target.{Target}
-use Rattle.rv_debug.specs.declared.target.Target.TheVariants.{Bare}
+use Rattle.rv_debug.specs.declared.target.Target.TheVariants.{Bare, Monitored}
 
 -- its hart
 abbrev pub hart_of : Target → Hart
 hart_of (Bare machine) = machine.hart
+hart_of (Monitored machine) = machine.seat.hart
 
 -- its memory
 abbrev pub memory_of : Target → List ℕ
 memory_of (Bare machine) = machine.memory
+memory_of (Monitored machine) = machine.shared.memory
+
+-- the name of a world: `host`, or `e` and the slot
+abbrev pub world_name : World → List ℕ
+world_name Host = codes "host"
+world_name (Enclave slot) = codes "e" ++ decimal slot
 
 -- the name of its world
 abbrev pub world_text : Target → List ℕ
 world_text (Bare machine) = codes "bare"
+world_text (Monitored machine) = world_name machine.seat.world
 
 -- a line for each of its live enclaves; a machine alone has none
 abbrev pub enclaves_text : Target → List ℕ
 enclaves_text (Bare machine) = []
+enclaves_text (Monitored machine) = table_text machine.shared.table
 
 -- the address of its next instruction
 abbrev pub pc_of : Target → ℕ
@@ -34,29 +49,49 @@ pc_of target = (hart_of target).pc
 abbrev pub machine_stepped : State → Stepped State
 machine_stepped machine = let after = step machine in record { state = after.state; outcome = after.outcome; entered = None }
 
+-- a monitored machine after one step
+abbrev pub monitored_stepped : MonitoredState → Stepped MonitoredState
+monitored_stepped machine =
+    let after = monitored_step machine in
+    record { state = after.state; outcome = after.outcome.step; entered = after.outcome.entered }
+
 -- the same of a target
-abbrev pub bare_stepped : Stepped State → Stepped Target
-bare_stepped after = record { state = Bare after.state; outcome = after.outcome; entered = after.entered }
+abbrev pub with_target : {A : Type 0} → (A → Target) → Stepped A → Stepped Target
+with_target target after = record { state = target after.state; outcome = after.outcome; entered = after.entered }
 
 -- a target after one step
 abbrev pub stepped : Target → Stepped Target
-stepped (Bare machine) = bare_stepped (machine_stepped machine)
+stepped (Bare machine) = with_target Bare (machine_stepped machine)
+stepped (Monitored machine) = with_target Monitored (monitored_stepped machine)
 
 -- a word put into a register; x0 stays 0
 abbrev pub register_set : Target → ℕ → ℕ → Target
 register_set (Bare machine) number value =
     Bare (record machine { hart = record machine.hart { regs = with_register machine.hart.regs number value } })
+register_set (Monitored machine) number value = Monitored (with_reg machine number value)
 
 -- the timer line raised or lowered
 abbrev pub timer_set : Target → Bool → Target
 timer_set (Bare machine) raised =
     Bare (record machine { hart = record machine.hart { csrs = record machine.hart.csrs { timer = raised } } })
+timer_set (Monitored machine) raised = Monitored (with_timer machine raised)
+
+-- a memory in place of its own
+abbrev pub over_memory : Target → List ℕ → Target
+over_memory (Bare machine) memory = Bare (record machine { memory = memory })
+over_memory (Monitored machine) memory = Monitored (with_memory machine memory)
 
 -- a byte put into memory, where its address is in it
 abbrev pub poked : Target → ℕ → ℕ → Option Target
-poked (Bare machine) address byte =
-    option_map (λ memory. Bare (record machine { memory = memory })) (write machine.memory address (byte ∷ []))
+poked target address byte = option_map (over_memory target) (write (memory_of target) address (byte ∷ []))
 
 -- the target is a machine alone
 abbrev pub IsBare : Target → Type 0
 IsBare (Bare machine) = Unit {0}
+IsBare (Monitored machine) = ⊥
+
+-- where the target is monitored: its table is valid, the entries and mie are those of the table and the world, the mode is S or U, and
+-- MIE, MPRV, TVM, TW and TSR are 0
+abbrev pub KeepsMonitor : Target → Type 0
+KeepsMonitor (Bare machine) = Unit {0}
+KeepsMonitor (Monitored machine) = IsKept machine

@@ -5,7 +5,7 @@ ghost use Rattle.arrayvec.specs.ArrayVec.{array_vec_len};
 ghost use Rattle.rv_debug.specs.Answer.{told, steps_of, csr_reply, memory_reply, poke_reply, dis_reply, access_reply};
 ghost use Rattle.rv_debug.specs.Addresses.{without_address};
 ghost use Rattle.rv_debug.specs.ReplyText.{ok_text};
-ghost use Rattle.rv_debug.specs.Targets.{hart_of, memory_of, register_set, timer_set, IsBare};
+ghost use Rattle.rv_debug.specs.Targets.{hart_of, memory_of, register_set, timer_set, IsBare, KeepsMonitor};
 
 use crate::addresses::Addresses;
 use crate::command::{ByteCount, StepCount};
@@ -33,6 +33,7 @@ pub(crate) fn answer_run(
     ensures entered { (steps_of target.old breaks.now watches.now count).ran.entered ≡ result }
     ensures reply { told (steps_of target.old breaks.now watches.now count) ≡ reply.new.items }
     ensures bare { IsBare target.old → result ≡ 0 }
+    ensures monitor { KeepsMonitor target.old → KeepsMonitor target.new }
 {
     let ran = target.run(count, breaks, watches);
     push_ran(reply, target, ran);
@@ -53,6 +54,7 @@ pub(crate) fn answer_removal(addresses: &mut Addresses, address: u32, reply: &mu
 pub(crate) fn answer_setreg(target: &mut Target, reg: Reg, value: u32, reply: &mut Reply)
     requires { array_vec_len reply.old ≡ 0 }
     ensures target { target.new ≡ register_set target.old reg value }
+    ensures monitor { KeepsMonitor target.old → KeepsMonitor target.new }
     ensures reply { reply.new.items ≡ ok_text }
 {
     target.set_reg(reg, value);
@@ -63,6 +65,7 @@ pub(crate) fn answer_setreg(target: &mut Target, reg: Reg, value: u32, reply: &m
 pub(crate) fn answer_timer(target: &mut Target, raised: bool, reply: &mut Reply)
     requires { array_vec_len reply.old ≡ 0 }
     ensures target { target.new ≡ timer_set target.old raised }
+    ensures monitor { KeepsMonitor target.old → KeepsMonitor target.new }
     ensures reply { reply.new.items ≡ ok_text }
 {
     target.set_timer(raised);
@@ -72,7 +75,8 @@ pub(crate) fn answer_timer(target: &mut Target, raised: bool, reply: &mut Reply)
 /// Puts a byte into memory, where its address is in it.
 pub(crate) fn answer_poke(target: &mut Target, address: u32, byte: u8, reply: &mut Reply)
     requires { array_vec_len reply.old ≡ 0 }
-    ensures { poke_reply target.old address byte ≡ record { target = target.new; reply = reply.new.items } }
+    ensures answer { poke_reply target.old address byte ≡ record { target = target.new; reply = reply.new.items } }
+    ensures monitor { KeepsMonitor target.old → KeepsMonitor target.new }
 {
     if target.poke(address, byte) {
         push_ok(reply);

@@ -6,9 +6,11 @@ use crate::answer::{
     answer_setreg, answer_timer,
 };
 use crate::command::{Command, parse};
+use crate::enclaves::push_enclaves;
 use crate::reply::{push_fault, push_pmp, push_register, push_registers, push_set};
 use crate::target::Target;
 use rv_hart::Machine;
+use rv_monitor::Monitored;
 use rv_text::Reply;
 use std::marker::Model;
 
@@ -25,37 +27,87 @@ impl Model for Bench {
 
     ghost Value = { BenchState };
 
+    ghost use Rattle.rv_debug.specs.Targets.{KeepsMonitor};
+
     ghost view = { λ bench. record { target = bench.target; breaks = bench.breaks; watches = bench.watches } };
+
+    ghost invariant = { λ bench. KeepsMonitor bench.target };
 }
 
 impl Bench {
-    ghost use Rattle.std.specs.Prelude.{◌≡◌, ℕ, List, take};
+    ghost use Rattle.std.specs.Prelude.{◌≡◌, ℕ, List, [], take};
     ghost use Rattle.rv_debug.specs.Answer.{answer, line_answer};
-    ghost use Rattle.rv_debug.specs.BenchState.{bare};
-    ghost use Rattle.rv_debug.specs.Targets.{IsBare};
+    ghost use Rattle.rv_debug.specs.BenchState.{bare, monitored};
+    ghost use Rattle.rv_debug.specs.Isolation.{TellsReach, ChangesMemory, SparesResting};
+    ghost use Rattle.rv_debug.specs.Targets.{IsBare, KeepsMonitor};
 
     /// A bench over a machine as it is, with no break and no watch.
     pub fn bare(machine: Machine) -> Self
         ensures { result ≡ bare machine }
     {
+        Bench::over(Target::Bare(machine))
+    }
+
+    /// A bench over a monitored machine as it is, with no break and no watch.
+    pub fn monitored(machine: Monitored) -> Self
+        ensures { result ≡ monitored machine }
+    {
+        machine.invariant();
+        Bench::over(Target::Monitored(machine))
+    }
+
+    /// A bench over a target, with no break and no watch.
+    fn over(target: Target) -> Self
+        requires { KeepsMonitor target }
+        ensures { result ≡ record { target = target; breaks = []; watches = [] } }
+    {
         Bench {
-            target: Target::Bare(machine),
+            target,
             breaks: Addresses::new(),
             watches: Addresses::new(),
         }
     }
 
+    /// What holds in every state. It does nothing.
+    fn invariant(&self)
+        ensures { KeepsMonitor self.now.target }
+    {
+        // brings in what holds of every bench
+        let _ = &self.target;
+    }
+
     /// Does one command, and puts its reply in place of what the buffer holds. A refused command changes nothing of the bench.
     ///
     /// Returns a number with bit k set where the enclave of slot k was entered: 0 where the bench is bare.
-    #[tactic(auto, unfolding(crate::specs::Answer::answer))]
+    ///
+    /// `answer` is all of it. Of what follows, `monitor` is what holds in every state of a monitored bench: the table of enclaves is
+    /// valid, the PMP entries and mie are those of the table and the world, the mode is S or U, and MIE, MPRV, TVM, TW and TSR are 0.
+    /// `reach` is that `access`, in S and U, is told to be permitted exactly where it is in the reach of the world that runs. `changes`
+    /// is that a byte of memory changes only where it is poked, or where a step changes it in its world's reach, by a destroy or by a
+    /// measure. `spares` is that the command changes neither record nor region nor context of a live enclave that does not run, that it
+    /// does not enter or end, and of whose region it pokes no byte.
     pub fn command(&mut self, command: &Command, out: &mut Reply) -> u16
         ensures answer { answer self.old command.now ≡ record { state = self.new; reply = out.new.items; entered = result } }
         ensures bare { IsBare self.old.target → result ≡ 0 }
+        ensures monitor { KeepsMonitor self.new.target }
+        ensures reach { TellsReach self.old.target command.now }
+        ensures changes { ChangesMemory self.old command.now self.new }
+        ensures spares { SparesResting self.old command.now self.new }
+    {
+        self.invariant();
+        self.answer(command, out)
+    }
+
+    /// Does one command, and replies.
+    #[tactic(auto, unfolding(crate::specs::Answer::answer))]
+    fn answer(&mut self, command: &Command, out: &mut Reply) -> u16
+        ensures answer { answer self.old command.now ≡ record { state = self.new; reply = out.new.items; entered = result } }
+        ensures bare { IsBare self.old.target → result ≡ 0 }
+        ensures monitor { KeepsMonitor self.new.target }
     {
         out.clear();
         match *command {
-            Command::Blank | Command::Enclaves => {}
+            Command::Blank => {}
             Command::Step(count) => {
                 let none = Addresses::new();
                 return answer_run(&mut self.target, count, &none, &none, out);
@@ -75,6 +127,7 @@ impl Bench {
             Command::Poke(address, byte) => answer_poke(&mut self.target, address, byte, out),
             Command::Dis(address) => answer_dis(&self.target, address, out),
             Command::Pmp => push_pmp(out, self.target.csrs().pmp()),
+            Command::Enclaves => push_enclaves(out, &self.target),
             Command::Access {
                 mode,
                 access,
@@ -94,10 +147,12 @@ impl Bench {
         ensures answer { line_answer self.old line.now ≡ record { state = self.new; reply = out.new.items; entered = result } }
         ensures front { (other : List ℕ) → take 121 other ≡ take 121 line.now → line_answer self.old other ≡ line_answer self.old line.now }
         ensures bare { IsBare self.old.target → result ≡ 0 }
+        ensures monitor { KeepsMonitor self.new.target }
     {
         match parse(line) {
             Ok(command) => self.command(&command, out),
             Err(fault) => {
+                self.invariant();
                 out.clear();
                 push_fault(out, fault);
                 0

@@ -1,7 +1,7 @@
 //! The commands of the bench: how a line is read as one, what each changes, and the text of its reply.
 //!
 //! In the specs `Command` is the table of the commands and their operands, `Answer` what each leaves and replies, `ReplyText`
-//! the texts, `Steps` what steps do one after another, `Targets` what the answers say of a target, and `BenchState` the state
+//! and `EnclaveText` the texts, `Steps` what steps do one after another, `Targets` what the answers say of a target, and `BenchState` the state
 //! that commands show and change.
 //!
 //! ```text
@@ -16,7 +16,9 @@ mod addresses;
 mod answer;
 mod bench;
 mod command;
+mod enclaves;
 mod keyword;
+pub mod laws;
 mod numbers;
 mod reply;
 mod steps;

@@ -3,7 +3,7 @@
 ghost use Rattle.std.specs.Prelude.{◌≡◌, ℕ, ◌+◌, ◌*◌, ◌≤◌, ◌++◌, length, codes, decimal, if◌then◌else◌};
 ghost use Rattle.arrayvec.specs.ArrayVec.{array_vec_len};
 ghost use Rattle.rv_debug.specs.ReplyText.{mode_text, stop_text, ran_text, trap_text, register_text, registers_text, pc_text, ok_text, csr_text, memory_text, dis_text, entry_text, pmp_text, verdict_text, denied_outside_text, full_text, fault_text, no_csr_text, outside_text};
-ghost use Rattle.rv_debug.specs.Targets.{hart_of, pc_of, world_text};
+ghost use Rattle.rv_debug.specs.Targets.{hart_of, pc_of, world_name, world_text};
 
 use crate::command::CommandFault;
 use crate::steps::{Ran, Stop};
@@ -12,6 +12,7 @@ use arrayvec::ArrayString;
 use rv_asm::disassemble;
 use rv_encoding::CsrNumber;
 use rv_hart::Trap;
+use rv_monitor::World;
 use rv_pmp::{Mode, Pmp, PmpIndex, Verdict};
 use rv_state::Regs;
 use rv_text::{Reply, push_decimal, push_hex, push_text};
@@ -64,14 +65,30 @@ fn push_stop(out: &mut Reply, stop: Stop)
     }
 }
 
+/// Writes the name of a world of a monitored machine.
+fn push_world_name(out: &mut Reply, world: World)
+    requires room { array_vec_len out.old + 11 ≤ 2048 }
+    ensures items { out.new.items ≡ out.old.items ++ world_name world }
+    ensures len { array_vec_len out.new ≤ array_vec_len out.old + 11 }
+{
+    match world {
+        World::Host => push_text(out, "host"),
+        World::Enclave(slot) => {
+            push_text(out, "e");
+            push_decimal(out, u32::from(slot));
+        }
+    }
+}
+
 /// Writes the name of a target's world.
 fn push_world(out: &mut Reply, target: &Target)
-    requires room { array_vec_len out.old + 4 ≤ 2048 }
+    requires room { array_vec_len out.old + 11 ≤ 2048 }
     ensures items { out.new.items ≡ out.old.items ++ world_text target.now }
-    ensures len { array_vec_len out.new ≤ array_vec_len out.old + 4 }
+    ensures len { array_vec_len out.new ≤ array_vec_len out.old + 11 }
 {
     match target {
         Target::Bare(_) => push_text(out, "bare"),
+        Target::Monitored(machine) => push_world_name(out, machine.world()),
     }
 }
 
@@ -79,9 +96,9 @@ fn push_world(out: &mut Reply, target: &Target)
 /// last trap in them.
 #[tactic(auto, unfolding(crate::specs::ReplyText::ran_text))]
 pub(crate) fn push_ran(out: &mut Reply, target: &Target, ran: Ran)
-    requires room { array_vec_len out.old + 90 ≤ 2048 }
+    requires room { array_vec_len out.old + 97 ≤ 2048 }
     ensures items { out.new.items ≡ out.old.items ++ ran_text (pc_of target.now) (hart_of target.now).mode (world_text target.now) ran }
-    ensures len { array_vec_len out.new ≤ array_vec_len out.old + 90 }
+    ensures len { array_vec_len out.new ≤ array_vec_len out.old + 97 }
 {
     push_text(out, "ran ");
     push_decimal(out, ran.steps);

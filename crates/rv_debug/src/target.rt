@@ -2,14 +2,16 @@
 
 ghost use Rattle.std.specs.Prelude.{◌≡◌, Some, None};
 ghost use Rattle.std.specs.Bool.{OnTrue, OnFalse};
+ghost use Rattle.rv_monitor.specs.State.{IsKept};
 ghost use Rattle.rv_debug.specs.Steps.{no_steps, run};
-ghost use Rattle.rv_debug.specs.Targets.{hart_of, memory_of, world_text, pc_of, stepped, register_set, timer_set, poked, IsBare};
+ghost use Rattle.rv_debug.specs.Targets.{hart_of, memory_of, pc_of, stepped, register_set, timer_set, poked, IsBare, KeepsMonitor};
 
 use crate::addresses::Addresses;
 use crate::command::StepCount;
 use crate::steps::{Ran, run_steps};
 use rv_hart::Machine;
 use rv_memory::Ram;
+use rv_monitor::Monitored;
 use rv_pmp::Mode;
 use rv_state::{Csrs, Regs};
 use rv_word::Reg;
@@ -19,6 +21,8 @@ use rv_word::Reg;
 pub enum Target {
     /// A machine alone.
     Bare(Machine),
+    /// A machine under the monitor.
+    Monitored(Monitored),
 }
 
 impl Target {
@@ -28,6 +32,7 @@ impl Target {
     {
         match self {
             Target::Bare(machine) => machine.regs(),
+            Target::Monitored(machine) => machine.regs(),
         }
     }
 
@@ -37,6 +42,7 @@ impl Target {
     {
         match self {
             Target::Bare(machine) => machine.csrs(),
+            Target::Monitored(machine) => machine.csrs(),
         }
     }
 
@@ -46,6 +52,7 @@ impl Target {
     {
         match self {
             Target::Bare(machine) => machine.ram(),
+            Target::Monitored(machine) => machine.ram(),
         }
     }
 
@@ -55,6 +62,7 @@ impl Target {
     {
         match self {
             Target::Bare(machine) => machine.pc(),
+            Target::Monitored(machine) => machine.pc(),
         }
     }
 
@@ -64,24 +72,29 @@ impl Target {
     {
         match self {
             Target::Bare(machine) => machine.mode(),
+            Target::Monitored(machine) => machine.mode(),
         }
     }
 
     /// Puts a word into a register.
     pub(crate) fn set_reg(&mut self, reg: Reg, value: u32)
-        ensures { self.new ≡ register_set self.old reg value }
+        ensures meaning { self.new ≡ register_set self.old reg value }
+        ensures monitor { KeepsMonitor self.old → KeepsMonitor self.new }
     {
         match self {
             Target::Bare(machine) => machine.regs_mut().set(reg, value),
+            Target::Monitored(machine) => machine.set_reg(reg, value),
         }
     }
 
     /// Raises the timer line, or lowers it.
     pub(crate) fn set_timer(&mut self, raised: bool)
-        ensures { self.new ≡ timer_set self.old raised }
+        ensures meaning { self.new ≡ timer_set self.old raised }
+        ensures monitor { KeepsMonitor self.old → KeepsMonitor self.new }
     {
         match self {
             Target::Bare(machine) => machine.csrs_mut().set_timer(raised),
+            Target::Monitored(machine) => machine.set_timer(raised),
         }
     }
 
@@ -90,9 +103,11 @@ impl Target {
         ensures done { OnTrue result (poked self.old address byte ≡ Some self.new) }
         ensures outside { OnFalse result (poked self.old address byte ≡ None) }
         ensures kept { OnFalse result (self.new ≡ self.old) }
+        ensures monitor { KeepsMonitor self.old → KeepsMonitor self.new }
     {
         match self {
             Target::Bare(machine) => machine.ram_mut().poke(address, byte),
+            Target::Monitored(machine) => machine.poke(address, byte),
         }
     }
 
@@ -100,9 +115,11 @@ impl Target {
     pub(crate) fn run(&mut self, count: StepCount, breaks: &Addresses, watches: &Addresses) -> Ran
         ensures run { run stepped pc_of breaks.now watches.now count (no_steps self.old) ≡ record { state = self.new; ran = result } }
         ensures bare { IsBare self.old → result.entered ≡ 0 }
+        ensures monitor { KeepsMonitor self.old → KeepsMonitor self.new }
     {
         match self {
             Target::Bare(machine) => run_bare(machine, count, breaks, watches),
+            Target::Monitored(machine) => run_monitored(machine, count, breaks, watches),
         }
     }
 }
@@ -113,4 +130,19 @@ fn run_bare(machine: &mut Machine, count: StepCount, breaks: &Addresses, watches
     ensures none { result.entered ≡ 0 }
 {
     run_steps(machine, count.get(), breaks, watches)
+}
+
+/// The steps of a machine under the monitor.
+fn run_monitored(
+    machine: &mut Monitored,
+    count: StepCount,
+    breaks: &Addresses,
+    watches: &Addresses,
+) -> Ran
+    ensures run { run stepped pc_of breaks.now watches.now count (no_steps (Target.Monitored machine.old)) ≡ record { state = Target.Monitored machine.new; ran = result } }
+    ensures kept { IsKept machine.new }
+{
+    let ran = run_steps(machine, count.get(), breaks, watches);
+    machine.invariant();
+    ran
 }

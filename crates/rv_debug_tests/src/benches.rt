@@ -9,16 +9,21 @@ use rv_word::le_bytes;
 use std::process::Abort;
 use std::test::Fail;
 
-/// A machine over the words of a program, in a mode.
-pub(crate) fn machine_with(rt: HostRuntime, words: &[u32], mode: Mode) -> Result<Machine, Fail> {
-    let mut ram = Ram::new(rt.alloc(), 65_536).map_err(|_| "a RAM")?;
-    let mut address = RAM_BASE;
+/// Puts words into memory, one after another from an address on.
+pub(crate) fn poke_words(ram: &mut Ram, address: u32, words: &[u32]) {
+    let mut address = address;
     for word in words {
         for byte in le_bytes(*word) {
             ram.poke(address, byte);
             address = address.wrapping_add(1);
         }
     }
+}
+
+/// A machine over the words of a program, in a mode.
+pub(crate) fn machine_with(rt: HostRuntime, words: &[u32], mode: Mode) -> Result<Machine, Fail> {
+    let mut ram = Ram::new(rt.alloc(), 65_536).map_err(|_| "a RAM")?;
+    poke_words(&mut ram, RAM_BASE, words);
     Ok(Machine::new(ram, RAM_BASE, mode))
 }
 

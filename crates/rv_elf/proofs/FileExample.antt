@@ -1,7 +1,8 @@
 -- A file of one segment that can be followed by hand: addi x1, x0, -1 at address 80000000, and four zeros behind it.
-use Rattle.std.proofs.Common.{◌≡◌, ℕ, List, [], ◌∷◌, ◌++◌, take, Ok, Err, refl}
+use Rattle.std.proofs.Common.{◌≡◌, ℕ, true, false, List, [], ◌∷◌, ◌++◌, take, Ok, Err, refl}
 use Rattle.rv_elf.specs.declared.elf_fault.ElfFault.TheVariants.{SegmentTruncated, SegmentOutside}
 use Rattle.rv_elf.specs.Faults.{header_faults, segment_faults, place_faults}
+use Rattle.rv_elf.specs.Places.{meets_reserved}
 use Rattle.rv_elf.specs.Plans.{file_plan}
 use Rattle.rv_elf.specs.Segments.{segments_of, occupying}
 
@@ -21,20 +22,25 @@ program_header =
 abbrev file : List ℕ
 file = elf_header ++ program_header ++ 0x93 ∷ 0 ∷ 0xf0 ∷ 0xff ∷ []
 
-loads : file_plan file 1048576 ≡ Ok (record {
+loads : file_plan file 1048576 false ≡ Ok (record {
   segments = record { offset = 84; address = 0x80000000; file_size = 4; memory_size = 8 } ∷ [];
   entry = 0x80000000;
   image_size = 88;
   ram_size = 1048576;
+  monitored = false;
 })
-unfolding header_faults segment_faults place_faults segments_of occupying
+unfolding header_faults segment_faults place_faults segments_of occupying meets_reserved
 loads = refl
 
--- a byte of the file is missing; and the segment is larger than the RAM
-cut : file_plan (take 87 file) 1048576 ≡ Err SegmentTruncated
-unfolding header_faults segment_faults place_faults segments_of occupying
+-- a byte of the file is missing; the segment is larger than the RAM; and it meets the range of a monitor
+cut : file_plan (take 87 file) 1048576 false ≡ Err SegmentTruncated
+unfolding header_faults segment_faults place_faults segments_of occupying meets_reserved
 cut = refl
 
-too_large : file_plan file 7 ≡ Err SegmentOutside
-unfolding header_faults segment_faults place_faults segments_of occupying
+too_large : file_plan file 7 false ≡ Err SegmentOutside
+unfolding header_faults segment_faults place_faults segments_of occupying meets_reserved
 too_large = refl
+
+reserved : file_plan file 1048576 true ≡ Err SegmentOutside
+unfolding header_faults segment_faults place_faults segments_of occupying meets_reserved
+reserved = refl

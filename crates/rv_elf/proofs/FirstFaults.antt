@@ -9,8 +9,8 @@ use Rattle.rv_elf.specs.Plans.{LoadPlan, file_plan, raw_plan}
 use Rattle.rv_elf.specs.declared.segment.Segment.{Segment}
 use Rattle.rv_elf.specs.Faults.{first_fault, IsLeast, elf_fault_number, header_faults, segment_faults, place_faults, file_fault, file_faults, raw_fault, raw_faults}
 use Rattle.rv_elf.specs.Fields.{e_entry}
+use Rattle.rv_elf.specs.Places.{first_address}
 use Rattle.rv_elf.specs.Segments.{segments_of, occupying, raw_segments}
-use Rattle.rv_memory.specs.Memory.{ram_base}
 
 -- where no fault of the first part is there, it is that of the second
 pub none_before : (rows others : List (Bool × ElfFault)) → first_fault rows ≡ None → first_fault (rows ++ others) ≡ first_fault others
@@ -58,25 +58,25 @@ least_first ((false, first) ∷ rows) n fault numbered some =
     least_first rows (suc n) fault (grind arith) some
 
 -- the rows of the table stand in the order of their numbers
-in_order : (file : List ℕ) (ram_size len entry : ℕ) (segments others : List Segment)
-    → AreNumbered 1 (header_faults file ++ segment_faults len segments ++ place_faults ram_size others entry)
+in_order : (file : List ℕ) (ram_size len entry : ℕ) (monitored : Bool) (segments others : List Segment)
+    → AreNumbered 1 (header_faults file ++ segment_faults len segments ++ place_faults ram_size monitored others entry)
 unfolding header_faults segment_faults place_faults
-in_order file ram_size len entry segments others = refl
+in_order file ram_size len entry monitored segments others = refl
 
-places_in_order : (ram_size entry : ℕ) (segments : List Segment) → AreNumbered 9 (place_faults ram_size segments entry)
+places_in_order : (ram_size entry : ℕ) (monitored : Bool) (segments : List Segment) → AreNumbered 9 (place_faults ram_size monitored segments entry)
 unfolding place_faults
-places_in_order ram_size entry segments = refl
+places_in_order ram_size entry monitored segments = refl
 
 -- the fault with which an ELF file, or a raw image, is refused has the least number
-file_least : (file : List ℕ) (ram_size : ℕ) (fault : ElfFault) → file_fault file ram_size ≡ Some fault → IsLeast (file_faults file ram_size) fault
-file_least file ram_size fault some =
-    least_first (file_faults file ram_size) 1 fault
-    (in_order file ram_size (length file) (e_entry file) (segments_of file) (occupying (segments_of file)))
+file_least : (file : List ℕ) (ram_size : ℕ) (monitored : Bool) (fault : ElfFault) → file_fault file ram_size monitored ≡ Some fault → IsLeast (file_faults file ram_size monitored) fault
+file_least file ram_size monitored fault some =
+    least_first (file_faults file ram_size monitored) 1 fault
+    (in_order file ram_size (length file) (e_entry file) monitored (segments_of file) (occupying (segments_of file)))
     some
 
-raw_least : (len ram_size : ℕ) (fault : ElfFault) → raw_fault len ram_size ≡ Some fault → IsLeast (raw_faults len ram_size) fault
-raw_least len ram_size fault some =
-    least_first (raw_faults len ram_size) 9 fault (places_in_order ram_size ram_base (raw_segments len)) some
+raw_least : (len ram_size : ℕ) (monitored : Bool) (fault : ElfFault) → raw_fault len ram_size monitored ≡ Some fault → IsLeast (raw_faults len ram_size monitored) fault
+raw_least len ram_size monitored fault some =
+    least_first (raw_faults len ram_size monitored) 9 fault (places_in_order ram_size (first_address monitored) monitored (raw_segments len monitored)) some
 
 -- so it is of every answer that is the plan or that fault
 refused_least : (rows : List (Bool × ElfFault)) (found : Option ElfFault) (plan : LoadPlan) (result : Result LoadPlan ElfFault)
@@ -84,10 +84,10 @@ refused_least : (rows : List (Bool × ElfFault)) (found : Option ElfFault) (plan
 refused_least rows None plan result least is = rw is tt
 refused_least rows (Some fault) plan result least is = rw is (least fault refl)
 
-pub file_plan_least : (file : List ℕ) (ram_size : ℕ) (result : Result LoadPlan ElfFault) → result ≡ file_plan file ram_size
-    → IfErr result (λ fault. IsLeast (file_faults file ram_size) fault)
-file_plan_least file ram_size result is = refused_least (file_faults file ram_size) (file_fault file ram_size) _ result (file_least file ram_size) is
+pub file_plan_least : (file : List ℕ) (ram_size : ℕ) (monitored : Bool) (result : Result LoadPlan ElfFault) → result ≡ file_plan file ram_size monitored
+    → IfErr result (λ fault. IsLeast (file_faults file ram_size monitored) fault)
+file_plan_least file ram_size monitored result is = refused_least (file_faults file ram_size monitored) (file_fault file ram_size monitored) _ result (file_least file ram_size monitored) is
 
-pub raw_plan_least : (len ram_size : ℕ) (result : Result LoadPlan ElfFault) → result ≡ raw_plan len ram_size
-    → IfErr result (λ fault. IsLeast (raw_faults len ram_size) fault)
-raw_plan_least len ram_size result is = refused_least (raw_faults len ram_size) (raw_fault len ram_size) _ result (raw_least len ram_size) is
+pub raw_plan_least : (len ram_size : ℕ) (monitored : Bool) (result : Result LoadPlan ElfFault) → result ≡ raw_plan len ram_size monitored
+    → IfErr result (λ fault. IsLeast (raw_faults len ram_size monitored) fault)
+raw_plan_least len ram_size monitored result is = refused_least (raw_faults len ram_size monitored) (raw_fault len ram_size monitored) _ result (raw_least len ram_size monitored) is

@@ -4,5 +4,6 @@ mod LoadLoop
 mod LoadedBytes
 mod WrittenSegments
 mod PlanLemmas
+mod ReservedBytes
 mod SegmentLemmas
 mod SharedBytes

@@ -1,13 +1,15 @@
 -- The segments of a plan, loaded one after the other.
-use Rattle.std.proofs.Common.{◌≡◌, ◌∙◌, ℕ, ◌+◌, ◌<◌, ◌≤◌, true, false, List, [], ◌∷◌, length, drop, slice_index_or, refl, sym}
+use Rattle.std.proofs.Common.{◌≡◌, ◌∙◌, ℕ, ◌+◌, ◌<◌, ◌≤◌, Bool, true, false, not, ◌&&◌, arith, List, [], ◌∷◌, length, drop, slice_index_or, refl, sym}
 use Rattle.std.proofs.Math.ListN.{drop_of_length-le}
 use Rattle.std.proofs.lemmas.List.{drop_more}
 use Rattle.std.specs.List.{list_all, list_any}
 use Rattle.std.proofs.lemmas.Bool.{or_parts, and_parts}
+use Rattle.std.proofs.lemmas.Grind.{common_steps}
 use Rattle.rv_elf.specs.declared.segment.Segment.{Segment}
 use Rattle.rv_elf.specs.Loaded.{loaded_memory}
 use Rattle.rv_elf.specs.Plans.{LoadPlan, IsValid, fits}
-use Rattle.rv_elf.specs.Segments.{has_overlap, share_a_byte}
+use Rattle.rv_elf.specs.Places.{lies_inside, meets_reserved}
+use Rattle.rv_elf.specs.Segments.{has_overlap, share_a_byte, is_truncated, is_oversized}
 use Rattle.rv_elf.proofs.LoadedBytes.{length-loaded_memory, load_first, load_none}
 
 -- what is so when the rest of the segments is still to be loaded into this memory
@@ -15,18 +17,28 @@ unfoldable pub Loads : List ℕ → LoadPlan → List ℕ → List Segment → L
 Loads image plan before rest now =
     (loaded_memory image rest now ≡ loaded_memory image plan.segments before)
     × (length now ≡ length before)
-    × (list_all (fits plan.image_size plan.ram_size) rest ≡ true)
+    × (list_all (fits plan.image_size plan.ram_size plan.monitored) rest ≡ true)
     × (has_overlap rest ≡ false)
 
 pub loads_begin : (image : List ℕ) (plan : LoadPlan) (before : List ℕ) → IsValid plan → Loads image plan before plan.segments before
 unfolding Loads
 loads_begin image plan before valid = (refl, refl, valid.0, valid.1)
 
+-- a segment that fits lies inside RAM
+inside_of : (whole sized inside apart : Bool) → (not whole && not sized && not (not (inside && apart))) ≡ true → inside ≡ true
+inside_of whole sized inside apart fit = grind (arith, common_steps)
+
+fits_inside : (image_size ram_size : ℕ) (monitored : Bool) (segment : Segment) → fits image_size ram_size monitored segment ≡ true
+    → lies_inside ram_size segment.address segment.memory_size ≡ true
+fits_inside image_size ram_size monitored segment fit =
+    inside_of (is_truncated image_size segment) (is_oversized segment) (lies_inside ram_size segment.address segment.memory_size)
+    (not (meets_reserved monitored segment.address segment.memory_size)) fit
+
 -- of the first of the rest, and of the others
 first_fits : (image : List ℕ) (plan : LoadPlan) (before now : List ℕ) (segment : Segment) (others : List Segment)
-    → Loads image plan before (segment ∷ others) now → fits plan.image_size plan.ram_size segment ≡ true
+    → Loads image plan before (segment ∷ others) now → fits plan.image_size plan.ram_size plan.monitored segment ≡ true
 unfolding Loads
-first_fits image plan before now segment others loads = (and_parts (fits plan.image_size plan.ram_size segment) _ loads.2).0
+first_fits image plan before now segment others loads = (and_parts (fits plan.image_size plan.ram_size plan.monitored segment) _ loads.2).0
 
 others_load : (image : List ℕ) (plan : LoadPlan) (before now : List ℕ) (segment : Segment) (others : List Segment)
     → Loads image plan before (segment ∷ others) now → Loads image plan before others (loaded_memory image (segment ∷ []) now)
@@ -35,7 +47,7 @@ others_load image plan before now segment others loads =
     let apart = or_parts (list_any (share_a_byte segment) others) (has_overlap others) loads.3 in (
       load_first image segment others now apart.0 ∙ loads.0,
       length-loaded_memory image (segment ∷ []) now ∙ loads.1,
-      (and_parts (fits plan.image_size plan.ram_size segment) _ loads.2).1,
+      (and_parts (fits plan.image_size plan.ram_size plan.monitored segment) _ loads.2).1,
       apart.1,
     )
 
@@ -45,10 +57,16 @@ unfolding Loads
 loads_size image plan before now rest loads = loads.1
 
 pub loads_fits : (image : List ℕ) (plan : LoadPlan) (before now : List ℕ) (i : ℕ) (default : Segment) → i < length plan.segments
-    → Loads image plan before (drop i plan.segments) now → fits plan.image_size plan.ram_size (slice_index_or plan.segments i default) ≡ true
+    → Loads image plan before (drop i plan.segments) now → fits plan.image_size plan.ram_size plan.monitored (slice_index_or plan.segments i default) ≡ true
 loads_fits image plan before now i default inside loads =
     first_fits image plan before now (slice_index_or plan.segments i default) (drop (i + 1) plan.segments)
     (rw (drop_more plan.segments i default inside) at loads)
+
+pub loads_inside : (image : List ℕ) (plan : LoadPlan) (before now : List ℕ) (i : ℕ) (default : Segment) → i < length plan.segments
+    → Loads image plan before (drop i plan.segments) now
+    → lies_inside plan.ram_size (slice_index_or plan.segments i default).address (slice_index_or plan.segments i default).memory_size ≡ true
+loads_inside image plan before now i default inside loads =
+    fits_inside plan.image_size plan.ram_size plan.monitored (slice_index_or plan.segments i default) (loads_fits image plan before now i default inside loads)
 
 pub loads_more : (image : List ℕ) (plan : LoadPlan) (before now : List ℕ) (i : ℕ) (default : Segment) → i < length plan.segments
     → Loads image plan before (drop i plan.segments) now

@@ -1,15 +1,17 @@
 -- The memory after segments were loaded, by its bytes.
-use Rattle.std.proofs.Common.{◌≡◌, ◌∙◌, sym, ℕ, zero, suc, ◌+◌, ◌-◌, ◌<◌, ◌≤◌, Bool, true, false, List, [], ◌∷◌, length, map, slice_index, Option, Some, None, refl, ap, inl, inr, arith}
+use Rattle.std.proofs.Common.{◌≡◌, ◌∙◌, sym, ℕ, zero, suc, ◌+◌, ◌-◌, ◌<◌, ◌≤◌, Bool, true, false, not, ◌&&◌, List, [], ◌∷◌, length, map, slice_index, Option, Some, None, refl, ap, inl, inr, true≢false, arith}
 use Rattle.std.specs.List.{range_with_len, find, list_any, list_all, Contains}
-use Rattle.std.proofs.lemmas.Bool.{or_parts, and_parts, cases_Bool}
+use Rattle.std.proofs.lemmas.Bool.{or_parts, or_from, and_parts, cases_Bool}
 use Rattle.std.proofs.lemmas.Grind.{common_steps, same_number_lists}
 use Rattle.std.proofs.lemmas.List.FromFn.{get_or-map-range_with_len, length-map-range_with_len}
 use Rattle.rv_memory.specs.Memory.{ram_base, byte_at, is_inside}
 use Rattle.rv_memory.proofs.MemoryLaws.{byte_at-index}
 use Rattle.rv_elf.specs.declared.segment.Segment.{Segment}
-use Rattle.rv_elf.specs.Loaded.{loaded_memory, byte_after, LoadsEach}
+use Rattle.rv_elf.specs.Loaded.{loaded_memory, byte_after, KeepsReserved, LoadsEach}
+use Rattle.rv_elf.specs.Places.{is_reserved, lies_inside, meets_reserved}
 use Rattle.rv_elf.specs.Plans.{LoadPlan, IsValid, fits}
-use Rattle.rv_elf.specs.Segments.{has_address, share_a_byte, has_overlap}
+use Rattle.rv_elf.specs.Segments.{has_address, share_a_byte, has_overlap, is_truncated, is_oversized}
+use Rattle.rv_elf.proofs.ReservedBytes.{not_reserved}
 use Rattle.rv_elf.proofs.SharedBytes.{not_in_other}
 
 -- two functions that agree on some numbers
@@ -102,9 +104,9 @@ all_at test (first ∷ others) segment all (zero, below, is) = ap test (sym is) 
 all_at test (first ∷ others) segment all (suc k, below, is) = all_at test others segment (and_parts (test first) _ all).1 (k, omega (arith, below), is)
 
 -- the addresses of a segment that fits are in RAM
-in_ram : (memory : List ℕ) (image_size address : ℕ) (segment : Segment) → fits image_size (length memory) segment ≡ true → has_address address segment ≡ true
+in_ram : (memory : List ℕ) (image_size address : ℕ) (monitored : Bool) (segment : Segment) → fits image_size (length memory) monitored segment ≡ true → has_address address segment ≡ true
     → is_inside memory address 1 ≡ true
-in_ram memory image_size address segment fit inside = grind (arith, common_steps)
+in_ram memory image_size address monitored segment fit inside = grind (arith, common_steps)
 
 in_ram_low : (memory : List ℕ) (address : ℕ) → is_inside memory address 1 ≡ true → (ram_base ≤ address) × (address < ram_base + length memory)
 in_ram_low memory address inside = (grind (arith, common_steps), grind (arith, common_steps))
@@ -127,8 +129,8 @@ pub loads_each : (image : List ℕ) (plan : LoadPlan) (old : List ℕ) → IsVal
 loads_each image plan old valid size = record {
   size = length-loaded_memory image plan.segments old;
   inside = λ segment address contains covered.
-      let fit = rw (sym size) at (all_at (fits plan.image_size plan.ram_size) plan.segments segment valid.0 contains) in
-      byte_loaded image plan.segments old address (in_ram old plan.image_size address segment fit covered)
+      let fit = rw (sym size) at (all_at (fits plan.image_size plan.ram_size plan.monitored) plan.segments segment valid.0 contains) in
+      byte_loaded image plan.segments old address (in_ram old plan.image_size address plan.monitored segment fit covered)
       ∙ rw (found plan.segments segment address valid.1 contains covered) refl;
   elsewhere = λ address none. elim (cases_Bool (is_inside old address 1)) [
     | inl inside ↦ byte_loaded image plan.segments old address inside
@@ -136,3 +138,32 @@ loads_each image plan old valid size = record {
     | inr outside ↦ byte_outside image plan.segments old address outside
   ];
 }
+
+-- a segment that fits has no reserved address
+apart_of : (whole sized inside met : Bool) → (not whole && not sized && not (not (inside && not met))) ≡ true → met ≡ false
+apart_of whole sized inside met fit = grind (arith, common_steps)
+
+none_reserved : (image_size ram_size address : ℕ) (monitored : Bool) (segment : Segment) → fits image_size ram_size monitored segment ≡ true
+    → is_reserved monitored address ≡ true → has_address address segment ≡ false
+none_reserved image_size ram_size address monitored segment fit reserved =
+    let size = segment.memory_size in
+    let apart = apart_of (is_truncated image_size segment) (is_oversized segment) (lies_inside ram_size segment.address size) (meets_reserved monitored segment.address size) fit in
+    elim (cases_Bool (has_address address segment)) [
+      | inl inside ↦ absurd (true≢false (sym reserved ∙ not_reserved monitored segment address apart inside))
+      | inr outside ↦ outside
+    ]
+
+none_have : (image_size ram_size address : ℕ) (monitored : Bool) (segments : List Segment) → list_all (fits image_size ram_size monitored) segments ≡ true
+    → is_reserved monitored address ≡ true → list_any (has_address address) segments ≡ false
+none_have image_size ram_size address monitored [] fit reserved = refl
+none_have image_size ram_size address monitored (segment ∷ segments) fit reserved =
+    let both = and_parts (fits image_size ram_size monitored segment) _ fit in
+    or_from (has_address address segment) _ (none_reserved image_size ram_size address monitored segment both.0 reserved)
+    (none_have image_size ram_size address monitored segments both.1 reserved)
+
+-- so the bytes that no image may use are as before
+pub keeps_reserved : (image : List ℕ) (plan : LoadPlan) (old : List ℕ) → IsValid plan → length old ≡ plan.ram_size
+    → KeepsReserved plan.monitored old (loaded_memory image plan.segments old)
+keeps_reserved image plan old valid size = λ address reserved.
+    (loads_each image plan old valid size).elsewhere address
+    (none_have plan.image_size plan.ram_size address plan.monitored plan.segments valid.0 reserved)

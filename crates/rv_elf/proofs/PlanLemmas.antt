@@ -1,5 +1,5 @@
 -- A plan that has no fault is valid.
-use Rattle.std.proofs.Common.{◌≡◌, ℕ, ◌<◌, ◌%◌, Bool, true, false, List, [], ◌∷◌, ◌++◌, length, Some, None, Err, refl, inl, inr, arith}
+use Rattle.std.proofs.Common.{◌≡◌, ℕ, ◌<◌, ◌%◌, ◌==◌, Bool, true, false, not, ◌||◌, List, [], ◌∷◌, ◌++◌, length, Some, None, Err, refl, inl, inr, arith}
 use Rattle.std.proofs.lemmas.Bool.{or_parts, or_from, and_from, cases_Bool}
 use Rattle.std.proofs.lemmas.Grind.{common_steps}
 use Rattle.std.specs.List.{list_any, list_all, filter}
@@ -8,8 +8,9 @@ use Rattle.rv_elf.specs.declared.elf_fault.ElfFault.TheVariants.{SegmentOutside}
 use Rattle.rv_elf.specs.declared.segment.Segment.{Segment}
 use Rattle.rv_elf.specs.Fields.{e_entry}
 use Rattle.rv_elf.specs.Faults.{first_fault, segment_faults, place_faults, is_bad_entry, header_faults, raw_fault}
+use Rattle.rv_elf.specs.Places.{has_place}
 use Rattle.rv_elf.specs.Plans.{LoadPlan, IsValid, fits, file_plan}
-use Rattle.rv_elf.specs.Segments.{is_truncated, is_oversized, is_outside, has_overlap, occupying, raw_segments, segments_of, lies_inside}
+use Rattle.rv_elf.specs.Segments.{is_truncated, is_oversized, is_outside, has_overlap, occupying, raw_segments, segments_of}
 use Rattle.rv_elf.proofs.FirstFaults.{first_is_false, rest_has_none, none_before, some_before}
 
 -- what no segment has, none of a part of them has
@@ -23,23 +24,24 @@ any-filter test kept (x ∷ xs) none =
     ]
 
 -- a segment that has none of three faults fits
-all_fit : (image_size ram_size : ℕ) (segments : List Segment) → list_any (is_truncated image_size) segments ≡ false
-    → list_any is_oversized segments ≡ false → list_any (is_outside ram_size) segments ≡ false → list_all (fits image_size ram_size) segments ≡ true
-all_fit image_size ram_size [] whole sized inside = refl
-all_fit image_size ram_size (segment ∷ segments) whole sized inside =
+all_fit : (image_size ram_size : ℕ) (monitored : Bool) (segments : List Segment) → list_any (is_truncated image_size) segments ≡ false
+    → list_any is_oversized segments ≡ false → list_any (is_outside ram_size monitored) segments ≡ false
+    → list_all (fits image_size ram_size monitored) segments ≡ true
+all_fit image_size ram_size monitored [] whole sized inside = refl
+all_fit image_size ram_size monitored (segment ∷ segments) whole sized inside =
     let is_whole = or_parts (is_truncated image_size segment) _ whole in
     let is_sized = or_parts (is_oversized segment) _ sized in
-    let is_inside = or_parts (is_outside ram_size segment) _ inside in
-    and_from (fits image_size ram_size segment) _
+    let is_inside = or_parts (is_outside ram_size monitored segment) _ inside in
+    and_from (fits image_size ram_size monitored segment) _
     (rw (is_whole.0, is_sized.0, is_inside.0) refl)
-    (all_fit image_size ram_size segments is_whole.1 is_sized.1 is_inside.1)
+    (all_fit image_size ram_size monitored segments is_whole.1 is_sized.1 is_inside.1)
 
--- an entry that is not bad is a multiple of 4, with four bytes inside RAM
-entry_aligned : (ram_size entry : ℕ) → is_bad_entry ram_size entry ≡ false → entry % 4 ≡ 0
-entry_aligned ram_size entry good = grind (arith, common_steps)
+-- an entry that is not bad is a multiple of 4, and has a place for four bytes
+entry_aligned : (entry : ℕ) (placed : Bool) → (not (entry % 4 == 0) || not placed) ≡ false → entry % 4 ≡ 0
+entry_aligned entry placed good = grind (arith, common_steps)
 
-entry_inside : (ram_size entry : ℕ) → is_bad_entry ram_size entry ≡ false → lies_inside ram_size entry 4 ≡ true
-entry_inside ram_size entry good = grind (arith, common_steps)
+entry_placed : (aligned placed : Bool) → (not aligned || not placed) ≡ false → placed ≡ true
+entry_placed aligned placed good = grind (arith, common_steps)
 
 -- those that take memory have no fault that none of all has
 pub kept_have_none : (image_size : ℕ) (segments : List Segment) → first_fault (segment_faults image_size segments) ≡ None
@@ -53,50 +55,52 @@ kept_have_none image_size segments none =
 
 -- a plan whose segments and places have no fault is valid
 pub is_valid : (plan : LoadPlan) → first_fault (segment_faults plan.image_size plan.segments) ≡ None
-    → first_fault (place_faults plan.ram_size plan.segments plan.entry) ≡ None → IsValid plan
+    → first_fault (place_faults plan.ram_size plan.monitored plan.segments plan.entry) ≡ None → IsValid plan
 unfolding segment_faults place_faults
 is_valid plan none placed =
     let whole = first_is_false (list_any (is_truncated plan.image_size) plan.segments) _ _ none in
     let sized = first_is_false (list_any is_oversized plan.segments) _ _ (rest_has_none (list_any (is_truncated plan.image_size) plan.segments) _ _ none) in
-    let inside = first_is_false (list_any (is_outside plan.ram_size) plan.segments) _ _ placed in
-    let others = rest_has_none (list_any (is_outside plan.ram_size) plan.segments) _ _ placed in
+    let inside = first_is_false (list_any (is_outside plan.ram_size plan.monitored) plan.segments) _ _ placed in
+    let others = rest_has_none (list_any (is_outside plan.ram_size plan.monitored) plan.segments) _ _ placed in
     let apart = first_is_false (has_overlap plan.segments) _ _ others in
-    let good = first_is_false (is_bad_entry plan.ram_size plan.entry) _ _ (rest_has_none (has_overlap plan.segments) _ _ others) in
-    (all_fit plan.image_size plan.ram_size plan.segments whole sized inside, apart, entry_aligned plan.ram_size plan.entry good, entry_inside plan.ram_size plan.entry good)
+    let placed = has_place plan.ram_size plan.monitored plan.entry 4 in
+    let good = first_is_false (is_bad_entry plan.ram_size plan.monitored plan.entry) _ _ (rest_has_none (has_overlap plan.segments) _ _ others) in
+    (all_fit plan.image_size plan.ram_size plan.monitored plan.segments whole sized inside, apart, entry_aligned plan.entry placed good, entry_placed (plan.entry % 4 == 0) placed good)
 
 -- a raw image that is larger than the RAM is outside
-pub raw_outside : (len ram_size : ℕ) → ram_size < len → raw_fault len ram_size ≡ Some SegmentOutside
+pub raw_outside : (len ram_size : ℕ) (monitored : Bool) → ram_size < len → raw_fault len ram_size monitored ≡ Some SegmentOutside
 unfolding place_faults occupying
-raw_outside len ram_size larger = grind (arith, common_steps)
+raw_outside len ram_size true larger = grind (arith, common_steps)
+raw_outside len ram_size false larger = grind (arith, common_steps)
 
 -- a raw image has all that it has in the file
-pub raw_has_none : (len : ℕ) → first_fault (segment_faults len (raw_segments len)) ≡ None
+pub raw_has_none : (len : ℕ) (monitored : Bool) → first_fault (segment_faults len (raw_segments len monitored)) ≡ None
 unfolding segment_faults occupying
-raw_has_none len = grind (arith, common_steps)
+raw_has_none len monitored = grind (arith, common_steps)
 
 -- the rows behind those of the header, and behind those of the segments
-abbrev file_place_faults : List ℕ → ℕ → List (Bool × ElfFault)
-file_place_faults file ram_size = place_faults ram_size (occupying (segments_of file)) (e_entry file)
+abbrev file_place_faults : List ℕ → ℕ → Bool → List (Bool × ElfFault)
+file_place_faults file ram_size monitored = place_faults ram_size monitored (occupying (segments_of file)) (e_entry file)
 
-abbrev later_faults : List ℕ → ℕ → List (Bool × ElfFault)
-later_faults file ram_size = segment_faults (length file) (segments_of file) ++ file_place_faults file ram_size
+abbrev later_faults : List ℕ → ℕ → Bool → List (Bool × ElfFault)
+later_faults file ram_size monitored = segment_faults (length file) (segments_of file) ++ file_place_faults file ram_size monitored
 
 -- a fault of the header is that of the file; so is one of the segments, where the header has none, and one of the places in RAM,
 -- where neither has one
-pub header_fault_first : (file : List ℕ) (ram_size : ℕ) (fault : ElfFault) → first_fault (header_faults file) ≡ Some fault → file_plan file ram_size ≡ Err fault
+pub header_fault_first : (file : List ℕ) (ram_size : ℕ) (monitored : Bool) (fault : ElfFault) → first_fault (header_faults file) ≡ Some fault → file_plan file ram_size monitored ≡ Err fault
 unfolding header_faults
-header_fault_first file ram_size fault some =
-    rw (some_before (header_faults file) (later_faults file ram_size) fault some) refl
+header_fault_first file ram_size monitored fault some =
+    rw (some_before (header_faults file) (later_faults file ram_size monitored) fault some) refl
 
-pub segment_fault_first : (file : List ℕ) (ram_size : ℕ) (fault : ElfFault) → first_fault (header_faults file) ≡ None
-    → first_fault (segment_faults (length file) (segments_of file)) ≡ Some fault → file_plan file ram_size ≡ Err fault
+pub segment_fault_first : (file : List ℕ) (ram_size : ℕ) (monitored : Bool) (fault : ElfFault) → first_fault (header_faults file) ≡ None
+    → first_fault (segment_faults (length file) (segments_of file)) ≡ Some fault → file_plan file ram_size monitored ≡ Err fault
 unfolding header_faults
-segment_fault_first file ram_size fault none some =
-    rw (none_before (header_faults file) (later_faults file ram_size) none, some_before (segment_faults (length file) (segments_of file)) (file_place_faults file ram_size) fault some) refl
+segment_fault_first file ram_size monitored fault none some =
+    rw (none_before (header_faults file) (later_faults file ram_size monitored) none, some_before (segment_faults (length file) (segments_of file)) (file_place_faults file ram_size monitored) fault some) refl
 
-pub place_fault_first : (file : List ℕ) (ram_size : ℕ) (fault : ElfFault) → first_fault (header_faults file) ≡ None
+pub place_fault_first : (file : List ℕ) (ram_size : ℕ) (monitored : Bool) (fault : ElfFault) → first_fault (header_faults file) ≡ None
     → first_fault (segment_faults (length file) (segments_of file)) ≡ None
-    → first_fault (file_place_faults file ram_size) ≡ Some fault → file_plan file ram_size ≡ Err fault
+    → first_fault (file_place_faults file ram_size monitored) ≡ Some fault → file_plan file ram_size monitored ≡ Err fault
 unfolding header_faults
-place_fault_first file ram_size fault none whole some =
-    rw (none_before (header_faults file) (later_faults file ram_size) none, none_before (segment_faults (length file) (segments_of file)) (file_place_faults file ram_size) whole, some) refl
+place_fault_first file ram_size monitored fault none whole some =
+    rw (none_before (header_faults file) (later_faults file ram_size monitored) none, none_before (segment_faults (length file) (segments_of file)) (file_place_faults file ram_size monitored) whole, some) refl

@@ -4,12 +4,12 @@
 use Rattle.std.specs.Prelude.{◌≡◌, ℕ, ◌+◌, ◌*◌, ◌%◌, ◌==◌, Bool, true, false, not, ◌&&◌, ◌||◌, nat_lt, List, [], ◌∷◌, ◌++◌, length, take, Option, Some, None}
 use Rattle.std.specs.List.{list_any}
 use Rattle.std.specs.Str.{bytes_eq}
-use Rattle.rv_memory.specs.Memory.{ram_base}
 use Rattle.rv_elf.specs.declared.elf_fault.ElfFault.{ElfFault}
 use Rattle.rv_elf.specs.declared.elf_fault.ElfFault.TheVariants.{Truncated, NotElf, WrongClass, WrongType, WrongMachine, BadHeader, SegmentTruncated, SegmentSizes, SegmentOutside, SegmentOverlap, BadEntry}
 use Rattle.rv_elf.specs.declared.segment.Segment.{Segment}
 use Rattle.rv_elf.specs.Fields.{magic, et_exec, em_riscv, class_data_version, ei_class_data_version, e_type, e_machine, e_entry, e_phoff, e_phentsize, e_phnum}
-use Rattle.rv_elf.specs.Segments.{segments_of, occupying, raw_segments, is_truncated, is_oversized, is_outside, has_overlap, lies_inside}
+use Rattle.rv_elf.specs.Places.{first_address, has_place}
+use Rattle.rv_elf.specs.Segments.{segments_of, occupying, raw_segments, is_truncated, is_oversized, is_outside, has_overlap}
 
 abbrev pub elf_fault_number : ElfFault → ℕ
 elf_fault_number Truncated = 1
@@ -30,9 +30,9 @@ has_bad_table file =
     nat_lt 64 (e_phnum file)
     || not (e_phnum file == 0) && (not (e_phentsize file == 32) || nat_lt (length file) (e_phoff file + 32 * e_phnum file))
 
--- execution can not begin there: it is no multiple of 4, or the four bytes of the first instruction are not inside RAM
-abbrev pub is_bad_entry : ℕ → ℕ → Bool
-is_bad_entry ram_size entry = not (entry % 4 == 0) || not (lies_inside ram_size entry 4)
+-- execution can not begin there: it is no multiple of 4, or the four bytes of the first instruction are where no image may be
+abbrev pub is_bad_entry : ℕ → Bool → ℕ → Bool
+is_bad_entry ram_size monitored entry = not (entry % 4 == 0) || not (has_place ram_size monitored entry 4)
 
 -- The table: each fault with the condition under which an image has it. The rows of the ELF header, of the segments, and of places
 -- in RAM stand apart, since a raw image has only the last.
@@ -52,23 +52,23 @@ segment_faults len segments =
     ∷ (list_any is_oversized segments, SegmentSizes)
     ∷ []
 
-unfoldable pub place_faults : ℕ → List Segment → ℕ → List (Bool × ElfFault)
-place_faults ram_size segments entry =
-    (list_any (is_outside ram_size) segments, SegmentOutside)
+unfoldable pub place_faults : ℕ → Bool → List Segment → ℕ → List (Bool × ElfFault)
+place_faults ram_size monitored segments entry =
+    (list_any (is_outside ram_size monitored) segments, SegmentOutside)
     ∷ (has_overlap segments, SegmentOverlap)
-    ∷ (is_bad_entry ram_size entry, BadEntry)
+    ∷ (is_bad_entry ram_size monitored entry, BadEntry)
     ∷ []
 
--- the whole table for an ELF file in a RAM of this size, in the order of the numbers
-abbrev pub file_faults : List ℕ → ℕ → List (Bool × ElfFault)
-file_faults file ram_size =
+-- the whole table for an ELF file in a RAM of this size, of a monitored bench or of a bare one, in the order of the numbers
+abbrev pub file_faults : List ℕ → ℕ → Bool → List (Bool × ElfFault)
+file_faults file ram_size monitored =
     header_faults file
     ++ segment_faults (length file) (segments_of file)
-    ++ place_faults ram_size (occupying (segments_of file)) (e_entry file)
+    ++ place_faults ram_size monitored (occupying (segments_of file)) (e_entry file)
 
--- the table for a raw image of so many bytes, which begins at the first address of RAM
-abbrev pub raw_faults : ℕ → ℕ → List (Bool × ElfFault)
-raw_faults len ram_size = place_faults ram_size (raw_segments len) ram_base
+-- the table for a raw image of so many bytes, whose first byte is also its entry
+abbrev pub raw_faults : ℕ → ℕ → Bool → List (Bool × ElfFault)
+raw_faults len ram_size monitored = place_faults ram_size monitored (raw_segments len monitored) (first_address monitored)
 
 -- the first fault whose condition holds
 abbrev pub first_fault : List (Bool × ElfFault) → Option ElfFault
@@ -82,10 +82,10 @@ IsLeast rows fault =
     (list_any (λ row. row.0 && elf_fault_number row.1 == elf_fault_number fault) rows ≡ true)
     × (list_any (λ row. row.0 && nat_lt (elf_fault_number row.1) (elf_fault_number fault)) rows ≡ false)
 
--- the fault of an ELF file in a RAM of this size
-abbrev pub file_fault : List ℕ → ℕ → Option ElfFault
-file_fault file ram_size = first_fault (file_faults file ram_size)
+-- the fault of an ELF file
+abbrev pub file_fault : List ℕ → ℕ → Bool → Option ElfFault
+file_fault file ram_size monitored = first_fault (file_faults file ram_size monitored)
 
 -- the fault of a raw image of so many bytes
-abbrev pub raw_fault : ℕ → ℕ → Option ElfFault
-raw_fault len ram_size = first_fault (raw_faults len ram_size)
+abbrev pub raw_fault : ℕ → ℕ → Bool → Option ElfFault
+raw_fault len ram_size monitored = first_fault (raw_faults len ram_size monitored)

@@ -2,43 +2,57 @@
 use Rattle.std.specs.Prelude.{◌≡◌, ℕ, ◌%◌, Bool, true, false, not, ◌&&◌, List, length, Result, Ok, Err}
 use Rattle.std.specs.List.{list_all}
 use Rattle.rv_word.specs.Cases.{option_case}
-use Rattle.rv_memory.specs.Memory.{ram_base}
 use Rattle.rv_elf.specs.declared.elf_fault.ElfFault.{ElfFault}
 use Rattle.rv_elf.specs.declared.segment.Segment.{Segment}
 use Rattle.rv_elf.specs.Fields.{e_entry}
 use Rattle.rv_elf.specs.Faults.{file_fault, raw_fault}
-use Rattle.rv_elf.specs.Segments.{segments_of, occupying, raw_segments, is_truncated, is_oversized, is_outside, has_overlap, lies_inside}
+use Rattle.rv_elf.specs.Places.{first_address, has_place}
+use Rattle.rv_elf.specs.Segments.{segments_of, occupying, raw_segments, is_truncated, is_oversized, is_outside, has_overlap}
 
--- the segments that take memory, the address of the first instruction, and the bytes of the image and of the RAM for which
--- this is the plan
+-- the segments that take memory, the address of the first instruction, the bytes of the image and of the RAM for which this is
+-- the plan, and whether the bench is monitored
 pub record LoadPlan : Type 0 where
   pub segments : List Segment
   pub entry : ℕ
   pub image_size : ℕ
   pub ram_size : ℕ
+  pub monitored : Bool
 
--- the segment's bytes are in the image, and their places in RAM
-abbrev pub fits : ℕ → ℕ → Segment → Bool
-fits image_size ram_size segment = not (is_truncated image_size segment) && not (is_oversized segment) && not (is_outside ram_size segment)
+-- the segment's bytes are in the image, and each of them has a place
+abbrev pub fits : ℕ → ℕ → Bool → Segment → Bool
+fits image_size ram_size monitored segment =
+    not (is_truncated image_size segment) && not (is_oversized segment) && not (is_outside ram_size monitored segment)
 
--- what is true of every plan: its segments fit and share no byte, and its first instruction is at a multiple of 4 and inside RAM
+-- what is true of every plan: its segments fit and share no byte, and its first instruction is at a multiple of 4 and has a place
 abbrev pub IsValid : LoadPlan → Type 0
 IsValid plan =
-    (list_all (fits plan.image_size plan.ram_size) plan.segments ≡ true)
+    (list_all (fits plan.image_size plan.ram_size plan.monitored) plan.segments ≡ true)
     × (has_overlap plan.segments ≡ false)
     × (plan.entry % 4 ≡ 0)
-    × (lies_inside plan.ram_size plan.entry 4 ≡ true)
+    × (has_place plan.ram_size plan.monitored plan.entry 4 ≡ true)
 
 -- the plan of an ELF file, or its fault of the least number
-abbrev pub file_plan : List ℕ → ℕ → Result LoadPlan ElfFault
-file_plan file ram_size =
-    option_case (file_fault file ram_size)
-    (Ok (record { segments = occupying (segments_of file); entry = e_entry file; image_size = length file; ram_size = ram_size }))
+abbrev pub file_plan : List ℕ → ℕ → Bool → Result LoadPlan ElfFault
+file_plan file ram_size monitored =
+    option_case (file_fault file ram_size monitored)
+    (Ok (record {
+      segments = occupying (segments_of file);
+      entry = e_entry file;
+      image_size = length file;
+      ram_size = ram_size;
+      monitored = monitored;
+    }))
     Err
 
 -- the plan of a raw image of so many bytes, or its fault of the least number
-abbrev pub raw_plan : ℕ → ℕ → Result LoadPlan ElfFault
-raw_plan len ram_size =
-    option_case (raw_fault len ram_size)
-    (Ok (record { segments = raw_segments len; entry = ram_base; image_size = len; ram_size = ram_size }))
+abbrev pub raw_plan : ℕ → ℕ → Bool → Result LoadPlan ElfFault
+raw_plan len ram_size monitored =
+    option_case (raw_fault len ram_size monitored)
+    (Ok (record {
+      segments = raw_segments len monitored;
+      entry = first_address monitored;
+      image_size = len;
+      ram_size = ram_size;
+      monitored = monitored;
+    }))
     Err

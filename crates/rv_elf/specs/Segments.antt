@@ -1,10 +1,10 @@
--- The segments of an image, and what each of them asks of the file and of the RAM: System V gABI, chapter 5, program header and
+-- The segments of an image, and what each of them asks of the file and of the memory: System V gABI, chapter 5, program header and
 -- program loading.
 use Rattle.std.specs.Prelude.{ℕ, ◌+◌, ◌==◌, Bool, false, not, ◌&&◌, ◌||◌, nat_le, nat_lt, List, [], ◌∷◌, map}
 use Rattle.std.specs.List.{filter, list_any, range_with_len}
-use Rattle.rv_memory.specs.Memory.{ram_base}
 use Rattle.rv_elf.specs.declared.segment.Segment.{Segment}
 use Rattle.rv_elf.specs.Fields.{header_places, pt_load, p_type, p_offset, p_paddr, p_filesz, p_memsz}
+use Rattle.rv_elf.specs.Places.{first_address, has_place}
 
 -- the segment of the program header at a place
 abbrev pub segment_at : List ℕ → ℕ → Segment
@@ -31,9 +31,9 @@ is_empty segment = segment.memory_size == 0
 unfoldable pub occupying : List Segment → List Segment
 occupying segments = filter (λ segment. not (is_empty segment)) segments
 
--- a raw image of so many bytes: one segment at the first address of RAM, or none where it has no byte
-abbrev pub raw_segments : ℕ → List Segment
-raw_segments len = occupying (record { offset = 0; address = ram_base; file_size = len; memory_size = len } ∷ [])
+-- a raw image of so many bytes: one segment at the first address that an image may use, or none where it has no byte
+abbrev pub raw_segments : ℕ → Bool → List Segment
+raw_segments len monitored = occupying (record { offset = 0; address = first_address monitored; file_size = len; memory_size = len } ∷ [])
 
 -- its part of a file of so many bytes ends past the file's end
 abbrev pub is_truncated : ℕ → Segment → Bool
@@ -43,12 +43,9 @@ is_truncated len segment = not (segment.file_size == 0) && nat_lt len (segment.o
 abbrev pub is_oversized : Segment → Bool
 is_oversized segment = nat_lt segment.memory_size segment.file_size
 
--- so many bytes from an address on lie inside a RAM of this size
-abbrev pub lies_inside : ℕ → ℕ → ℕ → Bool
-lies_inside ram_size address count = nat_le ram_base address && nat_le (address + count) (ram_base + ram_size)
-
-abbrev pub is_outside : ℕ → Segment → Bool
-is_outside ram_size segment = not (lies_inside ram_size segment.address segment.memory_size)
+-- it has no place in memory
+abbrev pub is_outside : ℕ → Bool → Segment → Bool
+is_outside ram_size monitored segment = not (has_place ram_size monitored segment.address segment.memory_size)
 
 -- the byte at an address is one of the segment's
 abbrev pub has_address : ℕ → Segment → Bool

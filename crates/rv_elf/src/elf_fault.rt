@@ -3,7 +3,7 @@ ghost use Rattle.std.specs.Prelude.{◌≡◌};
 ghost use Rattle.rv_elf.specs.Faults.{elf_fault_number};
 
 /// Why an image has no place in RAM: the file is no ELF file that can be loaded (System V gABI, chapters 4 and 5), or a part of
-/// it lies outside. A raw image can have `SegmentOutside` and `BadEntry` alone.
+/// it lies outside, or where a monitor is. A raw image can have `SegmentOutside` and `BadEntry` alone.
 #[derive(Clone, Copy, Debug, PartialEq, Eq)]
 pub enum ElfFault {
     /// The file has fewer than 52 bytes.
@@ -22,11 +22,12 @@ pub enum ElfFault {
     SegmentTruncated = 7,
     /// The file part of a segment is larger than its memory part, which may be empty.
     SegmentSizes = 8,
-    /// A segment that is not empty does not lie inside RAM.
+    /// A segment that is not empty does not lie inside RAM, or meets the range of the monitor where there is one.
     SegmentOutside = 9,
     /// Two segments share a byte.
     SegmentOverlap = 10,
-    /// The entry is not a multiple of 4, or its four bytes do not lie inside RAM.
+    /// The entry is not a multiple of 4, or its four bytes do not lie inside RAM, or it is in the range of the monitor where there
+    /// is one.
     BadEntry = 11,
 }
 

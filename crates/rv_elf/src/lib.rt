@@ -2,10 +2,11 @@
 //! header and program loading; RISC-V ELF psABI).
 //!
 //! An image is an ELF file of 32 bits for RISC-V, or the raw bytes of the memory. `plan` and `plan_raw` find the segments, or
-//! the fault of the least number; `load` puts them into a RAM. None of them takes memory.
+//! the fault of the least number; `load` puts them into a RAM. None of them takes memory. With a monitor the images keep out
+//! of its range, 80000000 to 8000FFFF.
 //!
 //! ```text
-//! let plan = plan(file, 1_048_576)?;
+//! let plan = plan(file, 1_048_576, false)?;
 //! load(&plan, file, &mut ram);
 //! plan.entry(); // 0x8000_0000
 //! ```
@@ -16,6 +17,7 @@ mod fields;
 mod header;
 mod load_plan;
 mod loading;
+mod place;
 mod planning;
 mod segment;
 

@@ -1,21 +1,22 @@
 //! What is to be loaded, and where execution begins.
 
 ghost use Rattle.std.specs.Prelude.{◌≡◌, ◌%◌, true};
-ghost use Rattle.rv_elf.specs.Segments.{lies_inside};
+ghost use Rattle.rv_elf.specs.Places.{has_place};
 
 use crate::header::MAX_HEADERS;
 use crate::segment::Segment;
 use arrayvec::ArrayVec;
 use std::marker::Model;
 
-/// The segments of an image, each inside RAM and apart from the others, and the address of the first instruction. It takes no
-/// memory.
+/// The segments of an image, each inside RAM and apart from the others and from a monitor, and the address of the first
+/// instruction. It takes no memory.
 #[derive(Debug, Drop)]
 pub struct Plan {
     pub(crate) segments: ArrayVec<Segment, MAX_HEADERS>,
     pub(crate) entry: u32,
     pub(crate) image_size: usize,
     pub(crate) ram_size: u32,
+    pub(crate) monitored: bool,
 }
 
 impl Model for Plan {
@@ -23,26 +24,27 @@ impl Model for Plan {
 
     ghost Value = { LoadPlan };
 
-    ghost view = { λ plan. record { segments = plan.segments.items; entry = plan.entry; image_size = plan.image_size; ram_size = plan.ram_size } };
+    ghost view = { λ plan. record { segments = plan.segments.items; entry = plan.entry; image_size = plan.image_size; ram_size = plan.ram_size; monitored = plan.monitored } };
 
-    ghost invariant = { λ plan. IsValid (record { segments = plan.segments.items; entry = plan.entry; image_size = plan.image_size; ram_size = plan.ram_size }) };
+    ghost invariant = { λ plan. IsValid (record { segments = plan.segments.items; entry = plan.entry; image_size = plan.image_size; ram_size = plan.ram_size; monitored = plan.monitored }) };
 
-    ghost inverse = { λ plan. record { segments = record { items = plan.segments }; entry = plan.entry; image_size = plan.image_size; ram_size = plan.ram_size } };
+    ghost inverse = { λ plan. record { segments = record { items = plan.segments }; entry = plan.entry; image_size = plan.image_size; ram_size = plan.ram_size; monitored = plan.monitored } };
 }
 
 impl Plan {
     ghost use Rattle.rv_elf.specs.Plans.{IsValid};
 
-    /// The address of the first instruction, a multiple of 4. Its four bytes are inside RAM.
+    /// The address of the first instruction, a multiple of 4. Its four bytes are inside RAM, and not in the range of a monitor.
     pub fn entry(&self) -> u32
         ensures value { result ≡ self.now.entry }
         ensures aligned { result % 4 ≡ 0 }
-        ensures inside { lies_inside self.now.ram_size result 4 ≡ true }
+        ensures place { has_place self.now.ram_size self.now.monitored result 4 ≡ true }
     {
         self.entry
     }
 
-    /// The segments that take memory, in the order of their headers. They lie inside RAM, and no two of them share a byte.
+    /// The segments that take memory, in the order of their headers. They lie inside RAM and not in the range of a monitor, and no
+    /// two of them share a byte.
     pub fn segments(&self) -> &[Segment]
         ensures value { result.now ≡ self.now.segments }
         ensures valid { IsValid self.now }

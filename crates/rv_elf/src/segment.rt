@@ -1,10 +1,10 @@
 //! A segment of an image.
 
 ghost use Rattle.std.specs.Prelude.{◌≡◌, ◌+◌, ◌≤◌, length, false};
-ghost use Rattle.rv_elf.specs.Segments.{segment_at as segment_at_of, is_truncated as is_truncated_of, is_oversized as is_oversized_of, is_outside as is_outside_of, lies_inside as lies_inside_of, share_a_byte};
+ghost use Rattle.rv_elf.specs.Segments.{segment_at as segment_at_of, is_truncated as is_truncated_of, is_oversized as is_oversized_of, is_outside as is_outside_of, share_a_byte};
 
 use crate::fields::word_at;
-use rv_memory::RAM_BASE;
+use crate::place::has_place;
 
 /// A part of an image that is to be loaded: the bytes of the file that go to memory, and zeros behind them (System V gABI,
 /// chapter 5, PT_LOAD).
@@ -18,14 +18,6 @@ pub struct Segment {
     pub file_size: u32,
     /// How many bytes it has in memory: those of the file, then zeros.
     pub memory_size: u32,
-}
-
-/// Whether so many bytes from an address on lie inside a RAM of this size.
-pub(crate) fn lies_inside(ram_size: u32, address: u32, count: u32) -> bool
-    ensures { result ≡ lies_inside_of ram_size address count }
-{
-    address >= RAM_BASE
-        && u64::from(address) + u64::from(count) <= u64::from(RAM_BASE) + u64::from(ram_size)
 }
 
 impl Segment {
@@ -56,11 +48,11 @@ impl Segment {
         self.file_size > self.memory_size
     }
 
-    /// Whether a byte of it is outside a RAM of this size.
-    pub(crate) fn is_outside(&self, ram_size: u32) -> bool
-        ensures { result ≡ is_outside_of ram_size self.now }
+    /// Whether a byte of it is outside a RAM of this size, or in the range of a monitor.
+    pub(crate) fn is_outside(&self, ram_size: u32, monitored: bool) -> bool
+        ensures { result ≡ is_outside_of ram_size monitored self.now }
     {
-        !lies_inside(ram_size, self.address, self.memory_size)
+        !has_place(ram_size, monitored, self.address, self.memory_size)
     }
 
     /// The address behind its last byte.

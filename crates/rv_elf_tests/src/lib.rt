@@ -8,4 +8,6 @@ mod files;
 #[cfg(test)]
 mod loading_tests;
 #[cfg(test)]
+mod monitored_tests;
+#[cfg(test)]
 mod tests;

@@ -47,7 +47,7 @@ fn are_equal(one: &Ram, other: &Ram) -> bool {
 
 /// Loads an ELF file, and answers its entry.
 fn load_file(file: &[u8], ram: &mut Ram) -> Result<u32, ElfFault> {
-    let plan = plan(file, ram.size())?;
+    let plan = plan(file, ram.size(), false)?;
     load(&plan, file, ram);
     Ok(plan.entry())
 }
@@ -183,7 +183,7 @@ fn refused_files_leave_ram(rt: HostRuntime) -> Result<(), Fail> {
 fn loads_raw_images(rt: HostRuntime) -> Result<(), Fail> {
     for image in [b"".as_slice(), b"\xff", b"\x01\x02\x03\x04\x05"] {
         let mut ram = ram_with(rt.alloc(), &[])?;
-        let plan = plan_raw(image.len(), ram.size()).map_err(|_| "the image has no fault")?;
+        let plan = plan_raw(image.len(), ram.size(), false).map_err(|_| "the image has no fault")?;
         load(&plan, image, &mut ram);
         let wanted = ram_with(rt.alloc(), &[(RAM_BASE, image)])?;
         assert!(rt; are_equal(&ram, &wanted));

@@ -1,4 +1,4 @@
-//! What is planned, and each fault: alone, at its borders, and in company of others.
+//! What is planned without a monitor, and each fault: alone, at its borders, and in company of others.
 
 use crate::company::{COMPANY, FILE};
 use crate::files::{changed, file_of, segment};
@@ -13,7 +13,9 @@ const END: u32 = RAM_BASE + RAM_SIZE;
 
 /// The number of the fault of a file, or 0 where it has none.
 fn fault_of(file: &[u8]) -> u8 {
-    plan(file, RAM_SIZE).err().map_or(0, |fault| fault.number())
+    plan(file, RAM_SIZE, false)
+        .err()
+        .map_or(0, |fault| fault.number())
 }
 
 #[test]
@@ -65,7 +67,7 @@ fn planned(offset: u32, address: u32) -> Segment {
 
 #[test]
 fn plans_its_segments(rt: HostRuntime) -> Result<(), Fail> {
-    let plan = plan(&FILE, RAM_SIZE).map_err(|_| "the file has no fault")?;
+    let plan = plan(&FILE, RAM_SIZE, false).map_err(|_| "the file has no fault")?;
     assert_eq!(rt; plan.entry(), RAM_BASE);
     let segments = [
         planned(0x94, 0x8000_0000),
@@ -313,7 +315,7 @@ fn asks_the_entry(rt: HostRuntime) -> Result<(), Fail> {
     ] {
         let file = file_of(entry, &[], b"")?;
         assert_eq!(rt; fault_of(file.as_slice()), number, "{entry}");
-        let planned = plan(file.as_slice(), RAM_SIZE).map(|plan| plan.entry());
+        let planned = plan(file.as_slice(), RAM_SIZE, false).map(|plan| plan.entry());
         assert!(rt; number != 0 || planned == Ok(entry), "{entry}");
     }
     Ok(())
@@ -329,7 +331,7 @@ fn plans_raw_images(rt: HostRuntime) -> Result<(), Fail> {
         (65_536, 65_536),
         (u32::MAX, u32::MAX),
     ] {
-        let plan = plan_raw(size as usize, ram_size).map_err(|_| "the image has no fault")?;
+        let plan = plan_raw(size as usize, ram_size, false).map_err(|_| "the image has no fault")?;
         let whole = [Segment {
             offset: 0,
             address: RAM_BASE,
@@ -356,7 +358,7 @@ fn refuses_raw_images(rt: HostRuntime) {
         ((1usize << 32) + 4, 65_536, ElfFault::SegmentOutside),
     ] {
         assert_eq!(rt;
-            plan_raw(len, ram_size).err(),
+            plan_raw(len, ram_size, false).err(),
             Some(fault),
             "{len} {ram_size}"
         );

@@ -149,7 +149,24 @@ impl Hart {
         ensures permitted { TouchesPermitted (state_of self.old ram.old) (stepped self.new ram.new result) }
         ensures confined { IsConfined (state_of self.old ram.old) (stepped self.new ram.new result) }
     {
-        let outcome = self.step_once(ram);
+        self.step_at::<Self>(ram)
+    }
+
+    /// The same. Each `Site` has a copy of the code of its own, since the compiler inlines code of this size only where it is called
+    /// once.
+    #[inline(always)]
+    pub(crate) fn step_at<Site>(&mut self, ram: &mut Ram) -> StepOutcome
+        ensures meaning { step (state_of self.old ram.old) ≡ stepped self.new ram.new result }
+        ensures x0 { register self.new.regs 0 ≡ 0 }
+        ensures aligned { self.new.pc % 4 ≡ 0 }
+        ensures trap_keeps { TrapKeeps (state_of self.old ram.old) (stepped self.new ram.new result) }
+        ensures mprv { KeepsMprvClear (state_of self.old ram.old) (stepped self.new ram.new result) }
+        ensures machine_parts { KeepsMachineParts (state_of self.old ram.old) (stepped self.new ram.new result) }
+        ensures memory { ChangesStored (state_of self.old ram.old) (stepped self.new ram.new result) }
+        ensures permitted { TouchesPermitted (state_of self.old ram.old) (stepped self.new ram.new result) }
+        ensures confined { IsConfined (state_of self.old ram.old) (stepped self.new ram.new result) }
+    {
+        let outcome = self.step_once::<Site>(ram);
         self.invariant();
         outcome
     }
@@ -157,14 +174,14 @@ impl Hart {
     /// Takes an interrupt, or does the instruction at pc, or its trap.
     #[inline(always)]
     #[tactic(auto, unfolding(crate::specs::Step::step, crate::specs::Step::from_fetch))]
-    fn step_once(&mut self, ram: &mut Ram) -> StepOutcome
+    fn step_once<Site>(&mut self, ram: &mut Ram) -> StepOutcome
         ensures { step (state_of self.old ram.old) ≡ stepped self.new ram.new result }
     {
         if let Some(interrupt) = self.csrs.pending_interrupt(self.mode) {
             return self.trap(interrupted(interrupt), Touched::default());
         }
         match ram.fetch(self.csrs.pmp_mut(), self.mode, self.pc) {
-            Ok(word) => self.decode(word, ram),
+            Ok(word) => self.decode::<Site>(word, ram),
             Err(_) => {
                 let trap = exception(Exception::InstructionAccessFault, self.pc);
                 self.trap(trap, Touched::default())
@@ -175,7 +192,7 @@ impl Hart {
     /// Decodes the fetched word, and does the instruction that it spells.
     #[inline(always)]
     #[tactic(auto, unfolding(crate::specs::Step::from_decode))]
-    fn decode(&mut self, word: u32, ram: &mut Ram) -> StepOutcome
+    fn decode<Site>(&mut self, word: u32, ram: &mut Ram) -> StepOutcome
         ensures { from_decode self.old ram.old word ≡ over ram.new (ended_in self.new result) }
     {
         let fetched = Touched {
@@ -186,7 +203,7 @@ impl Hart {
             ..Touched::default()
         };
         match decode(word) {
-            Some(instr) => self.access(&instr, word, fetched, ram),
+            Some(instr) => self.access::<Site>(&instr, word, fetched, ram),
             None => self.trap(exception(Exception::IllegalInstruction, word), fetched),
         }
     }
@@ -194,43 +211,48 @@ impl Hart {
     /// Does the access of an instruction, and then executes it.
     #[inline(always)]
     #[tactic(auto, unfolding(crate::specs::Step::from_access))]
-    fn access(&mut self, instr: &Instr, word: u32, fetched: Touched, ram: &mut Ram) -> StepOutcome
+    fn access<Site>(
+        &mut self,
+        instr: &Instr,
+        word: u32,
+        fetched: Touched,
+        ram: &mut Ram,
+    ) -> StepOutcome
         requires { fetched ≡ fetch_of self.old }
         ensures { from_access self.old ram.old word instr.now (request instr.now self.old) ≡ over ram.new (ended_in self.new result) }
     {
         let mode = self.data_mode();
-        match self.request(instr) {
-            Request::Nothing => self.execute(instr, word, 0, fetched),
-            Request::Load { address, width } => match ram.load(
-                self.csrs.pmp_mut(),
-                mode,
-                address,
-                width,
-            ) {
-                Ok(number) => {
-                    let loaded = Some(Span {
-                        addr: address,
-                        len: width,
-                    });
-                    self.execute(instr, word, number, Touched { loaded, ..fetched })
-                }
-                Err(_) => self.trap(exception(Exception::LoadAccessFault, address), fetched),
-            },
+        let (loaded, touched) = match self.request(instr) {
+            Request::Nothing => (0, fetched),
+            Request::Load { address, width } => {
+                let Ok(number) = ram.load(self.csrs.pmp_mut(), mode, address, width) else {
+                    return self.trap(exception(Exception::LoadAccessFault, address), fetched);
+                };
+                let loaded = Some(Span {
+                    addr: address,
+                    len: width,
+                });
+                (number, Touched { loaded, ..fetched })
+            }
             Request::Store {
                 address,
                 width,
                 value,
-            } => match ram.store(self.csrs.pmp_mut(), mode, address, width, value) {
-                Ok(()) => {
-                    let stored = Some(Span {
-                        addr: address,
-                        len: width,
-                    });
-                    self.execute(instr, word, 0, Touched { stored, ..fetched })
+            } => {
+                if ram
+                    .store(self.csrs.pmp_mut(), mode, address, width, value)
+                    .is_err()
+                {
+                    return self.trap(exception(Exception::StoreAccessFault, address), fetched);
                 }
-                Err(_) => self.trap(exception(Exception::StoreAccessFault, address), fetched),
-            },
-        }
+                let stored = Some(Span {
+                    addr: address,
+                    len: width,
+                });
+                (0, Touched { stored, ..fetched })
+            }
+        };
+        self.execute(instr, word, loaded, touched)
     }
 
     /// The mode in which loads and stores are judged: that of MPP where MPRV is set (Privileged Architecture, section 3.1.6.3).

@@ -1,6 +1,6 @@
 -- The monitor's work over two shared parts that agree but for what is private to an enclave.
-use Rattle.std.proofs.Common.{◌≡◌, ◌≢◌, ℕ, ◌+◌, ◌<◌, ◌≤◌, Bool, true, false, List, length, replicate, Option, Some, None, Ok, refl, sym, ◌∙◌, ap, subst, inl, inr, arith}
-use Rattle.std.specs.Prelude.{nat_le, nat_lt, is_some, if◌then◌else◌}
+use Rattle.std.proofs.Common.{◌≡◌, ◌≢◌, ℕ, ◌+◌, ◌<◌, ◌≤◌, Bool, true, false, List, length, replicate, Option, Some, None, Ok, IfSome, refl, sym, ◌∙◌, ap, subst, inl, inr, arith}
+use Rattle.std.specs.Prelude.{nat_le, nat_lt, is_some}
 use Rattle.std.proofs.lemmas.Bool.{cases_Bool, cases_eq, both_ways, and_parts, and_from, leb-true, ltb-true, le-leb, lt-ltb}
 use Rattle.std.proofs.lemmas.List.{same_lists, get_or_default}
 use Rattle.std.proofs.lemmas.Grind.{same_number_lists}
@@ -9,27 +9,26 @@ use Rattle.rv_memory.specs.Memory.{is_inside, read}
 use Rattle.rv_pmp.specs.Entries.{Entries}
 use Rattle.rv_monitor.specs.AgreeBut.{is_private, AgreeOutside, SameContexts, SharedButFor}
 use Rattle.rv_monitor.specs.Blocks.{has, meets, is_lawful, is_block_size}
-use Rattle.rv_monitor.specs.Calls.{takes}
 use Rattle.rv_monitor.specs.Contexts.{Contexts, context_at, with_context, first_context}
-use Rattle.rv_monitor.specs.Create.{Called, called, refused, created, is_entry, overlaps, recorded, with_enclave, measurement_of}
+use Rattle.rv_monitor.specs.Create.{created, create_refusals, new_slot, recorded, with_enclave, measurement_of}
 use Rattle.rv_monitor.specs.Destroy.{destroyed, without, zeroed}
-use Rattle.rv_monitor.specs.Measure.{measured, may_store_all, with_bytes}
-use Rattle.rv_monitor.specs.Table.{Slots, slot_at, with_slot, with_state, free_slot, is_live, region, region_of, is_window, IsValid, IsLawfulSlot}
+use Rattle.rv_monitor.specs.Measure.{measured, measure_refusals, measurement_at, with_bytes}
+use Rattle.rv_monitor.specs.Refusals.{Called, called, refused, first_refusal, state_refusals}
+use Rattle.rv_monitor.specs.Table.{Slots, slot_at, with_slot, with_state, is_live, region, region_of, IsValid, IsLawfulSlot}
 use Rattle.rv_monitor.specs.declared.block.Block.{Block}
 use Rattle.rv_monitor.specs.declared.call.Call.TheVariants as calls
 use Rattle.rv_monitor.specs.declared.context.Context.{Context}
 use Rattle.rv_monitor.specs.declared.proposal.Proposal.{Proposal}
 use Rattle.rv_monitor.specs.declared.refusal.Refusal.{Refusal}
-use Rattle.rv_monitor.specs.declared.refusal.Refusal.TheVariants.{BadRegion, BadWindow, Overlap, BadEntry, NoSlot, NoEnclave, BadState, BadAddress}
 use Rattle.rv_monitor.specs.declared.shared.Shared.{Shared}
 use Rattle.rv_monitor.specs.declared.slot_info.EnclaveState.{EnclaveState}
 use Rattle.rv_monitor.specs.declared.slot_info.SlotInfo.{SlotInfo}
 use Rattle.rv_monitor.proofs.Agreement.{IsSeen, inside-is, same_read, read-none, write-alike, zeros-alike}
 use Rattle.rv_monitor.proofs.BlockLaws.{meets_law}
 use Rattle.rv_monitor.proofs.SavedLists.{same_at_set, same_after_set, length_after}
+use Rattle.rv_monitor.proofs.Refusals.{MayCreate, may_create, may_take, same_create_refusals, same_measure_refusals}
 use Rattle.rv_monitor.proofs.Slots.{at_other, free_from}
 use Rattle.rv_monitor.proofs.Sound.{free_slot_from}
-use Rattle.rv_monitor.proofs.Valid.{lawful_by_size, window_by_size}
 
 -- ---- what agrees
 
@@ -108,6 +107,12 @@ module _ (e : ℕ) (table : Slots) (m n : List ℕ) (cs ds : Contexts) (agree : 
   refused_alike : (refusal : Refusal) → CalledAlike e (refused here refusal) (refused there refusal)
   refused_alike refusal = record { result = refl; shared = as_before }
 
+  -- where no row holds, the calls are to be judged by what they do
+  unless_alike : (o : Option Refusal) (one other : Called) → (o ≡ None → CalledAlike e one other)
+      → CalledAlike e (option_case o one (refused here)) (option_case o other (refused there))
+  unless_alike None one other alike = alike refl
+  unless_alike (Some refusal) one other alike = refused_alike refusal
+
   -- ---- create
 
   measurement_alike : (new : Proposal) → meets new.region (region table e) ≡ false → measurement_of m new ≡ measurement_of n new
@@ -129,111 +134,68 @@ module _ (e : ℕ) (table : Slots) (m n : List ℕ) (cs ds : Contexts) (agree : 
       still (with_slot table k (Some info)) m n (with_context cs k (Some (first_context info))) (with_context ds k (Some (first_context info)))
       (at_other table k e (Some info) (not_free k free)) agree (contexts_with e cs ds k (Some (first_context info)) saved)
 
-  by_slot_alike : (new : Proposal) (o : Option ℕ) → free_slot table ≡ o → overlaps table new ≡ false
-      → CalledAlike e (option_case o (refused here NoSlot) (λ k. called (with_enclave here k (recorded m new)) (Ok k)))
-      (option_case o (refused there NoSlot) (λ k. called (with_enclave there k (recorded n new)) (Ok k)))
-  by_slot_alike new None is apart = refused_alike NoSlot
-  by_slot_alike new (Some k) is apart =
-      let same = recorded_alike new ((free_from table new apart).others e).regions in
-      rw (← same) (record { result = refl; shared = put_alike k (recorded m new) (free_slot_from table k is).free })
+  put_if : (new : Proposal) → MayCreate here new
+      → CalledAlike e (called (with_enclave here (new_slot table) (recorded m new)) (Ok (new_slot table)))
+      (called (with_enclave there (new_slot table) (recorded n new)) (Ok (new_slot table)))
+  put_if new may =
+      let same = recorded_alike new ((free_from table new may.apart).others e).regions in
+      rw (← same) (record { result = refl; shared = put_alike (new_slot table) (recorded m new) (free_slot_from table (new_slot table) may.free).free })
 
   pub created_alike : (new : Proposal) → CalledAlike e (created here new) (created there new)
   unfolding created
   created_alike new =
-      let lawful_too = lawful_by_size m n new.region agree.size in
-      let window_too = window_by_size m n new.window agree.size in
-      rw (← lawful_too, ← window_too)
-      (elim (cases_Bool (is_lawful m new.region)) [
-        | inr fails ↦ rw fails (refused_alike BadRegion)
-        | inl lawful ↦ elim (cases_Bool (is_window m new.window)) [
-          | inr fails ↦ rw (lawful, fails) (refused_alike BadWindow)
-          | inl window ↦ elim (cases_Bool (overlaps table new)) [
-            | inl holds ↦ rw (lawful, window, holds) (refused_alike Overlap)
-            | inr apart ↦ elim (cases_Bool (is_entry new)) [
-              | inr fails ↦ rw (lawful, window, apart, fails) (refused_alike BadEntry)
-              | inl entry ↦ rw (lawful, window, apart, entry) (by_slot_alike new (free_slot table) refl apart)
-            ]
-          ]
-        ]
-      ])
+      let same = same_create_refusals table m n cs ds new agree.size in
+      rw (← same) (unless_alike (first_refusal (create_refusals here new)) _ _ (λ none. put_if new (may_create here new none)))
 
   -- ---- destroy
 
   -- e is gone in both, and with it all that differed
-  gone_alike : (info : SlotInfo) → is_inside m info.region.base info.region.size ≡ true → slot_at table e ≡ Some info
-      → without here e info.region ≡ without there e info.region
-  gone_alike info inside is =
-      let at = inside-is m info.region.base info.region.size inside in
-      let region_is : region table e ≡ info.region = ap region_of is in
-      let covers : (b : ℕ) → is_private table e b ≡ true → (info.region.base ≤ b) × (b < info.region.base + info.region.size) =
-      λ b hidden. let parts = and_parts (nat_le info.region.base b) (nat_lt b (info.region.base + info.region.size)) (sym (ap (λ (r : Block). has r b) region_is) ∙ hidden) in
+  gone_alike : (block : Block) → region table e ≡ block → is_inside m block.base block.size ≡ true → without here e block ≡ without there e block
+  gone_alike block is inside =
+      let at = inside-is m block.base block.size inside in
+      let covers : (b : ℕ) → is_private table e b ≡ true → (block.base ≤ b) × (b < block.base + block.size) =
+      λ b hidden. let parts = and_parts (nat_le block.base b) (nat_lt b (block.base + block.size)) (sym (ap (λ (r : Block). has r b) is) ∙ hidden) in
       (leb-true _ _ parts.0, ltb-true _ _ parts.1) in
-      let zeros : AgreeOutside (λ b. false) (zeroed m info.region) (zeroed n info.region) =
-      zeros-alike (is_private table e) (λ b. false) m n info.region.base info.region.size agree at covers in
-      let memories : zeroed m info.region ≡ zeroed n info.region = same_number_lists _ _ zeros.size (λ i within. zeros.bytes i refl) in
+      let zeros : AgreeOutside (λ b. false) (zeroed m block) (zeroed n block) =
+      zeros-alike (is_private table e) (λ b. false) m n block.base block.size agree at covers in
+      let memories : zeroed m block ≡ zeroed n block = same_number_lists _ _ zeros.size (λ i within. zeros.bytes i refl) in
       let contexts : with_context cs e None ≡ with_context ds e None =
       same_contexts e (with_context cs e None) (with_context ds e None) (contexts_with e cs ds e None saved) (same_at_set cs ds e None None saved.size) in
       rw (memories, contexts) refl
 
-  without_alike : (k : ℕ) (info : SlotInfo) → is_inside m info.region.base info.region.size ≡ true → slot_at table k ≡ Some info
-      → SharedButFor e (without here k info.region) (without there k info.region)
-  without_alike k info inside is = elim (cases_eq k e) [
-    | inl own ↦ rw own (equal_agree e _ _ (gone_alike info inside (rw own at is)))
+  without_alike : (k : ℕ) → is_inside m (region table k).base (region table k).size ≡ true
+      → SharedButFor e (without here k (region table k)) (without there k (region table k))
+  without_alike k inside = elim (cases_eq k e) [
+    | inl own ↦ rw own (equal_agree e _ _ (gone_alike (region table e) refl (rw own at inside)))
     | inr other ↦
-        still (with_slot table k None) (zeroed m info.region) (zeroed n info.region) (with_context cs k None) (with_context ds k None)
-        (at_other table k e None (λ same. other (sym same))) (write-alike (is_private table e) m n info.region.base (replicate info.region.size 0) agree) (contexts_with e cs ds k None saved)
+        let block = region table k in
+        still (with_slot table k None) (zeroed m block) (zeroed n block) (with_context cs k None) (with_context ds k None)
+        (at_other table k e None (λ same. other (sym same))) (write-alike (is_private table e) m n block.base (replicate block.size 0) agree) (contexts_with e cs ds k None saved)
   ]
 
-  destroyed_if : (k : ℕ) (info : SlotInfo) (may : Bool) → is_inside m info.region.base info.region.size ≡ true → slot_at table k ≡ Some info
-      → CalledAlike e (if may then called (without here k info.region) (Ok 0) else refused here BadState)
-      (if may then called (without there k info.region) (Ok 0) else refused there BadState)
-  destroyed_if k info true inside is = record { result = refl; shared = without_alike k info inside is }
-  destroyed_if k info false inside is = refused_alike BadState
-
-  region_inside : (k : ℕ) (info : SlotInfo) → IsValid m table → slot_at table k ≡ Some info → is_inside m info.region.base info.region.size ≡ true
+  region_inside : (o : Option SlotInfo) → IfSome o (IsLawfulSlot m) → is_some o ≡ true → is_inside m (region_of o).base (region_of o).size ≡ true
   unfolding is_lawful
-  region_inside k info valid is =
-      let law : IsLawfulSlot m info = rw is at (valid.lawful k) in
-      (and_parts _ _ (and_parts (is_block_size info.region.size) _ law.region).1).1
-
-  destroyed_from : (k : ℕ) (o : Option SlotInfo) → IsValid m table → slot_at table k ≡ o
-      → CalledAlike e (option_case o (refused here NoEnclave) (λ info. if takes calls.Destroy info.state then called (without here k info.region) (Ok 0) else refused here BadState))
-      (option_case o (refused there NoEnclave) (λ info. if takes calls.Destroy info.state then called (without there k info.region) (Ok 0) else refused there BadState))
-  destroyed_from k None valid is = refused_alike NoEnclave
-  destroyed_from k (Some info) valid is = destroyed_if k info (takes calls.Destroy info.state) (region_inside k info valid is) is
+  region_inside None law live = cc
+  region_inside (Some info) law live = (and_parts _ _ (and_parts (is_block_size info.region.size) _ law.region).1).1
 
   pub destroyed_alike : (k : ℕ) → IsValid m table → CalledAlike e (destroyed here k) (destroyed there k)
   unfolding destroyed
-  destroyed_alike k valid = destroyed_from k (slot_at table k) valid refl
+  destroyed_alike k valid = unless_alike (first_refusal (state_refusals table calls.Destroy k)) _ _ (λ none.
+      let may = may_take table calls.Destroy k none in
+      let is_there : is_live table k ≡ true = ap (λ (o : Option SlotInfo). is_some o) may.is in
+      record { result = refl; shared = without_alike k (region_inside (slot_at table k) (valid.lawful k) is_there) })
 
   -- ---- measure
 
-  may_store_too : (entries : Entries) (address : ℕ) → may_store_all m entries address ≡ may_store_all n entries address
-  unfolding may_store_all
-  may_store_too entries address = let sizes = agree.size in rw sizes (refl {a = may_store_all n entries address})
-
-  measured_if : (info : SlotInfo) (address : ℕ) (may : Bool)
-      → CalledAlike e (if may then called (record here { memory = with_bytes m address info.measurement }) (Ok 0) else refused here BadAddress)
-      (if may then called (record there { memory = with_bytes n address info.measurement }) (Ok 0) else refused there BadAddress)
-  measured_if info address true = record {
-    result = refl;
-    shared = still table (with_bytes m address info.measurement) (with_bytes n address info.measurement) cs ds refl
-        (write-alike (is_private table e) m n address info.measurement agree) saved;
-  }
-  measured_if info address false = refused_alike BadAddress
-
-  measured_from : (entries : Entries) (address : ℕ) (o : Option SlotInfo)
-      → CalledAlike e
-      (option_case o (refused here NoEnclave) (λ info. if may_store_all m entries address then called (record here { memory = with_bytes m address info.measurement }) (Ok 0) else refused here BadAddress))
-      (option_case o (refused there NoEnclave) (λ info. if may_store_all n entries address then called (record there { memory = with_bytes n address info.measurement }) (Ok 0) else refused there BadAddress))
-  measured_from entries address None = refused_alike NoEnclave
-  measured_from entries address (Some info) =
-      let too = may_store_too entries address in
-      rw (← too) (measured_if info address (may_store_all m entries address))
-
   pub measured_alike : (entries : Entries) (k address : ℕ) → CalledAlike e (measured here entries k address) (measured there entries k address)
   unfolding measured
-  measured_alike entries k address = measured_from entries address (slot_at table k)
+  measured_alike entries k address =
+      let same = same_measure_refusals table m n cs ds entries k address agree.size in
+      let bytes = measurement_at table k in
+      rw (← same) (unless_alike (first_refusal (measure_refusals here entries k address)) _ _ (λ none. record {
+        result = refl;
+        shared = still table (with_bytes m address bytes) (with_bytes n address bytes) cs ds refl (write-alike (is_private table e) m n address bytes agree) saved;
+      }))
 
   -- ---- a switch of another slot
 

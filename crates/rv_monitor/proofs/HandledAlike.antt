@@ -1,6 +1,5 @@
 -- The monitor's work after a trap, from two shared parts that agree but for what is private to an enclave.
-use Rattle.std.proofs.Common.{◌≡◌, ◌≢◌, ℕ, ◌⊎◌, Bool, true, false, List, Option, Some, None, Result, Ok, Err, refl, sym, ap, subst, inl, inr}
-use Rattle.std.specs.Prelude.{not, is_some, if◌then◌else◌}
+use Rattle.std.proofs.Common.{◌≡◌, ◌≢◌, ℕ, true, false, List, Option, Some, None, Result, Ok, Err, refl, sym, ap, ap₂, subst, inl, inr}
 use Rattle.std.proofs.lemmas.Bool.{cases_Bool, cases_eq, both_ways, ne_eqb, eq-eqb}
 use Rattle.rv_word.specs.Cases.{option_case, result_case}
 use Rattle.rv_state.specs.Registers.{register}
@@ -11,27 +10,27 @@ use Rattle.rv_state.specs.declared.cause.Exception.TheVariants.{InstructionAddre
 use Rattle.rv_hart.specs.declared.trap.Trap.{Trap}
 use Rattle.rv_pmp.specs.Entries.{Entries}
 use Rattle.rv_monitor.specs.AgreeBut.{is_private, AgreeOutside, SameContexts, SharedButFor}
-use Rattle.rv_monitor.specs.Calls.{asked_call, status_of, takes}
+use Rattle.rv_monitor.specs.Calls.{asked_call, status_of}
 use Rattle.rv_monitor.specs.Confidentiality.{BothEnter, BothPass, HandledAlike, HandlerLaw}
-use Rattle.rv_monitor.specs.Contexts.{Contexts, context_at, with_context, saved as saved_of, exited_context}
-use Rattle.rv_monitor.specs.Create.{Called, created, proposed}
+use Rattle.rv_monitor.specs.Contexts.{Contexts, kept_context, with_context, saved as saved_of, exited_context}
+use Rattle.rv_monitor.specs.Create.{created, proposed}
 use Rattle.rv_monitor.specs.Destroy.{destroyed}
 use Rattle.rv_monitor.specs.Measure.{measured, measured_slot}
-use Rattle.rv_monitor.specs.State.{IsSound, KeepsContexts, is_held, seated}
-use Rattle.rv_monitor.specs.Step.{answered, answer_of, entry_of, performed, call_handled, timer_stopped, forwarded, handled, handled_cause, handled_exception, past_call, stopped_context, with_line_down, trapped_pc, trapped_mode, a0, a1}
-use Rattle.rv_monitor.specs.Switches.{Handled, goes_on, entered, enterable, left, left_slot, slot_of}
-use Rattle.rv_monitor.specs.Table.{Slots, slot_at, with_state, is_live, is_running, is_world_of}
+use Rattle.rv_monitor.specs.Refusals.{Called, first_refusal, state_refusals}
+use Rattle.rv_monitor.specs.State.{IsSound, seated}
+use Rattle.rv_monitor.specs.Step.{answered, answer_of, entry_of, performed, call_handled, timer_stopped, forwarded, handled, handled_cause, handled_exception, with_layout, past_call, stopped_context, with_line_down, trapped_pc, trapped_mode, a0, a1}
+use Rattle.rv_monitor.specs.Switches.{Handled, goes_on, entered, left, left_slot, slot_of}
+use Rattle.rv_monitor.specs.Table.{Slots, with_state, is_live, is_world_of}
 use Rattle.rv_monitor.specs.declared.call.Call.{Call}
 use Rattle.rv_monitor.specs.declared.call.Call.TheVariants.{Create, Destroy, Run, Resume, Measure, Stop, Exit}
 use Rattle.rv_monitor.specs.declared.context.Context.{Context}
 use Rattle.rv_monitor.specs.declared.proposal.Proposal.{Proposal}
 use Rattle.rv_monitor.specs.declared.refusal.Refusal.{Refusal}
-use Rattle.rv_monitor.specs.declared.refusal.Refusal.TheVariants.{NotSupported, NoEnclave, BadState}
+use Rattle.rv_monitor.specs.declared.refusal.Refusal.TheVariants.{NotSupported}
 use Rattle.rv_monitor.specs.declared.seat.Seat.{Seat}
 use Rattle.rv_monitor.specs.declared.shared.Shared.{Shared}
 use Rattle.rv_monitor.specs.declared.slot_info.EnclaveState.{EnclaveState}
 use Rattle.rv_monitor.specs.declared.slot_info.EnclaveState.TheVariants as states
-use Rattle.rv_monitor.specs.declared.slot_info.SlotInfo.{SlotInfo}
 use Rattle.rv_monitor.specs.declared.world.World.{World}
 use Rattle.rv_monitor.specs.declared.world.World.TheVariants.{Host, Enclave}
 use Rattle.rv_monitor.proofs.Alike.{CalledAlike, itself, as_before, created_alike, destroyed_alike, measured_alike, switched_alike}
@@ -42,13 +41,6 @@ use Rattle.rv_monitor.proofs.Alike.{CalledAlike, itself, as_before, created_alik
 abbrev over : Slots → List ℕ → Contexts → Shared
 over table memory contexts = record { memory = memory; table = table; contexts = contexts }
 
--- both have a context to enter with
-pub record BothOk (one other : Result Context Refusal) : Type 0 where
-  pub one_context : Context
-  pub other_context : Context
-  pub one_is : one ≡ Ok one_context
-  pub other_is : other ≡ Ok other_context
-
 abbrev switched : Shared → ℕ → EnclaveState → Option Context → Shared
 switched shared k state c = record shared { table = with_state shared.table k state; contexts = with_context shared.contexts k c }
 
@@ -57,8 +49,7 @@ pub record WorksAlike (e : ℕ) (one other : Shared) : Type 0 where
   pub creates : (new : Proposal) → CalledAlike e (created one new) (created other new)
   pub destroys : (k : ℕ) → CalledAlike e (destroyed one k) (destroyed other k)
   pub measures : (entries : Entries) (k address : ℕ) → CalledAlike e (measured one entries k address) (measured other entries k address)
-  pub enters_other : (call : Call) (k : ℕ) → k ≢ e → enterable one call k ≡ enterable other call k
-  pub enters_own : (call : Call) → (enterable one call e ≡ enterable other call e) ⊎ BothOk (enterable one call e) (enterable other call e)
+  pub contexts : (k : ℕ) → k ≢ e → kept_context one.contexts k ≡ kept_context other.contexts k
   pub switches : (k : ℕ) (state : EnclaveState) (c : Option Context) → e ≢ k → SharedButFor e (switched one k state c) (switched other k state c)
 
 -- what is equal works alike
@@ -68,64 +59,19 @@ equal_work e shared = record {
   creates = λ new. record { result = refl; shared = itself e _ };
   destroys = λ k. record { result = refl; shared = itself e _ };
   measures = λ entries k address. record { result = refl; shared = itself e _ };
-  enters_other = λ call k other. refl;
-  enters_own = λ call. inl refl;
+  contexts = λ k other. refl;
   switches = λ k state c other. itself e _;
 }
 
-takes_rests : (call : Call) (state : EnclaveState) → takes call state ≡ true → is_running state ≡ false
-takes_rests call states.Fresh is = refl
-takes_rests call states.Stopped is = refl
-takes_rests call states.Exited is = refl
-takes_rests Create states.Running is = cc
-takes_rests Destroy states.Running is = cc
-takes_rests Run states.Running is = cc
-takes_rests Resume states.Running is = cc
-takes_rests Measure states.Running is = cc
-takes_rests Stop states.Running is = cc
-takes_rests Exit states.Running is = cc
-
 -- where e is live
 module _ (e : ℕ) (table : Slots) (m n : List ℕ) (cs ds : Contexts) (agree : AgreeOutside (is_private table e) m n) (saved : SameContexts e cs ds) (live : is_live table e ≡ true) where
-  both_held : (call : Call) (c d : Option Context) → is_some c ≡ true → is_some d ≡ true
-      → BothOk (option_case c (Err BadState) Ok) (option_case d (Err BadState) Ok)
-  both_held call (Some c) (Some d) one other = record { one_context = c; other_context = d; one_is = refl; other_is = refl }
-  both_held call None d one other = cc
-  both_held call (Some c) None one other = cc
-
-  own_if : (call : Call) (info : SlotInfo) (c d : Option Context) (may : Bool) → takes call info.state ≡ may → is_some c ≡ not (is_running info.state) → is_some d ≡ not (is_running info.state)
-      → ((if may then option_case c (Err BadState) Ok else Err BadState) ≡ (if may then option_case d (Err BadState) Ok else Err BadState))
-      ⊎ BothOk (if may then option_case c (Err BadState) Ok else Err BadState) (if may then option_case d (Err BadState) Ok else Err BadState)
-  own_if call info c d true may one other =
-      let rests = takes_rests call info.state may in
-      inr (both_held call c d (rw rests at one) (rw rests at other))
-  own_if call info c d false may one other = inl refl
-
-  own_from : (call : Call) (o : Option SlotInfo) (c d : Option Context) → is_some c ≡ is_held o → is_some d ≡ is_held o
-      → (option_case o (Err NoEnclave) (λ info. if takes call info.state then option_case c (Err BadState) Ok else Err BadState)
-      ≡ option_case o (Err NoEnclave) (λ info. if takes call info.state then option_case d (Err BadState) Ok else Err BadState))
-      ⊎ BothOk (option_case o (Err NoEnclave) (λ info. if takes call info.state then option_case c (Err BadState) Ok else Err BadState))
-      (option_case o (Err NoEnclave) (λ info. if takes call info.state then option_case d (Err BadState) Ok else Err BadState))
-  own_from call None c d one other = inl refl
-  own_from call (Some info) c d one other = own_if call info c d (takes call info.state) refl one other
-
-  own_entered : (call : Call) → KeepsContexts (over table m cs) → KeepsContexts (over table n ds)
-      → (enterable (over table m cs) call e ≡ enterable (over table n ds) call e) ⊎ BothOk (enterable (over table m cs) call e) (enterable (over table n ds) call e)
-  unfolding enterable
-  own_entered call one other = own_from call (slot_at table e) (context_at cs e) (context_at ds e) (one.kept e) (other.kept e)
-
-  other_entered : (call : Call) (k : ℕ) → k ≢ e → enterable (over table m cs) call k ≡ enterable (over table n ds) call k
-  unfolding enterable
-  other_entered call k other = let same = saved.others k other in rw same refl
-
   live_work : (worlds : List World) → IsSound (over table m cs) worlds → IsSound (over table n ds) worlds → WorksAlike e (over table m cs) (over table n ds)
   live_work worlds one other = record {
     before = as_before e table m n cs ds agree saved live;
     creates = created_alike e table m n cs ds agree saved live;
     destroys = λ k. destroyed_alike e table m n cs ds agree saved live k one.valid;
     measures = measured_alike e table m n cs ds agree saved live;
-    enters_other = other_entered;
-    enters_own = λ call. own_entered call one.contexts other.contexts;
+    contexts = λ k other. let same = saved.others k other in rw same refl;
     switches = switched_alike e table m n cs ds agree saved live;
   }
 
@@ -139,6 +85,12 @@ works_alike e one other worlds here there agree = elim (cases_Bool (is_live one.
       (live_work e one.table one.memory other.memory one.contexts other.contexts agree.memory agree.contexts live worlds here there')
 ]
 
+-- setting the entries and mie by equal tables keeps what is alike
+laid_alike : (e : ℕ) (one other : Handled) → HandledAlike e one other → HandledAlike e (with_layout one) (with_layout other)
+laid_alike e one other (inl both) = inl (record { here = both.here; there = both.there })
+laid_alike e one other (inr pass) =
+    inr (record { seat = ap₂ seated pass.shared.table pass.seat; next = pass.next; rests = pass.rests; shared = pass.shared })
+
 -- ---- the work
 
 module _ (e : ℕ) (table : Slots) (m n : List ℕ) (cs ds : Contexts) (works : WorksAlike e (over table m cs) (over table n ds)) where
@@ -149,10 +101,9 @@ module _ (e : ℕ) (table : Slots) (m n : List ℕ) (cs ds : Contexts) (works : 
   there = over table n ds
 
   answer_alike : (seat : Seat) (r : Result ℕ Refusal) (x y : Shared) → is_world_of e seat.world ≡ false → SharedButFor e x y
-      → BothPass e (result_case r (λ result. answered (seated x.table seat) x 0 result) (λ refusal. answered seat x (status_of refusal) 0))
-      (result_case r (λ result. answered (seated y.table seat) y 0 result) (λ refusal. answered seat y (status_of refusal) 0))
-  answer_alike seat (Ok v) x y rests agree =
-      record { seat = ap (λ (t : Slots). (answered (seated t seat) x 0 v).seat) agree.table; next = refl; rests = rests; shared = agree }
+      → BothPass e (result_case r (λ result. answered seat x 0 result) (λ refusal. answered seat x (status_of refusal) 0))
+      (result_case r (λ result. answered seat y 0 result) (λ refusal. answered seat y (status_of refusal) 0))
+  answer_alike seat (Ok v) x y rests agree = record { seat = refl; next = refl; rests = rests; shared = agree }
   answer_alike seat (Err refusal) x y rests agree = record { seat = refl; next = refl; rests = rests; shared = agree }
 
   called_alike : (seat : Seat) (one other : Called) → is_world_of e seat.world ≡ false → CalledAlike e one other → BothPass e (answer_of seat one) (answer_of seat other)
@@ -163,50 +114,37 @@ module _ (e : ℕ) (table : Slots) (m n : List ℕ) (cs ds : Contexts) (works : 
 
   -- ---- in
 
-  abbrev entry_with : Seat → Shared → ℕ → Result Context Refusal → Handled
-  entry_with seat shared k r = result_case r (λ context. entered seat shared k context (past_call seat)) (λ refusal. answered seat shared (status_of refusal) 0)
-
   refusal_alike : (seat : Seat) (status : ℕ) → is_world_of e seat.world ≡ false → BothPass e (answered seat here status 0) (answered seat there status 0)
   refusal_alike seat status rests = record { seat = refl; next = refl; rests = rests; shared = works.before }
 
-  entry_other : (seat : Seat) (k : ℕ) (r : Result Context Refusal) → is_world_of e seat.world ≡ false → k ≢ e → BothPass e (entry_with seat here k r) (entry_with seat there k r)
+  enter_other : (seat : Seat) (k : ℕ) (context : Context) → k ≢ e → BothPass e (entered seat here k context (past_call seat)) (entered seat there k context (past_call seat))
   unfolding entered
-  entry_other seat k (Ok context) rests other = record {
+  enter_other seat k context other = record {
     seat = refl;
     next = refl;
     rests = ne_eqb k e other;
     shared = works.switches k states.Running None (λ same. other (sym same));
   }
-  entry_other seat k (Err refusal) rests other = refusal_alike seat (status_of refusal) rests
 
-  both_enter : (seat : Seat) (c d : Context) → BothEnter e (entry_with seat here e (Ok c)) (entry_with seat there e (Ok d))
+  enter_own : (seat : Seat) (k : ℕ) (c d : Context) → k ≡ e → BothEnter e (entered seat here k c (past_call seat)) (entered seat there k d (past_call seat))
   unfolding entered
-  both_enter seat c d = record { here = refl; there = refl }
+  enter_own seat k c d own = record { here = ap Some own; there = ap Some own }
 
-  entry_same : (seat : Seat) (r : Result Context Refusal) → is_world_of e seat.world ≡ false → HandledAlike e (entry_with seat here e r) (entry_with seat there e r)
-  entry_same seat (Ok c) rests = inl (both_enter seat c c)
-  entry_same seat (Err refusal) rests = inr (refusal_alike seat (status_of refusal) rests)
-
-  entry_own : (seat : Seat) (r q : Result Context Refusal) → is_world_of e seat.world ≡ false → (r ≡ q) ⊎ BothOk r q
-      → HandledAlike e (entry_with seat here e r) (entry_with seat there e q)
-  entry_own seat r q rests (inl same) = rw (← same) (entry_same seat r rests)
-  entry_own seat r q rests (inr both) =
-      let one = both.one_is in
-      let other = both.other_is in
-      rw (one, other) (inl (both_enter seat both.one_context both.other_context))
-
-  entry_at : (seat : Seat) (call : Call) (k : ℕ) → is_world_of e seat.world ≡ false
-      → HandledAlike e (entry_with seat here k (enterable here call k)) (entry_with seat there k (enterable there call k))
-  entry_at seat call k rests = elim (cases_eq k e) [
-    | inl own ↦ rw own (entry_own seat (enterable here call e) (enterable there call e) rests (works.enters_own call))
-    | inr other ↦
-        let same = works.enters_other call k other in
-        rw (← same) (inr (entry_other seat k (enterable here call k) rests other))
+  enter_alike : (seat : Seat) (k : ℕ)
+      → HandledAlike e (entered seat here k (kept_context cs k) (past_call seat)) (entered seat there k (kept_context ds k) (past_call seat))
+  enter_alike seat k = elim (cases_eq k e) [
+    | inl own ↦ inl (enter_own seat k (kept_context cs k) (kept_context ds k) own)
+    | inr other ↦ let same = works.contexts k other in rw (← same) (inr (enter_other seat k (kept_context cs k) other))
   ]
+
+  entry_by : (seat : Seat) (o : Option Refusal) (one other : Handled) → is_world_of e seat.world ≡ false → HandledAlike e one other
+      → HandledAlike e (option_case o one (λ refusal. answered seat here (status_of refusal) 0)) (option_case o other (λ refusal. answered seat there (status_of refusal) 0))
+  entry_by seat None one other rests alike = alike
+  entry_by seat (Some refusal) one other rests alike = inr (refusal_alike seat (status_of refusal) rests)
 
   entry_alike : (seat : Seat) (call : Call) → is_world_of e seat.world ≡ false → HandledAlike e (entry_of seat here call) (entry_of seat there call)
   unfolding entry_of
-  entry_alike seat call rests = entry_at seat call (a0 seat) rests
+  entry_alike seat call rests = entry_by seat (first_refusal (state_refusals table call (a0 seat))) _ _ rests (enter_alike seat (a0 seat))
 
   -- ---- out
 
@@ -275,7 +213,7 @@ module _ (e : ℕ) (table : Slots) (m n : List ℕ) (cs ds : Contexts) (works : 
 
   handled_alike : (seat : Seat) (trap : Trap) → is_world_of e seat.world ≡ false → HandledAlike e (handled seat here trap) (handled seat there trap)
   unfolding handled
-  handled_alike seat trap rests = cause_alike seat trap trap.cause rests
+  handled_alike seat trap rests = laid_alike e _ _ (cause_alike seat trap trap.cause rests)
 
 pub handler_law : HandlerLaw
 handler_law e worlds seat one other trap here there rests agree =

@@ -1,9 +1,9 @@
 -- A step leaves what is private to an enclave that does not run, where it neither enters nor ends it.
-use Rattle.std.proofs.Common.{◌≡◌, ◌≢◌, ℕ, ◌+◌, ◌<◌, ◌≤◌, ◌⊎◌, ◌==◌, Bool, true, false, List, length, Option, Some, None, Result, Ok, Err, IfSome, replicate, refl, sym, ◌∙◌, ap, subst, inl, inr, arith, lit<}
-use Rattle.std.specs.Prelude.{if◌then◌else◌, is_some}
+use Rattle.std.proofs.Common.{◌≡◌, ◌≢◌, ℕ, ◌+◌, ◌<◌, ◌≤◌, ◌⊎◌, ◌==◌, true, false, List, [], length, Option, Some, None, Result, Ok, Err, IfSome, replicate, refl, sym, ◌∙◌, ap, subst, inl, inr, arith, lit<}
+use Rattle.std.specs.Prelude.{is_some}
 use Rattle.std.proofs.lemmas.List.{length-replicate}
-use Rattle.std.proofs.lemmas.Bool.{cases_eq, cases_lt, cases_Bool, both_ways, eq-eqb, and_from, and_parts, le-leb, lt-ltb}
-use Rattle.rv_word.specs.Cases.{option_case, result_case}
+use Rattle.std.proofs.lemmas.Bool.{cases_eq, cases_lt, both_ways, eq-eqb, and_from, and_parts, le-leb, lt-ltb}
+use Rattle.rv_word.specs.Cases.{option_case}
 use Rattle.rv_word.specs.Widths.{bytes_in}
 use Rattle.rv_pmp.proofs.VerdictLemmas.{each_from_all}
 use Rattle.rv_pmp.specs.Entries.{Entries}
@@ -28,25 +28,26 @@ use Rattle.rv_hart.specs.StepLaws.{TrapKeeps}
 use Rattle.rv_hart.specs.declared.trap.Trap.{Trap}
 use Rattle.rv_hart.proofs.Confined.{confined}
 use Rattle.rv_hart.proofs.StepLaws.{touches_permitted, trap_keeps}
-use Rattle.rv_monitor.specs.Blocks.{has, is_lawful}
-use Rattle.rv_monitor.specs.Calls.{asked_call, status_of, takes}
-use Rattle.rv_monitor.specs.Contexts.{with_context, first_context, exited_context, saved}
-use Rattle.rv_monitor.specs.Create.{Called, called, refused, created, proposed, is_entry, overlaps, recorded, with_enclave}
+use Rattle.rv_monitor.specs.Blocks.{has}
+use Rattle.rv_monitor.specs.Calls.{asked_call, status_of}
+use Rattle.rv_monitor.specs.Contexts.{with_context, kept_context, first_context, exited_context, saved}
+use Rattle.rv_monitor.specs.Create.{created, create_refusals, new_slot, proposed, recorded}
 use Rattle.rv_monitor.specs.Destroy.{destroyed, without, zeroed}
 use Rattle.rv_monitor.specs.Integrity.{enters, IsSpared, IntegrityLaw}
 use Rattle.rv_monitor.specs.Layout.{layout}
-use Rattle.rv_monitor.specs.Measure.{measured, measured_slot, may_store, may_store_all, with_bytes}
+use Rattle.rv_monitor.specs.Measure.{measured, measure_refusals, measured_slot, may_store, may_store_all, with_bytes}
+use Rattle.rv_monitor.specs.Refusals.{Called, refused, first_refusal, state_refusals}
 use Rattle.rv_monitor.specs.State.{MonitoredState, IsKept}
 use Rattle.rv_monitor.specs.Step.{answered, answer_of, entry_of, performed, call_handled, timer_stopped, handled, handled_cause, handled_exception, past_call, stopped_context, with_line_down, trapped_pc, trapped_mode, a0, a1, monitored_step, MonitoredStepped, returned, unhandled}
-use Rattle.rv_monitor.specs.Switches.{Handled, goes_on, entered, enterable, left, left_slot, slot_of}
-use Rattle.rv_monitor.specs.Table.{Slots, slot_at, with_slot, with_state, free_slot, region, region_of, is_live, is_window, is_world_of, IsValid, IsLawfulSlot}
+use Rattle.rv_monitor.specs.Switches.{Handled, goes_on, entered, left, left_slot, slot_of}
+use Rattle.rv_monitor.specs.Table.{Slots, slot_at, with_slot, with_state, region, is_live, is_world_of, IsValid, IsLawfulSlot}
 use Rattle.rv_monitor.specs.declared.block.Block.{Block}
 use Rattle.rv_monitor.specs.declared.call.Call.{Call}
 use Rattle.rv_monitor.specs.declared.call.Call.TheVariants.{Create, Destroy, Run, Resume, Measure, Stop, Exit}
 use Rattle.rv_monitor.specs.declared.context.Context.{Context}
 use Rattle.rv_monitor.specs.declared.proposal.Proposal.{Proposal}
 use Rattle.rv_monitor.specs.declared.refusal.Refusal.{Refusal}
-use Rattle.rv_monitor.specs.declared.refusal.Refusal.TheVariants.{NotSupported, NoEnclave, BadState, BadAddress, NoSlot}
+use Rattle.rv_monitor.specs.declared.refusal.Refusal.TheVariants.{NotSupported}
 use Rattle.rv_monitor.specs.declared.seat.Seat.{Seat}
 use Rattle.rv_monitor.specs.declared.shared.Shared.{Shared}
 use Rattle.rv_monitor.specs.declared.slot_info.EnclaveState.{EnclaveState}
@@ -54,12 +55,13 @@ use Rattle.rv_monitor.specs.declared.slot_info.EnclaveState.TheVariants.{Running
 use Rattle.rv_monitor.specs.declared.slot_info.SlotInfo.{SlotInfo}
 use Rattle.rv_monitor.specs.declared.world.World.{World}
 use Rattle.rv_monitor.specs.declared.world.World.TheVariants.{Host, Enclave}
+use Rattle.rv_monitor.proofs.Refusals.{may_create, may_take, may_measure}
 use Rattle.rv_monitor.proofs.Slots.{at_same, at_other}
 use Rattle.rv_monitor.proofs.Sound.{live_in_range, free_slot_from}
 use Rattle.rv_monitor.proofs.Owners.{apart_at}
 use Rattle.rv_monitor.proofs.Reaches.{permitted_apart, small_ram, inside_is, some_bytes}
 use Rattle.rv_monitor.proofs.KeptReaches.{below_M, clear_mode}
-use Rattle.rv_monitor.proofs.Ready.{IsReady}
+use Rattle.rv_monitor.proofs.Ready.{IsTrapped}
 use Rattle.rv_monitor.proofs.StepKept.{after_trap, same_in}
 
 itself : (k : ℕ) (shared : Shared) → IsSpared k shared shared
@@ -94,7 +96,7 @@ not_it k j other same = both_ways _ other (eq-eqb j k (sym same))
 
 -- ---- bytes that are put elsewhere
 
-put_by : (memory : List ℕ) (address : ℕ) (bytes : List ℕ) (byte : ℕ) (o : Option (List ℕ)) → write memory address bytes ≡ o
+pub put_by : (memory : List ℕ) (address : ℕ) (bytes : List ℕ) (byte : ℕ) (o : Option (List ℕ)) → write memory address bytes ≡ o
     → byte < address ⊎ address + length bytes ≤ byte → byte_at (option_case o memory (λ after. after)) byte ≡ byte_at memory byte
 put_by memory address bytes byte None is apart = refl
 put_by memory address bytes byte (Some after) is apart = byte_at-write memory address bytes after byte is apart
@@ -108,7 +110,7 @@ outside block byte none = elim (cases_lt byte block.base) [
   ]
 ]
 
-zeroed_spares : (memory : List ℕ) (block : Block) (byte : ℕ) → has block byte ≡ false → byte_at (zeroed memory block) byte ≡ byte_at memory byte
+pub zeroed_spares : (memory : List ℕ) (block : Block) (byte : ℕ) → has block byte ≡ false → byte_at (zeroed memory block) byte ≡ byte_at memory byte
 zeroed_spares memory block byte none =
     let long : length (replicate block.size 0) ≡ block.size = length-replicate {A = ℕ} block.size 0 in
     put_by memory block.base (replicate block.size 0) byte (write memory block.base (replicate block.size 0)) refl (rw long (outside block byte none))
@@ -161,61 +163,42 @@ unfolding answer_of
 answer_by k seat shared after (Ok result) spared passes live = spared live
 answer_by k seat shared after (Err refusal) spared passes live = spared live
 
-free_by : (k : ℕ) (shared : Shared) (new : Proposal) (o : Option ℕ) → is_live shared.table k ≡ true → free_slot shared.table ≡ o
-    → IsSpared k shared (option_case o (refused shared NoSlot) (λ j. called (with_enclave shared j (recorded shared.memory new)) (Ok j))).shared
-free_by k shared new None live is = itself k shared
-free_by k shared new (Some j) live is =
-    let free = (free_slot_from shared.table j is).free in
-    let other : k ≢ j = λ same. both_ways _ (ap (λ (o : Option SlotInfo). is_some o) free) (rw (← same) live) in
-    other_slot k j shared (Some (recorded shared.memory new)) (Some (first_context (recorded shared.memory new))) shared.memory other (λ byte inside. refl)
+-- where no row holds, the call is to be judged by what it does
+unless_spares : (k : ℕ) (shared : Shared) (o : Option Refusal) (done : Called) → (o ≡ None → is_live done.shared.table k ≡ true → IsSpared k shared done.shared)
+    → is_live (option_case o done (refused shared)).shared.table k ≡ true → IsSpared k shared (option_case o done (refused shared)).shared
+unless_spares k shared None done spares live = spares refl live
+unless_spares k shared (Some refusal) done spares live = itself k shared
 
-created_spares : (k : ℕ) (shared : Shared) (new : Proposal) → is_live shared.table k ≡ true → IsSpared k shared (created shared new).shared
+created_spares : (k : ℕ) (shared : Shared) (new : Proposal) → is_live shared.table k ≡ true → is_live (created shared new).shared.table k ≡ true
+    → IsSpared k shared (created shared new).shared
 unfolding created
-created_spares k shared new live = elim (cases_Bool (is_lawful shared.memory new.region)) [
-  | inr fails ↦ rw fails (itself k shared)
-  | inl lawful ↦ elim (cases_Bool (is_window shared.memory new.window)) [
-    | inr fails ↦ rw (lawful, fails) (itself k shared)
-    | inl window ↦ elim (cases_Bool (overlaps shared.table new)) [
-      | inl holds ↦ rw (lawful, window, holds) (itself k shared)
-      | inr apart ↦ elim (cases_Bool (is_entry new)) [
-        | inr fails ↦ rw (lawful, window, apart, fails) (itself k shared)
-        | inl entry ↦ rw (lawful, window, apart, entry) (free_by k shared new (free_slot shared.table) live refl)
-      ]
-    ]
-  ]
-]
+created_spares k shared new live =
+    unless_spares k shared (first_refusal (create_refusals shared new)) _ (λ none after.
+    let free = (free_slot_from shared.table (new_slot shared.table) (may_create shared new none).free).free in
+    let other : k ≢ new_slot shared.table = λ same. both_ways _ (ap (λ (o : Option SlotInfo). is_some o) free) (rw (← same) live) in
+    let info = recorded shared.memory new in
+    other_slot k (new_slot shared.table) shared (Some info) (Some (first_context info)) shared.memory other (λ byte inside. refl))
 
 gone_spares : (k j : ℕ) (shared : Shared) (info : SlotInfo) → IsValid shared.memory shared.table → slot_at shared.table j ≡ Some info
-    → is_live (with_slot shared.table j None) k ≡ true → IsSpared k shared (without shared j info.region)
+    → is_live (with_slot shared.table j None) k ≡ true → IsSpared k shared (without shared j (region shared.table j))
 gone_spares k j shared info valid is live = elim (cases_eq k j) [
   | inl same ↦
       let inside = live_in_range shared.table j info valid.count is in
       let gone : slot_at (with_slot shared.table j None) j ≡ None = at_same shared.table j None (omega (arith, valid.count)) in
       absurd (both_ways _ (ap (λ (o : Option SlotInfo). is_some o) gone) (rw same at live))
   | inr other ↦
-      let region_is : region shared.table j ≡ info.region = ap region_of is in
-      other_slot k j shared None None (zeroed shared.memory info.region) other
-      (λ byte own. zeroed_spares shared.memory info.region byte
-      (subst (λ (b : Block). has b byte ≡ false) region_is
-      (apart_at (region shared.table k) (region shared.table j) byte (valid.regions_apart k j other) own)))
+      other_slot k j shared None None (zeroed shared.memory (region shared.table j)) other
+      (λ byte own. zeroed_spares shared.memory (region shared.table j) byte
+      (apart_at (region shared.table k) (region shared.table j) byte (valid.regions_apart k j other) own))
 ]
-
-taken_by : (k j : ℕ) (shared : Shared) (info : SlotInfo) (taken : Bool) → IsValid shared.memory shared.table → slot_at shared.table j ≡ Some info
-    → is_live (if taken then called (without shared j info.region) (Ok 0) else refused shared BadState).shared.table k ≡ true
-    → IsSpared k shared (if taken then called (without shared j info.region) (Ok 0) else refused shared BadState).shared
-taken_by k j shared info false valid is live = itself k shared
-taken_by k j shared info true valid is live = gone_spares k j shared info valid is live
-
-destroyed_by : (k j : ℕ) (shared : Shared) (o : Option SlotInfo) → IsValid shared.memory shared.table → slot_at shared.table j ≡ o
-    → is_live (option_case o (refused shared NoEnclave) (λ info. if takes Destroy info.state then called (without shared j info.region) (Ok 0) else refused shared BadState)).shared.table k ≡ true
-    → IsSpared k shared (option_case o (refused shared NoEnclave) (λ info. if takes Destroy info.state then called (without shared j info.region) (Ok 0) else refused shared BadState)).shared
-destroyed_by k j shared None valid is live = itself k shared
-destroyed_by k j shared (Some info) valid is live = taken_by k j shared info (takes Destroy info.state) valid is live
 
 destroyed_spares : (k j : ℕ) (shared : Shared) → IsValid shared.memory shared.table → is_live (destroyed shared j).shared.table k ≡ true
     → IsSpared k shared (destroyed shared j).shared
 unfolding destroyed
-destroyed_spares k j shared valid live = destroyed_by k j shared (slot_at shared.table j) valid refl live
+destroyed_spares k j shared valid =
+    unless_spares k shared (first_refusal (state_refusals shared.table Destroy j)) _ (λ none live.
+    let may = may_take shared.table Destroy j none in
+    gone_spares k j shared may.info valid may.is live)
 
 -- ---- measure
 
@@ -235,31 +218,22 @@ stored_apart memory slots world address k byte valid rests may own = elim (cases
 ]
 
 module _ (k j address : ℕ) (shared : Shared) (world : World) (valid : IsValid shared.memory shared.table) (rests : is_world_of k world ≡ false) where
-  put_spares : (info : SlotInfo) → length info.measurement ≡ 32 → may_store_all shared.memory (layout shared.table world) address ≡ true
-      → IsSpared k shared (record shared { memory = with_bytes shared.memory address info.measurement })
-  put_spares info long may = record {
+  put_spares : (o : Option SlotInfo) → IfSome o (IsLawfulSlot shared.memory) → is_some o ≡ true → may_store_all shared.memory (layout shared.table world) address ≡ true
+      → IsSpared k shared (record shared { memory = with_bytes shared.memory address (option_case o [] (λ info. info.measurement)) })
+  put_spares None lawful live may = cc
+  put_spares (Some info) lawful live may = record {
     slot = refl;
     bytes = λ byte own. put_by shared.memory address info.measurement byte (write shared.memory address info.measurement) refl
-        (rw long (stored_apart shared.memory shared.table world address k byte valid rests may own));
+        (let long = lawful.measured in rw long (stored_apart shared.memory shared.table world address k byte valid rests may own));
     context = refl;
   }
 
-  may_by : (info : SlotInfo) (may : Bool) → length info.measurement ≡ 32 → may_store_all shared.memory (layout shared.table world) address ≡ may
-      → IsSpared k shared (if may then called (record shared { memory = with_bytes shared.memory address info.measurement }) (Ok 0) else refused shared BadAddress).shared
-  may_by info false long is = itself k shared
-  may_by info true long is = put_spares info long is
-
-  measured_by : (o : Option SlotInfo) → IfSome o (IsLawfulSlot shared.memory)
-      → IsSpared k shared (option_case o (refused shared NoEnclave) (λ info.
-      if may_store_all shared.memory (layout shared.table world) address
-      then called (record shared { memory = with_bytes shared.memory address info.measurement }) (Ok 0)
-      else refused shared BadAddress)).shared
-  measured_by None lawful = itself k shared
-  measured_by (Some info) lawful = may_by info (may_store_all shared.memory (layout shared.table world) address) lawful.measured refl
-
-  measured_spares : IsSpared k shared (measured shared (layout shared.table world) j address).shared
+  measured_spares : is_live (measured shared (layout shared.table world) j address).shared.table k ≡ true → IsSpared k shared (measured shared (layout shared.table world) j address).shared
   unfolding measured
-  measured_spares = measured_by (slot_at shared.table j) (valid.lawful j)
+  measured_spares =
+      unless_spares k shared (first_refusal (measure_refusals shared (layout shared.table world) j address)) _ (λ none live.
+      let may = may_measure shared (layout shared.table world) j address none in
+      put_spares (slot_at shared.table j) (valid.lawful j) may.live may.stores)
 
 -- ---- entering
 
@@ -267,35 +241,41 @@ entered_spares : (k j : ℕ) (seat : Seat) (shared : Shared) (context : Context)
 unfolding entered
 entered_spares k j seat shared context past passes live = other_state k j shared Running None (not_it k j passes)
 
-entry_by : (k : ℕ) (seat : Seat) (shared : Shared) (r : Result Context Refusal)
-    → Spares k shared (result_case r (λ context. entered seat shared (a0 seat) context (past_call seat)) (λ refusal. answered seat shared (status_of refusal) 0))
-entry_by k seat shared (Ok context) passes live = entered_spares k (a0 seat) seat shared context (past_call seat) passes live
-entry_by k seat shared (Err refusal) passes live = itself k shared
+entry_by : (k : ℕ) (seat : Seat) (shared : Shared) (context : Context) (o : Option Refusal)
+    → Spares k shared (option_case o (entered seat shared (a0 seat) context (past_call seat)) (λ refusal. answered seat shared (status_of refusal) 0))
+entry_by k seat shared context None passes live = entered_spares k (a0 seat) seat shared context (past_call seat) passes live
+entry_by k seat shared context (Some refusal) passes live = itself k shared
 
 entry_spares : (k : ℕ) (seat : Seat) (shared : Shared) (call : Call) → Spares k shared (entry_of seat shared call)
 unfolding entry_of
-entry_spares k seat shared call = entry_by k seat shared (enterable shared call (a0 seat))
+entry_spares k seat shared call =
+    entry_by k seat shared (kept_context shared.contexts (a0 seat)) (first_refusal (state_refusals shared.table call (a0 seat)))
 
 -- ---- all that the monitor does after a trap
 
-module _ (k : ℕ) (seat : Seat) (shared : Shared) (ready : IsReady seat shared)
+module _ (k : ℕ) (seat : Seat) (shared : Shared) (trapped : IsTrapped seat shared)
     (rests : is_world_of k seat.world ≡ false) (live : is_live shared.table k ≡ true) where
-  measure_spares : IsSpared k shared (measured shared seat.hart.csrs.pmp (measured_slot seat.world (a0 seat)) (a1 seat)).shared
+  abbrev MeasureSpares : Entries → Type 0
+  MeasureSpares entries =
+      is_live (measured shared entries (measured_slot seat.world (a0 seat)) (a1 seat)).shared.table k ≡ true
+      → IsSpared k shared (measured shared entries (measured_slot seat.world (a0 seat)) (a1 seat)).shared
+
+  measure_spares : MeasureSpares seat.hart.csrs.pmp
   measure_spares =
-      subst (λ (entries : Entries). IsSpared k shared (measured shared entries (measured_slot seat.world (a0 seat)) (a1 seat)).shared) (sym ready.entries)
-      (measured_spares k (measured_slot seat.world (a0 seat)) (a1 seat) shared seat.world ready.sound.valid rests)
+      subst MeasureSpares (sym trapped.layout.entries)
+      (measured_spares k (measured_slot seat.world (a0 seat)) (a1 seat) shared seat.world trapped.ready.sound.valid rests)
 
   answer_spares : (call : Called) → (is_live call.shared.table k ≡ true → IsSpared k shared call.shared) → Spares k shared (answer_of seat call)
   answer_spares call spared = answer_by k seat shared call.shared call.result spared
 
   performed_spares : (call : Call) → Spares k shared (performed seat shared call)
   unfolding performed
-  performed_spares Create = answer_spares (created shared (proposed seat.hart.regs)) (λ after. created_spares k shared (proposed seat.hart.regs) live)
-  performed_spares Destroy = answer_spares (destroyed shared (a0 seat)) (λ after. destroyed_spares k (a0 seat) shared ready.sound.valid after)
+  performed_spares Create = answer_spares (created shared (proposed seat.hart.regs)) (created_spares k shared (proposed seat.hart.regs) live)
+  performed_spares Destroy = answer_spares (destroyed shared (a0 seat)) (destroyed_spares k (a0 seat) shared trapped.ready.sound.valid)
   performed_spares Run = entry_spares k seat shared Run
   performed_spares Resume = entry_spares k seat shared Resume
   performed_spares Measure =
-      answer_spares (measured shared seat.hart.csrs.pmp (measured_slot seat.world (a0 seat)) (a1 seat)) (λ after. measure_spares)
+      answer_spares (measured shared seat.hart.csrs.pmp (measured_slot seat.world (a0 seat)) (a1 seat)) measure_spares
   performed_spares Stop = λ passes after. left_spares k seat shared Stopped (stopped_context seat) 1 (a0 seat) rests
   performed_spares Exit = λ passes after. left_spares k seat shared Exited exited_context 0 (a0 seat) rests
 
@@ -376,7 +356,7 @@ module _ (state : MonitoredState) (k : ℕ) (kept : IsKept state) (rests : is_wo
   by_trap after None is confined_by keeps live passes stays = itself k (shared_after after)
   by_trap after (Some trap) is confined_by keeps live passes stays =
       let trapped = after_trap state after trap is kept keeps confined_by in
-      handled_spares k (seat_after after) (shared_after after) trapped.ready rests live trap passes stays
+      handled_spares k (seat_after after) (shared_after after) trapped rests live trap passes stays
 
   pub spared_from : (after : Stepped) → IsConfined (bare_of state) after → TouchesPermitted (bare_of state) after → TrapKeeps (bare_of state) after
       → is_live state.shared.table k ≡ true → enters k (ended after after.outcome.trap).outcome.entered ≡ false

@@ -2,9 +2,11 @@ pub mod Kept
 pub mod Sets
 pub mod Slots
 pub mod Valid
+pub mod Refusals
 pub mod Sound
 pub mod Ready
 pub mod StepKept
+pub mod LastAct
 pub mod Start
 pub mod BlockLaws
 pub mod SavedLists
@@ -19,4 +21,11 @@ pub mod Reaches
 pub mod KeptReaches
 pub mod BlindSteps
 pub mod RunsAlike
+pub mod Asked
+pub mod Switched
+pub mod Returned
+pub mod TrapSteps
+pub mod Refused
 pub mod Integrity
+pub mod RunsSpare
+pub mod Changes

@@ -14,7 +14,7 @@ use Rattle.rv_monitor.specs.declared.outcome.Outcome.{Outcome}
 use Rattle.rv_monitor.specs.declared.seat.Seat.{Seat}
 use Rattle.rv_monitor.specs.declared.shared.Shared.{Shared}
 use Rattle.rv_monitor.proofs.MonitoredAlike.{confidentiality}
-use Rattle.rv_monitor.proofs.Ready.{handled_done}
+use Rattle.rv_monitor.proofs.Ready.{handled_done, handled_laid_out}
 use Rattle.rv_monitor.proofs.StepKept.{after_none, after_trap, returned_kept}
 
 -- ---- a step keeps what is true
@@ -34,7 +34,7 @@ module _ (state : MonitoredState) (kept : IsKept state) where
   kept_by_trap None is = after_none state after is kept (keeps_machine_parts (bare state)) (keeps_mprv_clear (bare state)) (confined (bare state))
   kept_by_trap (Some trap) is =
       returned_kept (handled seat shared trap)
-      (handled_done seat shared trap (after_trap state after trap is kept (trap_keeps (bare state)) (confined (bare state))))
+      (handled_done seat shared trap (after_trap state after trap is kept (trap_keeps (bare state)) (confined (bare state)))) (handled_laid_out seat shared trap)
 
 pub kept_law : KeptLaw
 unfolding monitored_step

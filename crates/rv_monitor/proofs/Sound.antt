@@ -1,6 +1,6 @@
 -- What the harts share stays sound over each call.
-use Rattle.std.proofs.Common.{◌≡◌, ◌≢◌, ℕ, zero, suc, ◌+◌, ◌<◌, Bool, true, false, List, [], ◌∷◌, Option, Some, None, Ok, IfSome, length, refl, sym, ap, ◌∙◌, subst, inl, inr, arith, length-set, replicate}
-use Rattle.std.specs.Prelude.{◌==◌, ◌%◌, is_some, if◌then◌else◌}
+use Rattle.std.proofs.Common.{◌≡◌, ◌≢◌, ℕ, zero, suc, ◌+◌, ◌<◌, Bool, true, false, List, [], ◌∷◌, Option, Some, None, IfSome, length, refl, sym, ap, ◌∙◌, subst, inl, inr, arith, length-set, replicate}
+use Rattle.std.specs.Prelude.{◌==◌, ◌%◌, is_some}
 use Rattle.std.specs.List.{list_any, find, range_with_len}
 use Rattle.std.specs.Option.{is_none}
 use Rattle.std.proofs.lemmas.Bool.{cases_eq, cases_Bool, cases_lt, cond-true, cond-false, and_parts, ne_eqb, eq-eqb}
@@ -11,27 +11,26 @@ use Rattle.rv_memory.specs.Memory.{write}
 use Rattle.rv_memory.proofs.MemoryLaws.{length-write}
 use Rattle.rv_pmp.specs.Entries.{Entries}
 use Rattle.rv_monitor.specs.Blocks.{has, is_lawful}
-use Rattle.rv_monitor.specs.Calls.{takes}
 use Rattle.rv_monitor.specs.Contexts.{context_at, with_context, can_go_on, first_context}
-use Rattle.rv_monitor.specs.Create.{Called, called, refused, created, is_entry, overlaps, recorded, with_enclave, measurement_of, measured_bytes}
+use Rattle.rv_monitor.specs.Create.{created, create_refusals, new_slot, is_entry, overlaps, recorded, with_enclave, measurement_of, measured_bytes}
 use Rattle.sha2.proofs.Facts256.{length-sha256}
 use Rattle.rv_monitor.specs.Destroy.{destroyed, without, zeroed}
-use Rattle.rv_monitor.specs.Measure.{measured, may_store_all, with_bytes}
+use Rattle.rv_monitor.specs.Measure.{measured, measure_refusals, measurement_at, with_bytes}
+use Rattle.rv_monitor.specs.Refusals.{Called, refused, first_refusal, state_refusals}
 use Rattle.rv_monitor.specs.State.{IsSound, is_held}
-use Rattle.rv_monitor.specs.Table.{Slots, slot_at, with_slot, with_state, free_slot, runs, is_running, is_window, is_world_of, window}
+use Rattle.rv_monitor.specs.Table.{Slots, slot_at, with_slot, with_state, free_slot, runs, is_running, is_window, is_world_of, region, window}
 use Rattle.rv_monitor.specs.declared.block.Block.{Block}
 use Rattle.rv_monitor.specs.declared.call.Call.TheVariants as calls
 use Rattle.rv_monitor.specs.declared.context.Context.{Context}
 use Rattle.rv_monitor.specs.declared.proposal.Proposal.{Proposal}
 use Rattle.rv_monitor.specs.declared.shared.Shared.{Shared}
 use Rattle.rv_monitor.specs.declared.slot_info.EnclaveState.{EnclaveState}
-use Rattle.rv_monitor.specs.declared.slot_info.EnclaveState.TheVariants.{Fresh, Running, Stopped, Exited}
+use Rattle.rv_monitor.specs.declared.slot_info.EnclaveState.TheVariants.{Running}
 use Rattle.rv_monitor.specs.declared.slot_info.SlotInfo.{SlotInfo}
 use Rattle.rv_monitor.specs.declared.refusal.Refusal.{Refusal}
-use Rattle.rv_monitor.specs.declared.refusal.Refusal.TheVariants.{BadRegion, BadWindow, Overlap, BadEntry, NoSlot, NoEnclave, BadState, BadAddress}
 use Rattle.rv_monitor.specs.declared.world.World.{World}
 use Rattle.rv_monitor.specs.declared.world.World.TheVariants.{Host, Enclave}
-use Rattle.std.specs.Prelude.{OnErr}
+use Rattle.rv_monitor.proofs.Refusals.{may_create, may_take, takes_rests}
 use Rattle.rv_monitor.proofs.Slots.{at_same, at_other, IsFree, free_from}
 use Rattle.rv_monitor.proofs.Valid.{Fits, valid_with, nothing_fits, own_fits, valid_by_size}
 
@@ -158,37 +157,18 @@ created_done shared worlds new k sound lawful window apart entry is =
     sound_with shared worlds worlds k (Some info) (Some (first_context info)) shared.memory sound slot.in_range refl
     (new_fits shared new k lawful window (free_from shared.table new apart)) refl (first_goes_on info (entry_aligned new entry)) before (λ j other. refl)
 
--- a call leaves what is shared sound, and as it is where it is refused
-pub record GoodCall (shared : Shared) (worlds : List World) (call : Called) : Type 0 where
-  pub sound : IsSound call.shared worlds
-  pub refused : OnErr call.result (call.shared ≡ shared)
+-- where no row holds, the call is to be judged by what it does
+unless_sound : (shared : Shared) (worlds : List World) (o : Option Refusal) (done : Called) → IsSound shared worlds → (o ≡ None → IsSound done.shared worlds)
+    → IsSound (option_case o done (refused shared)).shared worlds
+unless_sound shared worlds None done sound good = good refl
+unless_sound shared worlds (Some refusal) done sound good = sound
 
-refused_good : (shared : Shared) (worlds : List World) (refusal : Refusal) → IsSound shared worlds → GoodCall shared worlds (refused shared refusal)
-refused_good shared worlds refusal sound = record { sound = sound; refused = refl }
-
-by_slot : (shared : Shared) (worlds : List World) (new : Proposal) (o : Option ℕ) → IsSound shared worlds
-    → is_lawful shared.memory new.region ≡ true → is_window shared.memory new.window ≡ true → overlaps shared.table new ≡ false
-    → is_entry new ≡ true → free_slot shared.table ≡ o
-    → GoodCall shared worlds (option_case o (refused shared NoSlot) (λ k. called (with_enclave shared k (recorded shared.memory new)) (Ok k)))
-by_slot shared worlds new None sound lawful window apart entry is = refused_good shared worlds NoSlot sound
-by_slot shared worlds new (Some k) sound lawful window apart entry is =
-    record { sound = created_done shared worlds new k sound lawful window apart entry is; refused = tt }
-
-pub created_good : (shared : Shared) (worlds : List World) (new : Proposal) → IsSound shared worlds → GoodCall shared worlds (created shared new)
+pub created_sound : (shared : Shared) (worlds : List World) (new : Proposal) → IsSound shared worlds → IsSound (created shared new).shared worlds
 unfolding created
-created_good shared worlds new sound = elim (cases_Bool (is_lawful shared.memory new.region)) [
-  | inr fails ↦ rw fails (refused_good shared worlds BadRegion sound)
-  | inl lawful ↦ elim (cases_Bool (is_window shared.memory new.window)) [
-    | inr fails ↦ rw (lawful, fails) (refused_good shared worlds BadWindow sound)
-    | inl window ↦ elim (cases_Bool (overlaps shared.table new)) [
-      | inl holds ↦ rw (lawful, window, holds) (refused_good shared worlds Overlap sound)
-      | inr apart ↦ elim (cases_Bool (is_entry new)) [
-        | inr fails ↦ rw (lawful, window, apart, fails) (refused_good shared worlds BadEntry sound)
-        | inl entry ↦ rw (lawful, window, apart, entry) (by_slot shared worlds new (free_slot shared.table) sound lawful window apart entry refl)
-      ]
-    ]
-  ]
-]
+created_sound shared worlds new sound =
+    unless_sound shared worlds (first_refusal (create_refusals shared new)) _ sound (λ none.
+    let may = may_create shared new none in
+    created_done shared worlds new (new_slot shared.table) sound may.lawful may.window may.apart may.entry may.free)
 
 -- ---- a live slot
 
@@ -213,52 +193,30 @@ size_with_bytes memory address bytes (Some after) is = sym (length-write memory 
 -- ---- destroy
 
 gone : (shared : Shared) (worlds : List World) (k : ℕ) (info : SlotInfo) → IsSound shared worlds → slot_at shared.table k ≡ Some info
-    → is_running info.state ≡ false → IsSound (without shared k info.region) worlds
+    → is_running info.state ≡ false → IsSound (without shared k (region shared.table k)) worlds
 gone shared worlds k info sound is rests =
     let before : false ≡ list_any (is_world_of k) worlds = sym rests ∙ sym (ap running_in is) ∙ sound.running k in
-    sound_with shared worlds worlds k None None (zeroed shared.memory info.region) sound (live_in_range shared.table k info sound.valid.count is)
-    (size_zeroed shared.memory info.region (write shared.memory info.region.base (replicate info.region.size 0)) refl)
+    let block = region shared.table k in
+    sound_with shared worlds worlds k None None (zeroed shared.memory block) sound (live_in_range shared.table k info sound.valid.count is)
+    (size_zeroed shared.memory block (write shared.memory block.base (replicate block.size 0)) refl)
     (nothing_fits shared.memory shared.table k) refl tt before (λ j other. refl)
 
-by_state : (shared : Shared) (worlds : List World) (k : ℕ) (info : SlotInfo) (state : EnclaveState) → IsSound shared worlds
-    → slot_at shared.table k ≡ Some info → info.state ≡ state
-    → GoodCall shared worlds (if takes calls.Destroy state then called (without shared k info.region) (Ok 0) else refused shared BadState)
-by_state shared worlds k info Running sound is state_is = refused_good shared worlds BadState sound
-by_state shared worlds k info Fresh sound is state_is = record { sound = gone shared worlds k info sound is (ap is_running state_is); refused = tt }
-by_state shared worlds k info Stopped sound is state_is = record { sound = gone shared worlds k info sound is (ap is_running state_is); refused = tt }
-by_state shared worlds k info Exited sound is state_is = record { sound = gone shared worlds k info sound is (ap is_running state_is); refused = tt }
-
-gone_from : (shared : Shared) (worlds : List World) (k : ℕ) (o : Option SlotInfo) → IsSound shared worlds → slot_at shared.table k ≡ o
-    → GoodCall shared worlds (option_case o (refused shared NoEnclave) (λ info. if takes calls.Destroy info.state then called (without shared k info.region) (Ok 0) else refused shared BadState))
-gone_from shared worlds k None sound is = refused_good shared worlds NoEnclave sound
-gone_from shared worlds k (Some info) sound is = by_state shared worlds k info info.state sound is refl
-
-pub destroyed_good : (shared : Shared) (worlds : List World) (k : ℕ) → IsSound shared worlds → GoodCall shared worlds (destroyed shared k)
+pub destroyed_sound : (shared : Shared) (worlds : List World) (k : ℕ) → IsSound shared worlds → IsSound (destroyed shared k).shared worlds
 unfolding destroyed
-destroyed_good shared worlds k sound = gone_from shared worlds k (slot_at shared.table k) sound refl
+destroyed_sound shared worlds k sound =
+    unless_sound shared worlds (first_refusal (state_refusals shared.table calls.Destroy k)) _ sound (λ none.
+    let may = may_take shared.table calls.Destroy k none in
+    gone shared worlds k may.info sound may.is (takes_rests calls.Destroy may.info.state may.taken))
 
 -- ---- measure
 
-measured_by : (shared : Shared) (worlds : List World) (info : SlotInfo) (address : ℕ) (allowed : Bool) → IsSound shared worlds
-    → GoodCall shared worlds (if allowed then called (record shared { memory = with_bytes shared.memory address info.measurement }) (Ok 0) else refused shared BadAddress)
-measured_by shared worlds info address false sound = refused_good shared worlds BadAddress sound
-measured_by shared worlds info address true sound = record {
-  sound = sound_by_size shared worlds (with_bytes shared.memory address info.measurement) sound
-      (size_with_bytes shared.memory address info.measurement (write shared.memory address info.measurement) refl);
-  refused = tt;
-}
-
-measured_from : (shared : Shared) (worlds : List World) (entries : Entries) (address : ℕ) (o : Option SlotInfo) → IsSound shared worlds
-    → GoodCall shared worlds (option_case o (refused shared NoEnclave) (λ info.
-    if may_store_all shared.memory entries address
-    then called (record shared { memory = with_bytes shared.memory address info.measurement }) (Ok 0)
-    else refused shared BadAddress))
-measured_from shared worlds entries address None sound = refused_good shared worlds NoEnclave sound
-measured_from shared worlds entries address (Some info) sound = measured_by shared worlds info address (may_store_all shared.memory entries address) sound
-
-pub measured_good : (shared : Shared) (worlds : List World) (entries : Entries) (k address : ℕ) → IsSound shared worlds → GoodCall shared worlds (measured shared entries k address)
+pub measured_sound : (shared : Shared) (worlds : List World) (entries : Entries) (k address : ℕ) → IsSound shared worlds → IsSound (measured shared entries k address).shared worlds
 unfolding measured
-measured_good shared worlds entries k address sound = measured_from shared worlds entries address (slot_at shared.table k) sound
+measured_sound shared worlds entries k address sound =
+    let bytes = measurement_at shared.table k in
+    unless_sound shared worlds (first_refusal (measure_refusals shared entries k address)) _ sound (λ none.
+    sound_by_size shared worlds (with_bytes shared.memory address bytes) sound
+    (size_with_bytes shared.memory address bytes (write shared.memory address bytes) refl))
 
 -- ---- switches
 

@@ -26,7 +26,7 @@ use Rattle.rv_monitor.specs.declared.seat.Seat.{Seat}
 use Rattle.rv_monitor.specs.declared.shared.Shared.{Shared}
 use Rattle.rv_monitor.specs.declared.world.World.{World}
 use Rattle.rv_monitor.proofs.Kept.{entry_is_plain}
-use Rattle.rv_monitor.proofs.Ready.{IsTrapped, IsDone}
+use Rattle.rv_monitor.proofs.Ready.{IsTrapped, IsDone, IsLaidOut}
 use Rattle.rv_monitor.proofs.Sound.{sound_by_size}
 
 -- ---- no entry of a layout is locked
@@ -77,10 +77,9 @@ trapped_at state trap memory kept size = record {
   ready = record {
     sound = sound_by_size state.shared (state.seat.world ∷ []) memory kept.shared size;
     host = record { kept = kept.host.kept; held = kept.host.held };
-    entries = kept.layout.entries;
-    mie = kept.layout.mie;
     quiet = record { mpie = kept.layout.mstatus_mie; mprv = kept.layout.mprv; tvm = kept.layout.tvm; tw = kept.layout.tw; tsr = kept.layout.tsr };
   };
+  layout = record { entries = kept.layout.entries; mie = kept.layout.mie };
   mode = kept.layout.mode;
   pc = multiple state.seat.hart.pc;
 }
@@ -147,16 +146,16 @@ after_none state after is kept parts mprv confined =
 
 -- ---- the return
 
-pub returned_kept : (h : Handled) → IsDone h
+pub returned_kept : (h : Handled) → IsDone h → IsLaidOut h.shared.table h.seat
     → IsKept (record { seat = record h.seat { hart = returned_to h.seat.hart h.next.pc h.next.mode }; shared = h.shared })
-returned_kept h done =
+returned_kept h done laid =
     let ready = done.ready in
     record {
       shared = ready.sound;
       host = record { kept = ready.host.kept; held = ready.host.held };
       layout = record {
-        entries = ready.entries;
-        mie = ready.mie;
+        entries = laid.entries;
+        mie = laid.mie;
         mode = done.mode;
         mstatus_mie = ready.quiet.mpie;
         mprv = rw ready.quiet.mprv refl;
@@ -168,7 +167,7 @@ returned_kept h done =
 
 -- after a trap no entry is locked
 pub trapped_unlocked : (seat : Seat) (shared : Shared) → IsTrapped seat shared → HasNoLock seat.hart.csrs.pmp
-trapped_unlocked seat shared trapped = subst HasNoLock (sym trapped.ready.entries) (layout_unlocked shared.table seat.world)
+trapped_unlocked seat shared trapped = subst HasNoLock (sym trapped.layout.entries) (layout_unlocked shared.table seat.world)
 
 -- ---- a debugger's write of memory
 

@@ -1,9 +1,10 @@
 -- A step leaves what is private to an enclave that does not run, where it neither enters nor ends it: its record, the bytes of its
 -- region and its kept context. (A law of the monitor's definitions, no rule of a standard.)
-use Rattle.std.specs.Prelude.{ℕ, ◌≡◌, ◌==◌, Bool, true, false, Option, Some, None}
+use Rattle.std.specs.Prelude.{ℕ, zero, suc, ◌≡◌, ◌==◌, Bool, true, false, Option, Some, None}
 use Rattle.rv_memory.specs.Memory.{byte_at}
 use Rattle.rv_monitor.specs.Blocks.{has}
 use Rattle.rv_monitor.specs.Contexts.{context_at}
+use Rattle.rv_monitor.specs.Runs.{run}
 use Rattle.rv_monitor.specs.State.{MonitoredState, IsKept}
 use Rattle.rv_monitor.specs.Step.{MonitoredStepped, monitored_step}
 use Rattle.rv_monitor.specs.Table.{slot_at, region, is_live, is_world_of}
@@ -25,6 +26,22 @@ SparesOthers before after =
     (k : ℕ) → is_world_of k before.seat.world ≡ false → is_live before.shared.table k ≡ true
     → enters k after.outcome.entered ≡ false → is_live after.state.shared.table k ≡ true
     → IsSpared k before.shared after.state.shared
+
+-- the enclave of slot k rests: it is live, and it is not the world that runs
+pub record Rests (k : ℕ) (state : MonitoredState) : Type 0 where
+  pub live : is_live state.shared.table k ≡ true
+  pub rests : is_world_of k state.seat.world ≡ false
+
+-- it rests through so many steps: before, between and after them, and none of them enters it
+abbrev pub RestsThrough : ℕ → ℕ → MonitoredState → Type 0
+RestsThrough k zero state = Rests k state
+RestsThrough k (suc n) state =
+    let after = monitored_step state in Rests k state × (enters k after.outcome.entered ≡ false) × RestsThrough k n after.state
+
+-- so many steps spare an enclave that rests through them
+abbrev pub RunsSpareLaw : Type 0
+RunsSpareLaw =
+    (k n : ℕ) (state : MonitoredState) → IsKept state → RestsThrough k n state → IsSpared k state.shared (run n state).state.shared
 
 abbrev pub IntegrityLaw : Type 0
 IntegrityLaw = (state : MonitoredState) → IsKept state → SparesOthers state (monitored_step state)

@@ -2,10 +2,15 @@
 //! of a step are clauses of `Monitored::step` too.
 
 ghost use Rattle.rv_monitor.specs.Access.{ApartLaw, KeptReachLaw};
+ghost use Rattle.rv_monitor.specs.Asked.{AskedLaw, AskedStepLaw};
+ghost use Rattle.rv_monitor.specs.Changes.{ChangeLaw, RunsChangeLaw};
 ghost use Rattle.rv_monitor.specs.Confidentiality.{BareLaw, ConfidentialityLaw, HandlerLaw};
-ghost use Rattle.rv_monitor.specs.Integrity.{IntegrityLaw};
+ghost use Rattle.rv_monitor.specs.Integrity.{IntegrityLaw, RunsSpareLaw};
 ghost use Rattle.rv_monitor.specs.Reach.{ReachLaw};
-ghost use Rattle.rv_monitor.specs.Runs.{RunLaw};
+ghost use Rattle.rv_monitor.specs.Refused.{RefusalLaw};
+ghost use Rattle.rv_monitor.specs.Returns.{ReturnLaw};
+ghost use Rattle.rv_monitor.specs.Runs.{KeptLaw, RunLaw};
+ghost use Rattle.rv_monitor.specs.SwitchLaws.{SwitchLaw};
 
 /// Reach: under the entries of a valid table and a world, S and U do an access to bytes in RAM exactly where it is in reach.
 pub const fn reach()
@@ -22,10 +27,31 @@ pub const fn apart()
     ensures { ApartLaw }
 {}
 
+/// What is true in every state is true after a step.
+pub const fn kept()
+    ensures { KeptLaw }
+{}
+
 /// Integrity: a step leaves the record, the region and the context of each live enclave that does not run, and that it neither
 /// enters nor ends.
 pub const fn integrity()
     ensures { IntegrityLaw }
+{}
+
+/// So do so many steps of each enclave that rests through them.
+pub const fn runs_spare()
+    ensures { RunsSpareLaw }
+{}
+
+/// A step changes no byte of memory but those that its instruction stored, in its world's reach, the region of the enclave that a destroy
+/// ends, and the 32 bytes that a measure puts, each in the caller's reach.
+pub const fn changes()
+    ensures { ChangeLaw }
+{}
+
+/// Nor do so many steps but those that one of them changes so.
+pub const fn runs_change()
+    ensures { RunsChangeLaw }
 {}
 
 /// A step of the hart depends on no byte of the region of an enclave that does not run.
@@ -46,4 +72,32 @@ pub const fn confidentiality()
 /// Nor do so many steps, up to the one that enters it.
 pub const fn runs_are_blind()
     ensures { RunLaw }
+{}
+
+/// A call that is refused changes nothing but a0, a1, pc, and what every trap and return change.
+pub const fn refusal()
+    ensures { RefusalLaw }
+{}
+
+/// A step lets the world go on, or the host enters an enclave and is kept as it was, or an enclave leaves and the host goes on as it
+/// was kept, but for a0 and a1.
+pub const fn switches()
+    ensures { SwitchLaw }
+{}
+
+/// From the step with which the host enters an enclave to the one with which the enclave leaves: the host goes on as it was before the
+/// first, past its ecall, but for a0 and a1.
+pub const fn host_comes_back()
+    ensures { ReturnLaw }
+{}
+
+/// The monitor's work after a trap asks of memory the bytes of the region that create measures, and of the kept contexts the one that
+/// run or resume enters; of measure's addresses it asks only whether they may be stored to.
+pub const fn handler_asks()
+    ensures { AskedLaw }
+{}
+
+/// So does a step that traps.
+pub const fn trapping_step_asks()
+    ensures { AskedStepLaw }
 {}

@@ -1,0 +1,10 @@
+use Rattle.std.proofs.Common.{◌≡◌, ◌+◌, ◌*◌, ◌++◌, length, take}
+use Rattle.std.specs.List.{flat_map}
+use Rattle.rv_text.specs.Digits.{hex2}
+use Rattle.rv_debug.proofs.enclaves.push_digest.Given as goal
+
+abbrev pub invariant-loop-byte : goal.invariant-loop-byte
+invariant-loop-byte l = record {
+  items : l.out.items ≡ l.fn.out.items ++ flat_map hex2 (take l.byte-index l.bytes);
+  len : length l.out.items ≡ length l.fn.out.items + 2 * l.byte-index;
+}

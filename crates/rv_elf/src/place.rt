@@ -1,0 +1,40 @@
+//! Where an image may lie.
+
+ghost use Rattle.std.specs.Prelude.{◌≡◌};
+ghost use Rattle.rv_elf.specs.Places.{first_address as first_address_of, has_place as has_place_of, lies_inside as lies_inside_of, meets_reserved as meets_reserved_of};
+
+use rv_memory::RAM_BASE;
+
+/// The address behind the range that a monitor keeps for itself, 80000000 to 8000FFFF.
+const MONITOR_END: u32 = 0x8001_0000;
+
+/// The first address that an image may use: 80000000, the first of RAM, or 80010000 where a monitor is below.
+pub(crate) fn first_address(monitored: bool) -> u32
+    ensures { result ≡ first_address_of monitored }
+{
+    if monitored { MONITOR_END } else { RAM_BASE }
+}
+
+/// Whether so many bytes from an address on lie inside a RAM of this size.
+fn lies_inside(ram_size: u32, address: u32, count: u32) -> bool
+    ensures { result ≡ lies_inside_of ram_size address count }
+{
+    address >= RAM_BASE
+        && u64::from(address) + u64::from(count) <= u64::from(RAM_BASE) + u64::from(ram_size)
+}
+
+/// Whether one of so many bytes from an address on is in the range of a monitor, where there is one.
+#[tactic(auto, using(crate::proofs::ReservedBytes::meets, crate::proofs::ReservedBytes::misses))]
+fn meets_reserved(monitored: bool, address: u32, count: u32) -> bool
+    ensures { result ≡ meets_reserved_of monitored address count }
+{
+    let end = u64::from(address) + u64::from(count);
+    monitored && count != 0 && address < MONITOR_END && end > u64::from(RAM_BASE)
+}
+
+/// Whether so many bytes from an address on may be there: inside a RAM of this size, and none of them in the range of a monitor.
+pub(crate) fn has_place(ram_size: u32, monitored: bool, address: u32, count: u32) -> bool
+    ensures { result ≡ has_place_of ram_size monitored address count }
+{
+    lies_inside(ram_size, address, count) && !meets_reserved(monitored, address, count)
+}

@@ -1,0 +1,21 @@
+use Rattle.std.proofs.Common.{sym, ap, ◌∙◌, subst}
+use Rattle.rv_monitor.specs.Unlocked.{HasNoLock}
+use Rattle.rv_monitor.specs.declared.seat.Seat.{Seat}
+use Rattle.rv_monitor.proofs.LastAct.{entries_of, call_entries, timer_entries}
+use Rattle.rv_monitor.proofs.handler.handle.Goals as goal
+use Rattle.rv_monitor.proofs.handler.handle.Goals.{in-Interrupt, in-Exception-EnvironmentCallFromS}
+
+-- neither the timer's stop nor a call has written an entry
+pub lay_out-requires : goal.lay_out-requires
+lay_out-requires c =
+    let P : Seat → Type 0 = λ seat. HasNoLock seat.hart.csrs.pmp in
+    let seat = c.args.seat.now in
+    let shared = c.args.shared.now in
+    elim c.match-trap.branch [
+      | in-Interrupt w ↦
+          subst P (sym w.seat-is)
+          (subst HasNoLock (sym (timer_entries seat shared) ∙ ap entries_of w.stop_by_timer-next.ensures.meaning) c.requires.unlocked)
+      | in-Exception-EnvironmentCallFromS w ↦
+          subst P (sym w.seat-is)
+          (subst HasNoLock (sym (call_entries seat shared) ∙ ap entries_of w.call-next.ensures.meaning) c.requires.unlocked)
+    ]

@@ -1,0 +1,76 @@
+-- What the monitor's work after a trap asks of memory and of the kept contexts: of create the bytes of the region, of run and resume the
+-- context of the slot; of measure no byte, since its addresses alone decide. (A law of the monitor's definitions, no rule of a
+-- standard.)
+use Rattle.std.specs.Prelude.{◌≡◌, ℕ, Bool, true, false, length, slice_index, Option, Some, None, if◌then◌else◌}
+use Rattle.rv_state.specs.Registers.{register}
+use Rattle.rv_state.specs.declared.cause.Cause.{Cause}
+use Rattle.rv_state.specs.declared.cause.Cause.TheVariants as causes
+use Rattle.rv_state.specs.declared.cause.Exception.TheVariants.{EnvironmentCallFromS}
+use Rattle.rv_hart.specs.declared.trap.Trap.{Trap}
+use Rattle.rv_monitor.specs.Calls.{asked_call}
+use Rattle.rv_monitor.specs.Contexts.{context_at}
+use Rattle.rv_monitor.specs.Create.{bytes_of_block, proposed}
+use Rattle.rv_monitor.specs.State.{MonitoredState}
+use Rattle.rv_monitor.specs.Step.{MonitoredStepped, a0, handled, monitored_step}
+use Rattle.rv_monitor.specs.Switches.{Handled}
+use Rattle.rv_monitor.specs.declared.call.Call.{Call}
+use Rattle.rv_monitor.specs.declared.call.Call.TheVariants.{Create, Run, Resume}
+use Rattle.rv_monitor.specs.declared.seat.Seat.{Seat}
+use Rattle.rv_monitor.specs.declared.shared.Shared.{Shared}
+
+-- the call that a trap asks for, if it is an ecall from S
+abbrev pub is_call : Cause → Bool
+is_call (causes.Exception EnvironmentCallFromS) = true
+is_call _ = false
+
+abbrev pub asked_by : Cause → Seat → Option Call
+asked_by cause seat =
+    if is_call cause then asked_call seat.world (register seat.hart.regs 17) (register seat.hart.regs 16) else None
+
+-- a call that enters an enclave
+abbrev pub is_entering : Option Call → Bool
+is_entering (Some Run) = true
+is_entering (Some Resume) = true
+is_entering _ = false
+
+-- two shared parts of one table and one size are the same in all else that the work asks
+pub record SameAsked (seat : Seat) (cause : Cause) (one other : Shared) : Type 0 where
+  pub table : one.table ≡ other.table
+  pub size : length one.memory ≡ length other.memory
+  pub slots : length one.contexts ≡ length other.contexts
+  pub measured : asked_by cause seat ≡ Some Create
+      → bytes_of_block one.memory (proposed seat.hart.regs).region ≡ bytes_of_block other.memory (proposed seat.hart.regs).region
+  pub entered : is_entering (asked_by cause seat) ≡ true → context_at one.contexts (a0 seat) ≡ context_at other.contexts (a0 seat)
+
+-- the table is the same after it, and each byte and each context is where it was the same before
+pub record SameWhereSame (one other one_after other_after : Shared) : Type 0 where
+  pub table : one_after.table ≡ other_after.table
+  pub bytes : (i : ℕ) → slice_index one.memory i ≡ slice_index other.memory i → slice_index one_after.memory i ≡ slice_index other_after.memory i
+  pub contexts : (k : ℕ) → context_at one.contexts k ≡ context_at other.contexts k → context_at one_after.contexts k ≡ context_at other_after.contexts k
+
+pub record SameWork (one other : Shared) (one_left other_left : Handled) : Type 0 where
+  pub seat : one_left.seat ≡ other_left.seat
+  pub next : one_left.next ≡ other_left.next
+  pub shared : SameWhereSame one other one_left.shared other_left.shared
+
+abbrev pub AskedLaw : Type 0
+AskedLaw =
+    (seat : Seat) (trap : Trap) (one other : Shared) → SameAsked seat trap.cause one other
+    → SameWork one other (handled seat one trap) (handled seat other trap)
+
+-- ---- the step
+
+pub record SameStep (one other : MonitoredState) (one_after other_after : MonitoredStepped) : Type 0 where
+  pub seat : one_after.state.seat ≡ other_after.state.seat
+  pub entered : one_after.outcome.entered ≡ other_after.outcome.entered
+  pub shared : SameWhereSame one.shared other.shared one_after.state.shared other_after.state.shared
+
+-- every state with the same seat that traps alike, and is the same in what the work asks, steps alike
+abbrev pub AsksOnly : MonitoredState → MonitoredStepped → Type 0
+AsksOnly before after =
+    (other : MonitoredState) (trap : Trap) → before.seat ≡ other.seat → after.outcome.step.trap ≡ Some trap
+    → (monitored_step other).outcome.step.trap ≡ Some trap → SameAsked before.seat trap.cause before.shared other.shared
+    → SameStep before other after (monitored_step other)
+
+abbrev pub AskedStepLaw : Type 0
+AskedStepLaw = (state : MonitoredState) → AsksOnly state (monitored_step state)

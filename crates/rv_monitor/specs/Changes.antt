@@ -1,0 +1,88 @@
+-- Which bytes of memory a step changes: those that its instruction stored, in the reach of the world that runs; the region of the enclave
+-- that a destroy ends; and 32 bytes that a measure puts, each in the caller's reach. (A law of the monitor's definitions, no rule of a
+-- standard.)
+use Rattle.std.specs.Prelude.{◌≡◌, ◌⊎◌, ℕ, ◌+◌, ◌<◌, ◌≤◌, true, false, List, Option, Some, None}
+use Rattle.rv_word.specs.Widths.{bytes_in}
+use Rattle.rv_pmp.specs.Verdicts.{bytes_from}
+use Rattle.rv_pmp.specs.declared.access.Access.TheVariants.{Write}
+use Rattle.rv_memory.specs.Memory.{byte_at}
+use Rattle.rv_memory.specs.declared.touched.Span.{Span}
+use Rattle.rv_state.specs.Registers.{register}
+use Rattle.rv_hart.specs.declared.trap.Trap.{Trap}
+use Rattle.rv_monitor.specs.Asked.{is_call}
+use Rattle.rv_monitor.specs.Blocks.{has}
+use Rattle.rv_monitor.specs.Calls.{asked_call}
+use Rattle.rv_monitor.specs.Layout.{layout}
+use Rattle.rv_monitor.specs.Measure.{measured_slot, measure_refusals}
+use Rattle.rv_monitor.specs.Reach.{in_reach}
+use Rattle.rv_monitor.specs.Refusals.{first_refusal}
+use Rattle.rv_monitor.specs.Runs.{run}
+use Rattle.rv_monitor.specs.State.{MonitoredState, IsKept}
+use Rattle.rv_monitor.specs.Step.{MonitoredStepped, monitored_step}
+use Rattle.rv_monitor.specs.Table.{Slots, region, is_live}
+use Rattle.rv_monitor.specs.declared.call.Call.{Call}
+use Rattle.rv_monitor.specs.declared.call.Call.TheVariants.{Destroy, Measure}
+use Rattle.rv_monitor.specs.declared.shared.Shared.{Shared}
+use Rattle.rv_monitor.specs.declared.world.World.{World}
+
+-- the call that a7 and a6 ask for
+abbrev pub asked_by_registers : World → List ℕ → Option Call
+asked_by_registers world regs = asked_call world (register regs 17) (register regs 16)
+
+-- the instruction stored the byte, and the store was in its world's reach
+pub record IsStoredInReach (world : World) (shared : Shared) (stored : Option Span) (byte : ℕ) : Type 0 where
+  pub span : Span
+  pub is : stored ≡ Some span
+  pub low : span.addr ≤ byte
+  pub high : byte < span.addr + bytes_in span.len
+  pub reach : in_reach shared.memory shared.table world Write (bytes_from span.addr (bytes_in span.len)) ≡ true
+
+-- a destroy ended an enclave, of whose region the byte is one
+pub record IsCleared (world : World) (regs : List ℕ) (before after : Slots) (byte : ℕ) : Type 0 where
+  pub asked : asked_by_registers world regs ≡ Some Destroy
+  pub live : is_live before (register regs 10) ≡ true
+  pub gone : is_live after (register regs 10) ≡ false
+  pub own : has (region before (register regs 10)) byte ≡ true
+
+-- a measure that is not refused put it: it is one of 32 bytes from a1 on, and a store of it is in the caller's reach
+pub record IsMeasured (world : World) (regs : List ℕ) (shared : Shared) (byte : ℕ) : Type 0 where
+  pub asked : asked_by_registers world regs ≡ Some Measure
+  pub done : first_refusal (measure_refusals shared (layout shared.table world) (measured_slot world (register regs 10)) (register regs 11)) ≡ None
+  pub low : register regs 11 ≤ byte
+  pub high : byte < register regs 11 + 32
+  pub reach : in_reach shared.memory shared.table world Write (bytes_from byte 1) ≡ true
+
+-- a byte that the monitor changed
+abbrev pub ByMonitor : World → List ℕ → Shared → Shared → ℕ → Type 0
+ByMonitor world regs before after byte = IsCleared world regs before.table after.table byte ⊎ IsMeasured world regs before byte
+
+-- the step trapped by an ecall from S, and the byte is one that the monitor changed
+pub record ByCall (before : MonitoredState) (after : MonitoredStepped) (byte : ℕ) : Type 0 where
+  pub trap : Trap
+  pub trapped : after.outcome.step.trap ≡ Some trap
+  pub is : is_call trap.cause ≡ true
+  pub change : ByMonitor before.seat.world before.seat.hart.regs before.shared after.state.shared byte
+
+-- a byte that a step changed
+abbrev pub IsChanged : MonitoredState → MonitoredStepped → ℕ → Type 0
+IsChanged before after byte =
+    IsStoredInReach before.seat.world before.shared after.outcome.step.touched.stored byte ⊎ ByCall before after byte
+
+-- each byte is as before, or it is one of these
+abbrev pub ChangesInReach : MonitoredState → MonitoredStepped → Type 0
+ChangesInReach before after =
+    (byte : ℕ) → byte_at after.state.shared.memory byte ≡ byte_at before.shared.memory byte ⊎ IsChanged before after byte
+
+abbrev pub ChangeLaw : Type 0
+ChangeLaw = (state : MonitoredState) → IsKept state → ChangesInReach state (monitored_step state)
+
+-- one of so many steps changed the byte: the one behind so many others
+pub record IsChangedWithin (steps : ℕ) (state : MonitoredState) (byte : ℕ) : Type 0 where
+  pub earlier : ℕ
+  pub early : earlier < steps
+  pub change : IsChanged (run earlier state).state (monitored_step (run earlier state).state) byte
+
+abbrev pub RunsChangeLaw : Type 0
+RunsChangeLaw =
+    (n : ℕ) (state : MonitoredState) (byte : ℕ) → IsKept state
+    → byte_at (run n state).state.shared.memory byte ≡ byte_at state.shared.memory byte ⊎ IsChangedWithin n state byte

@@ -1,0 +1,86 @@
+-- A call that is refused changes nothing but a0, a1, pc, and what every trap and return change. (Keystone, EuroSys 2020, in this
+-- project's profile; the trap and the return: RISC-V Privileged Architecture 20211203, sections 3.1.6.1 and 3.1.14 to 3.1.16; the
+-- count of cycles: section 3.1.10.)
+use Rattle.std.specs.Prelude.{◌≡◌, ℕ, Bool, true, List, [], Option, Some, None}
+use Rattle.rv_word.specs.BitFields.{is_set}
+use Rattle.rv_word.specs.Cases.{option_case}
+use Rattle.rv_pmp.specs.declared.mode.Mode.TheVariants.{U, S}
+use Rattle.rv_state.specs.Bits.{aligned_to_4}
+use Rattle.rv_state.specs.Causes.{cause_code}
+use Rattle.rv_state.specs.Counters.{incremented}
+use Rattle.rv_state.specs.CsrState.{CsrState}
+use Rattle.rv_state.specs.Registers.{register}
+use Rattle.rv_state.specs.declared.cause.Cause.TheVariants as causes
+use Rattle.rv_state.specs.declared.cause.Exception.TheVariants.{EnvironmentCallFromS}
+use Rattle.rv_hart.specs.Arithmetic.{sum_of}
+use Rattle.rv_hart.specs.HartState.{Hart}
+use Rattle.rv_hart.specs.declared.trap.Trap.{Trap}
+use Rattle.rv_monitor.specs.Calls.{asked_call, status_of}
+use Rattle.rv_monitor.specs.Contexts.{with_answer}
+use Rattle.rv_monitor.specs.Create.{create_refusals, proposed}
+use Rattle.rv_monitor.specs.Measure.{measure_refusals, measured_slot}
+use Rattle.rv_monitor.specs.Refusals.{first_refusal, state_refusals}
+use Rattle.rv_monitor.specs.State.{MonitoredState, IsKept}
+use Rattle.rv_monitor.specs.Step.{MonitoredStepped, monitored_step, a0, a1}
+use Rattle.rv_monitor.specs.declared.call.Call.{Call}
+use Rattle.rv_monitor.specs.declared.call.Call.TheVariants.{Create, Destroy, Run, Resume, Measure, Stop, Exit}
+use Rattle.rv_monitor.specs.declared.refusal.Refusal.{Refusal}
+use Rattle.rv_monitor.specs.declared.refusal.Refusal.TheVariants.{NotSupported}
+use Rattle.rv_monitor.specs.declared.seat.Seat.{Seat}
+use Rattle.rv_monitor.specs.declared.shared.Shared.{Shared}
+
+-- the table of each call; stop and exit are never refused
+abbrev pub call_refusals : Seat → Shared → Call → List (Bool × Refusal)
+call_refusals seat shared Create = create_refusals shared (proposed seat.hart.regs)
+call_refusals seat shared Destroy = state_refusals shared.table Destroy (a0 seat)
+call_refusals seat shared Run = state_refusals shared.table Run (a0 seat)
+call_refusals seat shared Resume = state_refusals shared.table Resume (a0 seat)
+call_refusals seat shared Measure = measure_refusals shared seat.hart.csrs.pmp (measured_slot seat.world (a0 seat)) (a1 seat)
+call_refusals seat shared Stop = []
+call_refusals seat shared Exit = []
+
+-- why an ecall from S is refused, if it is: where a7 and a6 ask for no call of the world, or by the table of the call
+unfoldable pub refusal_of : Seat → Shared → Option Refusal
+refusal_of seat shared =
+    option_case (asked_call seat.world (register seat.hart.regs 17) (register seat.hart.regs 16)) (Some NotSupported)
+    (λ call. first_refusal (call_refusals seat shared call))
+
+-- ---- what a refused call leaves
+
+-- the registers after a trap from mode S and the return to it at this pc: nothing retires, so only cycles are counted
+abbrev pub passed_csrs : CsrState → Trap → ℕ → CsrState
+passed_csrs csrs trap pc = record csrs {
+  mepc = pc;
+  mcause = cause_code trap.cause;
+  mtval = trap.tval;
+  mstatus = record csrs.mstatus { mpie = true; mpp = U };
+  mcycle = incremented csrs.mcycle (is_set csrs.mcountinhibit 0);
+}
+
+-- past the ecall at pc, which is a multiple of 4
+abbrev pub past_ecall : Hart → ℕ
+past_ecall hart = sum_of (aligned_to_4 hart.pc) 4
+
+-- the hart goes on in S past its ecall, with the status in a0 and 0 in a1; all else is as it was
+abbrev pub refused_hart : Hart → Trap → Refusal → Hart
+refused_hart hart trap refusal = record {
+  regs = with_answer hart.regs (status_of refusal) 0;
+  csrs = passed_csrs hart.csrs trap (past_ecall hart);
+  pc = past_ecall hart;
+  mode = S;
+}
+
+-- its hart is all that a refused call changes of a state
+abbrev pub refused_state : MonitoredState → Trap → Refusal → MonitoredState
+refused_state before trap refusal =
+    record before { seat = record before.seat { hart = refused_hart before.seat.hart trap refusal } }
+
+-- where the step traps by an ecall from S, and the call is refused
+abbrev pub RefusesOnly : MonitoredState → MonitoredStepped → Type 0
+RefusesOnly before after =
+    (trap : Trap) (refusal : Refusal) → after.outcome.step.trap ≡ Some trap → trap.cause ≡ causes.Exception EnvironmentCallFromS
+    → refusal_of before.seat before.shared ≡ Some refusal
+    → (after.state ≡ refused_state before trap refusal) × (after.outcome.entered ≡ None)
+
+abbrev pub RefusalLaw : Type 0
+RefusalLaw = (state : MonitoredState) → IsKept state → RefusesOnly state (monitored_step state)

@@ -1,0 +1,7 @@
+// The application, in mode U: it reaches its region and its window, and nothing else.
+
+unsigned application(volatile unsigned *window)
+{
+    window[2] = window[0] + window[1];
+    return window[2];
+}

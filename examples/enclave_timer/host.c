@@ -1,0 +1,17 @@
+// A host that resumes its enclave as often as the timer interrupts it.
+#include "calls.h"
+#include "memory.h"
+
+struct monitor_answer created, left;
+unsigned interrupts;
+
+int main(void)
+{
+    created = enclave_create(REGION, REGION_SIZE, WINDOW, WINDOW_SIZE, ENTRY);
+    left = enclave_run(created.value);
+    while (left.status == INTERRUPTED) {
+        interrupts++;
+        left = enclave_resume(created.value);
+    }
+    return left.value;
+}

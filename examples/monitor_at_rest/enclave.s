@@ -1,0 +1,10 @@
+# What is in the region: two words of code, and a secret.
+        .section .text.start, "ax"
+        .globl  enclave_entry
+enclave_entry:
+        lw      a0, 8(a0)
+        ecall
+
+        .type   secret, @object
+secret: .ascii  "the enclave's secret"
+        .size   secret, 20

@@ -1,0 +1,248 @@
+"""A bench of the monitored machine of monitor_model.py, or of a bare hart: images, the debugger's commands, and the replies to a
+script, by docs/IMAGES.md and docs/COMMANDS.md. Nothing of the bench that is tested is used.
+
+    tests/monitor_bench.py [run --monitor ..] < stdin    writes what the program must write
+"""
+import argparse
+import re
+import sys
+
+sys.dont_write_bytecode = True
+import elf_model
+from assembly_model import disassembled
+from monitor_hart import HartInMemory
+from monitor_model import HOST_ENTRY, MONITOR_SIZE, Monitored, meet
+from privileged_hart import KEPT, LETTER, M, START
+
+MOST_ADDRESSES, MOST_STEPS, MOST_SHOWN, MOST_LINE = 32, 1000000, 64, 120
+MODE = {letter: mode for mode, letter in LETTER.items()}
+HEX, COUNT, BYTE, CSR = "(?:0x)?[0-9a-fA-F]{1,8}", "[0-9]{1,7}", "[0-9a-fA-F]{1,2}", "[0-9a-fA-F]{1,3}"
+FORMS = {"step": [COUNT], "run": [COUNT], "break": [HEX], "clear": [HEX], "watch": [HEX], "unwatch": [HEX], "reg": [COUNT],
+         "regs": [], "setreg": [COUNT, HEX], "csr": [CSR], "mem": [HEX, COUNT], "poke": [HEX, BYTE], "dis": [HEX], "pmp": [],
+         "enclaves": [], "access": ["[MSU]", "[rwx]", HEX, "[124]"], "timer": ["on|off"]}
+
+
+class Fault(Exception):
+    """A reply to a line that changes nothing, or the line that ends the program."""
+
+
+class BareHart(HartInMemory):
+    """Without a monitor, the hart begins in M."""
+    world, table, entered = "bare", {}, None
+
+    def __init__(self, ram, entry):
+        super().__init__(ram)
+        self.pc, self.mode = entry, M
+
+
+# ---- images
+
+def elf_faults(file, size, is_monitored):
+    """As elf_model's, and of the monitor's range."""
+    found = elf_model.faults(file, size)
+    if is_monitored:
+        loads = [it for it in elf_model.program_headers(file) if it["type"] == elf_model.LOAD and it["memsz"]]
+        entry = elf_model.field(file, "entry")
+        found |= {9} if any(meet((it["paddr"], it["memsz"]), (START, MONITOR_SIZE)) for it in loads) else set()
+        found |= {11} if entry is not None and meet((entry, 4), (START, MONITOR_SIZE)) else set()
+    return found
+
+
+def loaded(image, kind, size, is_monitored):
+    """The bytes of RAM and the entry, or the fault."""
+    if size % 65536 or not 65536 <= size <= 16777216:
+        raise Fault("rvbench: ram 1")
+    ram = bytearray(size)
+
+    def put(address, data):
+        ram[address - START:address - START + len(data)] = data
+
+    if elf_model.is_elf(image, kind):
+        found = elf_faults(image, size, is_monitored)
+        entry = elf_model.field(image, "entry")
+    else:
+        entry = HOST_ENTRY if is_monitored else START
+        found = {9} if image and entry + len(image) > START + size else set()
+        found |= {11} if entry + 4 > START + size else set()
+    if found:
+        raise Fault("rvbench: image %d" % min(found))
+    if not elf_model.is_elf(image, kind):
+        put(entry, image)
+    else:
+        for it in elf_model.program_headers(image):
+            if it["type"] == elf_model.LOAD and it["memsz"]:
+                put(it["paddr"], image[it["offset"]:][:it["filesz"]])
+    return ram, entry
+
+
+# ---- commands
+
+def number(text, limits):
+    value = int(text)
+    if not limits[0] <= value <= limits[1]:
+        raise Fault("error operand")
+    return value
+
+
+class Bench:
+    """`machine` is what the commands work on."""
+
+    def __init__(self, image, kind="auto", ram=1048576, is_monitored=True):
+        ram, entry = loaded(image, kind, ram, is_monitored)
+        self.machine = (Monitored if is_monitored else BareHart)(ram, entry)
+        self.breaks, self.watches = set(), set()
+
+    def replies(self, line):
+        """The lines that answer a line of a script, which is text of one character a byte."""
+        try:
+            if len(line) > MOST_LINE or re.search("[^\t -~]", line):
+                raise Fault("error line")
+            words = re.split("[ \t]+", line.strip(" \t"))
+            if words[0] == "" or words[0].startswith("#"):
+                return []
+            if words[0] not in FORMS:
+                raise Fault("error command")
+            forms = FORMS[words[0]]
+            if len(forms) != len(words) - 1 or not all(map(re.fullmatch, forms, words[1:])):
+                raise Fault("error operand")
+            answer = getattr(self, "do_" + words[0])(*words[1:])
+        except Fault as fault:
+            answer = fault.args[0]
+        return [answer] if isinstance(answer, str) else answer
+
+    def world(self):
+        world = self.machine.world
+        return "host" if world is None else world if world == "bare" else "e%d" % world
+
+    def stepped(self, count, breaks, watches):
+        done, last, why = 0, None, None
+        count = number(count, (1, MOST_STEPS))
+        while why is None:
+            last = self.machine.step() or last
+            done += 1
+            watched = watches.intersection(self.machine.reached)
+            if watched:
+                why = "watch:%08x" % min(watched)
+            elif done == count:
+                why = "done"
+            elif self.machine.pc in breaks:
+                why = "break"
+        trap = "%08x:%08x" % (last.cause, last.tval) if last else "-"
+        return "ran %d pc=%08x mode=%s world=%s why=%s trap=%s" % (
+            done, self.machine.pc, LETTER[self.machine.mode], self.world(), why, trap)
+
+    def do_step(self, count):
+        return self.stepped(count, set(), set())
+
+    def do_run(self, count):
+        return self.stepped(count, self.breaks, self.watches)
+
+    def put_into(self, addresses, text):
+        address = int(text, 16)
+        if address not in addresses and len(addresses) == MOST_ADDRESSES:
+            raise Fault("error full")
+        addresses.add(address)
+        return "ok"
+
+    def do_break(self, text):
+        return self.put_into(self.breaks, text)
+
+    def do_watch(self, text):
+        return self.put_into(self.watches, text)
+
+    def do_clear(self, text):
+        self.breaks.discard(int(text, 16))
+        return "ok"
+
+    def do_unwatch(self, text):
+        self.watches.discard(int(text, 16))
+        return "ok"
+
+    def do_reg(self, text):
+        at = number(text, (0, 31))
+        return "x%d=%08x" % (at, self.machine.regs[at])
+
+    def do_regs(self):
+        return ["x%d=%08x" % pair for pair in enumerate(self.machine.regs)] + ["pc=%08x" % self.machine.pc]
+
+    def do_setreg(self, register, value):
+        self.machine.set(number(register, (0, 31)), int(value, 16))
+        return "ok"
+
+    def do_csr(self, text):
+        if int(text, 16) not in KEPT:
+            raise Fault("error csr")
+        return "csr %03x=%08x" % (int(text, 16), self.machine.reading(int(text, 16)))
+
+    def inside(self, text, count):
+        address = int(text, 16)
+        if not self.machine.is_inside(address, count):
+            raise Fault("error outside")
+        return address
+
+    def do_mem(self, text, count):
+        count = number(count, (1, MOST_SHOWN))
+        address = self.inside(text, count)
+        return "%08x:" % address + "".join(" %02x" % byte for byte in self.machine.part(address, count))
+
+    def do_poke(self, text, byte):
+        self.machine.put(self.inside(text, 1), bytes([int(byte, 16)]))
+        return "ok"
+
+    def do_dis(self, text):
+        address = self.inside(text, 4)
+        word = self.machine.word_at(address)
+        return "%08x: %08x %s" % (address, word, disassembled(word))
+
+    def do_pmp(self):
+        entries = self.machine.entries
+        return ["pmp %d cfg=%02x addr=%08x" % (i, entries.cfgs[i], entries.addrs[i]) for i in range(16)]
+
+    def do_enclaves(self):
+        return ["enclave %d %s %08x %08x %08x %08x %08x %s" % (slot, it.state, *it.region, *it.window, it.entry,
+                                                                it.measurement.hex())
+                for slot, it in sorted(self.machine.table.items())]
+
+    def do_access(self, mode, kind, text, width):
+        return self.machine.verdict(MODE[mode], kind, int(text, 16), int(width))
+
+    def do_timer(self, text):
+        self.machine.timer = text == "on"
+        return "ok"
+
+
+# ---- whole inputs
+
+def lines_of(text):
+    lines = text.split("\n")
+    return [line[:-1] if line.endswith("\r") else line for line in lines[:-1]] + lines[-1:] * (lines[-1] != "")
+
+
+def output(text, **setup):
+    """What the program must write to an input whose image text has no fault, and its status."""
+    lines = lines_of(text)
+    cut = next((i for i, line in enumerate(lines) if line.strip(" \t") == "--"), len(lines))
+    try:
+        bench = Bench(bytes.fromhex("".join(line.strip(" \t") for line in lines[:cut])), **setup)
+    except Fault as fault:
+        return fault.args[0] + "\n", 1
+    return "".join(reply + "\n" for line in lines[cut + 1:] for reply in bench.replies(line)), 0
+
+
+def setup_of(words):
+    """The setup that the program's words name."""
+    parser = argparse.ArgumentParser()
+    parser.add_argument("--kind", default="auto", choices=("auto", "raw", "elf"))
+    parser.add_argument("--ram", default=1048576, type=int)
+    parser.add_argument("--monitor", dest="is_monitored", action="store_true")
+    return vars(parser.parse_args(words[1:] if words[:1] == ["run"] else words))
+
+
+def main(words):
+    text, status = output(sys.stdin.buffer.read().decode("latin-1"), **setup_of(words))
+    sys.stdout.write(text)
+    return status
+
+
+if __name__ == "__main__":
+    sys.exit(main(sys.argv[1:]))

@@ -1,0 +1,177 @@
+"""A case of the monitored profile: what the program is told, and the replies of the model of monitor_bench.py. The code of the
+host stands in the image, all other code is poked.
+"""
+from instruction_words import assemble
+from monitor_bench import Bench, output
+from monitor_model import CREATE, HOST_ENTRY, KEY, RUN
+from privileged_hart import LETTER, NUMBER, ONES
+
+ECALL = ("ecall",)
+CODE = range(HOST_ENTRY, HOST_ENTRY + 0x2000)  # the host's code: in the image, and in no region and no window
+MEMORY = 0x100000  # bytes of RAM where nothing is said
+
+
+def input_of(image, script):
+    """The input of an image, as digits, and the lines of a script."""
+    return "\n".join([image[i:i + 120] for i in range(0, len(image), 120)] + ["--"] + script) + "\n"
+
+
+class Case:
+    """`topic` and `name` are those of the files; options stand behind run --monitor."""
+    all, words = [], {}
+
+    def __init__(self, topic, name, ram=MEMORY):
+        self.topic, self.name, self.ram, self.image = "monitor_" + topic, name, ram, {}
+        self.bench, self.script, self.replies = Bench(b"", ram=ram), [], []
+        Case.all.append(self)
+
+    @property
+    def machine(self):
+        return self.bench.machine
+
+    def files(self):
+        data = bytes(self.image.get(a, 0) for a in range(HOST_ENTRY, max(self.image, default=HOST_ENTRY - 1) + 1)).hex()
+        stdin = input_of(data, self.script)
+        words = ["run", "--monitor"] + (["--ram", str(self.ram)] if self.ram != MEMORY else [])
+        stdout = "".join(it + "\n" for it in self.replies)
+        assert output(stdin, ram=self.ram) == (stdout, 0), self.name  # with all of the code there from the start
+        return {"args": "".join(it + "\n" for it in words), "stdin": stdin, "stdout": stdout}
+
+    # ---- lines
+
+    def say(self, *lines):
+        """Lines, and the replies of the model; answers the last reply."""
+        for line in lines:
+            self.script.append(line)
+            self.replies += self.bench.replies(line)
+        return self.replies[-1] if self.replies else None
+
+    def wants(self, line, *replies):
+        """A line whose replies are written out by hand."""
+        self.script.append(line)
+        given = self.bench.replies(line)
+        assert given == list(replies), (self.name, line, given, replies)
+        self.replies += given
+
+    def tell(self, text):
+        self.script.append("# " + text)
+
+    def set(self, number, word):
+        if self.machine.regs[number] != word & ONES:
+            self.say("setreg %d %x" % (number, word & ONES))
+
+    def csrs(self, *names):
+        """What control and status registers read."""
+        self.say(*("csr %03x" % NUMBER[name] for name in names))
+
+    def trapped(self):
+        """What every trap leaves."""
+        self.csrs("mepc", "mcause", "mtval", "mstatus")
+
+    def supervisor(self):
+        """What of mode S is switched."""
+        self.csrs("stvec", "sscratch", "sepc", "scause", "stval", "sstatus")
+
+    def poke(self, address, data):
+        """Bytes, those that are not there yet."""
+        for i, byte in enumerate(data):
+            if self.machine.part(address + i, 1) != bytes([byte]):
+                self.say("poke %x %x" % (address + i, byte))
+
+    # ---- code
+
+    def place(self, address, *instruction):
+        text, word = assemble(*instruction)
+        Case.words[text] = word
+        data = word.to_bytes(4, "little")
+        if address in CODE:
+            there = bytes(self.image.get(address + i, byte) for i, byte in enumerate(data))
+            assert there == data, "two words at one place"
+            self.image.update(enumerate(data, address))
+            self.machine.put(address, data)
+        else:
+            self.poke(address, data)
+
+    def do(self, *instructions):
+        """Instructions from pc on, in one command; answers its reply."""
+        for i, instruction in enumerate(instructions):
+            self.place(self.machine.pc + 4 * i, *instruction)
+        return self.say("step %d" % len(instructions))
+
+    def write(self, **registers):
+        """Words into control and status registers, by way of x31."""
+        for name, word in registers.items():
+            self.set(31, word)
+            self.do(("csrrw", 0, NUMBER[name], 31))
+
+    def to_user(self):
+        """From mode S to U, behind an sret."""
+        self.write(sepc=self.machine.pc + 12, sstatus=self.machine.reading(NUMBER["sstatus"]) & ~0x100)
+        self.do(("sret",))
+        self.is_now(mode="U")
+
+    # ---- calls
+
+    def call(self, function, *arguments, key=KEY, wants=None):
+        """A call with these registers from a0 on. Where an answer is wanted, the status and the result by hand, no world is
+        left and it is shown."""
+        self.set(17, key)
+        self.set(16, function)
+        for i, word in enumerate(arguments):
+            self.set(10 + i, word)
+        world = self.machine.world
+        reply = self.do(ECALL)
+        if wants is not None:
+            self.say("reg 10", "reg 11")
+            given = tuple(self.machine.regs[10:12])
+            assert (given, self.machine.world) == (wants, world), (self.name, [hex(it) for it in given], wants)
+        return reply
+
+    def create(self, base, size=0x1000, window=(0, 0), entry=None, wants=0):
+        """A create that is taken, and its slot is what is wanted; a status is wanted where it is over 12."""
+        entry = base if entry is None else entry
+        self.call(CREATE, base, size, *window, entry, wants=(0, wants) if wants <= 12 else (wants, 0))
+
+    def enter(self, slot, function=RUN):
+        """A run or resume that is taken."""
+        self.call(function, slot)
+        assert self.machine.world == slot, self.name
+        self.is_now()
+
+    def leave(self, function, value=0, told=None):
+        """A stop or an exit."""
+        self.call(function, value)
+        assert self.machine.world is None, self.name
+        self.say("reg 10", "reg 11")
+        assert told is None or self.machine.regs[10:12] == [told, value], self.name
+
+    def is_now(self, **wanted):
+        """What the model has by now, by hand: pc, mode, registers by number."""
+        machine = self.machine
+        for name, value in wanted.items():
+            given = {"pc": machine.pc, "mode": LETTER[machine.mode], "world": self.bench.world()}.get(name)
+            given = machine.regs[int(name[1:])] if given is None else given
+            assert given == value, (self.name, name, given, value)
+
+
+def worked(topic, name, image, script, wanted, **setup):
+    """A case whose image, script and output are written by hand, and are what the model gives too."""
+    text = image + "\n--\n" + script
+    assert output(text, **setup) == (wanted, 0), (name, output(text, **setup)[0], wanted)
+    return WholeCase("monitor_" + topic, name, setup, text, wanted, 0)
+
+
+class WholeCase:
+    """A case that is its input and output."""
+
+    def __init__(self, topic, name, setup, stdin, stdout, status):
+        self.topic, self.name, self.stdin, self.stdout, self.status = topic, name, stdin, stdout, status
+        self.arguments = ["run", "--monitor"]
+        for option in ("kind", "ram"):
+            if option in setup:
+                self.arguments += ["--" + option, str(setup[option])]
+        Case.all.append(self)
+
+    def files(self):
+        return {"args": "".join(it + "\n" for it in self.arguments), "stdin": self.stdin, "stdout": self.stdout,
+                "status": "%d\n" % self.status}
