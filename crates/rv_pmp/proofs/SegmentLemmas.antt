@@ -128,21 +128,21 @@ both_or_neither : (from to start end byte : ℕ) → start ≤ byte → byte < e
 both_or_neither from to start end byte low high from_apart to_apart =
     bool_same (nat_le from byte && nat_lt byte to) (nat_le from start && nat_lt start to)
     (λ has.
-        let a = and_both (nat_le from byte) (nat_lt byte to) has in
-        let above : from ≤ byte = leb-true _ _ a.0 in
-        let below : byte < to = ltb-true _ _ a.1 in
-        elim (from_apart (omega arith)) [
-          | inl first ↦ and_from _ _ (le-leb from start first) (lt-ltb start to (omega arith))
-          | inr past ↦ absurd (omega arith)
-        ])
+    let a = and_both (nat_le from byte) (nat_lt byte to) has in
+    let above : from ≤ byte = leb-true _ _ a.0 in
+    let below : byte < to = ltb-true _ _ a.1 in
+    elim (from_apart (omega arith)) [
+      | inl first ↦ and_from _ _ (le-leb from start first) (lt-ltb start to (omega arith))
+      | inr past ↦ absurd (omega arith)
+    ])
     (λ has.
-        let a = and_both (nat_le from start) (nat_lt start to) has in
-        let above : from ≤ start = leb-true _ _ a.0 in
-        let below : start < to = ltb-true _ _ a.1 in
-        elim (to_apart (omega arith)) [
-          | inl first ↦ absurd (omega arith)
-          | inr past ↦ and_from _ _ (le-leb from byte (omega arith)) (lt-ltb byte to (omega arith))
-        ])
+    let a = and_both (nat_le from start) (nat_lt start to) has in
+    let above : from ≤ start = leb-true _ _ a.0 in
+    let below : start < to = ltb-true _ _ a.1 in
+    elim (to_apart (omega arith)) [
+      | inl first ↦ absurd (omega arith)
+      | inr past ↦ and_from _ _ (le-leb from byte (omega arith)) (lt-ltb byte to (omega arith))
+    ])
 
 -- bounds of which the first k are not above start, and the others not below end: between the two the owner is one
 module _ (ranges : EntryRanges) (bounds : List ℕ) (start end k : ℕ) (all : AreBounds ranges bounds) (before : (m : ℕ) → m < k → slice_index bounds m ≤ start) (after : (m : ℕ) → k ≤ m → m < length bounds → end ≤ slice_index bounds m) where

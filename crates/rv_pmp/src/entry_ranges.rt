@@ -9,7 +9,7 @@ use crate::matched_range::matched_range;
 use crate::pmp_index::PmpIndex;
 
 /// How many entries there are.
-const ENTRIES: usize = 16;
+const ENTRIES: u8 = 16;
 
 /// The ranges of the entries: of each the first byte that it covers and the first past them, both 0 where it covers none.
 #[derive(Clone, Copy, Debug)]
@@ -51,11 +51,19 @@ impl EntryRanges {
             to: [0; 16],
         };
         for number in 0..ENTRIES {
-            let (from, to) = range_or_none(cfgs, addrs, PmpIndex::new(number as u8));
-            ranges.from[number] = from;
-            ranges.to[number] = to;
+            let (from, to) = range_or_none(cfgs, addrs, PmpIndex::new(number));
+            ranges.from[number as usize] = from;
+            ranges.to[number as usize] = to;
         }
         ranges
+    }
+
+    /// Whether the range of an entry has a byte.
+    fn has(&self, index: PmpIndex, byte: u64) -> bool
+        ensures { result ≡ is_within self.now index byte }
+    {
+        let at = index.number() as usize;
+        self.from[at] <= byte && byte < self.to[at]
     }
 
     /// The least entry whose range has a byte.
@@ -64,8 +72,9 @@ impl EntryRanges {
         ensures { result ≡ owner (is_within self.now) byte }
     {
         for number in 0..ENTRIES {
-            if self.from[number] <= byte && byte < self.to[number] {
-                return Some(PmpIndex::new(number as u8));
+            let index = PmpIndex::new(number);
+            if self.has(index, byte) {
+                return Some(index);
             }
         }
         None
@@ -79,8 +88,8 @@ impl EntryRanges {
     {
         let mut count = 1;
         for number in 0..ENTRIES {
-            let from = self.from[number];
-            let to = self.to[number];
+            let from = self.from[number as usize];
+            let to = self.to[number as usize];
             if from < to {
                 bounds[count] = from;
                 bounds[count + 1] = to;

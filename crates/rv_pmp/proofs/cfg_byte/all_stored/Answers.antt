@@ -9,5 +9,5 @@ returns c =
     let cfgs = c.args.cfgs.now in
     let long : length loop.kept ≡ length (map stored_cfg cfgs) = omega (arith, loop.invariant.long, length-map cfgs stored_cfg) in
     ext_get_or 0 loop.kept (map stored_cfg cfgs) long (λ i below.
-        loop.invariant.so_far i (omega (arith, below, loop.invariant.long, c.loop-k-test.false))
-        ∙ sym (get_or-map stored_cfg cfgs i 0 0 (omega (arith, below, loop.invariant.long))))
+    loop.invariant.so_far i (omega (arith, below, loop.invariant.long, c.loop-k-test.false))
+    ∙ sym (get_or-map stored_cfg cfgs i 0 0 (omega (arith, below, loop.invariant.long))))

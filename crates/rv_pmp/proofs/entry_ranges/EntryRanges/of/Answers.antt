@@ -12,6 +12,6 @@ loop-number-preserved c =
       from_long = length-set loop.ranges.from loop.number from ∙ kept.from_long;
       to_long = length-set loop.ranges.to loop.number to ∙ kept.to_long;
       so_far = ranges_more (record { cfgs = c.args.cfgs.now; addrs = c.args.addrs.now }) loop.ranges loop.number from to
-      (omega (arith, kept.from_long, c.loop-number-test.true)) (omega (arith, kept.to_long, c.loop-number-test.true)) kept.so_far
-      (rw c.new.ensures at c.range_or_none-from.ensures);
+          (omega (arith, kept.from_long, c.loop-number-test.true)) (omega (arith, kept.to_long, c.loop-number-test.true)) kept.so_far
+          (rw c.new.ensures at c.range_or_none-from.ensures);
     }
