@@ -1,5 +1,5 @@
 -- Segments that follow one another: one goes on, or one more begins; and bounds between which no range begins or ends.
-use Rattle.std.proofs.Common.{◌≡◌, ℕ, zero, suc, ◌+◌, ◌-◌, ◌<◌, ◌≤◌, ◌^◌, ◌⊎◌, ◌==◌, ◌&&◌, nat_le, nat_lt, if◌then◌else◌, Bool, true, false, List, length, Option, None, refl, sym, ◌∙◌, ap, inl, inr, arith, slice_index, slice_index_or, slice_set, take, leb, get_or-set_same, get_or-set_other}
+use Rattle.std.proofs.Common.{◌≡◌, ℕ, zero, suc, ◌-◌, ◌<◌, ◌≤◌, ◌^◌, ◌⊎◌, ◌==◌, ◌&&◌, nat_le, nat_lt, if◌then◌else◌, Bool, true, false, List, length, Option, None, refl, sym, ◌∙◌, ap, inl, inr, arith, slice_index, slice_index_or, slice_set, take, leb, get_or-set_same, get_or-set_other}
 use Rattle.std.specs.List.{Contains}
 use Rattle.std.specs.List.Sorted.{IsPermutation, IsNonDecreasingBy, IsPartitionPoint}
 use Rattle.std.proofs.lemmas.Bool.{cases_eq, cases_lt, cond-false, ne_eqb, and_from, both_ways, le-leb, leb-true, lt-ltb, ltb-true, leb-false}
@@ -29,86 +29,30 @@ begin_kept ends at end k before = elim (cases_eq k 0) [
       ∙ sym (begin_after ends k some)
 ]
 
--- what a step does to the segments
-pub record Goes (covering : ℕ → ℕ → Bool) (end : ℕ) (new : Segments) : Type 0 where
-  pub reach : reach_of new ≡ end
-  pub order : AreInOrder new
-  pub owned : AreOwned covering new
-
-module _ (covering : ℕ → ℕ → Bool) (old : Segments) (start end : ℕ) (own : Option ℕ) (order : AreInOrder old) (owned : AreOwned covering old) (is_reach : start ≡ reach_of old) (some : start < end) (alike : (byte : ℕ) → start ≤ byte → byte < end → owner covering byte ≡ own) where
+-- each byte has its owner still where the last segment goes on
+module _ (covering : ℕ → ℕ → Bool) (old : Segments) (start end : ℕ) (own : Option ℕ) (owned : AreOwned covering old) (is_reach : start ≡ reach_of old) (alike : (byte : ℕ) → start ≤ byte → byte < end → owner covering byte ≡ own) where
   abbrev n : ℕ
   n = old.count
 
-  -- one more segment begins
-  abbrev added : Segments
-  added = record { ends = slice_set old.ends n end; owners = slice_set old.owners n own; count = n + 1 }
-
-  end_added : n < length old.ends → slice_index added.ends n ≡ end
-  end_added room = get_or-set_same old.ends n end 0 room
-
-  end_before : (k : ℕ) → k < n → slice_index added.ends k ≡ slice_index old.ends k
-  end_before k before = get_or-set_other old.ends n k end 0 (λ same. omega (arith, before))
-
-  begin_before : (k : ℕ) → k ≤ n → start_of added k ≡ start_of old k
-  begin_before k before = begin_kept old.ends n end k before
-
-  begin_added : start_of added n ≡ start
-  begin_added = begin_before n (omega arith) ∙ sym is_reach
-
-  pub one_more : n < 33 → length old.ends ≡ 33 → length old.owners ≡ 33 → Goes covering end added
-  one_more room ends_long owners_long = record {
-    reach = let last : n + 1 - 1 ≡ n = omega arith in begin_after added.ends (n + 1) (omega arith) ∙ ap (slice_index added.ends) last ∙ end_added (omega arith);
-    order = record {
-      at_most = omega arith;
-      rising = λ k used. elim (cases_eq k n) [
-        | inl last ↦ rw last (omega (arith, begin_added, end_added (omega arith)))
-        | inr before ↦ omega (arith, order.rising k (omega arith), begin_before k (omega arith), end_before k (omega arith))
-      ];
-    };
-    owned = λ k byte used low high. elim (cases_eq k n) [
-      | inl last ↦
-          let first = rw last at low in
-          let past = rw last at high in
-          rw last
-          (alike byte (omega (arith, first, begin_added)) (omega (arith, past, end_added (omega arith)))
-          ∙ sym (get_or-set_same old.owners n own None (omega arith)))
-      | inr before ↦
-          owned k byte (omega arith) (omega (arith, begin_before k (omega arith))) (omega (arith, end_before k (omega arith)))
-          ∙ sym (get_or-set_other old.owners n k own None before)
-    ];
-  }
-
-  -- the last segment goes on
   abbrev longer : Segments
   longer = record { ends = slice_set old.ends (n - 1) end; owners = old.owners; count = n }
 
-  pub goes_on : 0 < n → n ≤ length old.ends → slice_index_or old.owners (n - 1) None ≡ own → Goes covering end longer
+  pub goes_on : 0 < n → n ≤ length old.ends → slice_index_or old.owners (n - 1) None ≡ own → AreOwned covering longer
   goes_on used_some long same =
       let last : ℕ = n - 1 in
       let is_end : slice_index longer.ends last ≡ end = get_or-set_same old.ends last end 0 (omega arith) in
       let was_end : slice_index old.ends last ≡ start = sym (is_reach ∙ begin_after old.ends n used_some) in
       let began : (k : ℕ) → k < n → start_of longer k ≡ start_of old k = λ k used. begin_kept old.ends last end k (omega arith) in
-      let ended : (k : ℕ) → k < n → (k ≡ last → ⊥) → slice_index longer.ends k ≡ slice_index old.ends k
-      = λ k used before. get_or-set_other old.ends last k end 0 before in
-      record {
-        reach = begin_after longer.ends n used_some ∙ is_end;
-        order = record {
-          at_most = order.at_most;
-          rising = λ k used. elim (cases_eq k last) [
-            | inl at ↦ rw at (omega (arith, order.rising last (omega arith), began last (omega arith), is_end, was_end))
-            | inr before ↦ omega (arith, order.rising k used, began k used, ended k used before)
-          ];
-        };
-        owned = λ k byte used low high. elim (cases_eq k last) [
-          | inl at ↦ elim (cases_lt byte start) [
-            | inl early ↦ owned k byte used (omega (arith, began k used)) (rw at (omega (arith, was_end)))
-            | inr late ↦
-                let past = rw at at high in
-                alike byte (omega arith) (omega (arith, is_end)) ∙ rw at (sym same)
-          ]
-          | inr before ↦ owned k byte used (omega (arith, began k used)) (omega (arith, ended k used before))
-        ];
-      }
+      λ k byte used low high. elim (cases_eq k last) [
+        | inl at ↦ elim (cases_lt byte start) [
+          | inl early ↦ owned k byte used (omega (arith, began k used)) (rw at (omega (arith, was_end)))
+          | inr late ↦
+              let past = rw at at high in
+              alike byte (omega arith) (omega (arith, is_end)) ∙ rw at (sym same)
+        ]
+        | inr before ↦
+            owned k byte used (omega (arith, began k used)) (omega (arith, high, get_or-set_other old.ends last k end 0 before))
+      ]
 
 -- the bounds in order
 pub bounds_in_order : (ranges : EntryRanges) (xs ys : List ℕ) → IsPermutation xs ys → AreBounds ranges xs → AreBounds ranges ys

@@ -14,6 +14,5 @@ returns-then-eq-clause-owned c =
     let last = a.self.now.count - 1 in
     let is = get_or_default a.self.now.owners last None found (omega (arith, c.if-count-gt0.true)) in
     let same = option_same (slice_index_or a.self.now.owners last found) c.owner-owner.result (sym c.eq.ensures ∙ c.if-eq.true) in
-    let gives = goes_on covering a.self.now a.start a.end (owner covering a.start) c.requires.order c.requires.owned c.requires.start c.requires.some c.requires.alike
-    c.if-count-gt0.true (omega arith) (is ∙ same ∙ c.owner-owner.ensures) in
-    gives.owned
+    goes_on covering a.self.now a.start a.end (owner covering a.start) c.requires.owned c.requires.start c.requires.alike
+    c.if-count-gt0.true (omega arith) (is ∙ same ∙ c.owner-owner.ensures)
