@@ -32,6 +32,16 @@ SETS = [
     ("PAST_THE_TOP", "The last addresses of 32 bits, past which an access may go, and the next 2^32 after them.",
      {12: (TOR | R, 0x3FFFFF00), 13: (NA4 | W | R, 0x3FFFFFFF), 14: (NAPOT | X, 0x5FFFFFFF)},
      [0xFFFFFC00, 0xFFFFFFFC]),
+    ("SIDE_BY_SIDE", "A word inside the range of another entry, and a range that begins where that one ends.",
+     {0: (NA4 | R, 0x80000104 >> 2), 1: (NAPOT | R | W | X, napot(0x80000000, 0x1000)), 2: (NAPOT | R | W | X, napot(0x80001000, 16))},
+     [0x80000104, 0x80001000]),
+    ("OVERLAPPING_TORS", "TOR ranges that overlap, one of them with nothing in it, and one that is hidden by a lower entry.",
+     {0: (OFF, 0x80000100 >> 2), 1: (TOR | R | W, 0x80000300 >> 2), 2: (TOR | X, 0x80000200 >> 2), 3: (TOR | R | X, 0x80000280 >> 2),
+      4: (L | TOR | R | W | X, 0x80000400 >> 2)},
+     [0x80000200, 0x80000280, 0x80000300]),
+    ("SIXTEEN_APART", "Sixteen entries of four bytes with four bytes between: as many segments as there can be.",
+     {i: (NA4 | (R, R | W, X)[i % 3], (0x80000004 + 8 * ((5 * i) % 16)) >> 2) for i in range(16)},
+     [0x80000004, 0x80000044, 0x8000007C]),
 ]
 
 

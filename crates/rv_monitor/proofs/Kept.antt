@@ -1,22 +1,21 @@
--- The entries while they are set one after another.
-use Rattle.std.proofs.Common.{◌≡◌, ◌≢◌, ℕ, ◌+◌, ◌-◌, ◌<◌, ◌==◌, Bool, true, false, List, Option, Some, None, refl, ◌∙◌, ap, ap₂, inl, inr, arith, get_or-set_same, get_or-set_other, length-set}
+-- The entries that are set are those of the layout.
+use Rattle.std.proofs.Common.{◌≡◌, ℕ, ◌-◌, ◌<◌, ◌==◌, Bool, true, false, List, Option, Some, None, refl, ◌∙◌, ap, ap₂, inl, inr, arith, length, map, slice_index}
 use Rattle.std.specs.Prelude.{if◌then◌else◌, nat_lt}
 use Rattle.std.proofs.lemmas.List.FromFn.{fill_by_all}
-use Rattle.std.proofs.lemmas.Bool.{cases_eq, cases_Bool, and_left, and_right, or_from}
+use Rattle.std.proofs.lemmas.Bool.{cases_Bool}
 use Rattle.rv_pmp.specs.Cfg.{is_locked, stored_cfg}
-use Rattle.rv_pmp.specs.Entries.{Entries, HasSixteen, cfg_of, addr_of}
-use Rattle.rv_pmp.specs.Locks.{with_entry, is_addr_locked}
+use Rattle.rv_pmp.specs.Entries.{Entries}
+use Rattle.rv_pmp.specs.Locks.{with_entries}
+use Rattle.std.proofs.lemmas.List.{length-map, get_or-map}
 use Rattle.rv_monitor.specs.Blocks.{monitor_block}
 use Rattle.rv_monitor.specs.declared.slot_info.SlotInfo.{SlotInfo}
 use Rattle.rv_monitor.specs.declared.world.World.{World}
 use Rattle.rv_monitor.specs.declared.world.World.TheVariants.{Host, Enclave}
 use Rattle.rv_monitor.specs.Table.{Slots, slot_at, is_world_of}
-use Rattle.rv_monitor.specs.Layout.{Entry, nothing, napot, entry_at, region_entry, window_entry, window_entry_of, host_entry, layout}
+use Rattle.rv_monitor.specs.Layout.{nothing, napot, entry_at, region_entry, window_entry, window_entry_of, host_entry, layout}
 use Rattle.rv_state.specs.CsrTable.{enabled_of}
 use Rattle.rv_monitor.specs.Layout.{mie_of}
-use Rattle.rv_monitor.specs.Unlocked.{HasNoLock}
 use Rattle.rv_word.specs.Logic.{by_bits}
-use borrow.Author.Count.{below_more}
 
 -- a cfg byte that the monitor uses is stored as it is, and locks nothing
 pub record IsPlain (cfg : ℕ) : Type 0 where
@@ -61,53 +60,19 @@ pub entry_is_plain : (t : Slots) (w : World) (i : ℕ) → IsPlain (entry_at t w
 unfolding entry_at
 entry_is_plain t w i = plain_by (i == 0) (nat_lt i 14) (i == 14) t w (i - 1)
 
--- where no entry is locked, none bounds a locked one
-pub unlocked_at : (e : Entries) (i : ℕ) → HasNoLock e → is_addr_locked e i ≡ false
-unlocked_at e i unlocked = or_from _ _ (unlocked i) (and_right _ _ (and_left _ _ (unlocked (i + 1))))
-
--- the entries e, of which entry i has been set to that of the layout
-module _ (t : Slots) (w : World) (e : Entries) (i : ℕ) (x : Entry) (is : x ≡ entry_at t w i) (size : HasSixteen (with_entry e i x.cfg x.addr)) (in_range : i < 16) where
-  abbrev after : Entries
-  after = with_entry e i x.cfg x.addr
-
-  cfg_at : cfg_of after i ≡ (entry_at t w i).cfg
-  cfg_at =
-      get_or-set_same e.cfgs i (stored_cfg x.cfg) 0 (omega (arith, size.cfgs, length-set e.cfgs i (stored_cfg x.cfg)))
-      ∙ rw is (entry_is_plain t w i).stored
-
-  addr_at : addr_of after i ≡ (entry_at t w i).addr
-  addr_at =
-      get_or-set_same e.addrs i x.addr 0 (omega (arith, size.addrs, length-set e.addrs i x.addr))
-      ∙ ap (λ (y : Entry). y.addr) is
-
-  pub cfgs_more : ((j : ℕ) → j < i → cfg_of e j ≡ (entry_at t w j).cfg) → (j : ℕ) → j < i + 1 → cfg_of after j ≡ (entry_at t w j).cfg
-  cfgs_more below = below_more _ i
-      (λ j before. let other : j ≢ i = omega arith in get_or-set_other e.cfgs i j (stored_cfg x.cfg) 0 other ∙ below j before)
-      cfg_at
-
-  pub addrs_more : ((j : ℕ) → j < i → addr_of e j ≡ (entry_at t w j).addr) → (j : ℕ) → j < i + 1 → addr_of after j ≡ (entry_at t w j).addr
-  addrs_more below = below_more _ i
-      (λ j before. let other : j ≢ i = omega arith in get_or-set_other e.addrs i j x.addr 0 other ∙ below j before)
-      addr_at
-
-  pub still_unlocked : HasNoLock e → HasNoLock after
-  still_unlocked unlocked j = elim (cases_eq j i) [
-    | inl at ↦ rw (at, cfg_at) (entry_is_plain t w i).unlocked
-    | inr other ↦ rw (get_or-set_other e.cfgs i j (stored_cfg x.cfg) 0 other) (unlocked j)
-  ]
-
 entries_are : (e d : Entries) → e.cfgs ≡ d.cfgs → e.addrs ≡ d.addrs → e ≡ d
 entries_are e d cfgs addrs =
     let at : List ℕ → List ℕ → Entries = λ xs ys. record { cfgs = xs; addrs = ys } in
     ap₂ at cfgs addrs
 
--- sixteen entries that are those of the layout are the layout
-pub layout_from_each : (t : Slots) (w : World) (e : Entries) → HasSixteen e → ((j : ℕ) → j < 16 → cfg_of e j ≡ (entry_at t w j).cfg) → ((j : ℕ) → j < 16 → addr_of e j ≡ (entry_at t w j).addr) → e ≡ layout t w
+-- the entries set to what each is in the layout are the layout
+pub layout_from_each : (t : Slots) (w : World) (cfgs addrs : List ℕ) → length cfgs ≡ 16 → length addrs ≡ 16 → ((j : ℕ) → j < 16 → slice_index cfgs j ≡ (entry_at t w j).cfg) → ((j : ℕ) → j < 16 → slice_index addrs j ≡ (entry_at t w j).addr) → with_entries cfgs addrs ≡ layout t w
 unfolding layout
-layout_from_each t w e size cfgs addrs =
-    entries_are e (layout t w)
-    (fill_by_all (λ i. (entry_at t w i).cfg) e.cfgs 16 0 size.cfgs cfgs)
-    (fill_by_all (λ i. (entry_at t w i).addr) e.addrs 16 0 size.addrs addrs)
+layout_from_each t w cfgs addrs cfgs_long addrs_long each_cfg each_addr =
+    entries_are (with_entries cfgs addrs) (layout t w)
+    (fill_by_all (λ i. (entry_at t w i).cfg) (map stored_cfg cfgs) 16 0 (length-map cfgs stored_cfg ∙ cfgs_long)
+    (λ j below. get_or-map stored_cfg cfgs j 0 0 (omega (arith, below, cfgs_long)) ∙ ap stored_cfg (each_cfg j below) ∙ (entry_is_plain t w j).stored))
+    (fill_by_all (λ i. (entry_at t w i).addr) addrs 16 0 addrs_long each_addr)
 
 -- the monitor's value of mie is stored as it is
 pub mie_stored : (w : World) → enabled_of (mie_of w) ≡ mie_of w

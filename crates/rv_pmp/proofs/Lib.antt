@@ -4,5 +4,9 @@ pub mod CoversLemmas
 pub mod CfgLemmas
 pub mod JustifiedLemmas
 pub mod OpenRangeLemmas
+pub mod OwnerLemmas
+pub mod OwnedVerdicts
+pub mod BoundsLemmas
+pub mod SegmentLemmas
 pub mod LockLemmas
 mod VerdictExamples

@@ -1,5 +1,5 @@
 -- Tests of the numbers from one up to another, and the verdict from which entries meet an access.
-use Rattle.std.proofs.Common.{◌≡◌, ℕ, zero, suc, ◌+◌, ◌<◌, ◌≤◌, ◌⊎◌, ◌↔◌, Bool, true, false, ◌||◌, ◌&&◌, IsTrue, List, Some, None, refl, sym, ◌∙◌, ap, inl, inr, arith, max}
+use Rattle.std.proofs.Common.{◌≡◌, ℕ, zero, suc, ◌+◌, ◌<◌, ◌≤◌, ◌⊎◌, Bool, true, false, ◌||◌, ◌&&◌, List, Some, None, refl, sym, ◌∙◌, ap, inl, inr, arith}
 use Rattle.std.specs.List.{range_with_len, list_any, list_all, find}
 use Rattle.std.proofs.lemmas.Bool.{cases_eq, or_from, or_left, or_right, and_from, and_left, and_right, cases_Bool, cond-true, cond-false, false_from_ne_true, true_from_ne_false, both_ways}
 use Rattle.rv_pmp.specs.declared.mode.Mode.{Mode}
@@ -131,22 +131,6 @@ find_cases p a (suc n) = elim (cases_Bool (p a)) [
     )
   ]
 ]
-
--- an access of n bytes from a on meets a range that begins before its end and ends after its start
-pub meets_range : (p : ℕ → Bool) (from to : ℕ) → ((b : ℕ) → IsTrue (p b) ↔ ((from ≤ b) × (b < to))) → (a n : ℕ) → 0 < n → from < to → from < a + n → a < to → list_any p (range_with_len a n) ≡ true
-meets_range p from to range a n some some_byte left right =
-    any_at p a n (max from a) (omega arith) (omega arith) ((range (max from a)).1 (omega arith, omega arith))
-
--- the least entry that covers some byte is found
-pub decider_first : (entries : Entries) (bytes : List ℕ) (i : ℕ) → i < 16 → list_any (covers entries i) bytes ≡ true → ((j : ℕ) → j < i → list_any (covers entries j) bytes ≡ false) → decider entries bytes ≡ Some i
-unfolding decider
-decider_first entries bytes i in_range meets first =
-    find_at (λ j. list_any (covers entries j) bytes) 0 16 i (omega arith) (omega arith) meets (λ j low high. first j high)
-
--- where no entry covers a byte, none is
-pub decider_none : (entries : Entries) (bytes : List ℕ) → ((j : ℕ) → j < 16 → list_any (covers entries j) bytes ≡ false) → decider entries bytes ≡ None
-unfolding decider
-decider_none entries bytes none = find_none (λ j. list_any (covers entries j) bytes) 0 16 (λ j low high. none j high)
 
 -- the least entry that covers some byte decides
 pub verdict_decided : (e : Entries) (mode : Mode) (access : Access) (bytes : List ℕ) (i : ℕ) → i < 16 → list_any (covers e i) bytes ≡ true → ((j : ℕ) → j < i → list_any (covers e j) bytes ≡ false) → verdict e mode access bytes ≡ decided e mode access i (list_all (covers e i) bytes)

@@ -6,3 +6,5 @@ pub mod Locks
 pub mod Verdicts
 pub mod Justified
 pub mod OpenRanges
+pub mod Segments
+pub mod Cache

@@ -1,6 +1,6 @@
 -- Writes of entries, and the locks that refuse them: RISC-V Privileged Architecture 20211203, section 3.7.1, Locking and
 -- Privilege Mode.
-use Rattle.std.specs.Prelude.{ℕ, ◌+◌, ◌/◌, ◌%◌, ◌==◌, nat_lt, Bool, not, ◌&&◌, ◌||◌, if◌then◌else◌, map, slice_set, [], ◌∷◌, ◌*◌}
+use Rattle.std.specs.Prelude.{ℕ, ◌+◌, ◌/◌, ◌%◌, ◌==◌, nat_lt, Bool, not, ◌&&◌, ◌||◌, if◌then◌else◌, List, map, slice_set, [], ◌∷◌, ◌*◌}
 use Rattle.std.specs.List.{range_with_len}
 use Rattle.rv_word.specs.ByteOrder.{word_of_bytes, byte_of}
 use Rattle.rv_pmp.specs.Cfg.{is_tor, is_locked, stored_cfg}
@@ -35,6 +35,10 @@ with_addr entries i addr =
 abbrev pub with_entry : Entries → ℕ → ℕ → ℕ → Entries
 with_entry entries i cfg addr =
     record { cfgs = slice_set entries.cfgs i (stored_cfg cfg); addrs = slice_set entries.addrs i addr }
+
+-- the entries with all sixteen as given, their cfg bytes in their stored forms
+abbrev pub with_entries : List ℕ → List ℕ → Entries
+with_entries cfgs addrs = record { cfgs = map stored_cfg cfgs; addrs = addrs }
 
 -- what a register pmpcfg reads: the cfg bytes of four entries, the lowest first
 abbrev pub cfg_word : Entries → ℕ → ℕ

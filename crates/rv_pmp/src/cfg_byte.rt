@@ -1,6 +1,6 @@
 //! The fields of a cfg byte, and its stored form (Privileged Architecture, section 3.7.1).
 
-ghost use Rattle.std.specs.Prelude.{◌≡◌};
+ghost use Rattle.std.specs.Prelude.{◌≡◌, map};
 ghost use Rattle.rv_pmp.specs.Cfg as spec;
 
 use crate::access::Access;
@@ -48,4 +48,15 @@ pub(crate) fn stored(cfg: u8) -> u8
 {
     let kept = cfg & 0x9f;
     if kept & 3 == 2 { kept & 0xfd } else { kept }
+}
+
+/// The bytes that are stored for written ones.
+pub(crate) fn all_stored(cfgs: &[u8; 16]) -> [u8; 16]
+    ensures { result ≡ map spec.stored_cfg cfgs.now }
+{
+    let mut kept = [0; 16];
+    for k in 0..16 {
+        kept[k] = stored(cfgs[k]);
+    }
+    kept
 }

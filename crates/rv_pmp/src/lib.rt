@@ -12,13 +12,16 @@
 
 mod access;
 mod address_matching;
+mod cache;
 mod cfg_byte;
+mod entry_ranges;
 mod matched_range;
 mod mode;
 mod open_range;
 mod pmp;
 mod pmp_index;
 mod pmp_register;
+mod segments;
 mod verdict;
 
 pub use access::Access;

@@ -2,7 +2,8 @@
 
 use crate::verdict_table::{
     ALL_ONES, ALL_ONES_ENTRIES, LOCKED, LOCKED_ENTRIES, NA4_AT_BORDER, NA4_AT_BORDER_ENTRIES,
-    NAPOT_IN_TOR, NAPOT_IN_TOR_ENTRIES, PAST_THE_TOP, PAST_THE_TOP_ENTRIES,
+    NAPOT_IN_TOR, NAPOT_IN_TOR_ENTRIES, OVERLAPPING_TORS, OVERLAPPING_TORS_ENTRIES, PAST_THE_TOP,
+    PAST_THE_TOP_ENTRIES, SIDE_BY_SIDE, SIDE_BY_SIDE_ENTRIES, SIXTEEN_APART, SIXTEEN_APART_ENTRIES,
 };
 use rv_pmp::{Access, Mode, Pmp, PmpIndex, PmpRegister, Verdict};
 use rv_word::Width;
@@ -88,6 +89,55 @@ fn past_the_top(rt: HostRuntime) {
     agrees(&rt, &PAST_THE_TOP_ENTRIES, &PAST_THE_TOP);
 }
 
+#[test]
+fn side_by_side(rt: HostRuntime) {
+    agrees(&rt, &SIDE_BY_SIDE_ENTRIES, &SIDE_BY_SIDE);
+}
+
+#[test]
+fn overlapping_tors(rt: HostRuntime) {
+    agrees(&rt, &OVERLAPPING_TORS_ENTRIES, &OVERLAPPING_TORS);
+}
+
+#[test]
+fn sixteen_apart(rt: HostRuntime) {
+    agrees(&rt, &SIXTEEN_APART_ENTRIES, &SIXTEEN_APART);
+}
+
+/// Whether a word may be read in mode U, by the verdict and by what is remembered.
+fn is_open(rt: &impl Abort, pmp: &mut Pmp, addr: u32) -> bool {
+    let judged = pmp
+        .judge(Mode::U, Access::Read, addr, Width::Word)
+        .permits();
+    for _ in 0..2 {
+        assert_eq!(rt; pmp.check(Mode::U, Access::Read, addr, Width::Word), judged);
+    }
+    judged
+}
+
+/// Each write of an entry is seen by the next access.
+#[test]
+fn writes_are_seen(rt: HostRuntime) {
+    let mut pmp = Pmp::new();
+    pmp.write_cfg(index(0), 0x19);
+    assert_eq!(&rt; is_open(&rt, &mut pmp, 0x8000_0000), false);
+    pmp.write_addr(index(0), 0x2000_01ff);
+    assert_eq!(&rt; is_open(&rt, &mut pmp, 0x8000_0000), true);
+    pmp.write_cfg_word(PmpRegister::new(0), 0x0000_0018);
+    assert_eq!(&rt; is_open(&rt, &mut pmp, 0x8000_0000), false);
+}
+
+/// All sixteen entries at once, their cfg bytes in their stored forms, and seen by the next access.
+#[test]
+fn sixteen_at_once(rt: HostRuntime) {
+    let mut pmp = Pmp::new();
+    pmp.set_entries(&[0x7b; 16], &[0x2000_01ff; 16]);
+    assert_eq!(&rt; is_open(&rt, &mut pmp, 0x8000_0ffc), true);
+    assert_eq!(&rt; is_open(&rt, &mut pmp, 0x8000_0ffe), false);
+    assert_eq!(&rt; pmp.cfg(index(15)), 0x1b);
+    assert_eq!(&rt; pmp.addr(index(15)), 0x2000_01ff);
+}
+
 /// A locked TOR entry keeps the pmpaddr below it, also where it covers nothing, and W without R is stored as neither.
 #[test]
 fn locks_and_stored_bytes(rt: HostRuntime) {
@@ -158,4 +208,8 @@ fn set_entry(rt: HostRuntime) {
     assert_eq!(rt; pmp.cfg(index(7)), 0x18);
     assert_eq!(rt; pmp.addr(index(7)), 0x2000_01ff);
     assert_eq!(rt; pmp.entry_range(index(7)), Some((0x8000_0000, 0x8000_1000)));
+    assert_eq!(rt;
+        pmp.judge(Mode::M, Access::Read, 0x8000_0ffe, Width::Word),
+        Verdict::DeniedPartial(index(7))
+    );
 }

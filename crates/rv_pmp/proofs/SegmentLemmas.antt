@@ -1,0 +1,153 @@
+-- Segments that follow one another: one goes on, or one more begins; and bounds between which no range begins or ends.
+use Rattle.std.proofs.Common.{◌≡◌, ℕ, zero, suc, ◌-◌, ◌<◌, ◌≤◌, ◌^◌, ◌⊎◌, ◌==◌, ◌&&◌, nat_le, nat_lt, if◌then◌else◌, Bool, true, false, List, length, Option, None, refl, sym, ◌∙◌, ap, inl, inr, arith, slice_index, slice_index_or, slice_set, take, leb, get_or-set_same, get_or-set_other}
+use Rattle.std.specs.List.{Contains}
+use Rattle.std.specs.List.Sorted.{IsPermutation, IsNonDecreasingBy, IsPartitionPoint}
+use Rattle.std.proofs.lemmas.Bool.{cases_eq, cases_lt, cond-false, ne_eqb, and_from, both_ways, le-leb, leb-true, lt-ltb, ltb-true, leb-false}
+use Rattle.std.proofs.lemmas.Grind.{get_or_default_zero}
+use Rattle.std.proofs.lemmas.List.{length-take-le, get_or-take}
+use Rattle.std.proofs.lemmas.List.Sorted.{Contains-permutation, IsNonDecreasingBy-from_default}
+use Rattle.rv_pmp.specs.declared.entry_ranges.EntryRanges.{EntryRanges}
+use Rattle.rv_pmp.specs.declared.segments.Segments.{Segments}
+use Rattle.rv_pmp.specs.Segments.{owner, is_within, start_of, reach_of, AreBounds, AreInOrder, AreOwned}
+use Rattle.rv_pmp.proofs.OwnerLemmas.{bool_same, owner_alike}
+
+-- where a segment begins, by the list of ends
+abbrev begin : List ℕ → ℕ → ℕ
+begin ends k = if k == 0 then 0 else slice_index ends (k - 1)
+
+begin_after : (ends : List ℕ) (k : ℕ) → 0 < k → begin ends k ≡ slice_index ends (k - 1)
+begin_after ends k some = cond-false (k == 0) 0 (slice_index ends (k - 1)) (ne_eqb k 0 (λ same. omega (arith, some)))
+
+-- the segments up to a place keep their beginnings where the end there is set
+begin_kept : (ends : List ℕ) (at end k : ℕ) → k ≤ at → begin (slice_set ends at end) k ≡ begin ends k
+begin_kept ends at end k before = elim (cases_eq k 0) [
+  | inl first ↦ rw first refl
+  | inr later ↦
+      let some : 0 < k = omega arith in
+      begin_after (slice_set ends at end) k some
+      ∙ get_or-set_other ends at (k - 1) end 0 (λ same. omega (arith, some))
+      ∙ sym (begin_after ends k some)
+]
+
+-- each byte has its owner still where the last segment goes on
+module _ (covering : ℕ → ℕ → Bool) (old : Segments) (start end : ℕ) (own : Option ℕ) (owned : AreOwned covering old) (is_reach : start ≡ reach_of old) (alike : (byte : ℕ) → start ≤ byte → byte < end → owner covering byte ≡ own) where
+  abbrev n : ℕ
+  n = old.count
+
+  abbrev longer : Segments
+  longer = record { ends = slice_set old.ends (n - 1) end; owners = old.owners; count = n }
+
+  pub goes_on : 0 < n → n ≤ length old.ends → slice_index_or old.owners (n - 1) None ≡ own → AreOwned covering longer
+  goes_on used_some long same =
+      let last : ℕ = n - 1 in
+      let is_end : slice_index longer.ends last ≡ end = get_or-set_same old.ends last end 0 (omega arith) in
+      let was_end : slice_index old.ends last ≡ start = sym (is_reach ∙ begin_after old.ends n used_some) in
+      let began : (k : ℕ) → k < n → start_of longer k ≡ start_of old k = λ k used. begin_kept old.ends last end k (omega arith) in
+      λ k byte used low high. elim (cases_eq k last) [
+        | inl at ↦ elim (cases_lt byte start) [
+          | inl early ↦ owned k byte used (omega (arith, began k used)) (rw at (omega (arith, was_end)))
+          | inr late ↦
+              let past = rw at at high in
+              alike byte (omega arith) (omega (arith, is_end)) ∙ rw at (sym same)
+        ]
+        | inr before ↦
+            owned k byte used (omega (arith, began k used)) (omega (arith, high, get_or-set_other old.ends last k end 0 before))
+      ]
+
+-- the bounds in order
+pub bounds_in_order : (ranges : EntryRanges) (xs ys : List ℕ) → IsPermutation xs ys → AreBounds ranges xs → AreBounds ranges ys
+bounds_in_order ranges xs ys moved all = record {
+  from = λ i in_range some. Contains-permutation xs ys _ moved (all.from i in_range some);
+  to = λ i in_range some. Contains-permutation xs ys _ moved (all.to i in_range some);
+  last = Contains-permutation xs ys _ moved all.last;
+}
+
+and_both : (p q : Bool) → (p && q) ≡ true → (p ≡ true) × (q ≡ true)
+and_both true true both = (refl, refl)
+and_both true false both = absurd (both_ways false refl both)
+and_both false q both = absurd (both_ways false refl both)
+
+-- no end of a range lies between two bytes: it has both or neither
+both_or_neither : (from to start end byte : ℕ) → start ≤ byte → byte < end → (from < to → (from ≤ start) ⊎ (end ≤ from)) → (from < to → (to ≤ start) ⊎ (end ≤ to)) → (nat_le from byte && nat_lt byte to) ≡ (nat_le from start && nat_lt start to)
+both_or_neither from to start end byte low high from_apart to_apart =
+    bool_same (nat_le from byte && nat_lt byte to) (nat_le from start && nat_lt start to)
+    (λ has.
+    let a = and_both (nat_le from byte) (nat_lt byte to) has in
+    let above : from ≤ byte = leb-true _ _ a.0 in
+    let below : byte < to = ltb-true _ _ a.1 in
+    elim (from_apart (omega arith)) [
+      | inl first ↦ and_from _ _ (le-leb from start first) (lt-ltb start to (omega arith))
+      | inr past ↦ absurd (omega arith)
+    ])
+    (λ has.
+    let a = and_both (nat_le from start) (nat_lt start to) has in
+    let above : from ≤ start = leb-true _ _ a.0 in
+    let below : start < to = ltb-true _ _ a.1 in
+    elim (to_apart (omega arith)) [
+      | inl first ↦ absurd (omega arith)
+      | inr past ↦ and_from _ _ (le-leb from byte (omega arith)) (lt-ltb byte to (omega arith))
+    ])
+
+-- bounds of which the first k are not above start, and the others not below end: between the two the owner is one
+module _ (ranges : EntryRanges) (bounds : List ℕ) (start end k : ℕ) (all : AreBounds ranges bounds) (before : (m : ℕ) → m < k → slice_index bounds m ≤ start) (after : (m : ℕ) → k ≤ m → m < length bounds → end ≤ slice_index bounds m) where
+  apart : (x : ℕ) → Contains bounds x → (x ≤ start) ⊎ (end ≤ x)
+  apart x found =
+      let m = found.0 in
+      let is : slice_index bounds m ≡ x = sym (get_or_default_zero bounds m x found.1) ∙ found.2 in
+      elim (cases_lt m k) [
+        | inl early ↦ inl (omega (arith, is, before m early))
+        | inr late ↦ inr (omega (arith, is, after m (omega arith) found.1))
+      ]
+
+  pub one_owner : (byte : ℕ) → start ≤ byte → byte < end → owner (is_within ranges) byte ≡ owner (is_within ranges) start
+  one_owner byte low high = owner_alike (is_within ranges) (is_within ranges) byte start (λ i in_range.
+      both_or_neither (slice_index ranges.from i) (slice_index ranges.to i) start end byte low high
+      (λ some. apart (slice_index ranges.from i) (all.from i in_range some))
+      (λ some. apart (slice_index ranges.to i) (all.to i in_range some)))
+
+  -- past all bounds there is 2^35
+  pub last_before : length bounds ≤ k → 2 ^ 35 ≤ start
+  last_before done = elim (apart (2 ^ 35) all.last) [
+    | inl is ↦ is
+    | inr past ↦ let found = all.last in omega (arith, before found.0 (omega (arith, found.1)), get_or_default_zero bounds found.0 (2 ^ 35) found.1, found.2)
+  ]
+
+module _ (s : Segments) (order : AreInOrder s) where
+  rise : (i j : ℕ) → i ≤ j → j < s.count → slice_index s.ends i ≤ slice_index s.ends j
+  rise i zero before used = let same : i ≡ 0 = omega (arith, before) in rw same (omega arith)
+  rise i (suc j) before used = elim (cases_eq i (suc j)) [
+    | inl same ↦ rw same (omega arith)
+    | inr other ↦
+        let one_before : suc j - 1 ≡ j = omega arith in
+        let began : start_of s (suc j) ≡ slice_index s.ends j = begin_after s.ends (suc j) (omega arith) ∙ ap (slice_index s.ends) one_before in
+        omega (arith, rise i j (omega arith) (omega arith), order.rising (suc j) used, began)
+  ]
+
+  -- the ends of those that are used rise
+  pub used_rise : s.count ≤ length s.ends → IsNonDecreasingBy (λ end. end) (take s.count s.ends)
+  used_rise fits = IsNonDecreasingBy-from_default (λ end. end) (take s.count s.ends) 0 (λ i j before used.
+      let below : j < s.count = omega (arith, used, length-take-le s.count s.ends fits) in
+      rw (get_or-take s.count s.ends i 0 (omega (arith, before, below)), get_or-take s.count s.ends j 0 below) (rise i j before below))
+
+-- where a byte is
+pub record IsPlace (s : Segments) (byte place : ℕ) : Type 0 where
+  pub used : place < s.count
+  pub from : start_of s place ≤ byte
+  pub to : byte < slice_index s.ends place
+
+-- the first segment whose end is past a byte has the byte
+pub at_place : (s : Segments) (byte place : ℕ) → s.count ≤ length s.ends → byte < reach_of s → place ≤ length (take s.count s.ends) → IsPartitionPoint (λ end. leb end byte ≡ true) (λ end. leb end byte ≡ false) (take s.count s.ends) place → IsPlace s byte place
+at_place s byte place fits inside bound point =
+    let long = length-take-le s.count s.ends fits in
+    let ended : (k : ℕ) → k < place → slice_index s.ends k ≤ byte
+    = λ k below. leb-true _ _ (rw (get_or-take s.count s.ends k 0 (omega (arith, below, bound, long))) at (point.0 k 0 (omega arith) below)) in
+    let began : start_of s place ≤ byte = elim (cases_eq place 0) [
+      | inl first ↦ rw first (omega arith)
+      | inr later ↦ let some : 0 < place = omega arith in omega (arith, begin_after s.ends place some, ended (place - 1) (omega (arith, some)))
+    ] in
+    let used : place < s.count = elim (cases_lt place s.count) [
+      | inl below ↦ below
+      | inr past ↦ let at : place ≡ s.count = omega (arith, past, bound, long) in absurd (omega (arith, inside, rw at at began))
+    ] in
+    let above : leb (slice_index s.ends place) byte ≡ false = rw (get_or-take s.count s.ends place 0 used) at (point.1 place 0 (omega arith) (omega (arith, used, long))) in
+    record { used = used; from = began; to = leb-false _ _ above }

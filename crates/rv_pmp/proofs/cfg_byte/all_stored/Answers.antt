@@ -1,0 +1,13 @@
+use Rattle.std.proofs.Common.{arith, sym, ◌∙◌, ◌≡◌, length, map}
+use Rattle.std.proofs.lemmas.List.{length-map, ext_get_or, get_or-map}
+use Rattle.rv_pmp.specs.Cfg.{stored_cfg}
+use Rattle.rv_pmp.proofs.cfg_byte.all_stored.Goals as goal
+
+pub returns : goal.returns
+returns c =
+    let loop = c.loop-k in
+    let cfgs = c.args.cfgs.now in
+    let long : length loop.kept ≡ length (map stored_cfg cfgs) = omega (arith, loop.invariant.long, length-map cfgs stored_cfg) in
+    ext_get_or 0 loop.kept (map stored_cfg cfgs) long (λ i below.
+    loop.invariant.so_far i (omega (arith, below, loop.invariant.long, c.loop-k-test.false))
+    ∙ sym (get_or-map stored_cfg cfgs i 0 0 (omega (arith, below, loop.invariant.long))))

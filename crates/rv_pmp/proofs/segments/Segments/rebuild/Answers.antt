@@ -1,0 +1,20 @@
+use Rattle.std.proofs.Common.{◌∙◌}
+use Rattle.rv_pmp.specs.Covers.{covers}
+use Rattle.rv_pmp.specs.Segments.{is_within, AreSegments}
+use Rattle.rv_pmp.specs.Entries.{Entries}
+use Rattle.rv_pmp.proofs.OwnerLemmas.{owner_alike}
+use Rattle.rv_pmp.proofs.segments.Segments.rebuild.Goals as goal
+
+-- the ranges are those of the entries
+pub returns : goal.returns
+unfolding AreSegments
+returns c =
+    let e : Entries = record { cfgs = c.args.cfgs.now; addrs = c.args.addrs.now } in
+    let ranges = c.of-ranges.result in
+    let made = c.divide.ensures in (
+      made.order,
+      made.whole,
+      λ k byte used low high.
+          owner_alike (covers e) (is_within ranges) byte byte (λ i in_range. c.of-ranges.ensures i byte in_range)
+          ∙ made.owned k byte used low high,
+    )

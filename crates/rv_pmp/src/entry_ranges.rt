@@ -1,0 +1,101 @@
+//! The bytes that each of the sixteen entries covers, as intervals (Privileged Architecture, section 3.7.1).
+
+ghost use Rattle.std.specs.Prelude.{◌≡◌, ◌+◌, ◌<◌, ◌≤◌, ◌^◌, ℕ, Option, IfSome, IfNone, take, slice_index, nat_le, nat_lt, ◌&&◌};
+ghost use Rattle.rv_pmp.specs.Covers.{covers, CoversRange, CoversNothing};
+ghost use Rattle.rv_pmp.specs.Segments.{owner, is_within, AreRanges, AreBounds};
+
+use crate::address_matching::AddressMatching;
+use crate::matched_range::matched_range;
+use crate::pmp_index::PmpIndex;
+
+/// How many entries there are.
+const ENTRIES: u8 = 16;
+
+/// The ranges of the entries: of each the first byte that it covers and the first past them, both 0 where it covers none.
+#[derive(Clone, Copy, Debug)]
+pub(crate) struct EntryRanges {
+    pub(crate) from: [u64; 16],
+    pub(crate) to: [u64; 16],
+}
+
+/// The first byte that an entry covers and the first past them; None where it covers no byte.
+#[tactic(auto, unfolding(crate::specs::Covers::covers))]
+pub(crate) fn entry_range(cfgs: &[u8; 16], addrs: &[u32; 16], index: PmpIndex) -> Option<(u64, u64)>
+    ensures range { IfSome result (λ range. CoversRange (record { cfgs = cfgs.now; addrs = addrs.now }) index range.0 range.1) }
+    ensures some_byte { IfSome result (λ range. range.0 < range.1) }
+    ensures bound { IfSome result (λ range. range.1 ≤ 2 ^ 35) }
+    ensures nothing { IfNone result (CoversNothing (record { cfgs = cfgs.now; addrs = addrs.now }) index) }
+{
+    let at = index.number() as usize;
+    let before = if at == 0 { 0 } else { addrs[at - 1] };
+    matched_range(AddressMatching::of(cfgs[at]), before, addrs[at])
+}
+
+/// The same, with equal ends where it covers no byte.
+fn range_or_none(cfgs: &[u8; 16], addrs: &[u32; 16], index: PmpIndex) -> (u64, u64)
+    ensures { (byte : ℕ) → covers (record { cfgs = cfgs.now; addrs = addrs.now }) index byte ≡ (nat_le result.0 byte && nat_lt byte result.1) }
+{
+    match entry_range(cfgs, addrs, index) {
+        Some(range) => range,
+        None => (0, 0),
+    }
+}
+
+impl EntryRanges {
+    /// The ranges of the entries with these cfg bytes and pmpaddr values.
+    pub(crate) fn of(cfgs: &[u8; 16], addrs: &[u32; 16]) -> EntryRanges
+        ensures { AreRanges (record { cfgs = cfgs.now; addrs = addrs.now }) result }
+    {
+        let mut ranges = EntryRanges {
+            from: [0; 16],
+            to: [0; 16],
+        };
+        for number in 0..ENTRIES {
+            let (from, to) = range_or_none(cfgs, addrs, PmpIndex::new(number));
+            ranges.from[number as usize] = from;
+            ranges.to[number as usize] = to;
+        }
+        ranges
+    }
+
+    /// Whether the range of an entry has a byte.
+    fn has(&self, index: PmpIndex, byte: u64) -> bool
+        ensures { result ≡ is_within self.now index byte }
+    {
+        let at = index.number() as usize;
+        self.from[at] <= byte && byte < self.to[at]
+    }
+
+    /// The least entry whose range has a byte.
+    #[tactic(auto, using(crate::proofs::OwnerLemmas::owner_none))]
+    pub(crate) fn owner(&self, byte: u64) -> Option<PmpIndex>
+        ensures { result ≡ owner (is_within self.now) byte }
+    {
+        for number in 0..ENTRIES {
+            let index = PmpIndex::new(number);
+            if self.has(index, byte) {
+                return Some(index);
+            }
+        }
+        None
+    }
+
+    /// Writes both ends of each range that has a byte after the first of the bounds, and answers how many bounds there are.
+    pub(crate) fn write_bounds(&self, bounds: &mut [u64; 33]) -> usize
+        requires { slice_index bounds.old 0 ≡ 2 ^ 35 }
+        ensures count { result ≤ 33 }
+        ensures all { AreBounds self.now (take result bounds.new) }
+    {
+        let mut count = 1;
+        for number in 0..ENTRIES {
+            let from = self.from[number as usize];
+            let to = self.to[number as usize];
+            if from < to {
+                bounds[count] = from;
+                bounds[count + 1] = to;
+                count += 2;
+            }
+        }
+        count
+    }
+}
