@@ -2,7 +2,8 @@
 
 An edit is a text of lines 'file: src/x.rt' and then pairs of lines 'old: TEXT' and 'new: TEXT'; each old text stands in that
 file exactly once. NAME.edit is a wrong body, which the prover must refuse. NAME.same changes nothing of meaning: the prover
-must not refuse it.
+must not refuse it. Where no line of a body stands once in its file, the edit gives a line of the function's head, with the clauses
+and the wrong body behind it, and then the head of another function, which takes what follows.
 """
 import os
 import re
@@ -104,25 +105,30 @@ def place_of(folder, edit, names):
     """The one function whose body the edit changes, if there is one and it is among the names that the prover gives; an edit
     of a constant, of a type, of a contract, of a proof or of several functions has none."""
     places = {}
-    for file, old, _ in edit.pairs:
+    for file, old, new in edit.pairs:
         text = text_of(folder, file)
-        place = function_at(edit.crate, file, text, text.find(old)) if file.endswith(".rt") else None
+        place = function_at(edit.crate, file, text, text.find(old), has_body(new)) if file.endswith(".rt") else None
         if place is None or not place.is_among(names):
             return None
         places[place.name] = place
     return places.popitem()[1] if len(places) == 1 else None
 
 
-def function_at(crate, file, text, at):
-    """The function whose body holds the place in a file's text, if one does."""
-    heads = [it for it in HEAD.finditer(text) if it.start() < at]
+def has_body(new):
+    """Whether a new text has a body, and behind it the head of another function."""
+    return re.search(r"\{ .* \} (?:pub )?(?:const )?fn \w+\(", new) is not None
+
+
+def function_at(crate, file, text, at, with_head):
+    """The function whose body holds the place in a file's text, if one does; or whose head does, if that is asked for too."""
+    heads = [it for it in HEAD.finditer(text) if it.start() <= at]
     if not heads:
         return None
     head = heads[-1]
     indent, name = head.groups()
     opening = re.compile(rf"^{indent}(?:(?:\S.*)?\{{)$", re.M).search(text, head.start())
     closing = opening and re.compile(rf"^{indent}\}}$", re.M).search(text, opening.end())
-    if not closing or not opening.start() <= at < closing.start():
+    if not closing or not (head if with_head else opening).start() <= at < closing.start():
         return None
     impls = [it for it in IMPL.finditer(text) if it.start() < head.start()] if indent else []
     if indent and not impls:

@@ -20,3 +20,4 @@ pub mod Separator
 pub mod Stream
 pub mod Transfer
 pub mod Unread
+pub mod MonitorRange

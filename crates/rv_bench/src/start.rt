@@ -2,6 +2,7 @@
 
 ghost use Rattle.std.specs.Prelude.{◌≡◌, ◌%◌, length, IfOk};
 ghost use Rattle.rv_bench.specs.Loaded.{is_read_as_elf as is_read_as_elf_of, planned as planned_of, reset_over, Starts};
+ghost use Rattle.rv_bench.specs.MonitorRange.{ReservesMonitorRange};
 
 use crate::fault::BenchFault;
 use rv_command_line::{ImageKind, Setup};
@@ -24,7 +25,7 @@ fn is_read_as_elf(kind: ImageKind, image: &[u8]) -> bool
     }
 }
 
-/// What of the image is loaded where.
+/// What of the image is loaded where: of a monitored bench nothing in the range that its monitor keeps for itself (`reserved`).
 ///
 /// # Errors
 ///
@@ -32,6 +33,7 @@ fn is_read_as_elf(kind: ImageKind, image: &[u8]) -> bool
 fn planned(image: &[u8], setup: &Setup) -> Result<Plan, ElfFault>
     ensures value { result ≡ planned_of image.now setup.now }
     ensures of_these { IfOk result (λ plan. (plan.image_size ≡ length image.now) × (plan.ram_size ≡ setup.now.ram)) }
+    ensures reserved { ReservesMonitorRange setup.now.monitored }
 {
     if is_read_as_elf(setup.kind, image) {
         plan(image, setup.ram, setup.monitored)

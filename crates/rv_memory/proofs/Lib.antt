@@ -1,2 +1,3 @@
 pub mod MemoryLaws
 pub mod AccessLaws
+pub mod Complements

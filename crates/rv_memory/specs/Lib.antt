@@ -2,3 +2,4 @@ pub mod Accesses
 pub mod Changes
 pub mod Faults
 pub mod Memory
+pub mod Complement

@@ -1,8 +1,9 @@
 //! The memory of the machine.
 
-ghost use Rattle.std.specs.Prelude.{◌≡◌, ℕ, ◌+◌, ◌-◌, ◌%◌, ◌^◌, ◌<◌, ◌*◌, ◌≤◌, List, [], ◌∷◌, length, replicate, take, drop, IfOk, OnOk, OnErr, MatchResult, Some, None, Ok, Err, true, false, if◌then◌else◌};
+ghost use Rattle.std.specs.Prelude.{◌≡◌, ℕ, ◌+◌, ◌-◌, ◌%◌, ◌^◌, ◌<◌, ◌*◌, ◌≤◌, List, [], ◌∷◌, length, map, replicate, take, drop, IfOk, OnOk, OnErr, MatchResult, Some, None, Ok, Err, true, false, if◌then◌else◌};
 ghost use Rattle.rv_word.specs.Widths.{bytes_in};
 ghost use Rattle.rv_memory.specs.Memory.{is_ram_size, ram_base, is_inside, read, write, write_bytes, byte_at, number_of_bytes, bytes_of};
+ghost use Rattle.rv_memory.specs.Complement.{complement_of, complemented};
 ghost use Rattle.rv_memory.specs.Accesses.{loaded, stored, fetched, verdict_on};
 ghost use Rattle.rv_memory.specs.Changes.{ChangesOnly};
 
@@ -103,6 +104,17 @@ impl Ram {
         ensures only { ChangesOnly self.old self.new base size }
     {
         self.put_zeros((base - RAM_BASE) as usize, size as usize);
+    }
+
+    /// Complements so many bytes from an address on, all of which are in the memory: a byte b becomes 255 - b. Every other byte
+    /// stays as it was.
+    #[tactic(auto, unfolding(crate::specs::Memory::read, crate::specs::Memory::write))]
+    pub fn complement(&mut self, base: u32, size: u32)
+        requires { is_inside self.old base size ≡ true }
+        ensures done { complemented self.old base size ≡ Some self.new }
+        ensures only { ChangesOnly self.old self.new base size }
+    {
+        self.put_complements((base - RAM_BASE) as usize, size as usize);
     }
 
     /// The byte at an address, where it is in the memory.
@@ -259,6 +271,14 @@ impl Ram {
         self.bytes[start..start + count].fill(0);
     }
 
+    /// Complements so many bytes from an index on.
+    fn put_complements(&mut self, start: usize, count: usize)
+        requires { start + count ≤ length self.old }
+        ensures { self.new ≡ write_bytes self.old start (map complement_of (take count (drop start self.old))) }
+    {
+        complement_all(&mut self.bytes[start..start + count]);
+    }
+
     /// Puts so many of the lowest bytes of a word at an index, the lowest first.
     #[inline(always)]
     fn put_at(&mut self, start: usize, count: usize, value: u32)
@@ -267,6 +287,15 @@ impl Ram {
         ensures { self.new ≡ write_bytes self.old start (bytes_of count value) }
     {
         self.put_bytes(start, &le_bytes(value)[..count]);
+    }
+}
+
+/// Complements each byte.
+fn complement_all(bytes: &mut [u8])
+    ensures { bytes.new ≡ map complement_of bytes.old }
+{
+    for byte in bytes.iter_mut() {
+        *byte = !*byte;
     }
 }
 

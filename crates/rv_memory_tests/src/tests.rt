@@ -149,3 +149,26 @@ fn asks_the_entries_after_the_bounds(rt: HostRuntime) -> Result<(), Fail> {
     assert_eq!(rt; AccessFault::Refused(Verdict::DeniedFree).number(), 2);
     Ok(())
 }
+
+#[test]
+fn complements_a_part(rt: HostRuntime) -> Result<(), Fail> {
+    let mut ram = Ram::new(rt.alloc(), 65_536).map_err(|_| "a RAM")?;
+    ram.write_part(END - 4, &[0x11, 0x22, 0x80, 0xff]);
+    ram.complement(END - 3, 2);
+    assert_eq!(rt;
+        ram.part(END - 5, 5),
+        [0x00, 0x11, 0xdd, 0x7f, 0xff].as_slice()
+    );
+    ram.complement(END - 3, 0);
+    assert_eq!(rt;
+        ram.part(END - 5, 5),
+        [0x00, 0x11, 0xdd, 0x7f, 0xff].as_slice()
+    );
+    ram.complement(RAM_BASE, 65_536);
+    assert_eq!(rt;
+        ram.part(END - 5, 5),
+        [0xff, 0xee, 0x22, 0x80, 0x00].as_slice()
+    );
+    assert_eq!(rt; ram.peek(RAM_BASE), Some(0xff));
+    Ok(())
+}

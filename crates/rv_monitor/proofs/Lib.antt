@@ -29,3 +29,5 @@ pub mod Refused
 pub mod Integrity
 pub mod RunsSpare
 pub mod Changes
+pub mod Scrambled
+pub mod ScrambledTwice

@@ -25,3 +25,4 @@ pub mod Runs
 pub mod Access
 pub mod Integrity
 pub mod Changes
+pub mod Scramble

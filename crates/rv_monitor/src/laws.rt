@@ -10,6 +10,7 @@ ghost use Rattle.rv_monitor.specs.Reach.{ReachLaw};
 ghost use Rattle.rv_monitor.specs.Refused.{RefusalLaw};
 ghost use Rattle.rv_monitor.specs.Returns.{ReturnLaw};
 ghost use Rattle.rv_monitor.specs.Runs.{KeptLaw, RunLaw};
+ghost use Rattle.rv_monitor.specs.Scramble.{ScrambleLaw};
 ghost use Rattle.rv_monitor.specs.SwitchLaws.{SwitchLaw};
 
 /// Reach: under the entries of a valid table and a world, S and U do an access to bytes in RAM exactly where it is in reach.
@@ -100,4 +101,9 @@ pub const fn handler_asks()
 /// So does a step that traps.
 pub const fn trapping_step_asks()
     ensures { AskedStepLaw }
+{}
+
+/// What is private to an enclave, scrambled twice, is as it was.
+pub const fn scrambled_twice()
+    ensures { ScrambleLaw }
 {}

@@ -20,6 +20,7 @@ mod next;
 mod outcome;
 mod proposal;
 mod refusal;
+mod scramble;
 mod seat;
 mod shared;
 mod slot_info;

@@ -41,7 +41,7 @@ fn x(machine: &Monitored, number: u8) -> u32
     machine.regs().get(Reg::new(number))
 }
 
-/// Examples 12 and 34: create, run, stop, resume, exit.
+/// Create, run, stop, resume, exit.
 #[test]
 fn an_enclave_runs(rt: HostRuntime) -> Result<(), Fail> {
     let mut m = machine_with(rt, &[0x73, 0x73, 0x73, 0x73])?;
@@ -329,5 +329,70 @@ fn an_exception_stays_in_its_world(rt: HostRuntime) -> Result<(), Fail> {
     );
     assert_eq!(rt; m.csrs().read(0x141, Mode::M), Ok(0x8002_0000));
     assert_eq!(rt; m.csrs().read(0x142, Mode::M), Ok(2));
+    Ok(())
+}
+
+/// What the bytes at the ends of a region are, and the bytes beside it.
+fn ends(machine: &Monitored, base: u32) -> [Option<u8>; 4] {
+    [
+        machine.ram().peek(base.wrapping_sub(1)),
+        machine.ram().peek(base),
+        machine.ram().peek(base.wrapping_add(0xfff)),
+        machine.ram().peek(base.wrapping_add(0x1000)),
+    ]
+}
+
+#[test]
+fn what_is_private_is_scrambled(rt: HostRuntime) -> Result<(), Fail> {
+    let mut m = machine_with(rt, &[0x73, 0x73, 0x73, 0x73])?;
+    for slot in [0, 12, 13, 255] {
+        assert!(rt; !m.scramble(slot));
+    }
+    create_at(&mut m, 0x8002_0000);
+    m.poke(0x8002_0000, 0x73);
+    m.poke(0x8002_0fff, 0x0f);
+    m.poke(0x8002_1000, 0x55);
+    assert!(rt; !m.scramble(1));
+    assert_eq!(rt;
+        ends(&m, 0x8002_0000),
+        [Some(0), Some(0x73), Some(0x0f), Some(0x55)]
+    );
+    assert!(rt; m.scramble(0));
+    assert_eq!(rt;
+        ends(&m, 0x8002_0000),
+        [Some(0), Some(0x8c), Some(0xf0), Some(0x55)]
+    );
+    for (byte, address) in [0x73, 0, 0, 0].into_iter().zip(0x8002_0000..) {
+        m.poke(address, byte);
+    }
+    // run: the registers of the first entry are complemented, and x0, pc and the mode are not
+    m.set_reg(Reg::new(16), 3);
+    m.set_reg(Reg::new(10), 0);
+    assert_eq!(rt; m.step().entered, Some(0));
+    assert_eq!(rt;
+        (x(&m, 0), x(&m, 1), x(&m, 31)),
+        (0, 0xffff_ffff, 0xffff_ffff)
+    );
+    assert_eq!(rt; (x(&m, 10), x(&m, 11)), (0x7ffd_ffff, 0xffff_efff));
+    assert_eq!(rt; (m.pc(), m.mode()), (0x8002_0000, Mode::S));
+    assert!(rt; !m.scramble(0));
+    // exit: what is kept of it is all 0
+    m.set_reg(Reg::new(17), 0x0a45_4e43);
+    m.set_reg(Reg::new(16), 7);
+    let _ = m.step();
+    assert_eq!(rt;
+        m.table().get(0).map(|info| info.state),
+        Some(EnclaveState::Exited)
+    );
+    assert!(rt; m.scramble(0));
+    assert_eq!(rt;
+        ends(&m, 0x8002_0000),
+        [Some(0), Some(0x8c), Some(0x0f), Some(0x55)]
+    );
+    assert!(rt; m.scramble(0));
+    assert_eq!(rt;
+        ends(&m, 0x8002_0000),
+        [Some(0), Some(0x73), Some(0xf0), Some(0x55)]
+    );
     Ok(())
 }

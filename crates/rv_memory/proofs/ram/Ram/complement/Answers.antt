@@ -1,0 +1,11 @@
+use Rattle.std.proofs.Common.{◌-◌}
+use Rattle.rv_memory.specs.Memory.{ram_base}
+use Rattle.rv_memory.proofs.Complements.{complements, length-complements, inside-index}
+use Rattle.rv_memory.proofs.MemoryLaws.{changes_only}
+use Rattle.rv_memory.proofs.ram.Ram.complement.Goals as goal
+
+pub returns-clause-only : goal.returns-clause-only
+returns-clause-only c =
+    let index = c.args.base - ram_base in
+    let long = length-complements c.args.self.now index c.args.size (inside-index c.args.self.now c.args.base c.args.size c.requires) in
+    changes_only _ _ _ (complements c.args.self.now index c.args.size) _ c.requires long c.put_complements.ensures

@@ -1,0 +1,7 @@
+use Rattle.std.proofs.Common.{◌≡◌, ◌++◌, map, take, drop}
+use Rattle.rv_memory.specs.Complement.{complement_of}
+use Rattle.rv_memory.proofs.ram.complement_all.Given as goal
+
+-- the bytes so far are complemented
+abbrev pub invariant-loop-byte : goal.invariant-loop-byte
+invariant-loop-byte l = l.bytes ≡ map complement_of (take l.byte-index l.fn.bytes) ++ drop l.byte-index l.fn.bytes
