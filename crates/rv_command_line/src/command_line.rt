@@ -104,8 +104,8 @@ fn run_command<'a>(alloc: Global, kind_names: &'a [&'a str]) -> Result<Command<'
 }
 
 /// `twin`: two benches that differ in one enclave.
-fn twin_command<'a>(alloc: Global, kind_names: &'a [&'a str]) -> Result<Command<'a>, AllocError>
-    ensures app { IfOk result (λ command. app_of command ≡ twin kind_names.entry) }
+fn twin_command<'a>(alloc: Global, names: &'a [&'a str]) -> Result<Command<'a>, AllocError>
+    ensures app { IfOk result (λ command. app_of command ≡ twin names.entry) }
     ensures local { IfOk result (λ command. (fields_of command).has_globals ≡ false) }
 {
     let command = Command::new(alloc, "twin")
@@ -115,7 +115,7 @@ fn twin_command<'a>(alloc: Global, kind_names: &'a [&'a str]) -> Result<Command<
         .after_help(FIRST_TWIN);
     command
         .arg(slot_option(alloc))?
-        .arg(kind_option(alloc, kind_names))?
+        .arg(kind_option(alloc, names))?
         .arg(ram_option(alloc))
 }
 
