@@ -68,11 +68,12 @@ class TwinCase(Case):
 
 
 class WholeTwins:
-    """A case that is its words and its input; its output is the model's, and begins and ends as it is said."""
+    """A case that is its words and its input; its output is the model's, and begins and ends as it is said. The model takes no
+    image whose text has a fault: then the output is `starts` alone."""
 
-    def __init__(self, topic, name, stdin, options=(), starts="", ends="", status=0):
+    def __init__(self, topic, name, stdin, options=(), starts="", ends="", status=0, is_text=True):
         self.topic, self.name, self.stdin, self.words = "twin_" + topic, name, stdin, ["twin", *options]
-        self.stdout, self.status = wanted(stdin, self.words)
+        self.stdout, self.status = wanted(stdin, self.words) if is_text else (starts, status)
         assert self.stdout.startswith(starts) and self.stdout.endswith(ends) and self.status == status, (name, self.stdout)
         Case.all.append(self)
 

@@ -250,6 +250,10 @@ def images():
             ("ram_of_1000_bytes", code.hex(), ("--ram", "1000"), "ram 1"), ("ram_of_nothing", code.hex(), ("--ram", "0"), "ram 1"),
             ("ram_too_large", code.hex(), ("--ram", "16842752"), "ram 1")):
         WholeTwins("images", name, image + rest, options, starts="rvbench: " + fault + "\n", ends="rvbench: " + fault + "\n", status=1)
+    for name, image in (("text_of_odd_digits", "abc"), ("text_with_a_space", "73 00"), ("text_with_a_comment", "73000000\n# x"),
+                        ("text_of_no_digits", "7300000g"), ("text_of_122_digits", "0" * 122), ("text_of_an_unfinished_separator", "73000000\n--x")):
+        WholeTwins("images", name, image + rest, starts="rvbench: hex\n", status=1, is_text=False)
+    WholeTwins("images", "text_before_the_size", "abc" + rest, ("--ram", "1000"), starts="rvbench: hex\n", status=1, is_text=False)
 
 
 # ---- worked examples, whose output is written by hand
