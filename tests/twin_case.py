@@ -73,6 +73,7 @@ class WholeTwins:
 
     def __init__(self, topic, name, stdin, options=(), starts="", ends="", status=0, is_text=True):
         self.topic, self.name, self.stdin, self.words = "twin_" + topic, name, stdin, ["twin", *options]
+        assert not is_text or all(len(line) <= 120 for line in stdin.split("--")[0].split("\n")), name
         self.stdout, self.status = wanted(stdin, self.words) if is_text else (starts, status)
         assert self.stdout.startswith(starts) and self.stdout.endswith(ends) and self.status == status, (name, self.stdout)
         Case.all.append(self)

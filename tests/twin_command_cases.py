@@ -1,6 +1,6 @@
 """The cases of the debugger's commands over two benches: replies after a: and b:, faults, what is not blind, lines, images, and what
 ends a run."""
-from elf_files import elf, segment
+from elf_files import elf, segment, text as image_text
 from monitor_case import ECALL, input_of
 from monitor_model import CREATE, DESTROY, EXIT, EXITED, KEY, RESUME, RUN, STOP, STOPPED
 from twin_case import TwinCase, WholeTwins
@@ -235,7 +235,7 @@ def lines():
 
 def images():
     code = bytes.fromhex("7300000073000000")
-    file = elf(segment(HOST + 0x100, data=code), entry=HOST + 0x100).hex()
+    file = image_text(elf(segment(HOST + 0x100, data=code), entry=HOST + 0x100)).strip()
     rest = "\n".join(["", "--", *FIRST, "--", "reg 10", "mem 80010100 4", "setreg 16 2", "setreg 10 0", "step 1", "mem 80020000 4", ""])
     for name, image, options, ends in (
             ("raw", code.hex(), (), "twin end 6\n"), ("elf", file, (), "twin end 6\n"), ("elf_by_name", file, ("--kind", "elf"), "twin end 6\n"),
@@ -246,7 +246,7 @@ def images():
     for name, image, options, fault in (
             ("raw_taken_as_elf", code.hex(), ("--kind", "elf"), "image 1"), ("in_the_monitors_memory_alone", code.hex(), ("--ram", "65536"), "image 9"),
             ("of_nothing_in_the_monitors_memory_alone", "", ("--ram", "65536"), "image 11"),
-            ("elf_at_the_monitors_range", elf(segment(0x80000000), entry=0x80000000).hex(), (), "image 9"),
+            ("elf_at_the_monitors_range", image_text(elf(segment(0x80000000), entry=0x80000000)).strip(), (), "image 9"),
             ("ram_of_1000_bytes", code.hex(), ("--ram", "1000"), "ram 1"), ("ram_of_nothing", code.hex(), ("--ram", "0"), "ram 1"),
             ("ram_too_large", code.hex(), ("--ram", "16842752"), "ram 1")):
         WholeTwins("images", name, image + rest, options, starts="rvbench: " + fault + "\n", ends="rvbench: " + fault + "\n", status=1)
