@@ -33,6 +33,7 @@ help_has ' *--ram <BYTES>' help run
 help_has ' *--kind <' help run
 help_has ' *--monitor ' run --help
 help_has ' *--monitor ' help run
+help_has 'Example: ' twin --help
 for option in '--slot <K>' '--kind <' '--ram <BYTES>'; do help_has " *$option" twin --help; done
 help_has 'Usage: rvbench run' run --ram 65536 --help
 help_has 'Example: ' run --help

@@ -32,11 +32,11 @@ const FIRST_SCRIPT: &str =
 
 /// What the help of `twin` ends with: what is read and written, and a first input.
 const FIRST_TWIN: &str =
-    "The image, a line --, a script for both benches, a line --, and a script that is answered by both. Between the scripts\n\
-    the second bench's enclave is made another. Replies are written after a: and b:, and end where the enclave is entered.\n\n\
+    "The input is an image, a line --, a script for both benches, a line --, and a script that both answer. Between the scripts\n\
+    the enclave of the second bench is made another. Replies are written after a: and b:, and end where the enclave is entered.\n\n\
     Example: a host creates an enclave, both hosts destroy theirs, and both find its region cleared:\n  \
-    printf '7300000073000000\n--\nsetreg 17 0a454e43\nsetreg 16 1\nsetreg 10 80020000\nsetreg 11 1000\n\
-    setreg 14 80020000\nstep 1\n--\nsetreg 16 2\nsetreg 10 0\nstep 1\nmem 80020000 4\n' | rvbench twin";
+    printf '7300000073000000\\n--\\nsetreg 17 0a454e43\\nsetreg 16 1\\nsetreg 10 80020000\\nsetreg 11 1000\\n\
+    setreg 14 80020000\\nstep 1\\n--\\nsetreg 16 2\\nsetreg 10 0\\nstep 1\\nmem 80020000 4\\n' | rvbench twin";
 
 /// `--kind NAME` with these names, by default what `Setup::default` has.
 fn kind_option<'a>(alloc: Global, names: &'a [&'a str]) -> Arg<'a>
