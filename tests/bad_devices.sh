@@ -30,3 +30,16 @@ for subcommand in asm dis; do
   "$program" "$subcommand" < "$scratch/in" >&- 2> "$scratch/out"
   expect "$subcommand to an output that is closed" 1 $? "$scratch/wanted" "$scratch/out"
 done
+
+# Two benches: the image is read first, and replies go out as they come.
+printf 'rvbench: read\n' > "$scratch/wanted"
+"$program" twin < / > "$scratch/out"
+expect "twin of a folder" 1 $? "$scratch/wanted" "$scratch/out"
+"$program" twin <&- > "$scratch/out"
+expect "twin of an input that is closed" 1 $? "$scratch/wanted" "$scratch/out"
+: > "$scratch/wanted"
+part_of twin_examples/destroy_clears stdin "$scratch/in"
+"$program" twin < "$scratch/in" > /dev/full 2> "$scratch/out"
+expect "twin to a full device" 1 $? "$scratch/wanted" "$scratch/out"
+"$program" twin < "$scratch/in" >&- 2> "$scratch/out"
+expect "twin to an output that is closed" 1 $? "$scratch/wanted" "$scratch/out"

@@ -19,9 +19,9 @@ help_has() {
 
 for word in --help -h help; do
   help_has 'Usage: rvbench' "$word"
-  for subcommand in run asm dis help; do help_has " *$subcommand " "$word"; done
+  for subcommand in run twin asm dis help; do help_has " *$subcommand " "$word"; done
 done
-for subcommand in run asm dis; do
+for subcommand in run twin asm dis; do
   help_has "Usage: rvbench $subcommand" "$subcommand" --help
   help_has "Usage: rvbench $subcommand" "$subcommand" -h
   help_has "Usage: rvbench $subcommand" help "$subcommand"
@@ -33,6 +33,8 @@ help_has ' *--ram <BYTES>' help run
 help_has ' *--kind <' help run
 help_has ' *--monitor ' run --help
 help_has ' *--monitor ' help run
+help_has 'Example: ' twin --help
+for option in '--slot <K>' '--kind <' '--ram <BYTES>'; do help_has " *$option" twin --help; done
 help_has 'Usage: rvbench run' run --ram 65536 --help
 help_has 'Example: ' run --help
 for name in step run break watch reg csr mem dis pmp, enclaves; do help_has "  $name " run --help; done

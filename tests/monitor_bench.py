@@ -1,9 +1,11 @@
 """A bench of the monitored machine of monitor_model.py, or of a bare hart: images, the debugger's commands, and the replies to a
-script, by docs/IMAGES.md and docs/COMMANDS.md. Nothing of the bench that is tested is used.
+script, of one bench or of two that differ in one enclave, by docs/IMAGES.md and docs/COMMANDS.md. Nothing of the bench that is
+tested is used.
 
-    tests/monitor_bench.py [run --monitor ..] < stdin    writes what the program must write
+    tests/monitor_bench.py [run --monitor .. | twin --slot K ..] < stdin    writes what the program must write
 """
 import argparse
+import copy
 import re
 import sys
 
@@ -11,7 +13,7 @@ sys.dont_write_bytecode = True
 import elf_model
 from assembly_model import disassembled
 from monitor_hart import HartInMemory
-from monitor_model import HOST_ENTRY, MONITOR_SIZE, Monitored, meet
+from monitor_model import HOST_ENTRY, MONITOR_SIZE, SLOTS, Monitored, meet
 from privileged_hart import KEPT, LETTER, M, START
 
 MOST_ADDRESSES, MOST_STEPS, MOST_SHOWN, MOST_LINE = 32, 1000000, 64, 120
@@ -20,6 +22,8 @@ HEX, COUNT, BYTE, CSR = "(?:0x)?[0-9a-fA-F]{1,8}", "[0-9]{1,7}", "[0-9a-fA-F]{1,
 FORMS = {"step": [COUNT], "run": [COUNT], "break": [HEX], "clear": [HEX], "watch": [HEX], "unwatch": [HEX], "reg": [COUNT],
          "regs": [], "setreg": [COUNT, HEX], "csr": [CSR], "mem": [HEX, COUNT], "poke": [HEX, BYTE], "dis": [HEX], "pmp": [],
          "enclaves": [], "access": ["[MSU]", "[rwx]", HEX, "[124]"], "timer": ["on|off"]}
+# the place and the least and greatest value of a decimal operand
+LIMITS = {"step": (0, 1, MOST_STEPS), "run": (0, 1, MOST_STEPS), "reg": (0, 0, 31), "setreg": (0, 0, 31), "mem": (1, 1, MOST_SHOWN)}
 
 
 class Fault(Exception):
@@ -77,34 +81,45 @@ def loaded(image, kind, size, is_monitored):
 
 # ---- commands
 
-def number(text, limits):
-    value = int(text)
-    if not limits[0] <= value <= limits[1]:
+def parsed(line):
+    """The words of the command in a line of a script, which is text of one character a byte; none where it has no reply."""
+    if len(line) > MOST_LINE or re.search("[^\t -~]", line):
+        raise Fault("error line")
+    words = re.split("[ \t]+", line.strip(" \t"))
+    if words[0] == "" or words[0].startswith("#"):
+        return []
+    if words[0] not in FORMS:
+        raise Fault("error command")
+    forms = FORMS[words[0]]
+    if len(forms) != len(words) - 1 or not all(map(re.fullmatch, forms, words[1:])):
         raise Fault("error operand")
-    return value
+    if words[0] in LIMITS:
+        place, least, most = LIMITS[words[0]]
+        if not least <= int(words[1 + place]) <= most:
+            raise Fault("error operand")
+    return words
 
 
 class Bench:
-    """`machine` is what the commands work on."""
+    """`machine` is what the commands work on; `entered` are the slots that the last command entered."""
 
     def __init__(self, image, kind="auto", ram=1048576, is_monitored=True):
         ram, entry = loaded(image, kind, ram, is_monitored)
         self.machine = (Monitored if is_monitored else BareHart)(ram, entry)
-        self.breaks, self.watches = set(), set()
+        self.breaks, self.watches, self.entered = set(), set(), set()
 
     def replies(self, line):
-        """The lines that answer a line of a script, which is text of one character a byte."""
+        """The lines that answer a line of a script."""
         try:
-            if len(line) > MOST_LINE or re.search("[^\t -~]", line):
-                raise Fault("error line")
-            words = re.split("[ \t]+", line.strip(" \t"))
-            if words[0] == "" or words[0].startswith("#"):
-                return []
-            if words[0] not in FORMS:
-                raise Fault("error command")
-            forms = FORMS[words[0]]
-            if len(forms) != len(words) - 1 or not all(map(re.fullmatch, forms, words[1:])):
-                raise Fault("error operand")
+            words = parsed(line)
+        except Fault as fault:
+            return [fault.args[0]]
+        return self.answers(words) if words else []
+
+    def answers(self, words):
+        """The lines that answer a command."""
+        self.entered = set()
+        try:
             answer = getattr(self, "do_" + words[0])(*words[1:])
         except Fault as fault:
             answer = fault.args[0]
@@ -116,14 +131,14 @@ class Bench:
 
     def stepped(self, count, breaks, watches):
         done, last, why = 0, None, None
-        count = number(count, (1, MOST_STEPS))
         while why is None:
             last = self.machine.step() or last
+            self.entered |= {self.machine.entered} - {None}
             done += 1
             watched = watches.intersection(self.machine.reached)
             if watched:
                 why = "watch:%08x" % min(watched)
-            elif done == count:
+            elif done == int(count):
                 why = "done"
             elif self.machine.pc in breaks:
                 why = "break"
@@ -159,14 +174,13 @@ class Bench:
         return "ok"
 
     def do_reg(self, text):
-        at = number(text, (0, 31))
-        return "x%d=%08x" % (at, self.machine.regs[at])
+        return "x%d=%08x" % (int(text), self.machine.regs[int(text)])
 
     def do_regs(self):
         return ["x%d=%08x" % pair for pair in enumerate(self.machine.regs)] + ["pc=%08x" % self.machine.pc]
 
     def do_setreg(self, register, value):
-        self.machine.set(number(register, (0, 31)), int(value, 16))
+        self.machine.set(int(register), int(value, 16))
         return "ok"
 
     def do_csr(self, text):
@@ -181,9 +195,8 @@ class Bench:
         return address
 
     def do_mem(self, text, count):
-        count = number(count, (1, MOST_SHOWN))
-        address = self.inside(text, count)
-        return "%08x:" % address + "".join(" %02x" % byte for byte in self.machine.part(address, count))
+        address = self.inside(text, int(count))
+        return "%08x:" % address + "".join(" %02x" % byte for byte in self.machine.part(address, int(count)))
 
     def do_poke(self, text, byte):
         self.machine.put(self.inside(text, 1), bytes([int(byte, 16)]))
@@ -218,28 +231,104 @@ def lines_of(text):
     return [line[:-1] if line.endswith("\r") else line for line in lines[:-1]] + lines[-1:] * (lines[-1] != "")
 
 
+def cut_at(lines):
+    """The lines before the first line `--` and those behind it."""
+    cut = next((i for i, line in enumerate(lines) if line.strip(" \t") == "--"), len(lines))
+    return lines[:cut], lines[cut + 1:]
+
+
+def image_of(lines):
+    return bytes.fromhex("".join(line.strip(" \t") for line in lines))
+
+
 def output(text, **setup):
     """What the program must write to an input whose image text has no fault, and its status."""
-    lines = lines_of(text)
-    cut = next((i for i, line in enumerate(lines) if line.strip(" \t") == "--"), len(lines))
+    image, script = cut_at(lines_of(text))
     try:
-        bench = Bench(bytes.fromhex("".join(line.strip(" \t") for line in lines[:cut])), **setup)
+        bench = Bench(image_of(image), **setup)
     except Fault as fault:
         return fault.args[0] + "\n", 1
-    return "".join(reply + "\n" for line in lines[cut + 1:] for reply in bench.replies(line)), 0
+    return "".join(reply + "\n" for line in script for reply in bench.replies(line)), 0
 
+
+# ---- two benches that differ in one enclave
+
+SHOWS = {"mem": lambda words: int(words[2]), "poke": lambda words: 1, "dis": lambda words: 4}  # how many bytes
+
+
+class Twins:
+    """Two benches that a first script has answered alike; then the second one's enclave of the slot is made another."""
+
+    def __init__(self, bench, slot):
+        self.slot, self.count, self.one, self.other = slot, 0, bench, copy.deepcopy(bench)
+        self.is_apart = self.other.machine.scramble(slot)
+
+    def is_blind(self, words):
+        """Whether the command neither shows nor writes a byte of the enclave's region, in either bench."""
+        if words[0] not in SHOWS:
+            return True
+        block = int(words[1], 16), SHOWS[words[0]](words)
+        tables = self.one.machine.table, self.other.machine.table
+        return not any(self.slot in table and meet(table[self.slot].region, block) for table in tables)
+
+    def replies(self, line):
+        """The lines that answer a line, and whether it ends the run."""
+        try:
+            words = parsed(line)
+        except Fault as fault:
+            return [fault.args[0]], False
+        if not words or not self.is_blind(words):
+            return ["error blind"] if words else [], False
+        told = [mark + reply for mark, bench in (("a: ", self.one), ("b: ", self.other)) for reply in bench.answers(words)]
+        self.count += 1
+        if self.slot in self.one.entered | self.other.entered:
+            return ["twin entered %d" % self.count], True
+        return told, False
+
+
+def twin_output(text, slot=0, **setup):
+    """What the program must write of two benches, and its status."""
+    image, scripts = cut_at(lines_of(text))
+    first, second = cut_at(scripts)
+    try:
+        bench = Bench(image_of(image), **setup)
+    except Fault as fault:
+        return fault.args[0] + "\n", 1
+    told = [reply for line in first for reply in bench.replies(line)]
+    twins = Twins(bench, slot)
+    if not twins.is_apart:
+        return "".join(it + "\n" for it in [*told, "twin no slot"]), 0
+    for line in second:
+        replies, is_last = twins.replies(line)
+        told += replies
+        if is_last:
+            break
+    else:
+        told.append("twin end %d" % twins.count)
+    return "".join(it + "\n" for it in told), 0
+
+
+# ---- the program's words
 
 def setup_of(words):
-    """The setup that the program's words name."""
+    """The setup that the program's words name, for output or for twin_output."""
     parser = argparse.ArgumentParser()
     parser.add_argument("--kind", default="auto", choices=("auto", "raw", "elf"))
     parser.add_argument("--ram", default=1048576, type=int)
-    parser.add_argument("--monitor", dest="is_monitored", action="store_true")
-    return vars(parser.parse_args(words[1:] if words[:1] == ["run"] else words))
+    if words[:1] == ["twin"]:
+        parser.add_argument("--slot", default=0, type=int, choices=range(SLOTS))
+    else:
+        parser.add_argument("--monitor", dest="is_monitored", action="store_true")
+    return vars(parser.parse_args(words[1:] if words[:1] in (["run"], ["twin"]) else words))
+
+
+def wanted(text, words):
+    """What the program must write with these words, and its status."""
+    return (twin_output if words[:1] == ["twin"] else output)(text, **setup_of(words))
 
 
 def main(words):
-    text, status = output(sys.stdin.buffer.read().decode("latin-1"), **setup_of(words))
+    text, status = wanted(sys.stdin.buffer.read().decode("latin-1"), words)
     sys.stdout.write(text)
     return status
 

@@ -29,9 +29,12 @@ class Case:
     def machine(self):
         return self.bench.machine
 
+    def digits(self):
+        """The image, which has all code of the host."""
+        return bytes(self.image.get(a, 0) for a in range(HOST_ENTRY, max(self.image, default=HOST_ENTRY - 1) + 1)).hex()
+
     def files(self):
-        data = bytes(self.image.get(a, 0) for a in range(HOST_ENTRY, max(self.image, default=HOST_ENTRY - 1) + 1)).hex()
-        stdin = input_of(data, self.script)
+        stdin = input_of(self.digits(), self.script)
         words = ["run", "--monitor"] + (["--ram", str(self.ram)] if self.ram != MEMORY else [])
         stdout = "".join(it + "\n" for it in self.replies)
         assert output(stdin, ram=self.ram) == (stdout, 0), self.name  # with all of the code there from the start
@@ -39,17 +42,21 @@ class Case:
 
     # ---- lines
 
+    def given(self, line):
+        """The replies of the model to a line."""
+        return self.bench.replies(line)
+
     def say(self, *lines):
         """Lines, and the replies of the model; answers the last reply."""
         for line in lines:
             self.script.append(line)
-            self.replies += self.bench.replies(line)
+            self.replies += self.given(line)
         return self.replies[-1] if self.replies else None
 
     def wants(self, line, *replies):
         """A line whose replies are written out by hand."""
         self.script.append(line)
-        given = self.bench.replies(line)
+        given = self.given(line)
         assert given == list(replies), (self.name, line, given, replies)
         self.replies += given
 

@@ -1,30 +1,42 @@
 #!/usr/bin/env python3
-"""tests/monitor_docs.py --check: tells whether the lines of commands and replies in docs/MONITOR.md are those of the examples
-that they name. A part of them begins with the name of its example, as `# examples/enclave_adds`; its lines stand in that order in
-the example's script, each with the reply of the model of monitor_bench.py, and perhaps a comment.
+"""tests/monitor_docs.py --check: tells whether the lines of commands and replies in docs/MONITOR.md and docs/COMMANDS.md are those of
+the examples that they name. A part of them begins with the name of its example, as `# examples/enclave_adds`; its lines stand in that
+order in the example's script, each with the reply of the model of monitor_bench.py, and perhaps a comment. Where the example is one of
+two benches, a reply that both give stands without its mark.
 """
 import os
 import re
 import sys
 
 sys.dont_write_bytecode = True
-from monitor_bench import FORMS, Bench, lines_of
+from monitor_bench import FORMS, Bench, Twins, cut_at, image_of, lines_of
 
 ROOT = os.path.dirname(os.path.dirname(os.path.abspath(__file__)))
+PAGES = ("MONITOR.md", "COMMANDS.md")
+
+
+def text_of(*names):
+    with open(os.path.join(ROOT, *names), encoding="ascii") as file:
+        return file.read()
 
 
 def session_of(name):
-    """Each command of the example's script with its first reply."""
-    with open(os.path.join(ROOT, name, "stdin"), encoding="ascii") as file:
-        lines = lines_of(file.read())
-    cut = lines.index("--")
-    bench = Bench(bytes.fromhex("".join(lines[:cut])))
-    return [(line, " ".join(bench.replies(line)[:1])) for line in lines[cut + 1:]]
+    """Each command of the example's script with its first reply, of both where there are two benches."""
+    image, script = cut_at(lines_of(text_of(name, "stdin")))
+    first, second = cut_at(script)
+    bench = Bench(image_of(image))
+    session = [(line, " ".join(bench.replies(line)[:1])) for line in first]
+    twins = Twins(bench, 0) if text_of(name, "words").startswith("twin") else None
+    for line in second:
+        replies = twins.replies(line)[0]
+        marked = [it[3:] for it in replies if it.startswith("a: ")]
+        session.append((line, " ".join((marked or replies)[:1])))
+    return session
 
 
 def parts_of(text):
     """The name of each part's example, and its lines."""
-    for part in re.findall(r"^    # (examples/\w+)\n((?:    .+\n)+)", text, re.M):
+    for part in re.findall(r"^    # (examples/[\w/]+)\n((?:    .+\n)+)", text, re.M):
         yield part[0], [line.split(" # ")[0].strip() for line in part[1].splitlines()]
 
 
@@ -53,8 +65,7 @@ def main(arguments):
     if arguments != ["--check"]:
         print(__doc__)
         return 2
-    with open(os.path.join(ROOT, "docs", "MONITOR.md"), encoding="ascii") as file:
-        wrong, count = missing(file.read())
+    wrong, count = missing("\n".join(text_of("docs", name) for name in PAGES))
     print("\n".join(["differs: " + it for it in wrong] + ["%d compared, %d differ" % (count, len(wrong))]))
     return 1 if wrong or not count else 0
 

@@ -1,11 +1,18 @@
-# The examples of the monitored profile: the model, which knows nothing of the program, gives the output that stands there, and
+# The examples of the monitored profile, those of one bench and those of two: the model, which knows nothing of the program, gives the output that stands there, and
 # each has its image before its script.
-for example in "$here"/../examples/*/words; do
+for example in "$here"/../examples/*/words "$here"/../examples/attacks/*/words; do
   example=$(dirname "$example")
-  name=examples/$(basename "$example")
+  name=examples/${example#*/examples/}
   mapfile -t words < "$example/words"
   python3 "$here/monitor_bench.py" "${words[@]}" < "$example/stdin" > "$scratch/out"
   expect "$name, by the model" 0 $? "$example/stdout" "$scratch/out"
   head -n "$(wc -l < "$example/image")" "$example/stdin" > "$scratch/out"
   expect "$name/stdin" 0 $? "$example/image" "$scratch/out"
+done
+
+# The attacks: their sources assemble to their images.
+for example in "$here"/../examples/attacks/*/attack.s; do
+  example=$(dirname "$example")
+  cat "$example/../victim.s" "$example/attack.s" | "$program" asm > "$scratch/out"
+  expect "examples/attacks/$(basename "$example")/attack.s" 0 $? "$example/image" "$scratch/out"
 done

@@ -145,6 +145,19 @@ class Monitored(HartInMemory):
         self.host.regs[10:12] = [told, value]
         self.load_context(self.host)
 
+    # ---- what is no step
+
+    def scramble(self, slot):
+        """Makes of a live enclave that does not run another one: the complement of each byte of its region and of each saved
+        register. Whether there is such an enclave."""
+        if slot not in self.table or self.table[slot].state == "Running":
+            return False
+        enclave = self.table[slot]
+        base, size = enclave.region
+        self.put(base, bytes(byte ^ 0xFF for byte in self.part(base, size)))
+        enclave.context.regs = [0] + [word ^ ONES for word in enclave.context.regs[1:]]
+        return True
+
     # ---- calls
 
     def called(self):

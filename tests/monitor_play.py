@@ -1,9 +1,11 @@
 #!/usr/bin/env python3
 """Plays the monitored machine at random: long scripts of calls, steps, pokes, registers and timer lines, which the program must
 answer as the model of monitor_bench.py does. Regions and windows come from a small pool, so that several enclaves live, run,
-stop, exit and are destroyed in one script; the code of all worlds is ecalls, accesses, returns, jumps and illegal words.
+stop, exit and are destroyed in one script; the code of all worlds is ecalls, accesses, returns, jumps and illegal words. With
+--twin the script is cut in two, and its second part goes to two benches that differ in one enclave, which must answer alike.
 
-    tests/monitor_play.py PROGRAM [--seed S] [--count N] [--lines L]    N scripts of L lines, from this seed on
+    tests/monitor_play.py PROGRAM [--twin] [--seed S] [--count N] [--lines L]    N scripts of L lines, from this seed on
+    tests/monitor_play.py --alone ..                                             plays the model alone
 
 Where a reply differs, the script is made as small as it gets and printed, with both replies. The last line counts the scripts.
 """
@@ -16,7 +18,7 @@ import sys
 
 sys.dont_write_bytecode = True
 from instruction_words import assemble
-from monitor_bench import Bench, output
+from monitor_bench import Bench, Twins, parsed, wanted
 from monitor_case import input_of
 from monitor_model import CREATE, DESTROY, EXIT, HOST_ENTRY, KEY, MEASURE, RESUME, RUN, STOP
 from privileged_hart import NUMBER, ONES, S, START
@@ -38,7 +40,8 @@ SHOWN = [*CSRS, "mstatus", "mie", "mip", "mepc", "mcause", "mtval", "mtvec", "mc
 
 
 class Play:
-    """A script that is made while the model answers it. `taken` counts what happened on the way."""
+    """A script that is made while the model answers it. `taken` counts what happened on the way, `words` are the program's."""
+    words = ["run", "--monitor", "--ram", str(MEMORY)]
 
     def __init__(self, seed, count):
         self.rng = random.Random(seed)
@@ -46,9 +49,13 @@ class Play:
         self.image = b"".join(word.to_bytes(4, "little") for word in code)
         self.bench, self.lines, self.replies, self.taken = Bench(self.image, ram=MEMORY), [], [], collections.Counter()
         self.say("setreg 31 %x" % HANDLER, "step 1")
+        self.play(count)
+        self.say("regs", "enclaves", "pmp", *("csr %x" % NUMBER[name] for name in SHOWN))
+
+    def play(self, count):
+        """Turns until there are so many lines."""
         while len(self.lines) < count and not self.is_stuck():
             self.turn()
-        self.say("regs", "enclaves", "pmp", *("csr %x" % NUMBER[name] for name in SHOWN))
 
     @property
     def machine(self):
@@ -59,10 +66,17 @@ class Play:
         self.lines += lines
         for line in lines:
             states = {slot: it.state for slot, it in self.machine.table.items()}
-            self.replies += self.bench.replies(line)
+            self.replies += self.given(line)
             now = {slot: it.state for slot, it in self.machine.table.items()}
             self.taken.update("%s to %s" % (states.get(slot, "free"), now.get(slot, "free"))
                               for slot in {*states, *now} if states.get(slot) != now.get(slot))
+
+    def given(self, line):
+        """The replies of the model."""
+        return self.bench.replies(line)
+
+    def all_replies(self):
+        return self.replies
 
     def is_stuck(self):
         """Whether the host is nowhere, and so is its handler: nothing but traps would come."""
@@ -109,7 +123,7 @@ class Play:
             if self.machine.is_inside(address + i, 1) and self.machine.part(address + i, 1) != bytes([byte]):
                 self.say("poke %x %x" % (address + i, byte))
 
-    def slot(self, *states):
+    def drawn_slot(self, *states):
         """Most often one in these states."""
         fitting = [slot for slot, it in self.machine.table.items() if it.state in states]
         return self.rng.choice(fitting) if fitting and self.rng.random() < 0.85 else self.rng.choice([*range(15), ONES])
@@ -127,7 +141,7 @@ class Play:
                 arguments[rng.randrange(5)] = self.word()
         else:
             states = {DESTROY: ("Fresh", "Stopped", "Exited"), RUN: ("Fresh",), RESUME: ("Stopped",)}
-            arguments = [self.slot(*states.get(function, ("Fresh", "Stopped", "Exited", "Running"))), self.address()]
+            arguments = [self.drawn_slot(*states.get(function, ("Fresh", "Stopped", "Exited", "Running"))), self.address()]
         for number, word in ((17, KEY if rng.random() < 0.97 else self.word()), (16, function), *enumerate(arguments, 10)):
             self.set(number, word)
         if rng.random() < 0.95:
@@ -195,32 +209,75 @@ class Play:
             self.say("reg 10", "reg 11", "csr %x" % NUMBER[self.rng.choice(SHOWN)])
 
 
+class TwinPlay(Play):
+    """A quarter of the script is answered by one bench, the rest by two."""
+    twins, slot, is_over = None, None, False
+
+    def play(self, count):
+        super().play(count // 4)
+        for _ in range(100):
+            fitting = [slot for slot, it in self.machine.table.items() if it.state != "Running"]
+            if fitting or self.is_stuck():
+                break
+            self.turn()
+        self.slot = self.rng.choice(fitting) if fitting and self.rng.random() < 0.95 else self.rng.randrange(13)
+        self.words = ["twin", "--slot", str(self.slot), "--ram", str(MEMORY)]
+        self.lines.append("--")
+        self.twins = Twins(self.bench, self.slot)
+        self.is_over = not self.twins.is_apart
+        self.replies += ["twin no slot"] if self.is_over else []
+        self.taken["twin no slot" if self.is_over else "twin"] += 1
+        super().play(count)
+
+    def is_stuck(self):
+        return self.is_over or super().is_stuck()
+
+    def given(self, line):
+        if not self.twins or self.is_over:
+            return [] if self.is_over else super().given(line)
+        words, live = parsed(line), self.slot in self.machine.table
+        replies, self.is_over = self.twins.replies(line)
+        one, other = ([it[3:] for it in replies if it.startswith(mark)] for mark in ("a: ", "b: "))
+        assert one == other, "the replies of the model to %s differ: %s" % (line, replies)
+        if live:
+            told = "entered" if self.is_over else replies[0] if replies[0].startswith("error blind") else words[0]
+            self.taken["twin " + told] += 1
+        return replies
+
+    def drawn_slot(self, *states):
+        """Seldom the one in which the benches differ, where it would be entered."""
+        drawn = [super(TwinPlay, self).drawn_slot(*states) for _ in range(4)]
+        return next((it for it in drawn if it != self.slot or len(states) != 1), drawn[0])
+
+    def all_replies(self):
+        return self.replies + ([] if self.is_over else ["twin end %d" % self.twins.count])
+
+
 # ---- the program beside the model
 
-def answered(program, image, lines):
+def answered(program, play, lines):
     """What the program writes."""
-    words = [program, "run", "--monitor", "--ram", str(MEMORY)]
-    ran = subprocess.run(words, input=input_of(image.hex(), lines).encode(), stdout=subprocess.PIPE, timeout=600)
+    ran = subprocess.run([program, *play.words], input=input_of(play.image.hex(), lines).encode(), stdout=subprocess.PIPE, timeout=600)
     return ran.stdout.decode("latin-1")
 
 
-def wanted(image, lines):
+def right(play, lines):
     """What it must write."""
-    return output(input_of(image.hex(), lines), ram=MEMORY)[0]
+    return wanted(input_of(play.image.hex(), lines), play.words)[0]
 
 
-def differs(program, image, lines):
-    return answered(program, image, lines) != wanted(image, lines)
+def differs(program, play, lines):
+    return answered(program, play, lines) != right(play, lines)
 
 
-def made_small(program, image, lines):
+def made_small(program, play, lines):
     """The lines without those that the difference does not need: halves first, then ever smaller parts."""
     size = len(lines)
     while size:
         at = 0
         while at < len(lines):
             rest = lines[:at] + lines[at + size:]
-            if differs(program, image, rest):
+            if differs(program, play, rest):
                 lines = rest
             else:
                 at += size
@@ -228,39 +285,39 @@ def made_small(program, image, lines):
     return lines
 
 
-def cut_at(play, given):
-    """The lines up to the first that is answered otherwise."""
-    bench, replies = Bench(play.image, ram=MEMORY), given.split("\n")
-    for count, line in enumerate(play.lines, 1):
-        right = bench.replies(line)
-        if replies[:len(right)] != right:
-            return play.lines[:count]
-        replies = replies[len(right):]
-    return play.lines
+def cut_short(program, play):
+    """The fewest lines from the first on that are answered otherwise."""
+    low, high = 0, len(play.lines)
+    while low < high:
+        middle = (low + high) // 2
+        low, high = (low, middle) if differs(program, play, play.lines[:middle]) else (middle + 1, high)
+    return play.lines[:high]
 
 
-def told(program, play, seed, given):
+def told(program, play, seed):
     """The difference, by a script that is as small as it gets."""
-    lines = made_small(program, play.image, cut_at(play, given))
-    print("seed %d: the program differs from the model; rvbench run --monitor --ram %d\n%s" % (
-        seed, MEMORY, input_of(play.image.hex(), lines)))
-    print("it writes\n%s\nand must write\n%s" % (answered(program, play.image, lines), wanted(play.image, lines)))
+    lines = made_small(program, play, cut_short(program, play))
+    print("seed %d: the program differs from the model; rvbench %s\n%s" % (
+        seed, " ".join(play.words), input_of(play.image.hex(), lines)))
+    print("it writes\n%s\nand must write\n%s" % (answered(program, play, lines), right(play, lines)))
 
 
 def main(words):
     parser = argparse.ArgumentParser()
-    parser.add_argument("program")
+    parser.add_argument("program", nargs="?")
+    for option in ("--twin", "--alone"):
+        parser.add_argument(option, action="store_true")
     for option, default in (("--seed", 1), ("--count", 4), ("--lines", 1500)):
         parser.add_argument(option, type=int, default=default)
     asked = parser.parse_args(words)
-    taken, failed, program = collections.Counter(), 0, os.path.realpath(asked.program)
+    taken, failed, program = collections.Counter(), 0, None if asked.alone else os.path.realpath(asked.program)
     for seed in range(asked.seed, asked.seed + asked.count):
-        play = Play(seed, asked.lines)
+        play = (TwinPlay if asked.twin else Play)(seed, asked.lines)
         taken.update(play.taken)
-        given = answered(program, play.image, play.lines)
-        if given != "".join(reply + "\n" for reply in play.replies):
-            told(program, play, seed, given)
+        given = right(play, play.lines) if asked.alone else answered(program, play, play.lines)
+        if given != "".join(reply + "\n" for reply in play.all_replies()):
             failed += 1
+            print("seed %d: the model differs from itself" % seed) if asked.alone else told(program, play, seed)
     print("; ".join("%s %d" % it for it in sorted(taken.items())))
     print("%d passed, %d failed" % (asked.count - failed, failed))
     return 1 if failed else 0

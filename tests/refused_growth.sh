@@ -44,6 +44,8 @@ if "$compiler" -shared -fPIC -nostdlib -fno-builtin "${linker[@]}" -o "$shim" "$
   refused_in_turn "run --ram" "rvbench: memory/rvbench: ram 2/" "$scratch/first_stdin" 0 "$scratch/first_stdout" run --ram 65536
   at_rest=$here/../examples/monitor_at_rest
   refused_in_turn "run --monitor" "rvbench: memory/rvbench: ram 2/" "$at_rest/stdin" 0 "$at_rest/stdout" run --monitor
+  for part in stdin stdout; do part_of twin_examples/destroy_clears "$part" "$scratch/twin_$part"; done
+  refused_in_turn "twin" "rvbench: memory/rvbench: ram 2/" "$scratch/twin_stdin" 0 "$scratch/twin_stdout" twin
   refused_in_turn "asm" "rvbench: memory/rvbench: line N fault 8/" "$scratch/asm_stdin" 0 "$scratch/asm_stdout" asm
   refused_in_turn "dis" "rvbench: memory/" "$scratch/dis_stdin" 0 "$scratch/dis_stdout" dis
   # a text with many labels and words, in whose lines memory is found more than once; and one that is refused at its last line

@@ -4,7 +4,8 @@ use Rattle.std.proofs.Common.{◌||◌, ◌∙◌, ◌∷◌, ◌≡◌, [], ap,
 use Rattle.std.proofs.lemmas.Slice.Eq.{bytes_eq-Decides}
 use Rattle.std.specs.List.{list_any}
 use Rattle.std.specs.Option.{option_map_or}
-use Rattle.std.specs.Prelude.{find, is_some, map, option_and_then, option_map, pos, slice_get}
+use Rattle.std.proofs.lemmas.Bool.{lt-ltb}
+use Rattle.std.specs.Prelude.{find, is_some, map, nat_lt, option_and_then, option_map, pos, slice_get, unwrap_or, ℕ}
 use Rattle.std.specs.Str.Parse.{ParsesUnsigned}
 use Rattle.std.specs.Str.{bytes_eq}
 use Rattle.clap.proofs.CallerReads.{signed_reads}
@@ -13,7 +14,7 @@ use Rattle.clap.specs.Facts.{parser_of_value}
 use Rattle.clap.specs.Faults.{entered_fault, values_fault, walk_fault}
 use Rattle.clap.specs.Kinds.{Kinds, value_kinds}
 use Rattle.clap.specs.Lexer.{without_minus}
-use Rattle.clap.specs.Simple.{argument_words, built, entered, filled, names_of}
+use Rattle.clap.specs.Simple.{argument_words, built, entered, filled, names_of, subcommand_of}
 use Rattle.clap.specs.ValueTests.{accepts}
 use Rattle.clap.specs.Values.{read_as, refused_kind}
 use Rattle.clap.specs.Walk.{arg_by_id, first_of, one_of, reading_by, Row, row_text, Rule, stop_after, Text, walk_from, nothing_held}
@@ -21,10 +22,12 @@ use Rattle.clap.specs.declared.builder.value_parser.Reading.TheVariants as readi
 use Rattle.clap.specs.declared.builder.value_parser.Reading.{Reading}
 use Rattle.clap.specs.declared.builder.value_parser.ValueParser.TheVariants as parser
 use Rattle.rv_command_line.proofs.Given.{AllGood, EntersGood, entered_good, parts, rules_named}
-use Rattle.rv_command_line.proofs.Numbers.{number_reads}
+use Rattle.rv_command_line.proofs.Numbers.{both, number_reads}
 use Rattle.rv_command_line.proofs.Truths.{truth_spelled}
-use Rattle.rv_command_line.specs.CommandLine.{faults_of, kind, kind_names, kinds, lent, monitor, Names, ram, rvbench}
-use Rattle.rv_command_line.specs.Job.{are_read, kind_of, number_in_text, run_options, truth_in_text}
+use Rattle.rv_command_line.specs.CommandLine.{faults_of, kind, kind_names, kinds, lent, monitor, Names, ram, rvbench, slot}
+use Rattle.rv_command_line.specs.Job.{are_options_read, are_run_read, are_twin_read, is_image_read, is_lawful, is_monitor_read, is_slot, is_slot_read}
+use Rattle.rv_command_line.specs.Job.{job_of, kind_of, named_job, number_in_text, options_of, run_of, truth_in_text, twin_of}
+use Rattle.rv_command_line.specs.declared.job.Job.TheVariants as job
 use Rattle.rv_command_line.specs.declared.image_kind.ImageKind.{ImageKind}
 
 -- ---- values that the parsers accept
@@ -59,11 +62,17 @@ kind_named v = named v kinds
 some_given : {X : Type 0} (o : Option X) (n : X) → o ≡ Some n → is_some o ≡ true
 some_given o n e = rw e refl
 
-ram_read : (v : Text) → accepts false (parser.Signed (pos 0) (pos 4294967295)) v ≡ true → is_some (number_in_text (without_minus v)) ≡ true
+ram_read : (v : Text) → accepts false (parser.Signed (pos 0) (pos 4294967295)) v ≡ true → is_some (number_in_text 32 (without_minus v)) ≡ true
 ram_read v e =
-    let got = signed_reads Bool (λ u x. ParsesUnsigned 32 10 u x) 32 0 4294967295 v (number_in_text (without_minus v)) (number_reads (without_minus v)) (λ u x given. given) (omega arith)
+    let got = signed_reads Bool (λ u x. ParsesUnsigned 32 10 u x) 32 0 4294967295 v (number_in_text 32 (without_minus v)) (number_reads 32 (without_minus v)) (λ u x given. given) (omega arith)
     (accepts-Accepts false (parser.Signed (pos 0) (pos 4294967295)) v e) in
-    some_given (number_in_text (without_minus v)) got.0 got.1
+    some_given (number_in_text 32 (without_minus v)) got.0 got.1
+
+slot_accepted : (v : Text) → accepts false (parser.Signed (pos 0) (pos 12)) v ≡ true → is_slot (without_minus v) ≡ true
+slot_accepted v e =
+    let got = signed_reads Bool (λ u x. ParsesUnsigned 8 10 u x) 8 0 12 v (number_in_text 8 (without_minus v)) (number_reads 8 (without_minus v)) (λ u x given. given) (omega arith)
+    (accepts-Accepts false (parser.Signed (pos 0) (pos 12)) v e) in
+    ap (λ o. option_map_or (λ n. nat_lt n 13) o false) got.1 ∙ lt-ltb got.0 13 (omega arith)
 
 truth_read : (v : Text) → accepts false parser.Bool v ≡ true → is_some (truth_in_text v) ≡ true
 truth_read v e = truth_spelled (bytes_eq v (codes "true")) (bytes_eq v (codes "false")) e
@@ -73,9 +82,14 @@ first_kind [] e = refl
 first_kind (v ∷ vs) e = kind_named v (passed (filled (kind at_first)) v vs e)
 
 first_ram : (how : Reading) (vs : List Text) → how ≡ reading.WithoutMinus → values_fault (filled ram) vs ≡ []
-    → option_map_or (λ text. is_some (number_in_text text)) (option_map (read_as how) (slice_get vs 0)) true ≡ true
+    → option_map_or (λ text. is_some (number_in_text 32 text)) (option_map (read_as how) (slice_get vs 0)) true ≡ true
 first_ram how [] is e = refl
 first_ram how (v ∷ vs) is e = rw is (ram_read v (passed (filled ram) v vs e))
+
+first_slot : (how : Reading) (vs : List Text) → how ≡ reading.WithoutMinus → values_fault (filled slot) vs ≡ []
+    → option_map_or is_slot (option_map (read_as how) (slice_get vs 0)) true ≡ true
+first_slot how [] is e = refl
+first_slot how (v ∷ vs) is e = rw is (slot_accepted v (passed (filled slot) v vs e))
 
 first_truth : (how : Reading) (vs : List Text) → how ≡ reading.AsWritten → values_fault (filled monitor) vs ≡ []
     → option_map_or (λ text. is_some (truth_in_text text)) (option_map (read_as how) (slice_get vs 0)) true ≡ true
@@ -97,37 +111,78 @@ row_found c a P own none some (r ∷ rs) good = go (bytes_eq r.id a.id) refl (ro
         some r had.0 had.1
     go false e rest = rest
 
--- the options of `run`
-abbrev rules_of_run : List Rule
-rules_of_run = rules_named (built rvbench) (codes "run")
+-- the options of a subcommand
+module _ (c : List Rule) (rows : List Row) (good : AllGood c rows) where
+  image_read : arg_by_id c (codes "kind") ≡ Some (filled (kind at_first)) → arg_by_id c (codes "ram") ≡ Some (filled ram) → is_image_read rows ≡ true
+  image_read kind_own ram_own =
+      let kind_is : option_map_or (λ text. is_some (kind_of text)) (first_of (codes "kind") rows) true ≡ true =
+      row_found c (filled (kind at_first)) (λ o. option_map_or (λ text. is_some (kind_of text)) (option_and_then (λ r. slice_get r.values 0) o) true ≡ true) kind_own refl
+      (λ r how e. first_kind r.values e) rows good in
+      let ram_is : option_map_or (λ text. is_some (number_in_text 32 text)) (one_of (codes "ram") rows) true ≡ true =
+      row_found c (filled ram) (λ o. option_map_or (λ text. is_some (number_in_text 32 text)) (option_and_then row_text o) true ≡ true) ram_own refl
+      (λ r how e. first_ram r.reading r.values how e) rows good in
+      rw (kind_is, ram_is) refl
 
-rows_read : (rows : List Row) → AllGood rules_of_run rows → are_read rows ≡ true
-rows_read rows good =
-    let kind_is : option_map_or (λ text. is_some (kind_of text)) (first_of (codes "kind") rows) true ≡ true =
-    row_found rules_of_run (filled (kind at_first)) (λ o. option_map_or (λ text. is_some (kind_of text)) (option_and_then (λ r. slice_get r.values 0) o) true ≡ true) refl refl
-    (λ r how e. first_kind r.values e) rows good in
-    let ram_is : option_map_or (λ text. is_some (number_in_text text)) (one_of (codes "ram") rows) true ≡ true =
-    row_found rules_of_run (filled ram) (λ o. option_map_or (λ text. is_some (number_in_text text)) (option_and_then row_text o) true ≡ true) refl refl
-    (λ r how e. first_ram r.reading r.values how e) rows good in
-    let monitor_is : option_map_or (λ text. is_some (truth_in_text text)) (one_of (codes "monitor") rows) true ≡ true =
-    row_found rules_of_run (filled monitor) (λ o. option_map_or (λ text. is_some (truth_in_text text)) (option_and_then row_text o) true ≡ true) refl refl
-    (λ r how e. first_truth r.reading r.values how e) rows good in
-    rw (kind_is, ram_is, monitor_is) refl
+  monitor_read : arg_by_id c (codes "monitor") ≡ Some (filled monitor) → is_monitor_read rows ≡ true
+  monitor_read own =
+      row_found c (filled monitor) (λ o. option_map_or (λ text. is_some (truth_in_text text)) (option_and_then row_text o) true ≡ true) own refl
+      (λ r how e. first_truth r.reading r.values how e) rows good
+
+  slot_read : arg_by_id c (codes "slot") ≡ Some (filled slot) → is_slot_read rows ≡ true
+  slot_read own =
+      row_found c (filled slot) (λ o. option_map_or is_slot (option_and_then row_text o) true ≡ true) own refl
+      (λ r how e. first_slot r.reading r.values how e) rows good
+
+run_read : (rows : List Row) → AllGood (rules_named (built rvbench) (codes "run")) rows → are_run_read rows ≡ true
+run_read rows good =
+    let rules = rules_named (built rvbench) (codes "run") in
+    rw (image_read rules rows good refl refl, monitor_read rules rows good refl) refl
+
+twin_read : (rows : List Row) → AllGood (rules_named (built rvbench) (codes "twin")) rows → are_twin_read rows ≡ true
+twin_read rows good =
+    let rules = rules_named (built rvbench) (codes "twin") in
+    rw (image_read rules rows good refl refl, slot_read rules rows good refl) refl
 
 -- ---- the program
 
-entered_read : (met : Option (Text × List Row)) → EntersGood (built rvbench) met
-    → are_read (option_map_or (λ met. cond (bytes_eq met.0 (codes "run")) met.1 []) met []) ≡ true
-entered_read None good = refl
-entered_read (Some met) good = go (bytes_eq met.0 (codes "run")) refl
+-- what holds of good options of a subcommand, and of none, holds of those that are given
+given_read : (name : Text) (P : List Row → Bool) → P [] ≡ true → ((rows : List Row) → AllGood (rules_named (built rvbench) name) rows → P rows ≡ true)
+    → (met : Option (Text × List Row)) → EntersGood (built rvbench) met → P (option_map_or (λ met. cond (bytes_eq met.0 name) met.1 []) met []) ≡ true
+given_read name P none all None good = none
+given_read name P none all (Some met) good = go (bytes_eq met.0 name) refl
   where
-    go : (b : Bool) → bytes_eq met.0 (codes "run") ≡ b → are_read (cond b met.1 []) ≡ true
-    go true e = rows_read met.1 (subst (λ name. AllGood (rules_named (built rvbench) name) met.1) ((bytes_eq-Decides met.0 (codes "run")).0 e) good)
-    go false e = refl
+    go : (b : Bool) → bytes_eq met.0 name ≡ b → P (cond b met.1 []) ≡ true
+    go true e = all met.1 (subst (λ name. AllGood (rules_named (built rvbench) name) met.1) ((bytes_eq-Decides met.0 name).0 e) good)
+    go false e = none
 
-pub taken_read : (words : List Text) → faults_of words ≡ [] → are_read (run_options words) ≡ true
+pub taken_read : (words : List Text) → faults_of words ≡ [] → are_options_read words ≡ true
 taken_read words e =
     let a = built rvbench in
     let stop = stop_after a.top.rules (names_of a) (argument_words a words) in
-    entered_read (entered a stop)
-    (entered_good a refl stop (parts (entered_fault a stop) _ (parts (walk_fault a.top (names_of a) (walk_from nothing_held) (argument_words a words)) _ e).1).0)
+    let good = entered_good a refl stop (parts (entered_fault a stop) _ (parts (walk_fault a.top (names_of a) (walk_from nothing_held) (argument_words a words)) _ e).1).0 in
+    rw (given_read (codes "run") are_run_read refl run_read (entered a stop) good, given_read (codes "twin") are_twin_read refl twin_read (entered a stop) good) refl
+
+-- ---- the slot that is named
+
+slot_below : (o : Option Text) → option_map_or is_slot o true ≡ true → nat_lt (unwrap_or (option_and_then (number_in_text 8) o) 0) 13 ≡ true
+slot_below None e = refl
+slot_below (Some text) e = go (number_in_text 8 text) e
+  where
+    go : (o : Option ℕ) → option_map_or (λ n. nat_lt n 13) o false ≡ true → nat_lt (unwrap_or o 0) 13 ≡ true
+    go None e = refl
+    go (Some n) e = e
+
+named_lawful : (met : Option (Text × List Row)) → are_twin_read (option_map_or (λ met. cond (bytes_eq met.0 (codes "twin")) met.1 []) met []) ≡ true
+    → is_lawful (named_job met) ≡ true
+named_lawful None e = refl
+named_lawful (Some met) e = go (bytes_eq met.0 (codes "asm")) (bytes_eq met.0 (codes "dis")) (bytes_eq met.0 (codes "twin")) e
+  where
+    go : (is_asm is_dis is_twin : Bool) → are_twin_read (cond is_twin met.1 []) ≡ true
+        → is_lawful (cond is_asm job.Asm (cond is_dis job.Dis (cond is_twin (twin_of met.1) (run_of met.1)))) ≡ true
+    go true d t e = refl
+    go false true t e = refl
+    go false false true e = slot_below (one_of (codes "slot") met.1) (both (is_image_read met.1) (is_slot_read met.1) e).1
+    go false false false e = refl
+
+pub taken_lawful : (words : List Text) → faults_of words ≡ [] → is_lawful (job_of words) ≡ true
+taken_lawful words e = named_lawful (subcommand_of rvbench words) (both (are_run_read (options_of (codes "run") words)) (are_twin_read (options_of (codes "twin") words)) (taken_read words e)).1

@@ -42,8 +42,19 @@ monitor = record (new_rule (codes "monitor")) {
   action = Some action.SetTrue;
 }
 
+-- `--slot K`: one number from 0 to 12
+abbrev pub slot : Rule
+slot = record (new_rule (codes "slot")) {
+  long = Some (codes "slot");
+  value_names = 1;
+  parser = Some (parser.Signed (pos 0) (pos 12));
+}
+
 abbrev pub run : Names → App
 run names = with_rule (with_rule (with_rule (new_app (codes "run")) (kind names)) ram) monitor
+
+abbrev pub twin : Names → App
+twin names = with_rule (with_rule (with_rule (new_app (codes "twin")) slot) (kind names)) ram
 
 abbrev pub asm : App
 asm = new_app (codes "asm")
@@ -51,15 +62,19 @@ asm = new_app (codes "asm")
 abbrev pub dis : App
 dis = new_app (codes "dis")
 
--- the program with its subcommands
+-- the program with the subcommands that run benches
+abbrev pub benches : Names → App
+benches names = with_subcommand (with_subcommand (new_app (codes "rvbench")) (run names).top) (twin names).top
+
+-- the program with all its subcommands
 abbrev pub program : Names → App
-program names = with_subcommand (with_subcommand (with_subcommand (new_app (codes "rvbench")) (run names).top) asm.top) dis.top
+program names = with_subcommand (with_subcommand (benches names) asm.top) dis.top
 
 -- what lies at the first address: a command line reads names alike wherever they lie
 abbrev pub lent : {X : Type 0} → X → Bor X
 lent x = record { ref_ptr = (0, 0); now = x }
 
--- the program, whose option has the names of the kinds
+-- the program, whose options have the names of the kinds
 abbrev pub rvbench : App
 rvbench = program (lent (map lent kind_names))
 

@@ -17,11 +17,11 @@ use Rattle.rv_command_line.specs.declared.setup.Setup.{Setup}
 abbrev pub kind_of : Text → Option ImageKind
 kind_of name = option_map (λ row. row.1) (find (λ row. bytes_eq row.0 name) kinds)
 
--- the number of 32 bits that a text of decimal digits spells, after a plus or none
-abbrev pub number_in_text : Text → Option ℕ
-number_in_text text =
+-- the number of so many bits that a text of decimal digits spells, after a plus or none
+abbrev pub number_in_text : ℕ → Text → Option ℕ
+number_in_text bits text =
     let digits = without_leading_plus text in
-    if is_numeral digits && nat_lt (digits_value 10 digits) (2 ^ 32) then Some (digits_value 10 digits) else None
+    if is_numeral digits && nat_lt (digits_value 10 digits) (2 ^ bits) then Some (digits_value 10 digits) else None
 
 -- the truth that a text spells
 abbrev pub truth_in_text : Text → Option Bool
@@ -29,31 +29,65 @@ truth_in_text text =
     if bytes_eq text (codes "true") then Some true
     else (if bytes_eq text (codes "false") then Some false else None)
 
--- the setup that the options of `run` give
-abbrev pub setup_of : List Row → Setup
-setup_of options = record {
+-- the setup that `--kind` and `--ram` give, with the monitor or without it
+abbrev pub setup_of : Bool → List Row → Setup
+setup_of monitored options = record {
   kind = unwrap_or (option_and_then kind_of (first_of (codes "kind") options)) image.Auto;
-  ram = unwrap_or (option_and_then number_in_text (one_of (codes "ram") options)) 1048576;
-  monitored = unwrap_or (option_and_then truth_in_text (one_of (codes "monitor") options)) false;
+  ram = unwrap_or (option_and_then (number_in_text 32) (one_of (codes "ram") options)) 1048576;
+  monitored = monitored;
 }
 
--- each of them that is given has a value that is read, so that a default stands only for one that is not given
-abbrev pub are_read : List Row → Bool
-are_read options = option_map_or (λ text. is_some (kind_of text)) (first_of (codes "kind") options) true
-    && option_map_or (λ text. is_some (number_in_text text)) (one_of (codes "ram") options) true
-    && option_map_or (λ text. is_some (truth_in_text text)) (one_of (codes "monitor") options) true
+-- what `run` asks for with its options: without the monitor unless they say so
+abbrev pub run_of : List Row → Job
+run_of options = job.Run (setup_of (unwrap_or (option_and_then truth_in_text (one_of (codes "monitor") options)) false) options)
+
+-- what `twin` asks for with its options: always with the monitor, and slot 0 unless they name another
+abbrev pub twin_of : List Row → Job
+twin_of options = job.Twin (setup_of true options) (unwrap_or (option_and_then (number_in_text 8) (one_of (codes "slot") options)) 0)
 
 -- the job of a subcommand with its options, or of none
 abbrev pub named_job : Option (Text × List Row) → Job
-named_job None = job.Run (setup_of [])
+named_job None = run_of []
 named_job (Some (name, options)) =
     if bytes_eq name (codes "asm") then job.Asm
-    else (if bytes_eq name (codes "dis") then job.Dis else job.Run (setup_of options))
-
--- the options of `run` that the words give
-abbrev pub run_options : List Text → List Row
-run_options words = option_map_or (λ met. if bytes_eq met.0 (codes "run") then met.1 else []) (subcommand_of rvbench words) []
+    else (if bytes_eq name (codes "dis") then job.Dis
+    else (if bytes_eq name (codes "twin") then twin_of options else run_of options))
 
 -- the job that the words name, the program's name first
 abbrev pub job_of : List Text → Job
 job_of words = named_job (subcommand_of rvbench words)
+
+-- the options that the words give to the subcommand of this name
+abbrev pub options_of : Text → List Text → List Row
+options_of name words = option_map_or (λ met. if bytes_eq met.0 name then met.1 else []) (subcommand_of rvbench words) []
+
+-- the values of `--kind` and `--ram`, of `--monitor` and of `--slot`, each where it is given, are values that are read, so that
+-- a default stands only for an option that is not given
+abbrev pub is_image_read : List Row → Bool
+is_image_read options = option_map_or (λ text. is_some (kind_of text)) (first_of (codes "kind") options) true
+    && option_map_or (λ text. is_some (number_in_text 32 text)) (one_of (codes "ram") options) true
+
+abbrev pub is_monitor_read : List Row → Bool
+is_monitor_read options = option_map_or (λ text. is_some (truth_in_text text)) (one_of (codes "monitor") options) true
+
+-- a slot is one of thirteen
+abbrev pub is_slot : Text → Bool
+is_slot text = option_map_or (λ n. nat_lt n 13) (number_in_text 8 text) false
+
+abbrev pub is_slot_read : List Row → Bool
+is_slot_read options = option_map_or is_slot (one_of (codes "slot") options) true
+
+abbrev pub are_run_read : List Row → Bool
+are_run_read options = is_image_read options && is_monitor_read options
+
+abbrev pub are_twin_read : List Row → Bool
+are_twin_read options = is_image_read options && is_slot_read options
+
+-- this is so of all options that the words give
+abbrev pub are_options_read : List Text → Bool
+are_options_read words = are_run_read (options_of (codes "run") words) && are_twin_read (options_of (codes "twin") words)
+
+-- a job that names a slot names one of the thirteen, and a bench with the monitor
+abbrev pub is_lawful : Job → Bool
+is_lawful (job.Twin setup slot) = setup.monitored && nat_lt slot 13
+is_lawful _ = true

@@ -3,7 +3,7 @@
 ghost use Rattle.std.specs.Prelude.{◌≡◌, false, IfOk, List, true};
 ghost use Rattle.clap.specs.Words.{Text, app_of, fault_of, is_simple, is_simple_and_free, rule_of, subcommand_of};
 ghost use Rattle.clap.specs.declared.builder.command.Command.TheViews.{out-Command as fields_of};
-ghost use Rattle.rv_command_line.specs.CommandLine.{asm, dis, faults_of, kind, monitor, program, ram, run, rvbench};
+ghost use Rattle.rv_command_line.specs.CommandLine.{asm, benches, dis, faults_of, kind, monitor, program, ram, run, rvbench, slot, twin};
 
 use crate::image_kind::KIND_NAMES;
 use clap::{Arg, ArgAction, Command, value_parser};
@@ -29,6 +29,14 @@ const FIRST_SCRIPT: &str =
     dis A                    show the word at an address and its instruction\n  \
     pmp, access M K A L      show the PMP entries, judge an access by them\n  \
     enclaves                 show the live enclaves";
+
+/// What the help of `twin` ends with: what is read and written, and a first input.
+const FIRST_TWIN: &str =
+    "The input is an image, a line --, a script for both benches, a line --, and a script that both answer. Between the scripts\n\
+    the enclave of the second bench is made another. Replies are written after a: and b:, and end where the enclave is entered.\n\n\
+    Example: a host creates an enclave, both hosts destroy theirs, and both find its region cleared:\n  \
+    printf '7300000073000000\\n--\\nsetreg 17 0a454e43\\nsetreg 16 1\\nsetreg 10 80020000\\nsetreg 11 1000\\n\
+    setreg 14 80020000\\nstep 1\\n--\\nsetreg 16 2\\nsetreg 10 0\\nstep 1\\nmem 80020000 4\\n' | rvbench twin";
 
 /// `--kind NAME` with these names, by default what `Setup::default` has.
 fn kind_option<'a>(alloc: Global, names: &'a [&'a str]) -> Arg<'a>
@@ -67,6 +75,18 @@ fn monitor_flag<'a>(alloc: Global) -> Arg<'a>
         .help("Run the image as the host above the monitor, from 80010000 on and in mode S")
 }
 
+/// `--slot K`, by default slot 0.
+fn slot_option<'a>(alloc: Global) -> Arg<'a>
+    ensures rule { rule_of result ≡ slot }
+    ensures local { result.global ≡ false }
+{
+    Arg::new(alloc, "slot")
+        .long("slot")
+        .value_name("K")
+        .value_parser(value_parser!(u8).range(..=12))
+        .help("The slot of the enclave in which the two benches differ, from 0 to 12 [default: 0]")
+}
+
 /// `run`: the bench itself.
 fn run_command<'a>(alloc: Global, kind_names: &'a [&'a str]) -> Result<Command<'a>, AllocError>
     ensures app { IfOk result (λ command. app_of command ≡ run kind_names.entry) }
@@ -81,6 +101,22 @@ fn run_command<'a>(alloc: Global, kind_names: &'a [&'a str]) -> Result<Command<'
         .arg(kind_option(alloc, kind_names))?
         .arg(ram_option(alloc))?
         .arg(monitor_flag(alloc))
+}
+
+/// `twin`: two benches that differ in one enclave.
+fn twin_command<'a>(alloc: Global, names: &'a [&'a str]) -> Result<Command<'a>, AllocError>
+    ensures app { IfOk result (λ command. app_of command ≡ twin names.entry) }
+    ensures local { IfOk result (λ command. (fields_of command).has_globals ≡ false) }
+{
+    let command = Command::new(alloc, "twin")
+        .about(
+            "Give a script to two monitored benches that differ in one enclave alone, and write the replies of both",
+        )
+        .after_help(FIRST_TWIN);
+    command
+        .arg(slot_option(alloc))?
+        .arg(kind_option(alloc, names))?
+        .arg(ram_option(alloc))
 }
 
 /// `asm`: the assembler.
@@ -101,14 +137,22 @@ fn dis_command<'a>(alloc: Global) -> Command<'a>
     )
 }
 
-/// The program with its subcommands.
-fn program_command<'a>(alloc: Global, kind_names: &'a [&'a str]) -> Result<Command<'a>, AllocError>
-    ensures { IfOk result (λ command. app_of command ≡ program kind_names.entry) }
+/// The program with the subcommands that run benches.
+fn benches_command<'a>(alloc: Global, kind_names: &'a [&'a str]) -> Result<Command<'a>, AllocError>
+    ensures { IfOk result (λ command. app_of command ≡ benches kind_names.entry) }
 {
     let command = Command::new(alloc, "rvbench")
         .about("An instruction-exact bench for one RISC-V hart, driven by a script of commands")
         .after_help(FIRST_EXAMPLE);
     let command = command.subcommand(run_command(alloc, kind_names)?)?;
+    command.subcommand(twin_command(alloc, kind_names)?)
+}
+
+/// The program with all its subcommands.
+fn program_command<'a>(alloc: Global, kind_names: &'a [&'a str]) -> Result<Command<'a>, AllocError>
+    ensures { IfOk result (λ command. app_of command ≡ program kind_names.entry) }
+{
+    let command = benches_command(alloc, kind_names)?;
     let command = command.subcommand(asm_command(alloc))?;
     command.subcommand(dis_command(alloc))
 }

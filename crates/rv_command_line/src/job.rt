@@ -7,6 +7,8 @@ use crate::setup::Setup;
 pub enum Job {
     /// `run`, or no subcommand: run a bench of this setup.
     Run(Setup),
+    /// `twin`: run two benches of this setup, which has the monitor, that differ in one enclave alone: the one in this slot, 0 to 12.
+    Twin(Setup, u8),
     /// `asm`: assemble.
     Asm,
     /// `dis`: disassemble.

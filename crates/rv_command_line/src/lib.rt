@@ -1,12 +1,14 @@
 //! The command line of the bench: what the program's words ask for, read with the crate `clap`.
 //!
 //! `rvbench` and `rvbench run` run the bench, `rvbench run --ram 65536` with a RAM of that size, `rvbench run --kind elf` with an ELF
-//! file as its image and `rvbench run --monitor` with the image as the host above the monitor; `rvbench asm` assembles and
-//! `rvbench dis` disassembles. The specs name what the words mean: `CommandLine` defines the command line, and `Job` the job that it
+//! file as its image and `rvbench run --monitor` with the image as the host above the monitor. `rvbench twin` runs two monitored
+//! benches that differ in one enclave, `rvbench twin --slot 3` in the one in slot 3. `rvbench asm` assembles and `rvbench dis`
+//! disassembles. The specs name what the words mean: `CommandLine` defines the command line, and `Job` the job that it
 //! gives to words.
 //!
 //! ```text
 //! read_words(alloc, &["rvbench", "run", "--ram", "65536"])?; // Job::Run(Setup { ram: 65536, ..Setup::default() })
+//! read_words(alloc, &["rvbench", "twin", "--slot", "3"])?; // Job::Twin(Setup { monitored: true, ..Setup::default() }, 3)
 //! read_words(alloc, &["rvbench", "dis"])?; // Job::Dis
 //! read_words(alloc, &["rvbench", "fly"]); // Err(WordsFault::Refused)
 //! ```

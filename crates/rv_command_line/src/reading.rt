@@ -6,7 +6,7 @@ ghost use Rattle.clap.specs.Walk.{texts};
 ghost use Rattle.clap.specs.Words.{first_value, found_of, one_text, rows_of, subcommand_rows_of};
 ghost use Rattle.rv_command_line.specs.CommandLine.{faults_of};
 ghost use Rattle.rv_command_line.specs.Faults.{IsFaultOf};
-ghost use Rattle.rv_command_line.specs.Job.{are_read, job_of, kind_of, named_job, number_in_text, run_options, setup_of, truth_in_text};
+ghost use Rattle.rv_command_line.specs.Job.{are_options_read, is_lawful, job_of, kind_of, named_job, number_in_text, run_of, setup_of, truth_in_text, twin_of};
 
 use crate::command_line::rvbench_command;
 use crate::image_kind::ImageKind;
@@ -26,7 +26,14 @@ fn matched_kind(matches: &ArgMatches<'_>) -> Option<ImageKind>
 
 /// The number that an option names, if it is given.
 fn matched_number(matches: &ArgMatches<'_>, id: &str) -> Option<u32>
-    ensures { result ≡ option_and_then number_in_text (one_text (found_of matches.now) id.now) }
+    ensures { result ≡ option_and_then (number_in_text 32) (one_text (found_of matches.now) id.now) }
+{
+    matches.get_one(id)
+}
+
+/// The slot that an option names, if it is given.
+fn matched_slot(matches: &ArgMatches<'_>, id: &str) -> Option<u8>
+    ensures { result ≡ option_and_then (number_in_text 8) (one_text (found_of matches.now) id.now) }
 {
     matches.get_one(id)
 }
@@ -38,16 +45,34 @@ fn matched_flag(matches: &ArgMatches<'_>, id: &str) -> Option<bool>
     matches.get_one(id)
 }
 
-/// The setup that the options of `run` give.
-fn matched_setup(matches: &ArgMatches<'_>) -> Setup
-    ensures { result ≡ setup_of (rows_of (found_of matches.now)) }
+/// The setup that the options `--kind` and `--ram` give, with the monitor or without it.
+fn matched_setup(matches: &ArgMatches<'_>, monitored: bool) -> Setup
+    ensures { result ≡ setup_of monitored (rows_of (found_of matches.now)) }
 {
     let default = Setup::default();
     Setup {
         kind: matched_kind(matches).unwrap_or(default.kind),
         ram: matched_number(matches, "ram").unwrap_or(default.ram),
-        monitored: matched_flag(matches, "monitor").unwrap_or(default.monitored),
+        monitored,
     }
+}
+
+/// What the options of `run` ask for.
+fn matched_run(matches: &ArgMatches<'_>) -> Job
+    ensures { result ≡ run_of (rows_of (found_of matches.now)) }
+{
+    let monitored = matched_flag(matches, "monitor").unwrap_or(Setup::default().monitored);
+    Job::Run(matched_setup(matches, monitored))
+}
+
+/// What the options of `twin` ask for: the bench always has the monitor.
+fn matched_twin(matches: &ArgMatches<'_>) -> Job
+    ensures { result ≡ twin_of (rows_of (found_of matches.now)) }
+{
+    Job::Twin(
+        matched_setup(matches, true),
+        matched_slot(matches, "slot").unwrap_or(0),
+    )
 }
 
 /// The job of the subcommand that was met.
@@ -57,7 +82,8 @@ fn matched_job(matches: &ArgMatches<'_>) -> Job
     match matches.subcommand() {
         Some(("asm", _)) => Job::Asm,
         Some(("dis", _)) => Job::Dis,
-        Some((_, options)) => Job::Run(matched_setup(options)),
+        Some(("twin", options)) => matched_twin(options),
+        Some((_, options)) => matched_run(options),
         None => Job::Run(Setup::default()),
     }
 }
@@ -78,14 +104,16 @@ fn fault(alloc: Global, error: &Error) -> WordsFault
 
 /// The job that the words of a command line name, the program's name first.
 ///
-/// Words that the command line takes give their job, where a default stands only for an option that is not given. Words that
-/// ask for help give its text, and any others are refused.
+/// Words that the command line takes give their job, where a default stands only for an option that is not given; a job of two
+/// benches is of benches with the monitor and names one of the thirteen slots. Words that ask for help give its text, and any
+/// others are refused.
 /// Memory may be refused at any words.
-#[tactic(auto, using(crate::proofs::Taken::taken_read))]
+#[tactic(auto, using(crate::proofs::Taken::taken_read, crate::proofs::Taken::taken_lawful))]
 pub fn read_words<'a>(alloc: Global, words: &'a [&'a str]) -> Result<Job, WordsFault>
     ensures taken { OnOk result (faults_of (texts words.entry.now) ≡ []) }
     ensures job { IfOk result (λ job. job ≡ job_of (texts words.entry.now)) }
-    ensures read { OnOk result (are_read (run_options (texts words.entry.now)) ≡ true) }
+    ensures read { OnOk result (are_options_read (texts words.entry.now) ≡ true) }
+    ensures lawful { IfOk result (λ job. is_lawful job ≡ true) }
     ensures fault { IfErr result (IsFaultOf (faults_of (texts words.entry.now))) }
 {
     let Ok(command) = rvbench_command(alloc) else {

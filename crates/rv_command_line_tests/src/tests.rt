@@ -171,6 +171,97 @@ fn refuses_the_monitor(rt: HostRuntime) -> Result<(), Fail> {
     Ok(())
 }
 
+/// Two benches with an image of this kind and so much RAM, which differ in the enclave of this slot.
+fn twin(kind: ImageKind, ram: u32, slot: u8) -> Answer {
+    let setup = Setup {
+        kind,
+        ram,
+        monitored: true,
+    };
+    Answer::Named(Job::Twin(setup, slot))
+}
+
+#[test]
+fn names_twins(rt: HostRuntime) -> Result<(), Fail> {
+    let plain = |slot: u8| twin(ImageKind::Auto, 1_048_576, slot);
+    let cases: [(&[&str], Answer); 12] = [
+        (&["rvbench", "twin"], plain(0)),
+        (&["rvbench", "twin", "--slot", "0"], plain(0)),
+        (&["rvbench", "twin", "--slot", "1"], plain(1)),
+        (&["rvbench", "twin", "--slot=12"], plain(12)),
+        (&["rvbench", "twin", "--slot", "+7"], plain(7)),
+        (&["rvbench", "twin", "--slot", "0012"], plain(12)),
+        (
+            &["rvbench", "twin", "--ram", "65536"],
+            twin(ImageKind::Auto, 65_536, 0),
+        ),
+        (
+            &["rvbench", "twin", "--ram", "4294967295", "--slot", "3"],
+            twin(ImageKind::Auto, 4_294_967_295, 3),
+        ),
+        (
+            &["rvbench", "twin", "--kind", "elf"],
+            twin(ImageKind::Elf, 1_048_576, 0),
+        ),
+        (
+            &["rvbench", "twin", "--kind=raw", "--slot=5", "--ram=0"],
+            twin(ImageKind::Raw, 0, 5),
+        ),
+        (
+            &[
+                "rvbench", "twin", "--slot", "5", "--ram", "0", "--kind", "raw",
+            ],
+            twin(ImageKind::Raw, 0, 5),
+        ),
+        (&["./another/name", "twin", "--slot", "2"], plain(2)),
+    ];
+    for (words, want) in cases {
+        assert_eq!(rt; answer_to(&rt, words)?, want, "at {words:?}");
+    }
+    Ok(())
+}
+
+/// Its options stand behind it, each once; it has no flag of the monitor, and `run` has no slot.
+#[test]
+fn refuses_twins(rt: HostRuntime) -> Result<(), Fail> {
+    let cases: [&[&str]; 30] = [
+        &["rvbench", "twin", "--slot"],
+        &["rvbench", "twin", "--slot="],
+        &["rvbench", "twin", "--slot", ""],
+        &["rvbench", "twin", "--slot", "13"],
+        &["rvbench", "twin", "--slot", "255"],
+        &["rvbench", "twin", "--slot", "256"],
+        &["rvbench", "twin", "--slot", "18446744073709551616"],
+        &["rvbench", "twin", "--slot", "-1"],
+        &["rvbench", "twin", "--slot=-1"],
+        &["rvbench", "twin", "--slot", "x"],
+        &["rvbench", "twin", "--slot", "0x1"],
+        &["rvbench", "twin", "--slot", " 1"],
+        &["rvbench", "twin", "--slot", "1", "1"],
+        &["rvbench", "twin", "--slot", "1", "--slot", "1"],
+        &["rvbench", "twin", "--slot=1", "--slot=2"],
+        &["rvbench", "twin", "-s", "1"],
+        &["rvbench", "twin", "--slo", "1"],
+        &["rvbench", "twin", "--monitor"],
+        &["rvbench", "twin", "--slot", "1", "--monitor"],
+        &["rvbench", "twin", "--ram", "65536", "--ram", "65536"],
+        &["rvbench", "twin", "--ram", "4294967296"],
+        &["rvbench", "twin", "--kind", "x"],
+        &["rvbench", "twin", "--kind", "raw", "--kind", "raw"],
+        &["rvbench", "twin", "twin"],
+        &["rvbench", "twin", "1"],
+        &["rvbench", "--slot", "1"],
+        &["rvbench", "--slot", "1", "twin"],
+        &["rvbench", "run", "--slot", "1"],
+        &["rvbench", "asm", "--slot", "1"],
+        &["rvbench", "TWIN"],
+    ];
+    for words in cases {
+        assert_eq!(rt; answer_to(&rt, words)?, Answer::Refused, "at {words:?}");
+    }
+    Ok(())
+}
+
 #[test]
 fn refuses_kinds(rt: HostRuntime) -> Result<(), Fail> {
     let cases: [&[&str]; 20] = [
@@ -254,7 +345,7 @@ fn refuses_other_words(rt: HostRuntime) -> Result<(), Fail> {
 
 #[test]
 fn gives_help(rt: HostRuntime) -> Result<(), Fail> {
-    let cases: [&[&str]; 12] = [
+    let cases: [&[&str]; 15] = [
         &["rvbench", "--help"],
         &["rvbench", "-h"],
         &["rvbench", "help"],
@@ -265,6 +356,9 @@ fn gives_help(rt: HostRuntime) -> Result<(), Fail> {
         &["rvbench", "run", "--ram", "65536", "--help"],
         &["rvbench", "run", "--kind", "raw", "--help"],
         &["rvbench", "run", "--monitor", "--help"],
+        &["rvbench", "twin", "--help"],
+        &["rvbench", "twin", "--slot", "3", "-h"],
+        &["rvbench", "help", "twin"],
         &["rvbench", "asm", "--help"],
         &["rvbench", "help", "dis"],
     ];
@@ -280,6 +374,7 @@ fn help_shows_a_first_input(rt: HostRuntime) -> Result<(), Fail> {
     let program = help(&rt, &["rvbench", "--help"])?;
     for part in [
         "run",
+        "twin",
         "asm",
         "dis",
         "printf '9300f0ff\\n--\\nstep 1\\nreg 1\\n' | rvbench",
@@ -299,6 +394,16 @@ fn help_shows_a_first_input(rt: HostRuntime) -> Result<(), Fail> {
         "80010000",
     ] {
         assert!(rt; run.contains(part), "at {part}");
+    }
+    let twin = help(&rt, &["rvbench", "twin", "--help"])?;
+    for part in [
+        "--slot <K>",
+        "from 0 to 12 [default: 0]",
+        "--kind <KIND>",
+        "--ram <BYTES>",
+        "rvbench twin",
+    ] {
+        assert!(rt; twin.contains(part), "at {part}");
     }
     Ok(())
 }

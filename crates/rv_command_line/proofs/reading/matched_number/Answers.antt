@@ -9,7 +9,7 @@ use Rattle.rv_command_line.proofs.reading.matched_number.Goals as goal
 pub returns : goal.returns
 returns c = read _ refl
   where
-    read : (o : Option (List ℕ)) → one_text (found_of c.args.matches.now) c.args.id.now ≡ o → c.get_one.result ≡ option_and_then number_in_text o
+    read : (o : Option (List ℕ)) → one_text (found_of c.args.matches.now) c.args.id.now ≡ o → c.get_one.result ≡ option_and_then (number_in_text 32) o
     read None none = c.get_one.ensures.none none
-    read (Some text) some = reads_number _ (λ bs r. ParsesUnsigned 32 10 bs r × ExplainsUnsignedError 10 bs r × HasUnsignedDigitsIfOk bs r)
+    read (Some text) some = reads_number 32 _ (λ bs r. ParsesUnsigned 32 10 bs r × ExplainsUnsignedError 10 bs r × HasUnsignedDigitsIfOk bs r)
         text c.get_one.result (c.get_one.ensures.value text some) (λ u x given. given.0)

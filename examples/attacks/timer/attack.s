@@ -1,0 +1,19 @@
+# The timer takes the enclave away at every step, and the host looks at each of them for what is left in a register
+# or in memory.
+attack: li    t5, 0x80020100
+        lw    t4, 0(t5)
+        csrrs t0, sscratch, zero
+        li    a6, 1                     # a second enclave, of no code
+        li    a0, 0x80030000
+        li    a1, 4096
+        li    a2, 0
+        li    a3, 0
+        li    a4, 0x80030000
+        ecall
+        li    a6, 3
+        li    a0, 1
+        ecall
+        li    a6, 4                     # and back into the first
+        li    a0, 0
+        ecall
+end:    jal   zero, end
