@@ -1,11 +1,15 @@
 mod AddressLaws
 pub mod AddressLemmas
 mod Answers
+mod AnswersAlike
+mod BothAlike
 mod CommandExamples
 mod Commands
+mod EnteredSlots
 pub mod Isolation
 mod Keywords
 mod RegisterLines
 mod ReplyExamples
+mod StepsAlike
 mod Stepping
 mod TargetRuns

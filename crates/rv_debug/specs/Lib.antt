@@ -2,6 +2,7 @@ pub mod Addresses
 pub mod Answer
 pub mod BenchState
 pub mod Command
+pub mod Confidentiality
 pub mod EnclaveText
 pub mod Isolation
 pub mod Numbers
@@ -9,4 +10,5 @@ pub mod ReplyText
 pub mod Steps
 pub mod Stops
 pub mod Targets
+pub mod TwoBenches
 pub mod Within

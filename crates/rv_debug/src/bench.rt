@@ -40,6 +40,7 @@ impl Bench {
     ghost use Rattle.rv_debug.specs.BenchState.{bare, monitored};
     ghost use Rattle.rv_debug.specs.Isolation.{TellsReach, ChangesMemory, SparesResting};
     ghost use Rattle.rv_debug.specs.Targets.{IsBare, KeepsMonitor};
+    ghost use Rattle.rv_debug.specs.TwoBenches.{is_blind};
 
     /// A bench over a machine as it is, with no break and no watch.
     pub fn bare(machine: Machine) -> Self
@@ -69,11 +70,19 @@ impl Bench {
     }
 
     /// What holds in every state. It does nothing.
-    fn invariant(&self)
+    pub(crate) fn invariant(&self)
         ensures { KeepsMonitor self.now.target }
     {
         // brings in what holds of every bench
         let _ = &self.target;
+    }
+
+    /// Whether a command is blind to the enclave of a slot: it is not a mem, dis or poke with a byte in its region.
+    #[tactic(auto, unfolding(crate::specs::TwoBenches::is_blind))]
+    pub(crate) fn is_blind(&self, slot: u8, command: &Command) -> bool
+        ensures { result ≡ is_blind slot self.now command.now }
+    {
+        !command.named().meets(self.target.region(slot))
     }
 
     /// Does one command, and puts its reply in place of what the buffer holds. A refused command changes nothing of the bench.

@@ -1,12 +1,15 @@
 //! The commands, and how a line is read as one.
 
 ghost use Rattle.std.specs.Prelude.{◌≡◌, [], ◌∷◌, map};
+ghost use Rattle.rv_debug.specs.TwoBenches.{named};
 ghost use Rattle.rv_debug.specs.Command.{register_of, switch_of, mode_of, access_of, width_of, operands_of, meaning_of, parse_of, number_of_fault};
 
 use crate::keyword::Keyword;
 use crate::numbers::{byte, csr_number, decimal, hexadecimal};
+use crate::target::NO_BLOCK;
 use crate::within::Within;
 use rv_encoding::CsrNumber;
+use rv_monitor::Block;
 use rv_pmp::{Access, Mode};
 use rv_text::{first_words, is_good_line};
 use rv_word::{Reg, Width};
@@ -66,6 +69,29 @@ pub enum Command {
     },
     /// `timer on`, `timer off`: raise the timer line, or lower it.
     Timer(bool),
+}
+
+impl Command {
+    /// The bytes that a mem, dis or poke names by their addresses; none of another command.
+    pub(crate) fn named(&self) -> Block
+        ensures { result ≡ named self.now }
+    {
+        match *self {
+            Command::Mem(address, count) => Block {
+                base: address,
+                size: count.get(),
+            },
+            Command::Dis(address) => Block {
+                base: address,
+                size: 4,
+            },
+            Command::Poke(address, _) => Block {
+                base: address,
+                size: 1,
+            },
+            _ => NO_BLOCK,
+        }
+    }
 }
 
 /// What is wrong with a line: the first of these faults that it has.

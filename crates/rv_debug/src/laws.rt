@@ -1,10 +1,17 @@
 //! Laws of the commands over every bench, for any crate above to cite. Each is proved of the definitions in `specs/`; that of one command
 //! is a clause of `Bench::command` too.
 
+ghost use Rattle.rv_debug.specs.Confidentiality.{ConfidentialityLaw};
 ghost use Rattle.rv_debug.specs.Isolation.{IntegrityLaw};
 
 /// Integrity: every list of commands leaves the record, the region and the context of each live enclave that does not run through
 /// it, that it neither enters nor ends, and of whose region it pokes no byte.
 pub const fn integrity()
     ensures { IntegrityLaw }
+{}
+
+/// Confidentiality: a command that is blind to an enclave enters it in both of two benches that agree but for it, or in neither; if in
+/// neither, the replies are equal and the benches agree again, and are equal once the enclave is gone.
+pub const fn confidentiality()
+    ensures { ConfidentialityLaw }
 {}

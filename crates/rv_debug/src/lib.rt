@@ -15,6 +15,7 @@
 mod addresses;
 mod answer;
 mod bench;
+mod both;
 mod command;
 mod enclaves;
 mod keyword;
@@ -26,6 +27,7 @@ mod target;
 mod within;
 
 pub use bench::Bench;
+pub use both::{Both, BothWhy, both_command, run_both};
 pub use command::{ByteCount, Command, CommandFault, StepCount, parse};
 pub use target::Target;
 pub use within::Within;

@@ -4,6 +4,7 @@ ghost use Rattle.std.specs.Prelude.{◌≡◌, Some, None};
 ghost use Rattle.std.specs.Bool.{OnTrue, OnFalse};
 ghost use Rattle.rv_monitor.specs.State.{IsKept};
 ghost use Rattle.rv_debug.specs.Steps.{no_steps, run};
+ghost use Rattle.rv_debug.specs.TwoBenches.{region_of};
 ghost use Rattle.rv_debug.specs.Targets.{hart_of, memory_of, pc_of, stepped, register_set, timer_set, poked, IsBare, KeepsMonitor};
 
 use crate::addresses::Addresses;
@@ -11,10 +12,13 @@ use crate::command::StepCount;
 use crate::steps::{Ran, run_steps};
 use rv_hart::Machine;
 use rv_memory::Ram;
-use rv_monitor::Monitored;
+use rv_monitor::{Block, Monitored};
 use rv_pmp::Mode;
 use rv_state::{Csrs, Regs};
 use rv_word::Reg;
+
+/// The block without bytes.
+pub(crate) const NO_BLOCK: Block = Block { base: 0, size: 0 };
 
 /// What a bench steps, shows and changes.
 #[derive(Drop, Debug)]
@@ -53,6 +57,19 @@ impl Target {
         match self {
             Target::Bare(machine) => machine.ram(),
             Target::Monitored(machine) => machine.ram(),
+        }
+    }
+
+    /// The region of a slot, without bytes where its enclave is not live.
+    pub(crate) fn region(&self, slot: u8) -> Block
+        ensures { result ≡ region_of slot self.now }
+    {
+        match self {
+            Target::Bare(_) => NO_BLOCK,
+            Target::Monitored(machine) => match machine.table().get(slot) {
+                None => NO_BLOCK,
+                Some(info) => info.region,
+            },
         }
     }
 

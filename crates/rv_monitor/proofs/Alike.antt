@@ -59,7 +59,7 @@ contexts_with e cs ds k c saved = record {
 }
 
 -- a block that does not meet another has none of its bytes
-seen_block : (p q : Block) → meets p q ≡ false → IsSeen (has q) p.base p.size
+pub seen_block : (p q : Block) → meets p q ≡ false → IsSeen (has q) p.base p.size
 seen_block p q apart b low high = elim (cases_Bool (has q b)) [
   | inr shown ↦ shown
   | inl hidden ↦

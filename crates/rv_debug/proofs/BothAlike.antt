@@ -1,0 +1,196 @@
+-- Commands given to two benches, one after another: what becomes of each, and what they have in common.
+use Rattle.std.proofs.Common.{◌≡◌, ℕ, suc, ◌+◌, ◌<◌, Bool, true, false, List, [], ◌∷◌, length, take, drop, get_or, ◌⊎◌, refl, sym, ◌∙◌, ap, ap₂, subst, inl, inr, arith, not}
+use Rattle.std.specs.Prelude.{◌&&◌, ◌||◌, if◌then◌else◌}
+use Rattle.std.proofs.lemmas.List.{drop_more, drop_all}
+use Rattle.std.proofs.lemmas.Bool.{cases_Bool, and_parts}
+use Rattle.rv_monitor.specs.Blocks.{meets}
+use Rattle.rv_monitor.specs.Table.{Slots, region}
+use Rattle.rv_debug.specs.Answer.{answer}
+use Rattle.rv_debug.specs.BenchState.{BenchState}
+use Rattle.rv_debug.specs.Confidentiality.{AlikeBy, AnswerAlike, PassAll, PassBy, StayAlike}
+use Rattle.rv_debug.specs.Isolation.{after_commands}
+use Rattle.rv_debug.specs.Targets.{KeepsMonitor}
+use Rattle.rv_debug.specs.TwoBenches.{BenchesAgreeBut, BothAnswered, BothRan, TargetsAgreeBut, both_answer, both_do, both_run, go_on, is_blind, is_entered, named, region_of}
+use Rattle.rv_debug.specs.declared.both.BothWhy.{BothWhy}
+use Rattle.rv_debug.specs.declared.both.BothWhy.TheVariants.{All, Entered, NotBlind}
+use Rattle.rv_debug.specs.declared.command.Command.{Command}
+use Rattle.rv_debug.specs.declared.target.Target.{Target}
+use Rattle.rv_debug.specs.declared.target.Target.TheVariants.{Bare, Monitored}
+use Rattle.rv_debug.proofs.AnswersAlike.{agree_again, confidentiality}
+use Rattle.rv_debug.proofs.Isolation.{keeps_monitor}
+
+module _ (e : ℕ) where
+  abbrev pub stopped : BenchState → BenchState → BothAnswered
+  stopped a b = record { first = a; second = b; first_reply = []; second_reply = []; why = NotBlind }
+
+  abbrev pub done : BenchState → BenchState → Command → BothAnswered
+  done a b c = both_do e (answer a c) (answer b c)
+
+  -- ---- one command
+
+  -- a command that is blind in both is done by both, and any other by neither
+  one_cases : (a b : BenchState) (c : Command)
+      → (((is_blind e a c && is_blind e b c) ≡ false) × (both_answer e a b c ≡ stopped a b))
+      ⊎ ((is_blind e a c ≡ true) × (both_answer e a b c ≡ done a b c))
+  unfolding both_answer
+  one_cases a b c = elim (cases_Bool (is_blind e a c && is_blind e b c)) [
+    | inl both ↦ inr ((and_parts _ _ both).0, rw both refl)
+    | inr other ↦ inl (other, rw other refl)
+  ]
+
+  same_region : (c : Command) (one other : Target) → TargetsAgreeBut e one other → meets (named c) (region_of e one) ≡ meets (named c) (region_of e other)
+  same_region c (Monitored one) (Monitored other) agree = ap (λ (slots : Slots). meets (named c) (region slots e)) agree.shared.table
+  same_region c (Bare one) (Bare other) agree = refl
+  same_region c (Bare one) (Monitored other) agree = absurd agree
+  same_region c (Monitored one) (Bare other) agree = absurd agree
+
+  same_blind : (a b : BenchState) (c : Command) → BenchesAgreeBut e a b → is_blind e a c ≡ is_blind e b c
+  unfolding is_blind
+  same_blind a b c agree = ap (λ (met : Bool). not met) (same_region c a.target b.target agree.target)
+
+  neither : (x y : Bool) → x ≡ y → (x && y) ≡ false → x ≡ false
+  neither true y same none = same ∙ none
+  neither false y same none = refl
+
+  -- the benches after a command that both did
+  why_is : (a b : BenchState) (c : Command) (x y : Bool) → is_entered e (answer a c).entered ≡ x → is_entered e (answer b c).entered ≡ y
+      → (done a b c).why ≡ (if x || y then Entered else All)
+  why_is a b c x y here there = ap₂ (λ (x y : Bool). if x || y then Entered else All) here there
+
+  done_alike : (a b : BenchState) (c : Command) → AnswerAlike e (answer a c) (answer b c) → AlikeBy e a b c (done a b c) (done a b c).why
+  done_alike a b c alike = elim (cases_Bool (is_entered e (answer a c).entered)) [
+    | inl here ↦
+        let there = sym alike.entered ∙ here in
+        subst (λ (why : BothWhy). AlikeBy e a b c (done a b c) why) (sym (why_is a b c true true here there)) (record { here = here; there = there })
+    | inr none ↦
+        let passed = alike.passed none in
+        subst (λ (why : BothWhy). AlikeBy e a b c (done a b c) why) (sym (why_is a b c false false none (sym alike.entered ∙ none)))
+        (record { reply = passed.reply; state = passed.state })
+  ]
+
+  pub both_alike : (a b : BenchState) (c : Command) → KeepsMonitor a.target → KeepsMonitor b.target → StayAlike e a b c (both_answer e a b c)
+  both_alike a b c kept kept' agree = elim (one_cases a b c) [
+    | inl stop ↦
+        let none = neither _ _ (same_blind a b c agree) stop.0 in
+        subst (λ (after : BothAnswered). AlikeBy e a b c after after.why) (sym stop.1)
+        (record { here = none; there = sym (same_blind a b c agree) ∙ none })
+    | inr goes ↦
+        subst (λ (after : BothAnswered). AlikeBy e a b c after after.why) (sym goes.1)
+        (done_alike a b c (confidentiality e a b c kept kept' agree goes.0))
+  ]
+
+  -- ---- a list of commands
+
+  goes_by : (a b : BenchState) (c : Command) (cs : List Command) (after : BothAnswered) (why : BothWhy) → both_answer e a b c ≡ after → after.why ≡ why
+      → both_run e a b (c ∷ cs) ≡ go_on why after (both_run e after.first after.second cs)
+  unfolding both_run
+  goes_by a b c cs after why is because =
+      ap (λ (after : BothAnswered). go_on after.why after (both_run e after.first after.second cs)) is
+      ∙ ap (λ (why : BothWhy). go_on why after (both_run e after.first after.second cs)) because
+
+  none_by : (a b : BenchState) → both_run e a b [] ≡ record { first = a; second = b; ran = 0; why = All }
+  unfolding both_run
+  none_by a b = refl
+
+  -- each ends where its own commands lead
+  abbrev pub Folded : BenchState → BenchState → List Command → BothRan → Type 0
+  Folded a b cs end = (end.first ≡ after_commands a (take end.ran cs)) × (end.second ≡ after_commands b (take end.ran cs))
+
+  folded_by : (a b : BenchState) (c : Command) (cs : List Command) (why : BothWhy) (rest : BothRan)
+      → (why ≡ NotBlind → ⊥) → Folded (answer a c).state (answer b c).state cs rest → Folded a b (c ∷ cs) (go_on why (done a b c) rest)
+  folded_by a b c cs All rest goes more = more
+  folded_by a b c cs Entered rest goes more = (refl, refl)
+  folded_by a b c cs NotBlind rest goes more = absurd (goes refl)
+
+  not_stopped : (x : Bool) → (if x then Entered else All) ≡ NotBlind → ⊥
+  not_stopped true is = cc
+  not_stopped false is = cc
+
+  pub folded : (a b : BenchState) (cs : List Command) → Folded a b cs (both_run e a b cs)
+  folded a b [] = subst (Folded a b []) (sym (none_by a b)) (refl, refl)
+  folded a b (c ∷ cs) = elim (one_cases a b c) [
+    | inl stop ↦ subst (Folded a b (c ∷ cs)) (sym (goes_by a b c cs (stopped a b) NotBlind stop.1 refl)) (refl, refl)
+    | inr goes ↦
+        subst (Folded a b (c ∷ cs)) (sym (goes_by a b c cs (done a b c) _ goes.1 refl))
+        (folded_by a b c cs _ (both_run e (answer a c).state (answer b c).state cs) (not_stopped _) (folded (answer a c).state (answer b c).state cs))
+  ]
+
+  -- ---- what both have in common
+
+  abbrev PassEnd : BenchState → BenchState → List Command → BothRan → Type 0
+  PassEnd a b cs end = PassBy e a b cs end.ran end.why
+
+  none_passed : (a b : BenchState) → BenchesAgreeBut e a b → PassAll e a b []
+  none_passed a b agree = record { replies = refl; state = agree_again e a b agree }
+
+  one_passed : (a b : BenchState) (c : Command) (cs : List Command) → (answer a c).reply ≡ (answer b c).reply
+      → PassAll e (answer a c).state (answer b c).state cs → PassAll e a b (c ∷ cs)
+  one_passed a b c cs reply more = record {
+    replies = ap₂ (λ (reply : List ℕ) (replies : List (List ℕ)). reply ∷ replies) reply more.replies;
+    state = more.state;
+  }
+
+  more_passed : (a b : BenchState) (c : Command) (cs : List Command) (ran : ℕ) (why : BothWhy) → (answer a c).reply ≡ (answer b c).reply
+      → PassBy e (answer a c).state (answer b c).state cs ran why → PassBy e a b (c ∷ cs) (suc ran) why
+  more_passed a b c cs ran All reply more = one_passed a b c (take ran cs) reply more
+  more_passed a b c cs ran NotBlind reply more = one_passed a b c (take ran cs) reply more
+  more_passed a b c cs ran Entered reply more = (suc more.0, ap (λ (n : ℕ). suc n) more.1, one_passed a b c (take more.0 cs) reply more.2)
+
+  pub run_alike : (a b : BenchState) (cs : List Command) → KeepsMonitor a.target → KeepsMonitor b.target → BenchesAgreeBut e a b
+      → PassEnd a b cs (both_run e a b cs)
+  run_alike a b [] kept kept' agree = subst (PassEnd a b []) (sym (none_by a b)) (none_passed a b agree)
+  run_alike a b (c ∷ cs) kept kept' agree = elim (one_cases a b c) [
+    | inl stop ↦ subst (PassEnd a b (c ∷ cs)) (sym (goes_by a b c cs (stopped a b) NotBlind stop.1 refl)) (none_passed a b agree)
+    | inr goes ↦
+        let alike = confidentiality e a b c kept kept' agree goes.0 in
+        elim (cases_Bool (is_entered e (answer a c).entered)) [
+          | inl here ↦
+              let why = why_is a b c true true here (sym alike.entered ∙ here) in
+              subst (PassEnd a b (c ∷ cs)) (sym (goes_by a b c cs (done a b c) Entered goes.1 why)) (0, refl, none_passed a b agree)
+          | inr none ↦
+              let why = why_is a b c false false none (sym alike.entered ∙ none) in
+              let passed = alike.passed none in
+              let rest = both_run e (answer a c).state (answer b c).state cs in
+              subst (PassEnd a b (c ∷ cs)) (sym (goes_by a b c cs (done a b c) All goes.1 why))
+              (more_passed a b c cs rest.ran rest.why passed.reply
+              (run_alike (answer a c).state (answer b c).state cs (keeps_monitor a c kept) (keeps_monitor b c kept') passed.state.but))
+        ]
+  ]
+
+  -- ---- in the loop
+
+  -- the end, after so many commands before it
+  abbrev pub later : ℕ → BothRan → BothRan
+  later n rest = record { first = rest.first; second = rest.second; ran = n + rest.ran; why = rest.why }
+
+  next_command : (cs : List Command) (n : ℕ) (c : Command) → n < length cs → c ≡ get_or cs n c → drop n cs ≡ c ∷ drop (n + 1) cs
+  next_command cs n c inside is = drop_more cs n c inside ∙ ap (λ (first : Command). first ∷ drop (n + 1) cs) (sym is)
+
+  module _ (a b : BenchState) (cs : List Command) (n : ℕ) (c : Command) (all : BothRan) (after : BothAnswered) (inside : n < length cs) (is : c ≡ get_or cs n c)
+      (so_far : later n (both_run e a b (drop n cs)) ≡ all) (answered : both_answer e a b c ≡ after) where
+    goes_at : (why : BothWhy) → after.why ≡ why → all ≡ later n (go_on why after (both_run e after.first after.second (drop (n + 1) cs)))
+    goes_at why because =
+        sym so_far ∙ ap (λ (rest : List Command). later n (both_run e a b rest)) (next_command cs n c inside is)
+        ∙ ap (later n) (goes_by a b c (drop (n + 1) cs) after why answered because)
+
+    pub at_entered : after.why ≡ Entered → all ≡ record { first = after.first; second = after.second; ran = n + 1; why = Entered }
+    at_entered why = goes_at Entered why
+
+    pub at_blind : after.why ≡ NotBlind → all ≡ record { first = after.first; second = after.second; ran = n; why = NotBlind }
+    at_blind why =
+        let count : n + 0 ≡ n = omega arith in
+        goes_at NotBlind why ∙ ap (λ (ran : ℕ). record { first = after.first; second = after.second; ran = ran; why = NotBlind }) count
+
+    pub at_more : after.why ≡ All → later (n + 1) (both_run e after.first after.second (drop (n + 1) cs)) ≡ all
+    at_more why =
+        let rest = both_run e after.first after.second (drop (n + 1) cs) in
+        let count : n + 1 + rest.ran ≡ n + suc rest.ran = omega arith in
+        ap (λ (ran : ℕ). record { first = rest.first; second = rest.second; ran = ran; why = rest.why }) count ∙ sym (goes_at All why)
+
+  pub at_last : (a b : BenchState) (cs : List Command) (n : ℕ) (all : BothRan) → n ≡ length cs → later n (both_run e a b (drop n cs)) ≡ all
+      → all ≡ record { first = a; second = b; ran = length cs; why = All }
+  at_last a b cs n all is so_far =
+      let none : drop n cs ≡ [] = drop_all n cs (omega arith) in
+      let count : n + 0 ≡ length cs = omega (arith, is) in
+      sym so_far ∙ ap (λ (rest : List Command). later n (both_run e a b rest)) none ∙ ap (later n) (none_by a b)
+      ∙ ap (λ (r : ℕ). record { first = a; second = b; ran = r; why = All }) count

@@ -1,0 +1,132 @@
+-- Runs of two monitored machines that agree but for an enclave: they do the same, up to the step that enters it.
+use Rattle.std.proofs.Common.{◌≡◌, ℕ, zero, suc, ◌⊎◌, ◌==◌, Bool, true, false, cond, List, Option, Some, None, refl, ◌∙◌, ap, subst, inl, inr, arith}
+use Rattle.std.specs.Prelude.{bit_or, ◌^◌}
+use Rattle.std.proofs.lemmas.Bool.{cases_eq}
+use Rattle.std.proofs.lemmas.Nat.Bits.{bit_at_or, bit_at-lt, bit_at-pow_same}
+use Rattle.rv_word.specs.Cases.{option_case}
+use Rattle.rv_monitor.specs.AgreeBut.{AgreeBut}
+use Rattle.rv_monitor.specs.State.{MonitoredState, IsKept}
+use Rattle.rv_monitor.specs.Step.{monitored_step}
+use Rattle.rv_monitor.specs.declared.outcome.Outcome.{Outcome}
+use Rattle.rv_monitor.specs.declared.seat.Seat.{Seat}
+use Rattle.rv_monitor.proofs.MonitoredAlike.{confidentiality}
+use Rattle.rv_monitor.proofs.RunsAlike.{kept_law}
+use Rattle.rv_debug.specs.Addresses.{is_among}
+use Rattle.rv_debug.specs.Steps.{AfterSteps, AfterRun, with_slot, with_step, ended, run}
+use Rattle.rv_debug.specs.Stops.{lowest_accessed}
+use Rattle.rv_debug.specs.Targets.{monitored_stepped}
+use Rattle.rv_debug.specs.TwoBenches.{is_entered}
+use Rattle.rv_debug.specs.declared.steps.Stop.TheVariants.{Done, Break as AtBreak, Watch as AtWatch}
+use Rattle.rv_debug.proofs.TargetRuns.{monitored_pc}
+
+-- ---- slots that are entered
+
+is-one : (n : ℕ) → (n == 1) ≡ true → n ≡ 1
+is-one n is = elim (cases_eq n 1) [ inl same ↦ same | inr other ↦ grind (arith, is, other) ]
+
+one-is : (n : ℕ) → n ≡ 1 → (n == 1) ≡ true
+one-is n is = rw is refl
+
+enters-or : (e one other : ℕ) → is_entered e one ≡ true → is_entered e (bit_or one other) ≡ true
+enters-or e one other is =
+    one-is _ (bit_at_or one other e ∙ (let low = is-one _ is in let small = bit_at-lt other e in omega (arith, low, small)))
+
+enters-with : (e slots : ℕ) (entered : Option ℕ) → is_entered e slots ≡ true → is_entered e (with_slot slots entered) ≡ true
+enters-with e slots None is = is
+enters-with e slots (Some k) is = enters-or e slots (2 ^ k) is
+
+enters-now : (e slots : ℕ) (entered : Option ℕ) → entered ≡ Some e → is_entered e (with_slot slots entered) ≡ true
+enters-now e slots entered is =
+    rw is (one-is _ (bit_at_or slots (2 ^ e) e ∙ (let set = bit_at-pow_same e in let small = bit_at-lt slots e in omega (arith, set, small))))
+
+-- ---- runs
+
+-- both entered the slot
+pub record BothIn (e : ℕ) (one other : AfterRun MonitoredState) : Type 0 where
+  pub here : is_entered e one.ran.entered ≡ true
+  pub there : is_entered e other.ran.entered ≡ true
+
+-- they did the same, and agree again
+pub record BothPast (e : ℕ) (one other : AfterRun MonitoredState) : Type 0 where
+  pub ran : one.ran ≡ other.ran
+  pub state : AgreeBut e one.state other.state
+
+abbrev pub RunAlike : ℕ → AfterRun MonitoredState → AfterRun MonitoredState → Type 0
+RunAlike e one other = BothIn e one other ⊎ BothPast e one other
+
+abbrev with_state : AfterSteps MonitoredState → MonitoredState → AfterSteps MonitoredState
+with_state before state = record before { state = state }
+
+module _ (e : ℕ) (breaks watches : List ℕ) where
+  abbrev on : ℕ → AfterSteps MonitoredState → AfterRun MonitoredState
+  on left before = run monitored_stepped monitored_pc breaks watches left before
+
+  -- what comes after so many steps, by what the last accessed, whether it was the last, and whether the next is at a break
+  abbrev next : ℕ → AfterSteps MonitoredState → Option ℕ → Bool → Bool → AfterRun MonitoredState
+  next left after hit last here =
+      option_case hit (cond last (ended after Done) (cond here (ended after AtBreak) (on left after))) (λ address. ended after (AtWatch address))
+
+  -- the steps and one more
+  abbrev after_step : AfterSteps MonitoredState → Outcome → MonitoredState → AfterSteps MonitoredState
+  after_step before outcome state = with_step before (record { state = state; outcome = outcome.step; entered = outcome.entered })
+
+  abbrev next_run : ℕ → AfterSteps MonitoredState → Outcome → MonitoredState → AfterRun MonitoredState
+  next_run left before outcome state =
+      next left (after_step before outcome state) (lowest_accessed watches outcome.step.touched) (left == 0) (is_among state.seat.hart.pc breaks)
+
+  -- a slot that was entered stays so
+  next-enters : (left : ℕ) (after : AfterSteps MonitoredState) (hit : Option ℕ) (last here : Bool) → is_entered e after.entered ≡ true
+      → is_entered e (on left after).ran.entered ≡ true → is_entered e (next left after hit last here).ran.entered ≡ true
+  next-enters left after (Some address) last here is more = is
+  next-enters left after None true here is more = is
+  next-enters left after None false true is more = is
+  next-enters left after None false false is more = more
+
+  stays-entered : (left : ℕ) (before : AfterSteps MonitoredState) → is_entered e before.entered ≡ true
+      → is_entered e (on left before).ran.entered ≡ true
+  unfolding run
+  stays-entered zero before is = is
+  stays-entered (suc left) before is =
+      let last = monitored_stepped before.state in
+      let more = enters-with e before.entered last.entered is in
+      next-enters left (with_step before last) (lowest_accessed watches last.outcome.touched) (left == 0) (is_among last.state.seat.hart.pc breaks)
+      more (stays-entered left (with_step before last) more)
+
+  -- and so does one that this step enters
+  entered-next : (left : ℕ) (before : AfterSteps MonitoredState) (outcome : Outcome) (state : MonitoredState) → outcome.entered ≡ Some e
+      → is_entered e (next_run left before outcome state).ran.entered ≡ true
+  entered-next left before outcome state is =
+      let after = after_step before outcome state in
+      let now = enters-now e before.entered outcome.entered is in
+      next-enters left after (lowest_accessed watches outcome.step.touched) (left == 0) (is_among state.seat.hart.pc breaks)
+      now (stays-entered left after now)
+
+  next-alike : (left : ℕ) (after : AfterSteps MonitoredState) (other : MonitoredState) (hit : Option ℕ) (last here : Bool)
+      → AgreeBut e after.state other → RunAlike e (on left after) (on left (with_state after other))
+      → RunAlike e (next left after hit last here) (next left (with_state after other) hit last here)
+  next-alike left after other (Some address) last here agree more = inr (record { ran = refl; state = agree })
+  next-alike left after other None true here agree more = inr (record { ran = refl; state = agree })
+  next-alike left after other None false true agree more = inr (record { ran = refl; state = agree })
+  next-alike left after other None false false agree more = more
+
+  pub run-alike : (left : ℕ) (before : AfterSteps MonitoredState) (other : MonitoredState) → IsKept before.state → IsKept other
+      → AgreeBut e before.state other → RunAlike e (on left before) (on left (with_state before other))
+  unfolding run
+  run-alike zero before other kept kept' agree = inr (record { ran = refl; state = agree })
+  run-alike (suc left) before other kept kept' agree =
+      let one = monitored_step before.state in
+      let two = monitored_step other in
+      let after = after_step before one.outcome one.state in
+      let hit = lowest_accessed watches one.outcome.step.touched in
+      elim (confidentiality before.state kept e other kept' agree) [
+        | inl enters ↦ inl (record {
+          here = entered-next left before one.outcome one.state enters.here;
+          there = entered-next left (with_state before other) two.outcome two.state enters.there;
+        })
+        | inr past ↦
+            let more = run-alike left after two.state (kept_law before.state kept) (kept_law other kept') past.state in
+            let alike = next-alike left after two.state hit (left == 0) (is_among one.state.seat.hart.pc breaks) past.state more in
+            let place = ap (λ (seat : Seat). is_among seat.hart.pc breaks) past.state.seat in
+            subst (λ (outcome : Outcome). RunAlike e (next_run left before one.outcome one.state) (next_run left (with_state before other) outcome two.state)) past.outcome
+            (subst (λ (here : Bool). RunAlike e (next_run left before one.outcome one.state) (next left (with_state after two.state) hit (left == 0) here)) place alike)
+      ]

@@ -1,0 +1,33 @@
+use Rattle.std.proofs.Common.{sym, subst}
+use Rattle.rv_debug.specs.BenchState.{BenchState}
+use Rattle.rv_debug.specs.Confidentiality.{PassBy}
+use Rattle.rv_debug.specs.Isolation.{IsSparedIn}
+use Rattle.rv_debug.specs.TwoBenches.{BothRan}
+use Rattle.rv_debug.proofs.BothAlike.{Folded, folded, run_alike}
+use Rattle.rv_debug.proofs.Isolation.{integrity}
+use Rattle.rv_debug.proofs.both.run_both.Goals as goal
+
+pub returns-clause-first : goal.returns-clause-first
+returns-clause-first c =
+    (subst (Folded c.args.slot c.args.a.now c.args.b.now c.args.commands.now) c.run_commands.ensures
+    (folded c.args.slot c.args.a.now c.args.b.now c.args.commands.now)).0
+
+pub returns-clause-second : goal.returns-clause-second
+returns-clause-second c =
+    (subst (Folded c.args.slot c.args.a.now c.args.b.now c.args.commands.now) c.run_commands.ensures
+    (folded c.args.slot c.args.a.now c.args.b.now c.args.commands.now)).1
+
+pub returns-clause-alike : goal.returns-clause-alike
+returns-clause-alike c agree =
+    subst (λ (end : BothRan). PassBy c.args.slot c.args.a.now c.args.b.now c.args.commands.now end.ran end.why) c.run_commands.ensures
+    (run_alike c.args.slot c.args.a.now c.args.b.now c.args.commands.now c.invariant.ensures c.invariant-2.ensures agree)
+
+pub returns-clause-first_spares : goal.returns-clause-first_spares
+returns-clause-first_spares c k rests =
+    subst (λ (end : BenchState). IsSparedIn k c.args.a.now.target end.target) (sym (returns-clause-first c))
+    (integrity k c.args.a.now _ c.invariant.ensures rests)
+
+pub returns-clause-second_spares : goal.returns-clause-second_spares
+returns-clause-second_spares c k rests =
+    subst (λ (end : BenchState). IsSparedIn k c.args.b.now.target end.target) (sym (returns-clause-second c))
+    (integrity k c.args.b.now _ c.invariant-2.ensures rests)

@@ -1,0 +1,7 @@
+use Rattle.std.proofs.Common.{◌≡◌, drop}
+use Rattle.rv_debug.specs.TwoBenches.{both_run}
+use Rattle.rv_debug.proofs.BothAlike.{later}
+use Rattle.rv_debug.proofs.both.run_commands.Given as goal
+
+abbrev pub invariant-loop-ran : goal.invariant-loop-ran
+invariant-loop-ran l = later l.slot l.ran (both_run l.slot l.a l.b (drop l.ran l.commands)) ≡ both_run l.slot l.fn.a l.fn.b l.fn.commands

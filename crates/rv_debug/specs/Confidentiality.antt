@@ -1,0 +1,81 @@
+-- What two benches that agree but for an enclave show and leave, given the same commands: nothing of that enclave, up to the command
+-- that enters it. (Laws of this project's own debugger over its own monitor.)
+use Rattle.std.specs.Prelude.{ℕ, ◌≡◌, suc, Bool, true, false, List, [], ◌∷◌, take}
+use Rattle.rv_monitor.specs.Table.{is_live}
+use Rattle.rv_debug.specs.Answer.{Answered, answer}
+use Rattle.rv_debug.specs.BenchState.{BenchState}
+use Rattle.rv_debug.specs.Isolation.{after_commands}
+use Rattle.rv_debug.specs.Targets.{KeepsMonitor}
+use Rattle.rv_debug.specs.TwoBenches.{BenchesAgreeBut, BothAnswered, is_blind, is_entered}
+use Rattle.rv_debug.specs.declared.both.BothWhy.{BothWhy}
+use Rattle.rv_debug.specs.declared.both.BothWhy.TheVariants.{All, Entered, NotBlind}
+use Rattle.rv_debug.specs.declared.command.Command.{Command}
+use Rattle.rv_debug.specs.declared.target.Target.{Target}
+use Rattle.rv_debug.specs.declared.target.Target.TheVariants.{Bare, Monitored}
+
+-- the enclave of slot e is live
+abbrev pub is_live_in : ℕ → Target → Bool
+is_live_in e (Bare machine) = false
+is_live_in e (Monitored machine) = is_live machine.shared.table e
+
+-- they agree again; and once the enclave is gone they are equal
+pub record AgreeAgain (e : ℕ) (first second : BenchState) : Type 0 where
+  pub but : BenchesAgreeBut e first second
+  pub gone : is_live_in e first.target ≡ false → first ≡ second
+
+-- ---- one command
+
+-- the replies are equal, and the benches agree again
+pub record PassAlike (e : ℕ) (first second : Answered) : Type 0 where
+  pub reply : first.reply ≡ second.reply
+  pub state : AgreeAgain e first.state second.state
+
+-- the command enters slot e in both or in neither; if in neither, nothing is shown or left of it
+pub record AnswerAlike (e : ℕ) (first second : Answered) : Type 0 where
+  pub entered : is_entered e first.entered ≡ is_entered e second.entered
+  pub passed : is_entered e first.entered ≡ false → PassAlike e first second
+
+abbrev pub ConfidentialityLaw : Type 0
+ConfidentialityLaw =
+    (e : ℕ) (first second : BenchState) (command : Command) → KeepsMonitor first.target → KeepsMonitor second.target
+    → BenchesAgreeBut e first second → is_blind e first command ≡ true
+    → AnswerAlike e (answer first command) (answer second command)
+
+-- the same as both_command tells it
+pub record BothPassed (e : ℕ) (after : BothAnswered) : Type 0 where
+  pub reply : after.first_reply ≡ after.second_reply
+  pub state : AgreeAgain e after.first after.second
+
+pub record BothEntered (e : ℕ) (first second : BenchState) (command : Command) : Type 0 where
+  pub here : is_entered e (answer first command).entered ≡ true
+  pub there : is_entered e (answer second command).entered ≡ true
+
+pub record NeitherDid (e : ℕ) (first second : BenchState) (command : Command) : Type 0 where
+  pub here : is_blind e first command ≡ false
+  pub there : is_blind e second command ≡ false
+
+abbrev pub AlikeBy : ℕ → BenchState → BenchState → Command → BothAnswered → BothWhy → Type 0
+AlikeBy e first second command after All = BothPassed e after
+AlikeBy e first second command after Entered = BothEntered e first second command
+AlikeBy e first second command after NotBlind = NeitherDid e first second command
+
+abbrev pub StayAlike : ℕ → BenchState → BenchState → Command → BothAnswered → Type 0
+StayAlike e first second command after = BenchesAgreeBut e first second → AlikeBy e first second command after after.why
+
+-- ---- a list of commands
+
+-- the replies to commands, one after another
+abbrev pub replies_to : BenchState → List Command → List (List ℕ)
+replies_to bench [] = []
+replies_to bench (command ∷ commands) = (answer bench command).reply ∷ replies_to (answer bench command).state commands
+
+-- the replies to all of them are equal, and the benches agree after them
+pub record PassAll (e : ℕ) (first second : BenchState) (commands : List Command) : Type 0 where
+  pub replies : replies_to first commands ≡ replies_to second commands
+  pub state : AgreeAgain e (after_commands first commands) (after_commands second commands)
+
+-- they pass all that were done, but for the last where that entered slot e
+abbrev pub PassBy : ℕ → BenchState → BenchState → List Command → ℕ → BothWhy → Type 0
+PassBy e first second commands ran All = PassAll e first second (take ran commands)
+PassBy e first second commands ran NotBlind = PassAll e first second (take ran commands)
+PassBy e first second commands ran Entered = (before : ℕ) × (ran ≡ suc before) × PassAll e first second (take before commands)

@@ -1,0 +1,102 @@
+-- Two benches that are given the same commands: what they agree in, which commands are blind to an enclave, and what both answer.
+-- (This project's own debugger over its own monitor.)
+use Rattle.std.specs.Prelude.{ℕ, ◌≡◌, suc, ◌==◌, Bool, not, ◌&&◌, ◌||◌, if◌then◌else◌, List, [], ◌∷◌}
+use Rattle.std.specs.Int.{bit_at}
+use Rattle.rv_monitor.specs.AgreeBut.{AgreeBut}
+use Rattle.rv_monitor.specs.Blocks.{no_block, meets}
+use Rattle.rv_monitor.specs.Table.{region}
+use Rattle.rv_monitor.specs.declared.block.Block.{Block}
+use Rattle.rv_debug.specs.Answer.{Answered, answer}
+use Rattle.rv_debug.specs.BenchState.{BenchState}
+use Rattle.rv_debug.specs.declared.both.BothWhy.{BothWhy}
+use Rattle.rv_debug.specs.declared.both.BothWhy.TheVariants.{All, Entered, NotBlind}
+use Rattle.rv_debug.specs.declared.command.Command.{Command}
+use Rattle.rv_debug.specs.declared.command.Command.TheVariants.{Mem, Poke, Dis}
+use Rattle.rv_debug.specs.declared.target.Target.{Target}
+use Rattle.rv_debug.specs.declared.target.Target.TheVariants.{Bare, Monitored}
+
+-- ---- what two benches agree in
+
+-- the enclave of slot e runs in neither, and they are equal but for the bytes of its region and its context, and altogether where it is
+-- not live; a machine alone has no enclave
+abbrev pub TargetsAgreeBut : ℕ → Target → Target → Type 0
+TargetsAgreeBut e (Bare one) (Bare other) = one ≡ other
+TargetsAgreeBut e (Monitored one) (Monitored other) = AgreeBut e one other
+TargetsAgreeBut e _ _ = ⊥
+
+pub record BenchesAgreeBut (e : ℕ) (one other : BenchState) : Type 0 where
+  pub target : TargetsAgreeBut e one.target other.target
+  pub breaks : one.breaks ≡ other.breaks
+  pub watches : one.watches ≡ other.watches
+
+-- ---- what a command shows of memory, and what it enters
+
+-- the bytes that a command names by their addresses
+abbrev pub named : Command → Block
+named (Mem address count) = record { base = address; size = count }
+named (Dis address) = record { base = address; size = 4 }
+named (Poke address byte) = record { base = address; size = 1 }
+named _ = no_block
+
+-- the region of slot e, without bytes where its enclave is not live
+abbrev pub region_of : ℕ → Target → Block
+region_of e (Bare machine) = no_block
+region_of e (Monitored machine) = region machine.shared.table e
+
+-- the command is not a mem, dis or poke with a byte in the region of slot e
+unfoldable pub is_blind : ℕ → BenchState → Command → Bool
+is_blind e bench command = not (meets (named command) (region_of e bench.target))
+
+-- slot e is one of these, of which each has its bit set
+abbrev pub is_entered : ℕ → ℕ → Bool
+is_entered e slots = bit_at slots e == 1
+
+-- ---- one command for both
+
+-- both benches after a command, their replies, and whether there may be more
+pub record BothAnswered : Type 0 where
+  pub first : BenchState
+  pub second : BenchState
+  pub first_reply : List ℕ
+  pub second_reply : List ℕ
+  pub why : BothWhy
+
+-- it is done by both; one that enters slot e in either is the last
+abbrev pub both_do : ℕ → Answered → Answered → BothAnswered
+both_do e first second = record {
+  first = first.state;
+  second = second.state;
+  first_reply = first.reply;
+  second_reply = second.reply;
+  why = if is_entered e first.entered || is_entered e second.entered then Entered else All;
+}
+
+-- one that is not blind in either is done by neither
+unfoldable pub both_answer : ℕ → BenchState → BenchState → Command → BothAnswered
+both_answer e first second command =
+    if is_blind e first command && is_blind e second command then both_do e (answer first command) (answer second command)
+    else record { first = first; second = second; first_reply = []; second_reply = []; why = NotBlind }
+
+-- ---- a list of commands for both
+
+-- both benches after commands, how many were done, and why no more
+pub record BothRan : Type 0 where
+  pub first : BenchState
+  pub second : BenchState
+  pub ran : ℕ
+  pub why : BothWhy
+
+abbrev pub one_more : BothRan → BothRan
+one_more rest = record { first = rest.first; second = rest.second; ran = suc rest.ran; why = rest.why }
+
+-- the rest is done where the first command lets it
+abbrev pub go_on : BothWhy → BothAnswered → BothRan → BothRan
+go_on All after rest = one_more rest
+go_on Entered after rest = record { first = after.first; second = after.second; ran = 1; why = Entered }
+go_on NotBlind after rest = record { first = after.first; second = after.second; ran = 0; why = NotBlind }
+
+unfoldable pub both_run : ℕ → BenchState → BenchState → List Command → BothRan
+both_run e first second [] = record { first = first; second = second; ran = 0; why = All }
+both_run e first second (command ∷ commands) =
+    let after = both_answer e first second command in
+    go_on after.why after (both_run e after.first after.second commands)

@@ -1,0 +1,138 @@
+//! One list of commands for two benches, which shows whether they can be told apart without entering an enclave.
+
+ghost use Rattle.std.specs.Prelude.{◌≡◌, ◌<◌, ◌^◌, ℕ, take};
+ghost use Rattle.rv_debug.specs.Confidentiality.{PassBy, StayAlike};
+ghost use Rattle.rv_debug.specs.Isolation.{IsSparedIn, RestsUnderAll, after_commands};
+ghost use Rattle.rv_debug.specs.TwoBenches.{BenchesAgreeBut, both_answer, both_run, is_entered as is_entered_in};
+
+use crate::bench::Bench;
+use crate::command::Command;
+use rv_text::Reply;
+
+/// Why commands for two benches ended.
+#[derive(Clone, Copy, Debug, PartialEq, Eq)]
+pub enum BothWhy {
+    /// All of them are done.
+    All,
+    /// The last that was done entered the slot, in one of them or in both.
+    Entered,
+    /// The next is a mem, dis or poke with a byte in the region of the slot, in one of them or in both. It was not done.
+    NotBlind,
+}
+
+/// How many commands two benches did, and why no more.
+#[derive(Clone, Copy, Debug, PartialEq, Eq)]
+pub struct Both {
+    /// How many were done.
+    pub ran: usize,
+    /// Why no more.
+    pub why: BothWhy,
+}
+
+/// Whether a slot is one of these, of which each has its bit set.
+#[tactic(auto, using(crate::proofs::EnteredSlots::none_above))]
+fn is_entered(slots: u16, slot: u8) -> bool
+    ensures { result ≡ is_entered_in slot slots }
+{
+    slot < 16 && slots >> slot & 1 == 1
+}
+
+/// Gives one command to two benches, and puts their replies in place of what the buffers hold. One that is not blind in either, a
+/// mem, dis or poke with a byte in the region that the slot has, is done by neither, and both replies are empty.
+///
+/// `meaning` is all of it. `alike` is confidentiality: where the benches agreed in all but the region and the context of the slot, whose
+/// enclave runs in neither, the command is blind in both or in neither, and it enters the slot in both or in neither; and if in neither,
+/// the replies are equal and the benches agree again, and are equal once the enclave is gone.
+pub fn both_command(
+    a: &mut Bench,
+    b: &mut Bench,
+    slot: u8,
+    command: &Command,
+    out_a: &mut Reply,
+    out_b: &mut Reply,
+) -> BothWhy
+    ensures meaning { both_answer slot a.old b.old command.now
+        ≡ record { first = a.new; second = b.new; first_reply = out_a.new.items; second_reply = out_b.new.items; why = result } }
+    ensures alike { StayAlike slot a.old b.old command.now
+        (record { first = a.new; second = b.new; first_reply = out_a.new.items; second_reply = out_b.new.items; why = result }) }
+{
+    a.invariant();
+    b.invariant();
+    give_both(a, b, slot, command, out_a, out_b)
+}
+
+/// Gives the command to both, or to neither.
+#[tactic(auto, unfolding(crate::specs::TwoBenches::both_answer))]
+fn give_both(
+    a: &mut Bench,
+    b: &mut Bench,
+    slot: u8,
+    command: &Command,
+    out_a: &mut Reply,
+    out_b: &mut Reply,
+) -> BothWhy
+    ensures { both_answer slot a.old b.old command.now
+        ≡ record { first = a.new; second = b.new; first_reply = out_a.new.items; second_reply = out_b.new.items; why = result } }
+{
+    if !(a.is_blind(slot, command) && b.is_blind(slot, command)) {
+        out_a.clear();
+        out_b.clear();
+        return BothWhy::NotBlind;
+    }
+    let first = a.command(command, out_a);
+    let second = b.command(command, out_b);
+    if is_entered(first, slot) || is_entered(second, slot) {
+        BothWhy::Entered
+    } else {
+        BothWhy::All
+    }
+}
+
+/// Gives one list of commands to two benches, up to one that is not blind, which is not done, or to one that enters the slot, which is the
+/// last. It takes no memory.
+///
+/// `meaning` is all of it, and `first` and `second` say the same of each bench by itself. `alike` is confidentiality: where the benches
+/// agreed in all but the region and the context of the slot, whose enclave runs in neither, all replies are equal and the benches agree
+/// at the end, and are equal once the enclave is gone; where the last command entered the slot, this is so before it. `first_spares` and
+/// `second_spares` are integrity: an enclave that rests through the commands keeps its record, its bytes and its context.
+pub fn run_both(a: &mut Bench, b: &mut Bench, slot: u8, commands: &[Command]) -> Both
+    ensures meaning { both_run slot a.old b.old commands.now ≡ record { first = a.new; second = b.new; ran = result.ran; why = result.why } }
+    ensures first { a.new ≡ after_commands a.old (take result.ran commands.now) }
+    ensures second { b.new ≡ after_commands b.old (take result.ran commands.now) }
+    ensures alike { BenchesAgreeBut slot a.old b.old → PassBy slot a.old b.old commands.now result.ran result.why }
+    ensures first_spares { (k : ℕ) → RestsUnderAll k a.old (take result.ran commands.now) → IsSparedIn k a.old.target a.new.target }
+    ensures second_spares { (k : ℕ) → RestsUnderAll k b.old (take result.ran commands.now) → IsSparedIn k b.old.target b.new.target }
+{
+    a.invariant();
+    b.invariant();
+    run_commands(a, b, slot, commands)
+}
+
+/// The commands one after another.
+fn run_commands(a: &mut Bench, b: &mut Bench, slot: u8, commands: &[Command]) -> Both
+    ensures { both_run slot a.old b.old commands.now ≡ record { first = a.new; second = b.new; ran = result.ran; why = result.why } }
+{
+    let mut out_a = Reply::new();
+    let mut out_b = Reply::new();
+    for (ran, command) in commands.iter().enumerate() {
+        match both_command(a, b, slot, command, &mut out_a, &mut out_b) {
+            BothWhy::All => {}
+            BothWhy::Entered => {
+                return Both {
+                    ran: ran + 1,
+                    why: BothWhy::Entered,
+                };
+            }
+            BothWhy::NotBlind => {
+                return Both {
+                    ran,
+                    why: BothWhy::NotBlind,
+                };
+            }
+        }
+    }
+    Both {
+        ran: commands.len(),
+        why: BothWhy::All,
+    }
+}
