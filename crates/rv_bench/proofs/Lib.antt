@@ -1,3 +1,4 @@
+mod ApartLemmas
 mod Assembling
 mod Ends
 mod Examples
@@ -11,6 +12,7 @@ mod Spared
 mod Starts
 mod Streams
 mod TakeWhileLemmas
+mod Twins
 mod WordLengths
 mod Writing
 mod WrittenLines

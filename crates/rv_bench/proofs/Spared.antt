@@ -15,17 +15,17 @@ use Rattle.rv_bench.specs.Integrity.{commands_of, SparesThrough}
 use Rattle.rv_bench.specs.Loaded.{started}
 use Rattle.rv_bench.specs.Output.{bench_in}
 use Rattle.rv_bench.specs.Image.{image_in}
-use Rattle.rv_bench.specs.Replies.{state_after}
+use Rattle.rv_bench.specs.Replies.{bench_line, state_after}
 use Rattle.rv_bench.proofs.RepliesLemmas.{state_after-append}
 use Rattle.rv_bench.proofs.Starts.{started_keeps}
 
 -- lines leave what their commands leave
-after_lines : (bench : BenchState) (lines : List (List ℕ)) → state_after bench lines ≡ after_commands bench (commands_of lines)
+after_lines : (bench : BenchState) (lines : List (List ℕ)) → state_after bench_line bench lines ≡ after_commands bench (commands_of lines)
 unfolding line_answer
 after_lines bench [] = refl
 after_lines bench (line ∷ lines) = go (λ next. after_lines next lines) (parse_of line) where
-  go : ((next : BenchState) → state_after next lines ≡ after_commands next (commands_of lines)) → (parsed : Result Command CommandFault)
-      → state_after (answer_or_fault bench parsed).state lines
+  go : ((next : BenchState) → state_after bench_line next lines ≡ after_commands next (commands_of lines)) → (parsed : Result Command CommandFault)
+      → state_after bench_line (answer_or_fault bench parsed).state lines
       ≡ after_commands bench (result_case parsed (λ command. command ∷ commands_of lines) (λ _. commands_of lines))
   go later (Ok command) = later (answer bench command).state
   go later (Err fault) = later bench
@@ -37,14 +37,14 @@ keeps_line bench line kept = go (parse_of line) where
   go (Ok command) = keeps_monitor bench command kept
   go (Err fault) = kept
 
-keeps_lines : (bench : BenchState) (lines : List (List ℕ)) → KeepsMonitor bench.target → KeepsMonitor (state_after bench lines).target
+keeps_lines : (bench : BenchState) (lines : List (List ℕ)) → KeepsMonitor bench.target → KeepsMonitor (state_after bench_line bench lines).target
 keeps_lines bench [] kept = kept
 keeps_lines bench (line ∷ lines) kept = keeps_lines (line_answer bench line).state lines (keeps_line bench line kept)
 
 spares_through : (bench : BenchState) → KeepsMonitor bench.target → SparesThrough bench
 spares_through bench kept k before part rests =
-    let start = state_after bench before in
-    let after = state_after-append bench before part ∙ after_lines start part in
+    let start = state_after bench_line bench before in
+    let after = state_after-append bench_line bench before part ∙ after_lines start part in
     subst (λ (end : BenchState). IsSparedIn k start.target end.target) (sym after)
     (integrity k start (commands_of part) (keeps_lines bench before kept) rests)
 

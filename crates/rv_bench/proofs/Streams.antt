@@ -15,7 +15,7 @@ use Rattle.rv_bench.specs.Calls.{SourceFailed}
 use Rattle.rv_bench.specs.Image.{image_in}
 use Rattle.rv_bench.specs.Loaded.{started}
 use Rattle.rv_bench.specs.Output.{bench_in, output, replies_of}
-use Rattle.rv_bench.specs.Replies.{replies}
+use Rattle.rv_bench.specs.Replies.{bench_line, replies}
 use Rattle.rv_bench.specs.Run.{Outcome, RunsBench, StopsAtRead, StopsAtWrite}
 use Rattle.rv_bench.specs.Script.{ReadsThroughSeparator}
 use Rattle.rv_bench.specs.Separator.{after_separator}
@@ -34,10 +34,10 @@ module _ {S W : Type 0} {g : SourceGhosts S} (h : SinkGhosts W) (setup : Setup) 
   bench_is : (r : Result BenchState BenchFault) → started image setup ≡ r → IsTrue g.tells → bench_in setup (unread old) ≡ r
   bench_is r starts tells = rw (is tells) starts
 
-  output_is : (state : BenchState) → started image setup ≡ Ok state → IsTrue g.tells → output setup (unread old) ≡ Ok (replies state (lines_of (unread mid)))
+  output_is : (state : BenchState) → started image setup ≡ Ok state → IsTrue g.tells → output setup (unread old) ≡ Ok (replies bench_line state (lines_of (unread mid)))
   output_is state starts tells =
       ap (λ m. replies_of m (lines_of (after_separator (unread old)))) (bench_is (Ok state) starts tells)
-      ∙ ap (λ t. Ok (replies state (lines_of t))) (sym (reads.rest tells))
+      ∙ ap (λ t. Ok (replies bench_line state (lines_of t))) (sym (reads.rest tells))
 
   fault_is : (fault : BenchFault) → started image setup ≡ Err fault → IsTrue g.tells → output setup (unread old) ≡ Err fault
   fault_is fault starts tells = ap (λ m. replies_of m (lines_of (after_separator (unread old)))) (bench_is (Err fault) starts tells)
@@ -64,8 +64,8 @@ module _ {S W : Type 0} {g : SourceGhosts S} (h : SinkGhosts W) (setup : Setup) 
       let (state, starts, run) = ok_and (started image setup) _ runs in (
         record { source = failed run.0.source; sink = run.0.sink; going = run.0.going },
         λ tells. inr (
-            subst (λ m. IsOkAnd m (λ state. StopsAtRead Input state h.tells (after_separator (unread old)) (g.remaining new.source) (held new) (h.taken before) (h.taken after))) (sym (bench_is (Ok state) starts tells))
-            (subst (λ t. StopsAtRead Input state h.tells t (g.remaining new.source) (held new) (h.taken before) (h.taken after)) (reads.rest tells) (run.1 tells))
+            subst (λ m. IsOkAnd m (λ state. StopsAtRead bench_line Input state h.tells (after_separator (unread old)) (g.remaining new.source) (held new) (h.taken before) (h.taken after))) (sym (bench_is (Ok state) starts tells))
+            (subst (λ t. StopsAtRead bench_line Input state h.tells t (g.remaining new.source) (held new) (h.taken before) (h.taken after)) (reads.rest tells) (run.1 tells))
             ),
       )
   streamed (Err Write) runs =
@@ -78,8 +78,8 @@ module _ {S W : Type 0} {g : SourceGhosts S} (h : SinkGhosts W) (setup : Setup) 
           front = λ tells. subst (λ o. IsOkAnd o (λ text. IsTrue h.tells → WritesFront (h.taken before) (h.taken after) text)) (sym (output_is state starts tells)) (run.0.front tells);
         },
         λ tells.
-            subst (λ m. IsOkAnd m (λ state. StopsAtWrite Input state h.tells (after_separator (unread old)) (unread new) (h.taken before) (h.taken after))) (sym (bench_is (Ok state) starts tells))
-            (subst (λ t. StopsAtWrite Input state h.tells t (unread new) (h.taken before) (h.taken after)) (reads.rest tells) (run.1 tells)),
+            subst (λ m. IsOkAnd m (λ state. StopsAtWrite bench_line Input state h.tells (after_separator (unread old)) (unread new) (h.taken before) (h.taken after))) (sym (bench_is (Ok state) starts tells))
+            (subst (λ t. StopsAtWrite bench_line Input state h.tells t (unread new) (h.taken before) (h.taken after)) (reads.rest tells) (run.1 tells)),
       )
   streamed (Err (Ram BadSize)) (none, same, unwritten) =
       (none, subst (ReadsThroughSeparator old) (sym same) reads, fault_is (Ram BadSize) (no_ram image setup none), unwritten)

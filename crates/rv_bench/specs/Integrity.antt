@@ -6,7 +6,7 @@ use Rattle.rv_debug.specs.BenchState.{BenchState}
 use Rattle.rv_debug.specs.Command.{parse_of}
 use Rattle.rv_debug.specs.Isolation.{RestsUnderAll, IsSparedIn}
 use Rattle.rv_debug.specs.declared.command.Command.{Command}
-use Rattle.rv_bench.specs.Replies.{state_after}
+use Rattle.rv_bench.specs.Replies.{bench_line, state_after}
 
 -- the commands that lines ask for; a faulty line asks for none, and changes nothing
 abbrev pub commands_of : List (List ℕ) → List Command
@@ -17,5 +17,5 @@ commands_of (line ∷ lines) = result_case (parse_of line) (λ command. command 
 -- that does not run through it, that it neither enters nor ends, and of whose region it pokes no byte.
 abbrev pub SparesThrough : BenchState → Type 0
 SparesThrough bench =
-    (k : ℕ) (before part : List (List ℕ)) → RestsUnderAll k (state_after bench before) (commands_of part)
-    → IsSparedIn k (state_after bench before).target (state_after bench (before ++ part)).target
+    (k : ℕ) (before part : List (List ℕ)) → RestsUnderAll k (state_after bench_line bench before) (commands_of part)
+    → IsSparedIn k (state_after bench_line bench before).target (state_after bench_line bench (before ++ part)).target

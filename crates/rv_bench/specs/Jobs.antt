@@ -1,7 +1,7 @@
 -- What each job does: what the call of that job does. (This project's own jobs.)
 use Rattle.std.specs.Prelude.{◌≡◌, false, [], IfOk}
 use Rattle.rv_command_line.specs.declared.job.Job.{Job}
-use Rattle.rv_command_line.specs.declared.job.Job.TheVariants.{Run, Asm, Dis}
+use Rattle.rv_command_line.specs.declared.job.Job.TheVariants.{Run, Twin, Asm, Dis}
 use Rattle.rv_bench.specs.declared.device.Sink.{Ghosts as SinkGhosts}
 use Rattle.rv_bench.specs.declared.device.Source.{Ghosts as SourceGhosts}
 use Rattle.rv_bench.specs.declared.lines.Lines.{Lines}
@@ -11,6 +11,7 @@ use Rattle.rv_bench.specs.Integrity.{SparesThrough}
 use Rattle.rv_bench.specs.Output.{bench_in}
 use Rattle.rv_bench.specs.Run.{Outcome}
 use Rattle.rv_bench.specs.Stream.{RunsStream}
+use Rattle.rv_bench.specs.Twin.{RunsTwin}
 use Rattle.rv_bench.specs.Unread.{held, unread, TellsEnd}
 
 module _ {S : Type 0} (g : SourceGhosts S) where
@@ -28,6 +29,8 @@ module _ {S W : Type 0} (g : SourceGhosts S) (h : SinkGhosts W) (source left : S
   DoesJob (Run setup) outcome =
       (old : Lines S g) × (new : Lines S g) × ReadsByLines g source left old new × RunsStream h setup old new before after outcome
       × IfOk (bench_in setup (unread old)) SparesThrough
+  DoesJob (Twin setup slot) outcome =
+      (old : Lines S g) × (new : Lines S g) × ReadsByLines g source left old new × RunsTwin h setup slot old new before after outcome
   DoesJob Asm outcome = RunsAsm g h source left before after outcome
   DoesJob Dis outcome =
       (old : Lines S g) × (new : Lines S g) × ReadsByLines g source left old new × RunsDis h old new before after outcome

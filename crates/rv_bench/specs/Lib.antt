@@ -1,3 +1,4 @@
+pub mod Apart
 pub mod Assemble
 pub mod AssemblyText
 pub mod Calls
@@ -19,5 +20,6 @@ pub mod Script
 pub mod Separator
 pub mod Stream
 pub mod Transfer
+pub mod Twin
 pub mod Unread
 pub mod MonitorRange

@@ -1,6 +1,6 @@
 -- What the bench writes for an input: an image, the line `--`, and a script. (This project's own format.)
 use Rattle.std.specs.Prelude.{ℕ, List, Result, Ok, Err}
-use Rattle.rv_bench.specs.Replies.{replies}
+use Rattle.rv_bench.specs.Replies.{bench_line, replies}
 use Rattle.rv_word.specs.Cases.{result_case}
 use Rattle.rv_bench.specs.Image.{image_in}
 use Rattle.rv_bench.specs.Separator.{after_separator}
@@ -12,7 +12,7 @@ use Rattle.rv_bench.specs.declared.fault.BenchFault.{BenchFault}
 
 -- the replies of a bench that has started, or the fault
 abbrev pub replies_of : Result BenchState BenchFault → List (List ℕ) → Result (List ℕ) BenchFault
-replies_of bench script = result_case bench (λ state. Ok (replies state script)) Err
+replies_of bench script = result_case bench (λ state. Ok (replies bench_line state script)) Err
 
 -- the bench that the front of an input starts, or the first fault: of the image's text, the RAM's size or the image
 abbrev pub bench_in : Setup → List ℕ → Result BenchState BenchFault

@@ -1,15 +1,24 @@
--- What a bench answers to the lines of a script. (This project's own commands.)
+-- What is answered to the lines of a script, one after another. (This project's own commands.)
 use Rattle.std.specs.Prelude.{ℕ, List, [], ◌∷◌, ◌++◌}
 use Rattle.rv_debug.specs.Answer.{line_answer}
 use Rattle.rv_debug.specs.BenchState.{BenchState}
 
--- the replies to the lines, one after another
-abbrev pub replies : BenchState → List (List ℕ) → List ℕ
-replies bench [] = []
-replies bench (line ∷ script) =
-    let first = line_answer bench line in first.reply ++ replies first.state script
+-- the state after a line, and the text of the reply to it
+pub record Replied (A : Type 0) : Type 0 where
+  pub state : A
+  pub reply : List ℕ
 
--- the bench after them
-abbrev pub state_after : BenchState → List (List ℕ) → BenchState
-state_after bench [] = bench
-state_after bench (line ∷ script) = state_after (line_answer bench line).state script
+-- the replies to lines
+abbrev pub replies : {A : Type 0} → (A → List ℕ → Replied A) → A → List (List ℕ) → List ℕ
+replies answer state [] = []
+replies answer state (line ∷ script) =
+    let first = answer state line in first.reply ++ replies answer first.state script
+
+-- the state after them
+abbrev pub state_after : {A : Type 0} → (A → List ℕ → Replied A) → A → List (List ℕ) → A
+state_after answer state [] = state
+state_after answer state (line ∷ script) = state_after answer (answer state line).state script
+
+-- what a bench answers
+abbrev pub bench_line : BenchState → List ℕ → Replied BenchState
+bench_line bench line = let answered = line_answer bench line in record { state = answered.state; reply = answered.reply }

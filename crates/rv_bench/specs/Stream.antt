@@ -12,6 +12,7 @@ use Rattle.rv_bench.specs.declared.separator.ScriptEnd.TheVariants.{Input}
 use Rattle.rv_bench.specs.Image.{image_in, ReadsInImage}
 use Rattle.rv_bench.specs.Output.{bench_in, output}
 use Rattle.rv_bench.specs.ReadImage.{FindsFault, LacksMemory}
+use Rattle.rv_bench.specs.Replies.{bench_line}
 use Rattle.rv_bench.specs.Run.{Outcome, RunsToEnd, FailsToRead, FailsToWrite, StopsAtRead, StopsAtWrite}
 use Rattle.rv_bench.specs.Script.{ReadsThroughSeparator}
 use Rattle.rv_bench.specs.Separator.{after_separator}
@@ -27,13 +28,13 @@ module _ {S W : Type 0} {g : SourceGhosts S} (h : SinkGhosts W) (setup : Setup) 
   StopsStreamAtRead =
       (ReadsInImage (unread old) (g.remaining new.source) (held new) × (after ≡ before))
       ⊎ IsOkAnd (bench_in setup (unread old)) (λ state.
-      StopsAtRead Input state h.tells (after_separator (unread old)) (g.remaining new.source) (held new) (h.taken before) (h.taken after))
+      StopsAtRead bench_line Input state h.tells (after_separator (unread old)) (g.remaining new.source) (held new) (h.taken before) (h.taken after))
 
   -- The sink failed in the script.
   abbrev pub StopsStreamAtWrite : Type 0
   StopsStreamAtWrite =
       IsOkAnd (bench_in setup (unread old)) (λ state.
-      StopsAtWrite Input state h.tells (after_separator (unread old)) (unread new) (h.taken before) (h.taken after))
+      StopsAtWrite bench_line Input state h.tells (after_separator (unread old)) (unread new) (h.taken before) (h.taken after))
 
   -- What each result of `run_stream` means. The image's text, the RAM's size and the image are asked in this order, before a
   -- byte is written.

@@ -8,6 +8,7 @@ use crate::dis::run_dis;
 use crate::fault::BenchFault;
 use crate::lines::Lines;
 use crate::run::run_stream;
+use crate::twin::run_twin;
 use rv_command_line::Job;
 use std::alloc::Global;
 
@@ -17,6 +18,7 @@ use std::alloc::Global;
 /// # Errors
 ///
 /// - those of `run_stream` where the job is `Run`;
+/// - those of `run_twin` where it is `Twin`;
 /// - those of `run_asm` where it is `Asm`;
 /// - those of `run_dis` where it is `Dis`.
 pub fn run_job<S: Source, W: Sink>(
@@ -31,6 +33,11 @@ pub fn run_job<S: Source, W: Sink>(
         Job::Run(setup) => {
             let mut lines = Lines::new(source);
             let outcome = run_stream(alloc, setup, &mut lines, sink);
+            (lines.into_source(), outcome)
+        }
+        Job::Twin(setup, slot) => {
+            let mut lines = Lines::new(source);
+            let outcome = run_twin(alloc, setup, *slot, &mut lines, sink);
             (lines.into_source(), outcome)
         }
         Job::Asm => {

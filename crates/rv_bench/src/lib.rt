@@ -14,9 +14,11 @@
 //! ```
 #![tactic(auto)]
 
+mod apart;
 mod asm;
 mod device;
 mod dis;
+mod equal;
 mod fault;
 mod gathered;
 mod image;
@@ -29,6 +31,7 @@ mod separator;
 mod start;
 mod stdio;
 mod transfer;
+mod twin;
 mod whole;
 
 pub use asm::run_asm;
@@ -44,4 +47,5 @@ pub use run::{run_bench, run_stream};
 pub use rv_command_line::{ImageKind, Job, Setup, WordsFault, read_words};
 pub use rv_elf::ElfFault;
 pub use stdio::{StandardSink, StandardSource};
+pub use twin::run_twin;
 pub use whole::ASM_TEXT_MAX;

@@ -1,14 +1,18 @@
 //! From lines read to replies written.
 
-ghost use Rattle.std.specs.Prelude.{IfOk};
+ghost use Rattle.std.specs.Prelude.{◌≡◌, IfOk, IsTrue, OnOk};
+ghost use Rattle.rv_text.specs.Lines.{lines_of};
 ghost use Rattle.rv_bench.specs.Integrity.{SparesThrough};
 ghost use Rattle.rv_bench.specs.Loaded.{started};
 ghost use Rattle.rv_bench.specs.Output.{bench_in};
+ghost use Rattle.rv_bench.specs.Replies.{bench_line, state_after};
 ghost use Rattle.rv_bench.specs.Run.{RunsBench, RunsLines};
+ghost use Rattle.rv_bench.specs.Script.{script_lines};
 ghost use Rattle.rv_bench.specs.Stream.{RunsStream};
 ghost use Rattle.rv_bench.specs.Unread.{unread, TellsEnd};
 
 use crate::device::{Sink, Source};
+use crate::equal::Answers;
 use crate::fault::BenchFault;
 use crate::image::read_image;
 use crate::lines::Lines;
@@ -16,18 +20,18 @@ use crate::separator::ScriptEnd;
 use crate::start::start;
 use crate::transfer::write_all;
 use rv_command_line::Setup;
-use rv_debug::Bench;
 use rv_text::Reply;
 use std::alloc::Global;
 
-/// Writes the reply to each line of a script. It takes no memory.
-fn run_lines<S: Source, W: Sink>(
-    bench: &mut Bench,
+/// Writes the reply to each line of a script, and flushes the sink at the end of the input. It takes no memory.
+pub(crate) fn run_lines<T: Answers, S: Source, W: Sink>(
+    bench: &mut T,
     lines: &mut Lines<S>,
     sink: &mut W,
     end: ScriptEnd,
 ) -> Result<(), BenchFault>
-    ensures outcome { RunsLines W.Sink end bench.old lines.old lines.new sink.old sink.new result }
+    ensures outcome { RunsLines W.Sink end (T.bench bench.old) lines.old lines.new sink.old sink.new result }
+    ensures state { OnOk result (IsTrue S.tells → T.bench bench.new ≡ state_after bench_line (T.bench bench.old) (script_lines end (lines_of (unread lines.old)))) }
     ensures end { TellsEnd lines.old lines.new }
 {
     let mut reply = Reply::new();
@@ -35,7 +39,10 @@ fn run_lines<S: Source, W: Sink>(
         bench.answer_line(line.as_slice(), &mut reply);
         write_all(sink, reply.as_slice()).map_err(|_| BenchFault::Write)?;
     }
-    sink.flush().map_err(|_| BenchFault::Write)
+    match end {
+        ScriptEnd::Input => sink.flush().map_err(|_| BenchFault::Write),
+        ScriptEnd::Separator => Ok(()),
+    }
 }
 
 /// Loads an image into the RAM of a new machine, and writes the reply to each line, until the source answers its end. Once

@@ -4,7 +4,7 @@ mod Answers
 mod AnswersAlike
 mod BothAlike
 mod CommandExamples
-mod Commands
+pub mod Commands
 mod EnteredSlots
 pub mod Isolation
 mod Keywords

@@ -1,9 +1,10 @@
 -- Two benches that are given the same commands: what they agree in, which commands are blind to an enclave, and what both answer.
 -- (This project's own debugger over its own monitor.)
-use Rattle.std.specs.Prelude.{ℕ, ◌≡◌, suc, ◌==◌, Bool, not, ◌&&◌, ◌||◌, if◌then◌else◌, List, [], ◌∷◌}
+use Rattle.std.specs.Prelude.{ℕ, ◌≡◌, suc, ◌==◌, Bool, false, not, ◌&&◌, ◌||◌, if◌then◌else◌, List, [], ◌∷◌}
 use Rattle.std.specs.Int.{bit_at}
 use Rattle.rv_monitor.specs.AgreeBut.{AgreeBut}
 use Rattle.rv_monitor.specs.Blocks.{no_block, meets}
+use Rattle.rv_monitor.specs.Scramble.{can_scramble as can_scramble_of, scrambled as scrambled_of}
 use Rattle.rv_monitor.specs.Table.{region}
 use Rattle.rv_monitor.specs.declared.block.Block.{Block}
 use Rattle.rv_debug.specs.Answer.{Answered, answer}
@@ -76,6 +77,24 @@ unfoldable pub both_answer : ℕ → BenchState → BenchState → Command → B
 both_answer e first second command =
     if is_blind e first command && is_blind e second command then both_do e (answer first command) (answer second command)
     else record { first = first; second = second; first_reply = []; second_reply = []; why = NotBlind }
+
+-- ---- a second bench that agrees
+
+-- an enclave is live in the slot, and does not run
+abbrev pub can_scramble_in : ℕ → Target → Bool
+can_scramble_in e (Bare machine) = false
+can_scramble_in e (Monitored machine) = can_scramble_of machine.shared.table e
+
+abbrev pub can_scramble : ℕ → BenchState → Bool
+can_scramble e bench = can_scramble_in e bench.target
+
+-- the bench with each byte of the region and each kept register of the slot complemented; a machine alone is as it was
+abbrev pub scrambled_in : ℕ → Target → Target
+scrambled_in e (Bare machine) = Bare machine
+scrambled_in e (Monitored machine) = Monitored (scrambled_of machine e)
+
+abbrev pub scrambled : ℕ → BenchState → BenchState
+scrambled e bench = record bench { target = scrambled_in e bench.target }
 
 -- ---- a list of commands for both
 

@@ -35,12 +35,12 @@ impl Model for Bench {
 }
 
 impl Bench {
-    ghost use Rattle.std.specs.Prelude.{◌≡◌, ℕ, List, [], take};
+    ghost use Rattle.std.specs.Prelude.{◌≡◌, ℕ, true, false, List, [], take};
     ghost use Rattle.rv_debug.specs.Answer.{answer, line_answer};
     ghost use Rattle.rv_debug.specs.BenchState.{bare, monitored};
     ghost use Rattle.rv_debug.specs.Isolation.{TellsReach, ChangesMemory, SparesResting};
     ghost use Rattle.rv_debug.specs.Targets.{IsBare, KeepsMonitor};
-    ghost use Rattle.rv_debug.specs.TwoBenches.{is_blind};
+    ghost use Rattle.rv_debug.specs.TwoBenches.{BenchesAgreeBut, can_scramble, is_blind, scrambled};
 
     /// A bench over a machine as it is, with no break and no watch.
     pub fn bare(machine: Machine) -> Self
@@ -146,6 +146,20 @@ impl Bench {
             Command::Timer(raised) => answer_timer(&mut self.target, raised, out),
         }
         0
+    }
+
+    /// Complements each byte of the region of a slot, and x1 to x31 of the context that is kept of its enclave: a bench that agrees with
+    /// the one before in all else. It answers false, and nothing changes, only where the slot is free or over 12, its enclave runs, or the
+    /// bench is bare.
+    pub fn scramble(&mut self, slot: u8) -> bool
+        ensures asked { result ≡ can_scramble slot self.old }
+        ensures meaning { result ≡ true → self.new ≡ scrambled slot self.old }
+        ensures same { result ≡ false → self.new ≡ self.old }
+        ensures agrees { result ≡ true → BenchesAgreeBut slot self.old self.new }
+        ensures monitor { KeepsMonitor self.new.target }
+    {
+        self.invariant();
+        self.target.scramble(slot)
     }
 
     /// Does what a line says, given without its ending, or replies with its first fault, and then nothing changes. The reply

@@ -29,5 +29,6 @@ mod within;
 pub use bench::Bench;
 pub use both::{Both, BothWhy, both_command, run_both};
 pub use command::{ByteCount, Command, CommandFault, StepCount, parse};
+pub use reply::push_fault;
 pub use target::Target;
 pub use within::Within;

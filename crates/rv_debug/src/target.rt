@@ -4,7 +4,7 @@ ghost use Rattle.std.specs.Prelude.{◌≡◌, Some, None};
 ghost use Rattle.std.specs.Bool.{OnTrue, OnFalse};
 ghost use Rattle.rv_monitor.specs.State.{IsKept};
 ghost use Rattle.rv_debug.specs.Steps.{no_steps, run};
-ghost use Rattle.rv_debug.specs.TwoBenches.{region_of};
+ghost use Rattle.rv_debug.specs.TwoBenches.{TargetsAgreeBut, can_scramble_in, region_of, scrambled_in};
 ghost use Rattle.rv_debug.specs.Targets.{hart_of, memory_of, pc_of, stepped, register_set, timer_set, poked, IsBare, KeepsMonitor};
 
 use crate::addresses::Addresses;
@@ -125,6 +125,21 @@ impl Target {
         match self {
             Target::Bare(machine) => machine.ram_mut().poke(address, byte),
             Target::Monitored(machine) => machine.poke(address, byte),
+        }
+    }
+
+    /// Complements each byte of the region and each kept register of a slot, and answers whether its enclave is live and does not run;
+    /// else nothing changes.
+    pub(crate) fn scramble(&mut self, slot: u8) -> bool
+        ensures asked { result ≡ can_scramble_in slot self.old }
+        ensures meaning { OnTrue result (self.new ≡ scrambled_in slot self.old) }
+        ensures same { OnFalse result (self.new ≡ self.old) }
+        ensures agrees { OnTrue result (TargetsAgreeBut slot self.old self.new) }
+        ensures monitor { KeepsMonitor self.old → KeepsMonitor self.new }
+    {
+        match self {
+            Target::Bare(_) => false,
+            Target::Monitored(machine) => machine.scramble(slot),
         }
     }
 

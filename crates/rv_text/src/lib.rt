@@ -25,5 +25,5 @@ pub use hexadecimal::hex;
 pub use lines::split_line;
 pub use number::digits;
 pub use position::position_of;
-pub use reply::{Reply, push_decimal, push_hex, push_text};
+pub use reply::{Reply, push_count, push_decimal, push_hex, push_text};
 pub use words::{MOST_WORDS, first_words};

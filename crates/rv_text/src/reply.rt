@@ -41,3 +41,13 @@ pub fn push_decimal(out: &mut Reply, value: u32)
     let mut buffer = Buffer::new();
     push_text(out, buffer.format(value));
 }
+
+/// Writes a count in decimal, which has at most 20 digits.
+pub fn push_count(out: &mut Reply, value: u64)
+    requires room { array_vec_len out.old + 20 ≤ 2048 }
+    ensures items { out.new.items ≡ out.old.items ++ decimal value }
+    ensures len { array_vec_len out.new ≤ array_vec_len out.old + 20 }
+{
+    let mut digits = Buffer::new();
+    push_text(out, digits.format(value));
+}

@@ -1,0 +1,135 @@
+-- What is told of a script's lines by two benches that are apart.
+use Rattle.std.proofs.Common.{◌≡◌, ℕ, ◌+◌, ◌<◌, ◌==◌, Bool, true, false, cond, List, [], ◌∷◌, ◌++◌, length, take, drop, get_or, refl, sym, ◌∙◌, ap, ap₂, subst, inl, inr, append_assoc, append-nil}
+use Rattle.std.proofs.lemmas.Bool.{false≢true}
+use Rattle.std.proofs.lemmas.List.{drop_more}
+use Rattle.rv_text.specs.Characters.{line_feed}
+use Rattle.rv_text.specs.Lines.{lines_of}
+use Rattle.rv_debug.specs.Command.{parse_of}
+use Rattle.rv_debug.specs.declared.command.Command.{Command}
+use Rattle.rv_debug.specs.declared.command.CommandFault.{CommandFault}
+use Rattle.rv_debug.proofs.Commands.{parse_of-cut}
+use Rattle.rv_bench.specs.declared.apart.Apart.{Apart}
+use Rattle.rv_bench.specs.Apart.{apart_line, end_text, last_text, marked, script_text, told}
+use Rattle.rv_bench.specs.declared.device.Source.{Ghosts}
+use Rattle.rv_bench.specs.declared.lines.Lines.{Lines}
+use Rattle.rv_bench.specs.declared.separator.ScriptEnd.TheVariants.{Input}
+use Rattle.rv_bench.specs.LineText.{ReadsLines}
+use Rattle.rv_bench.specs.Script.{FindsEnd, IsAtEnd}
+use Rattle.rv_bench.specs.Replies.{Replied, replies, state_after}
+use Rattle.rv_bench.specs.Transfer.{WritesFront}
+use Rattle.rv_bench.specs.Twin.{EntersSlot}
+use Rattle.rv_bench.proofs.RepliesLemmas.{replies-append, state_after-append}
+
+-- one more byte of a text is written after its mark, if it begins a line
+pub marked_step : (mark : List ℕ) (begins : Bool) (text : List ℕ) (k : ℕ) (was joined now : List ℕ) → k < length text
+    → joined ≡ was ++ cond begins mark [] → now ≡ joined ++ get_or text k 0 ∷ []
+    → now ++ marked mark (get_or text k 0 == line_feed) (drop (k + 1) text) ≡ was ++ marked mark begins (drop k text)
+marked_step mark begins text k was joined now inside marks pushed =
+    let byte = get_or text k 0 in
+    let more = marked mark (byte == line_feed) (drop (k + 1) text) in
+    ap (λ t. t ++ more) pushed
+    ∙ (append_assoc joined (byte ∷ []) more
+    ∙ (ap (λ t. t ++ byte ∷ more) marks
+    ∙ (append_assoc was (cond begins mark []) (byte ∷ more)
+    ∙ ap (λ t. was ++ marked mark begins t) (sym (drop_more text k 0 inside)))))
+
+-- ---- a line
+
+-- lines that begin with the same 121 bytes are told the same
+apart_line-cut : (slot : ℕ) (apart : Apart) (line : List ℕ) → apart_line slot apart (take 121 line) ≡ apart_line slot apart line
+unfolding apart_line
+apart_line-cut slot apart line = ap (λ parsed. cond apart.entered (record { state = apart; reply = [] }) (told slot apart parsed)) (parse_of-cut line)
+
+pub apart_line-front : (slot : ℕ) (apart : Apart) (other line : List ℕ) → take 121 other ≡ take 121 line → apart_line slot apart other ≡ apart_line slot apart line
+apart_line-front slot apart other line same =
+    sym (apart_line-cut slot apart other) ∙ (ap (apart_line slot apart) same ∙ apart_line-cut slot apart line)
+
+-- once the slot was entered nothing is told
+silent : (slot : ℕ) (apart : Apart) (line : List ℕ) → apart.entered ≡ true → apart_line slot apart line ≡ record { state = apart; reply = [] }
+unfolding apart_line
+silent slot apart line over = rw over refl
+
+silent_replies : (slot : ℕ) (apart : Apart) (lines : List (List ℕ)) → apart.entered ≡ true → replies (apart_line slot) apart lines ≡ []
+silent_replies slot apart [] over = refl
+silent_replies slot apart (line ∷ lines) over = rw (silent slot apart line over) (silent_replies slot apart lines over)
+
+silent_state : (slot : ℕ) (apart : Apart) (lines : List (List ℕ)) → apart.entered ≡ true → state_after (apart_line slot) apart lines ≡ apart
+silent_state slot apart [] over = refl
+silent_state slot apart (line ∷ lines) over = rw (silent slot apart line over) (silent_state slot apart lines over)
+
+-- ---- a script
+
+-- the text of a script of which a line entered the slot
+pub entered_script : (slot : ℕ) (start now : Apart) (lines others : List (List ℕ)) (unread : List ℕ) → now ≡ state_after (apart_line slot) start lines
+    → now.entered ≡ true → lines_of unread ≡ lines ++ others → script_text slot start (lines_of unread) ≡ replies (apart_line slot) start lines
+entered_script slot start now lines others unread is over all =
+    let mid = state_after (apart_line slot) start lines in
+    let over' : mid.entered ≡ true = ap (λ (apart : Apart). apart.entered) (sym is) ∙ over in
+    let texts : replies (apart_line slot) start (lines ++ others) ≡ replies (apart_line slot) start lines =
+    replies-append (apart_line slot) start lines others ∙ (ap (λ t. replies (apart_line slot) start lines ++ t) (silent_replies slot mid others over') ∙ append-nil (replies (apart_line slot) start lines)) in
+    let last : last_text (state_after (apart_line slot) start (lines ++ others)) ≡ [] =
+    ap last_text (state_after-append (apart_line slot) start lines others ∙ silent_state slot mid others over') ∙ ap (λ b. cond b [] (end_text mid.ran)) over' in
+    ap (script_text slot start) all
+    ∙ (ap (λ t. t ++ last_text (state_after (apart_line slot) start (lines ++ others))) texts
+    ∙ (ap (λ t. replies (apart_line slot) start lines ++ t) last ∙ append-nil (replies (apart_line slot) start lines)))
+
+-- the text of one to its end
+pub ended_script : (slot : ℕ) (start now : Apart) (lines : List (List ℕ)) (unread : List ℕ) → now ≡ state_after (apart_line slot) start lines
+    → now.entered ≡ false → lines_of unread ≡ lines → script_text slot start (lines_of unread) ≡ replies (apart_line slot) start lines ++ end_text now.ran
+ended_script slot start now lines unread is going all =
+    ap (script_text slot start) all
+    ∙ ap (λ t. replies (apart_line slot) start lines ++ t)
+    (ap last_text (sym is) ∙ ap (λ b. cond b [] (end_text now.ran)) going)
+
+-- lines that were read, with the last of which the slot was entered
+pub entered_at : (slot : ℕ) (start now : Apart) (unread left : List ℕ) (is_at_end : Bool) (lines : List (List ℕ)) → (reads : ReadsLines unread left is_at_end lines)
+    → now ≡ state_after (apart_line slot) start lines → now.entered ≡ true → EntersSlot slot start unread left
+entered_at slot start now unread left is_at_end lines reads is over = record {
+  text = reads.text;
+  split = reads.split;
+  entered = ap (λ (lines : List (List ℕ)). (state_after (apart_line slot) start lines).entered) reads.are_lines ∙ (ap (λ (apart : Apart). apart.entered) (sym is) ∙ over);
+}
+
+-- what is written then is the whole text
+pub entered_all : (slot : ℕ) (start now : Apart) (unread left : List ℕ) (is_at_end : Bool) (lines : List (List ℕ)) (old new : List ℕ)
+    → ReadsLines unread left is_at_end lines → now ≡ state_after (apart_line slot) start lines → now.entered ≡ true
+    → new ≡ old ++ replies (apart_line slot) start lines → new ≡ old ++ script_text slot start (lines_of unread)
+entered_all slot start now unread left is_at_end lines old new reads is over wrote =
+    wrote ∙ ap (λ t. old ++ t) (sym (entered_script slot start now lines (lines_of left) unread is over reads.all))
+
+-- ---- what is written
+
+-- a front of a text is one of a longer text
+pub front_more : (old new text more : List ℕ) → WritesFront old new text → WritesFront old new (text ++ more)
+front_more old new text more (rest, (front, wrote, split)) =
+    (rest ++ more, (front, wrote, ap (λ t. t ++ more) split ∙ append_assoc front rest more))
+
+-- a front of what follows a text that is written
+pub front_after : (old mid new text more : List ℕ) → mid ≡ old ++ text → WritesFront mid new more → WritesFront old new (text ++ more)
+front_after old mid new text more is (rest, (front, wrote, split)) =
+    (rest, (text ++ front, wrote ∙ (ap (λ t. t ++ front) is ∙ append_assoc old text front), ap (λ t. text ++ t) split ∙ sym (append_assoc text front rest)))
+
+-- all of a text
+pub front_all : (old new text : List ℕ) → new ≡ old ++ text → WritesFront old new text
+front_all old new text is = ([], (text, is, sym (append-nil text)))
+
+-- the end of the input is told, once all lines of the script are
+pub ended_all : (slot : ℕ) (start now : Apart) (lines : List (List ℕ)) (unread old mid last : List ℕ) → now ≡ state_after (apart_line slot) start lines
+    → now.entered ≡ false → lines_of unread ≡ lines → mid ≡ old ++ replies (apart_line slot) start lines → last ≡ end_text now.ran
+    → mid ++ last ≡ old ++ script_text slot start (lines_of unread)
+ended_all slot start now lines unread old mid last is going all wrote tells =
+    ap₂ (λ (m l : List ℕ). m ++ l) wrote tells
+    ∙ (append_assoc old (replies (apart_line slot) start lines) (end_text now.ran)
+    ∙ ap (λ t. old ++ t) (sym (ended_script slot start now lines unread is going all)))
+
+pub ended_front : (slot : ℕ) (start now : Apart) (lines : List (List ℕ)) (unread old mid new last : List ℕ) → now ≡ state_after (apart_line slot) start lines
+    → now.entered ≡ false → lines_of unread ≡ lines → mid ≡ old ++ replies (apart_line slot) start lines → last ≡ end_text now.ran
+    → WritesFront mid new last → WritesFront old new (script_text slot start (lines_of unread))
+ended_front slot start now lines unread old mid new last is going all wrote tells stops =
+    subst (WritesFront old new) (sym (ended_script slot start now lines unread is going all))
+    (front_after old mid new (replies (apart_line slot) start lines) (end_text now.ran) wrote (subst (WritesFront mid new) tells stops))
+
+-- a script of the input ends where the source has answered its end
+pub at_input_end : {S : Type 0} {g : Ghosts S} {mid new : Lines S g} → FindsEnd Input mid new → IsAtEnd mid new
+at_input_end (inl at_end) = at_end
+at_input_end (inr reads) = absurd (false≢true reads.ends)

@@ -1,0 +1,178 @@
+-- A twin run over an input, by its image and by its two scripts.
+use Rattle.std.proofs.Common.{◌≡◌, ℕ, Bool, cond, true, false, List, ◌++◌, inl, inr, IsTrue, Option, Some, None, Result, Ok, Err, refl, sym, ◌∙◌, ap, subst, arith, append_assoc}
+use Rattle.std.specs.Option.{IsSomeAnd}
+use Rattle.std.specs.Result.{IsOkAnd}
+use Rattle.rv_text.specs.Lines.{lines_of}
+use Rattle.rv_debug.specs.BenchState.{BenchState}
+use Rattle.rv_debug.specs.TwoBenches.{can_scramble, scrambled}
+use Rattle.rv_word.specs.Cases.{result_case}
+use Rattle.rv_memory.specs.Memory.{is_ram_size}
+use Rattle.rv_memory.specs.declared.ram_fault.RamFault.TheVariants.{BadSize, NoMemory as NoRamMemory}
+use Rattle.rv_command_line.specs.declared.setup.Setup.{Setup}
+use Rattle.rv_bench.specs.declared.apart.Apart.{Apart}
+use Rattle.rv_bench.specs.declared.device.Sink.{Ghosts as SinkGhosts}
+use Rattle.rv_bench.specs.declared.device.Source.{Ghosts as SourceGhosts}
+use Rattle.rv_bench.specs.declared.fault.BenchFault.{BenchFault}
+use Rattle.rv_bench.specs.declared.fault.BenchFault.TheVariants.{Image, Ram, Read, Write}
+use Rattle.rv_bench.specs.declared.lines.Lines.{Lines}
+use Rattle.rv_bench.specs.declared.separator.ScriptEnd.TheVariants.{Input, Separator}
+use Rattle.rv_bench.specs.Apart.{apart_line, set_apart}
+use Rattle.rv_bench.specs.Calls.{SinkFailed, SourceFailed}
+use Rattle.rv_bench.specs.Image.{image_in}
+use Rattle.rv_bench.specs.Loaded.{Starts, started}
+use Rattle.rv_bench.specs.Output.{bench_in}
+use Rattle.rv_bench.specs.Replies.{bench_line, replies}
+use Rattle.rv_bench.specs.Run.{Outcome, RunsLines, StopsAtRead}
+use Rattle.rv_bench.specs.Script.{ReadsThroughSeparator}
+use Rattle.rv_bench.specs.Separator.{after_separator}
+use Rattle.rv_bench.specs.Transfer.{WritesFront}
+use Rattle.rv_bench.specs.Twin.{IsOver, RunsSecond, RunsTwin, StopsInScripts, after_first, first_text, monitored, scripts_text, second_text, twin_output}
+use Rattle.rv_bench.specs.Unread.{held, unread, TellsEnd}
+use Rattle.rv_bench.proofs.ApartLemmas.{front_after, front_more}
+use Rattle.rv_bench.proofs.Starts.{no_ram, has_ram, fault_has_ram}
+
+-- no enclave can be scrambled
+pub not_apart : (slot : ℕ) (bench : BenchState) → can_scramble slot bench ≡ false → set_apart slot bench ≡ None
+not_apart slot bench none = ap (λ (can : Bool). cond can (Some (record { first = bench; second = scrambled slot bench; ran = 0; entered = false })) None) none
+
+module _ {S W : Type 0} {g : SourceGhosts S} (h : SinkGhosts W) (setup : Setup) (slot : ℕ) (image : List ℕ) (old mid : Lines S g) (before : W)
+    (reads : ReadsThroughSeparator old mid) (is : IsTrue g.tells → image_in (unread old) ≡ Ok image) where
+  -- the bench of the input is that of the image
+  bench_is : (r : Result BenchState BenchFault) → started image (monitored setup) ≡ r → IsTrue g.tells → bench_in (monitored setup) (unread old) ≡ r
+  bench_is r starts tells = rw (is tells) starts
+
+  fault_is : (fault : BenchFault) → started image (monitored setup) ≡ Err fault → IsTrue g.tells → twin_output setup slot (unread old) ≡ Err fault
+  fault_is fault starts tells =
+      ap (λ (m : Result BenchState BenchFault). result_case m (λ bench. Ok (scripts_text slot bench (after_separator (unread old)))) Err) (bench_is (Err fault) starts tells)
+
+  output_is : (bench : BenchState) → started image (monitored setup) ≡ Ok bench → IsTrue g.tells → twin_output setup slot (unread old) ≡ Ok (scripts_text slot bench (unread mid))
+  output_is bench starts tells =
+      ap (λ (m : Result BenchState BenchFault). result_case m (λ bench. Ok (scripts_text slot bench (after_separator (unread old)))) Err) (bench_is (Ok bench) starts tells)
+      ∙ ap (λ (t : List ℕ). Ok (scripts_text slot bench t)) (sym (reads.rest tells))
+
+  -- the benches do not start
+  pub not_started : (fault : BenchFault) → Starts image (monitored setup) (Err fault) → RunsTwin h setup slot old mid before before (Err fault)
+  not_started (Ram BadSize) none = (none, reads, fault_is (Ram BadSize) (no_ram image (monitored setup) none), refl)
+  not_started (Ram NoRamMemory) some = (some, reads, λ tells. rw (is tells) refl, refl)
+  not_started (Image fault) faulty = (fault_has_ram image (monitored setup) fault faulty, reads, fault_is (Image fault) faulty, refl)
+  not_started _ never = absurd never
+
+  module _ (bench : BenchState) (starts : started image (monitored setup) ≡ Ok bench) where
+    has_size : is_ram_size setup.ram ≡ true
+    has_size = has_ram image (monitored setup) bench starts
+
+    module _ (new : Lines S g) (after : W) where
+      -- the source failed in the first script
+      first_read : RunsLines h Separator bench mid new before after (Err Read) → RunsTwin h setup slot old new before after (Err Read)
+      first_read run =
+          let same = reads.source in
+          let risen = run.0.source in
+          let failed : SourceFailed g old.source new.source = omega (arith, risen, same) in (
+            record { source = failed; sink = run.0.sink; going = run.0.going },
+            λ tells. inr (
+                subst (λ (m : Result BenchState BenchFault). IsOkAnd m (StopsInScripts h setup slot old new before after (after_separator (unread old)))) (sym (bench_is (Ok bench) starts tells))
+                (inl (subst (λ (t : List ℕ). StopsAtRead bench_line Separator bench h.tells t (g.remaining new.source) (held new) (h.taken before) (h.taken after)) (reads.rest tells) (run.1 tells)))
+                ),
+          )
+
+      -- the sink failed in it
+      first_write : RunsLines h Separator bench mid new before after (Err Write) → RunsTwin h setup slot old new before after (Err Write)
+      first_write run = (
+        has_size,
+        record {
+          source = run.0.source ∙ reads.source;
+          sink = run.0.sink;
+          emptied = run.0.emptied;
+          front = λ tells. subst (λ o. IsOkAnd o (λ text. IsTrue h.tells → WritesFront (h.taken before) (h.taken after) text)) (sym (output_is bench starts tells))
+              (λ told. front_more (h.taken before) (h.taken after) (first_text bench (unread mid)) _ (run.0.front tells told));
+        },
+      )
+
+      pub first_fails : (fault : BenchFault) → RunsLines h Separator bench mid new before after (Err fault) → RunsTwin h setup slot old new before after (Err fault)
+      first_fails Read run = first_read run
+      first_fails Write run = first_write run
+      first_fails _ run = absurd run
+
+    -- the first script was run, and the benches are set apart
+    module _ (next : Lines S g) (between : W) (first : RunsLines h Separator bench mid next before between (Ok tt)) (then : BenchState)
+        (state : IsTrue g.tells → then ≡ after_first bench (unread mid)) (new : Lines S g) (after : W) (end : TellsEnd old new) where
+      abbrev apart_at : List ℕ → Option Apart
+      apart_at scripts = set_apart slot (after_first bench scripts)
+
+      apart_is : IsTrue g.tells → set_apart slot then ≡ apart_at (unread mid)
+      apart_is tells = ap (set_apart slot) (state tells)
+
+      text_is : (text : List ℕ) → (tells : IsTrue g.tells) → second_text slot (set_apart slot then) (unread next) ≡ text
+          → first_text bench (unread mid) ++ text ≡ scripts_text slot bench (unread mid)
+      text_is text tells same =
+          ap (λ (t : List ℕ). first_text bench (unread mid) ++ t)
+          (sym same ∙ (ap (λ (apart : Option Apart). second_text slot apart (unread next)) (apart_is tells)
+          ∙ ap (second_text slot (apart_at (unread mid))) (first.reads.rest tells)))
+
+      pub second_part : (outcome : Outcome) → RunsSecond h slot (set_apart slot then) next new between after outcome → RunsTwin h setup slot old new before after outcome
+      second_part (Ok done) run = (
+        has_size,
+        record {
+          source = run.source ∙ (first.reads.source ∙ reads.source);
+          sink = (run.sink.0 ∙ first.sink.0, run.sink.1 ∙ first.sink.1);
+          emptied = run.emptied;
+          read = elim run.read [
+            | inl ended ↦ inl (ended.0, end.ended ended.0, ended.2)
+            | inr over ↦ inr (λ tells.
+                subst (λ (m : Result BenchState BenchFault). IsOkAnd m (λ bench. IsOver slot (set_apart slot (after_first bench (after_separator (unread old)))) (after_separator (after_separator (unread old))) (unread new))) (sym (bench_is (Ok bench) starts tells))
+                (subst (λ (t : List ℕ). IsOver slot (apart_at t) (after_separator t) (unread new)) (reads.rest tells)
+                (subst (λ (t : List ℕ). IsOver slot (apart_at (unread mid)) t (unread new)) (first.reads.rest tells)
+                (subst (λ (apart : Option Apart). IsOver slot apart (unread next) (unread new)) (apart_is tells) (over tells)))))
+          ];
+          written = λ tells. subst (λ o. IsOkAnd o (λ text. IsTrue h.tells → h.taken after ≡ h.taken before ++ text)) (sym (output_is bench starts tells))
+              (λ told. run.written tells told
+              ∙ (ap (λ (t : List ℕ). t ++ second_text slot (set_apart slot then) (unread next)) (first.written tells told)
+              ∙ (append_assoc (h.taken before) (first_text bench (unread mid)) (second_text slot (set_apart slot then) (unread next))
+              ∙ ap (λ (t : List ℕ). h.taken before ++ t) (text_is _ tells refl))));
+        },
+      )
+      second_part (Err Read) run =
+          let same = first.reads.source ∙ reads.source in
+          let risen = run.0.source in
+          let failed : SourceFailed g old.source new.source = omega (arith, risen, same) in (
+            record { source = failed; sink = (run.0.sink.0 ∙ first.sink.0, run.0.sink.1 ∙ first.sink.1); going = run.0.going },
+            λ tells. inr (
+                subst (λ (m : Result BenchState BenchFault). IsOkAnd m (StopsInScripts h setup slot old new before after (after_separator (unread old)))) (sym (bench_is (Ok bench) starts tells))
+                (subst (StopsIn tells) (reads.rest tells) (inr (stopped tells (apart_at (unread mid)) (apart_is tells) (run.1 tells))))
+                ),
+          ) where
+            StopsIn : IsTrue g.tells → List ℕ → Type 0
+            StopsIn tells scripts = StopsInScripts h setup slot old new before after scripts bench
+
+            stopped : (tells : IsTrue g.tells) (apart : Option Apart) → set_apart slot then ≡ apart
+                → IsSomeAnd (set_apart slot then) (λ apart. StopsAtRead (apart_line slot) Input apart h.tells (unread next) (g.remaining new.source) (held new) (h.taken between) (h.taken after))
+                → IsSomeAnd apart (λ apart. StopsAtRead (apart_line slot) Input apart h.tells (after_separator (unread mid)) (g.remaining new.source) (held new) (h.taken before ++ first_text bench (unread mid)) (h.taken after))
+            stopped tells apart is stop = go apart (subst (λ (a : Option Apart). IsSomeAnd a (λ apart. StopsAtRead (apart_line slot) Input apart h.tells (unread next) (g.remaining new.source) (held new) (h.taken between) (h.taken after))) is stop) where
+              go : (apart : Option Apart) → IsSomeAnd apart (λ apart. StopsAtRead (apart_line slot) Input apart h.tells (unread next) (g.remaining new.source) (held new) (h.taken between) (h.taken after))
+                  → IsSomeAnd apart (λ apart. StopsAtRead (apart_line slot) Input apart h.tells (after_separator (unread mid)) (g.remaining new.source) (held new) (h.taken before ++ first_text bench (unread mid)) (h.taken after))
+              go None stop = stop
+              go (Some apart) stop = record {
+                text = stop.text;
+                begun = stop.begun;
+                split = sym (first.reads.rest tells) ∙ stop.split;
+                whole = stop.whole;
+                unfinished = stop.unfinished;
+                front = stop.front;
+                inside = stop.inside;
+                written = λ told. stop.written told ∙ ap (λ (t : List ℕ). t ++ replies (apart_line slot) apart (lines_of stop.text)) (first.written tells told);
+              }
+      second_part (Err Write) run = (
+        has_size,
+        record {
+          source = run.source ∙ (first.reads.source ∙ reads.source);
+          sink = sink_failed run.sink;
+          emptied = run.emptied;
+          front = λ tells. subst (λ o. IsOkAnd o (λ text. IsTrue h.tells → WritesFront (h.taken before) (h.taken after) text)) (sym (output_is bench starts tells))
+              (λ told. subst (WritesFront (h.taken before) (h.taken after)) (text_is _ tells refl)
+              (front_after (h.taken before) (h.taken between) (h.taken after) (first_text bench (unread mid)) _ (first.written tells told) (run.front tells told)));
+        },
+      ) where
+        sink_failed : SinkFailed h between after → SinkFailed h before after
+        sink_failed (inl risen) = let same = first.sink.0 in inl (omega (arith, risen, same))
+        sink_failed (inr risen) = let same = first.sink.1 in inr (omega (arith, risen, same))
+      second_part (Err _) run = absurd run

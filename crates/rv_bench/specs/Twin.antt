@@ -1,0 +1,127 @@
+-- What a twin run over an input does, result by result: an image, a first script for two equal benches, and a second one for both once the
+-- enclave of a slot is scrambled in the second bench. (This project's own streams.)
+use Rattle.std.specs.Prelude.{◌≡◌, ◌⊎◌, ℕ, true, false, List, [], ◌++◌, IsTrue, IsOk, IsOkAnd, IsSomeAnd, Option, Some, None, Result, Ok, Err}
+use Rattle.rv_word.specs.Cases.{option_case, result_case}
+use Rattle.rv_memory.specs.Memory.{is_ram_size}
+use Rattle.rv_memory.specs.declared.ram_fault.RamFault.TheVariants.{BadSize, NoMemory as NoRamMemory}
+use Rattle.rv_command_line.specs.declared.setup.Setup.{Setup}
+use Rattle.rv_debug.specs.BenchState.{BenchState}
+use Rattle.rv_text.specs.Lines.{lines_of}
+use Rattle.rv_bench.specs.declared.apart.Apart.{Apart}
+use Rattle.rv_bench.specs.declared.device.Sink.{Ghosts as SinkGhosts}
+use Rattle.rv_bench.specs.declared.device.Source.{Ghosts as SourceGhosts}
+use Rattle.rv_bench.specs.declared.fault.BenchFault.{BenchFault}
+use Rattle.rv_bench.specs.declared.fault.BenchFault.TheVariants.{Image, Ram, Read, Write, Hex, TooLong, NoMemory}
+use Rattle.rv_bench.specs.declared.lines.Lines.{Lines}
+use Rattle.rv_bench.specs.declared.separator.ScriptEnd.TheVariants.{Input, Separator}
+use Rattle.rv_bench.specs.Apart.{apart_line, no_slot_text, script_text, set_apart}
+use Rattle.rv_bench.specs.Calls.{SourceWorked, SinkWorked}
+use Rattle.rv_bench.specs.Image.{image_in, ReadsInImage}
+use Rattle.rv_bench.specs.Output.{bench_in}
+use Rattle.rv_bench.specs.ReadImage.{FindsFault, LacksMemory}
+use Rattle.rv_bench.specs.Replies.{bench_line, replies, state_after}
+use Rattle.rv_bench.specs.Run.{Outcome, FailsToRead, FailsToWrite, StopsAtRead}
+use Rattle.rv_bench.specs.Script.{ReadsThroughSeparator}
+use Rattle.rv_bench.specs.Separator.{before_separator, after_separator}
+use Rattle.rv_bench.specs.Unread.{held, unread, HasEnded}
+
+-- the setup of a twin run is monitored, whatever it says
+abbrev pub monitored : Setup → Setup
+monitored setup = record setup { monitored = true }
+
+-- ---- the text
+
+-- both benches after the first script, which is before the first separator
+abbrev pub after_first : BenchState → List ℕ → BenchState
+after_first bench input = state_after bench_line bench (before_separator (lines_of input))
+
+abbrev pub first_text : BenchState → List ℕ → List ℕ
+first_text bench input = replies bench_line bench (before_separator (lines_of input))
+
+-- what is told once the benches are set apart, of the second script, which is all that follows
+abbrev pub second_text : ℕ → Option Apart → List ℕ → List ℕ
+second_text slot None input = no_slot_text
+second_text slot (Some apart) input = script_text slot apart (lines_of input)
+
+-- the text over both scripts
+abbrev pub scripts_text : ℕ → BenchState → List ℕ → List ℕ
+scripts_text slot bench input = first_text bench input ++ second_text slot (set_apart slot (after_first bench input)) (after_separator input)
+
+-- the text for a whole input, or the fault of its image
+abbrev pub twin_output : Setup → ℕ → List ℕ → Result (List ℕ) BenchFault
+twin_output setup slot input =
+    result_case (bench_in (monitored setup) input) (λ bench. Ok (scripts_text slot bench (after_separator input))) Err
+
+-- ---- what was read
+
+-- a text of whole lines was read, with the last of which the slot was entered
+pub record EntersSlot (slot : ℕ) (apart : Apart) (unread left : List ℕ) : Type 0 where
+  pub text : List ℕ
+  pub split : unread ≡ text ++ left
+  pub entered : (state_after (apart_line slot) apart (lines_of text)).entered ≡ true
+
+-- the run was over before the end: no slot was scrambled, or the slot was entered
+abbrev pub IsOver : ℕ → Option Apart → List ℕ → List ℕ → Type 0
+IsOver slot None unread left = left ≡ unread
+IsOver slot (Some apart) unread left = EntersSlot slot apart unread left
+
+module _ {S W : Type 0} {g : SourceGhosts S} (h : SinkGhosts W) where
+  -- The text was written, and all was read to the end that the source answered, or as far as the run went.
+  pub record Tells (output : Result (List ℕ) BenchFault) (Over : Type 0) (old new : Lines S g) (before after : W) : Type 0 where
+    pub source : SourceWorked g old.source new.source
+    pub sink : SinkWorked h before after
+    pub emptied : held new ≡ []
+    pub read : ((new.is_at_end ≡ true) × HasEnded old new × (IsTrue g.tells → unread new ≡ [])) ⊎ (IsTrue g.tells → Over)
+    pub written : IsTrue g.tells → IsOkAnd output (λ text. IsTrue h.tells → h.taken after ≡ h.taken before ++ text)
+
+  -- What each result of the second part means, by the benches once they are set apart.
+  abbrev pub RunsSecond : ℕ → Option Apart → Lines S g → Lines S g → W → W → Outcome → Type 0
+  RunsSecond slot apart old new before after (Ok _) =
+      Tells (Ok (second_text slot apart (unread old))) (IsOver slot apart (unread old) (unread new)) old new before after
+  RunsSecond slot apart old new before after (Err Read) =
+      FailsToRead h old new before after
+      × (IsTrue g.tells → IsSomeAnd apart (λ apart.
+      StopsAtRead (apart_line slot) Input apart h.tells (unread old) (g.remaining new.source) (held new) (h.taken before) (h.taken after)))
+  RunsSecond slot apart old new before after (Err Write) =
+      FailsToWrite h (Ok (second_text slot apart (unread old))) old new before after
+  RunsSecond slot apart old new before after (Err _) = ⊥
+
+module _ {S W : Type 0} {g : SourceGhosts S} (h : SinkGhosts W) (setup : Setup) (slot : ℕ) (old new : Lines S g) (before after : W) where
+  -- the input has this fault in place of a text
+  abbrev pub HasFault : BenchFault → Type 0
+  HasFault fault = IsTrue g.tells → twin_output setup slot (unread old) ≡ Err fault
+
+  -- the source failed in the first script, or in the second
+  abbrev pub StopsInScripts : List ℕ → BenchState → Type 0
+  StopsInScripts scripts bench =
+      StopsAtRead bench_line Separator bench h.tells scripts (g.remaining new.source) (held new) (h.taken before) (h.taken after)
+      ⊎ IsSomeAnd (set_apart slot (after_first bench scripts)) (λ apart.
+      StopsAtRead (apart_line slot) Input apart h.tells (after_separator scripts) (g.remaining new.source) (held new)
+      (h.taken before ++ first_text bench scripts) (h.taken after))
+
+  -- The source failed: in the image, when nothing is written, or else in a script.
+  abbrev pub StopsTwinAtRead : Type 0
+  StopsTwinAtRead =
+      (ReadsInImage (unread old) (g.remaining new.source) (held new) × (after ≡ before))
+      ⊎ IsOkAnd (bench_in (monitored setup) (unread old)) (StopsInScripts (after_separator (unread old)))
+
+  -- the run was over before the end of the input
+  abbrev pub IsTwinOver : Type 0
+  IsTwinOver =
+      IsOkAnd (bench_in (monitored setup) (unread old)) (λ bench.
+      let scripts = after_separator (unread old) in
+      IsOver slot (set_apart slot (after_first bench scripts)) (after_separator scripts) (unread new))
+
+  -- What each result of `run_twin` means. The image's text, the RAM's size and the image are asked in this order, before a byte is written.
+  abbrev pub RunsTwin : Outcome → Type 0
+  RunsTwin (Ok _) = (is_ram_size setup.ram ≡ true) × Tells h (twin_output setup slot (unread old)) IsTwinOver old new before after
+  RunsTwin (Err Read) = FailsToRead h old new before after × (IsTrue g.tells → StopsTwinAtRead)
+  RunsTwin (Err Write) = (is_ram_size setup.ram ≡ true) × FailsToWrite h (twin_output setup slot (unread old)) old new before after
+  RunsTwin (Err Hex) = FindsFault Hex old new × HasFault Hex × (after ≡ before)
+  RunsTwin (Err TooLong) = FindsFault TooLong old new × HasFault TooLong × (after ≡ before)
+  RunsTwin (Err NoMemory) = LacksMemory old new × (after ≡ before)
+  RunsTwin (Err (Ram BadSize)) = (is_ram_size setup.ram ≡ false) × ReadsThroughSeparator old new × HasFault (Ram BadSize) × (after ≡ before)
+  RunsTwin (Err (Ram NoRamMemory)) =
+      (is_ram_size setup.ram ≡ true) × ReadsThroughSeparator old new × (IsTrue g.tells → IsOk (image_in (unread old))) × (after ≡ before)
+  RunsTwin (Err (Image fault)) = (is_ram_size setup.ram ≡ true) × ReadsThroughSeparator old new × HasFault (Image fault) × (after ≡ before)
+  RunsTwin (Err _) = ⊥

@@ -1,0 +1,129 @@
+//! Two benches that differ in what is private to the enclave of a slot.
+
+ghost use Rattle.std.specs.Prelude.{◌≡◌, ◌+◌, ◌*◌, ◌≤◌, ◌++◌, ℕ, List, false, [], true, take, length, Ok};
+ghost use Rattle.arrayvec.specs.ArrayVec.{array_vec_len};
+ghost use Rattle.rv_bench.specs.Apart.{apart_line, end_text, entered_text, marked, told};
+
+use arrayvec::ArrayVec;
+use rv_debug::{Bench, BothWhy, Command, both_command, parse, push_fault};
+use rv_text::{Reply, push_count, push_text};
+
+/// The most bytes that are told of one line: each byte of two replies may begin a line, which has a mark of three bytes.
+const TOLD_MAX: usize = 16384;
+
+/// What is told of one line.
+pub(crate) type Told = ArrayVec<u8, TOLD_MAX>;
+
+/// Two benches, how many commands both have run, and whether the slot was entered, after which no more are run.
+#[derive(Drop, Debug)]
+pub(crate) struct Apart {
+    pub(crate) first: Bench,
+    pub(crate) second: Bench,
+    pub(crate) ran: u64,
+    pub(crate) entered: bool,
+}
+
+/// Writes a text at the end of one that has room for it.
+fn push_all(out: &mut Told, text: &[u8])
+    requires room { array_vec_len out.old + length text.now ≤ 16384 }
+    ensures items { out.new.items ≡ out.old.items ++ text.now }
+    ensures len { array_vec_len out.new ≡ array_vec_len out.old + length text.now }
+{
+    if out.try_extend_from_slice(text).is_err() {
+        unreachable!();
+    }
+}
+
+/// Writes a text with a mark of three bytes before each of its lines.
+fn push_marked(out: &mut Told, mark: &[u8; 3], text: &[u8])
+    requires room { array_vec_len out.old + 4 * length text.now ≤ 16384 }
+    ensures items { out.new.items ≡ out.old.items ++ marked mark.now true text.now }
+    ensures len { array_vec_len out.new ≤ array_vec_len out.old + 4 * length text.now }
+{
+    let mut begins = true;
+    for byte in text {
+        if begins {
+            push_all(out, mark);
+        }
+        push_all(out, &[*byte]);
+        begins = *byte == b'\n';
+    }
+}
+
+/// Writes that the slot was entered, after so many commands.
+#[tactic(auto, unfolding(crate::specs::Apart::entered_text))]
+fn push_entered(out: &mut Told, ran: u64)
+    requires { array_vec_len out.old + 34 ≤ 16384 }
+    ensures { out.new.items ≡ out.old.items ++ entered_text ran }
+{
+    let mut text = Reply::new();
+    push_text(&mut text, "twin entered ");
+    push_count(&mut text, ran);
+    push_text(&mut text, "\n");
+    push_all(out, text.as_slice());
+}
+
+/// The text that ends a run in which the slot was not entered, after so many commands.
+#[tactic(auto, unfolding(crate::specs::Apart::end_text))]
+pub(crate) fn end_of(ran: u64) -> Reply
+    ensures { result.items ≡ end_text ran }
+{
+    let mut text = Reply::new();
+    push_text(&mut text, "twin end ");
+    push_count(&mut text, ran);
+    push_text(&mut text, "\n");
+    text
+}
+
+impl Apart {
+    /// Gives a line to both benches, and puts what is told of it in place of what the buffer holds. Every line that begins with the same
+    /// 121 bytes is told the same.
+    #[tactic(auto, unfolding(crate::specs::Apart::apart_line))]
+    pub(crate) fn answer_line(&mut self, slot: u8, line: &[u8], out: &mut Told)
+        requires { self.old.entered ≡ false }
+        ensures answer { apart_line slot self.old line.now ≡ record { state = self.new; reply = out.new.items } }
+        ensures front { (other : List ℕ) → take 121 other ≡ take 121 line.now → apart_line slot self.old other ≡ apart_line slot self.old line.now }
+    {
+        out.clear();
+        match parse(line) {
+            Ok(command) => self.answer(slot, &command, out),
+            Err(fault) => {
+                let mut reply = Reply::new();
+                push_fault(&mut reply, fault);
+                push_all(out, reply.as_slice());
+            }
+        }
+    }
+
+    /// Gives a command to both benches.
+    fn answer(&mut self, slot: u8, command: &Command, out: &mut Told)
+        requires empty { out.old.items ≡ [] }
+        requires going { self.old.entered ≡ false }
+        ensures { told slot self.old (Ok command.now) ≡ record { state = self.new; reply = out.new.items } }
+    {
+        let mut first = Reply::new();
+        let mut second = Reply::new();
+        match both_command(
+            &mut self.first,
+            &mut self.second,
+            slot,
+            command,
+            &mut first,
+            &mut second,
+        ) {
+            BothWhy::All => {
+                if *command != Command::Blank {
+                    self.ran = self.ran.saturating_add(1);
+                }
+                push_marked(out, b"a: ", first.as_slice());
+                push_marked(out, b"b: ", second.as_slice());
+            }
+            BothWhy::Entered => {
+                self.ran = self.ran.saturating_add(1);
+                self.entered = true;
+                push_entered(out, self.ran);
+            }
+            BothWhy::NotBlind => push_all(out, b"error blind\n"),
+        }
+    }
+}
