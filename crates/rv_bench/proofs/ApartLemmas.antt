@@ -4,9 +4,6 @@ use Rattle.std.proofs.lemmas.Bool.{false≢true}
 use Rattle.std.proofs.lemmas.List.{drop_more}
 use Rattle.rv_text.specs.Characters.{line_feed}
 use Rattle.rv_text.specs.Lines.{lines_of}
-use Rattle.rv_debug.specs.Command.{parse_of}
-use Rattle.rv_debug.specs.declared.command.Command.{Command}
-use Rattle.rv_debug.specs.declared.command.CommandFault.{CommandFault}
 use Rattle.rv_debug.proofs.Commands.{parse_of-cut}
 use Rattle.rv_bench.specs.declared.apart.Apart.{Apart}
 use Rattle.rv_bench.specs.Apart.{apart_line, end_text, last_text, marked, script_text, told}
@@ -15,7 +12,7 @@ use Rattle.rv_bench.specs.declared.lines.Lines.{Lines}
 use Rattle.rv_bench.specs.declared.separator.ScriptEnd.TheVariants.{Input}
 use Rattle.rv_bench.specs.LineText.{ReadsLines}
 use Rattle.rv_bench.specs.Script.{FindsEnd, IsAtEnd}
-use Rattle.rv_bench.specs.Replies.{Replied, replies, state_after}
+use Rattle.rv_bench.specs.Replies.{replies, state_after}
 use Rattle.rv_bench.specs.Transfer.{WritesFront}
 use Rattle.rv_bench.specs.Twin.{EntersSlot}
 use Rattle.rv_bench.proofs.RepliesLemmas.{replies-append, state_after-append}

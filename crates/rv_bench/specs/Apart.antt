@@ -1,7 +1,6 @@
 -- What two benches reply that differ in what is private to the enclave of a slot, line by line. (This project's own commands.)
 use Rattle.std.specs.Prelude.{ℕ, ◌==◌, Bool, true, false, List, [], ◌∷◌, ◌++◌, codes, decimal, Option, None, Some, Result, Ok, Err, if◌then◌else◌}
 use Rattle.rv_text.specs.Characters.{line_feed}
-use Rattle.rv_word.specs.Cases.{option_case}
 use Rattle.rv_debug.specs.BenchState.{BenchState}
 use Rattle.rv_debug.specs.Command.{parse_of}
 use Rattle.rv_debug.specs.ReplyText.{fault_text}

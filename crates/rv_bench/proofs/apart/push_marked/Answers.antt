@@ -1,4 +1,4 @@
-use Rattle.std.proofs.Common.{rules, ◌≡◌, ◌++◌, ◌∙◌, [], ap, sym, cond, arith}
+use Rattle.std.proofs.Common.{rules, ◌≡◌, ◌++◌, ◌∙◌, [], cond}
 use Rattle.rv_bench.proofs.ApartLemmas.{marked_step}
 use Rattle.rv_bench.proofs.apart.push_marked.Goals as goal
 use Rattle.rv_bench.proofs.apart.push_marked.Goals.{then-begins, else-begins}

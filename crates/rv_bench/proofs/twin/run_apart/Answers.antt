@@ -1,11 +1,8 @@
-use Rattle.std.proofs.Common.{rules, ◌≡◌, ◌++◌, ◌∙◌, IsTrue, List, ℕ, refl, sym, ap, subst, inl, inr, true, Some, Ok, Err}
+use Rattle.std.proofs.Common.{rules, ◌≡◌, ◌++◌, ◌∙◌, IsTrue, refl, sym, ap, subst, inl, inr, Some, Ok, Err}
 use Rattle.std.proofs.lemmas.Result.{IfOk-at_ok, IfErr-at_err}
-use Rattle.rv_text.specs.Lines.{lines_of}
-use Rattle.rv_bench.specs.declared.apart.Apart.{Apart}
 use Rattle.rv_bench.specs.declared.fault.BenchFault.TheVariants.{Read, Write}
 use Rattle.rv_bench.specs.declared.separator.ScriptEnd.TheVariants.{Input}
-use Rattle.rv_bench.specs.Apart.{apart_line, script_text, end_text}
-use Rattle.rv_bench.specs.Replies.{replies}
+use Rattle.rv_bench.specs.Apart.{apart_line}
 use Rattle.rv_bench.specs.Transfer.{WritesFront}
 use Rattle.rv_bench.specs.Twin.{RunsSecond}
 use Rattle.rv_bench.specs.Unread.{unread}

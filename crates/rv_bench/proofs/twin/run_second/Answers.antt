@@ -1,8 +1,7 @@
-use Rattle.std.proofs.Common.{rules, ◌≡◌, ◌++◌, ◌∙◌, IsTrue, List, ℕ, refl, sym, ap, subst, inr, false, None}
+use Rattle.std.proofs.Common.{rules, ◌≡◌, ◌++◌, ◌∙◌, refl, sym, ap, subst, inr, false, None}
 use Rattle.std.proofs.lemmas.Result.{IfOk-at_ok}
 use Rattle.rv_debug.specs.TwoBenches.{can_scramble}
 use Rattle.rv_bench.specs.declared.fault.BenchFault.TheVariants.{Write}
-use Rattle.rv_bench.specs.Apart.{set_apart}
 use Rattle.rv_bench.specs.Transfer.{WritesFront}
 use Rattle.rv_bench.specs.Twin.{RunsSecond}
 use Rattle.rv_bench.proofs.Mapped.{mapped}

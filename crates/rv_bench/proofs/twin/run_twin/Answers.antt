@@ -1,8 +1,5 @@
-use Rattle.std.proofs.Common.{rules, ◌≡◌, ◌∙◌, IsTrue, refl, sym, ap, Ok, Err}
-use Rattle.rv_bench.specs.Image.{image_in}
-use Rattle.rv_bench.specs.Run.{Outcome}
+use Rattle.std.proofs.Common.{◌∙◌, sym, ap, Ok}
 use Rattle.rv_bench.specs.Twin.{RunsTwin}
-use Rattle.rv_bench.specs.Unread.{unread}
 use Rattle.rv_bench.proofs.Ends.{TellsEnd-more}
 use Rattle.rv_bench.proofs.Mapped.{passed_on}
 use Rattle.rv_bench.proofs.Twins.{first_fails, not_started, second_part}
