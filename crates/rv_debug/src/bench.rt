@@ -148,9 +148,12 @@ impl Bench {
         0
     }
 
-    /// Complements each byte of the region of a slot, and x1 to x31 of the context that is kept of its enclave: a bench that agrees with
-    /// the one before in all else. It answers false, and nothing changes, only where the slot is free or over 12, its enclave runs, or the
-    /// bench is bare.
+    /// Complements each byte of the region of a slot (b becomes 255 - b), and x1 to x31 of the context that is kept of its enclave (w
+    /// becomes FFFFFFFF - w), of one that has ended too: a bench that agrees with the one before in all else. It answers false, and nothing
+    /// changes, only where the slot is free or over 12, its enclave runs, or the bench is bare.
+    ///
+    /// `asked`, `meaning` and `same` are all of it. Of what follows, `agrees` is that the two benches differ in nothing but what is private
+    /// to the slot's enclave, and `monitor` what holds in every state.
     pub fn scramble(&mut self, slot: u8) -> bool
         ensures asked { result ≡ can_scramble slot self.old }
         ensures meaning { result ≡ true → self.new ≡ scrambled slot self.old }

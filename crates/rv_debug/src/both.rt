@@ -37,8 +37,9 @@ fn is_entered(slots: u16, slot: u8) -> bool
     slot < 16 && slots >> slot & 1 == 1
 }
 
-/// Gives one command to two benches, and puts their replies in place of what the buffers hold. One that is not blind in either, a
-/// mem, dis or poke with a byte in the region that the slot has, is done by neither, and both replies are empty.
+/// Gives one command to two benches, and puts their replies in place of what the buffers hold. One that is not blind, a mem, dis or poke
+/// with a byte of the slot's region in one of them or in both, is done by neither, and both replies are empty. A slot that is free or over
+/// 12 has no region. It answers `Entered` exactly where the command entered the slot in one of them or in both; it was then done by both.
 ///
 /// `meaning` is all of it. `alike` is confidentiality: where the benches agreed in all but the region and the context of the slot, whose
 /// enclave runs in neither, the command is blind in both or in neither, and it enters the slot in both or in neither; and if in neither,
@@ -88,8 +89,8 @@ fn give_both(
     }
 }
 
-/// Gives one list of commands to two benches, up to one that is not blind, which is not done, or to one that enters the slot, which is the
-/// last. It takes no memory.
+/// Gives one list of commands to two benches, up to one that is not blind, which is neither done nor counted, or to one that enters the
+/// slot, which is the last and counted. It takes no memory.
 ///
 /// `meaning` is all of it, and `first` and `second` say the same of each bench by itself. `alike` is confidentiality: where the benches
 /// agreed in all but the region and the context of the slot, whose enclave runs in neither, all replies are equal and the benches agree

@@ -128,8 +128,8 @@ impl Target {
         }
     }
 
-    /// Complements each byte of the region and each kept register of a slot, and answers whether its enclave is live and does not run;
-    /// else nothing changes.
+    /// Complements each byte of the region of a slot and x1 to x31 of its kept context, and answers whether its enclave is live and does not
+    /// run; else nothing changes.
     pub(crate) fn scramble(&mut self, slot: u8) -> bool
         ensures asked { result ≡ can_scramble_in slot self.old }
         ensures meaning { OnTrue result (self.new ≡ scrambled_in slot self.old) }
