@@ -1,7 +1,7 @@
 #!/usr/bin/env python3
-"""Writes the cases of tests/cases/elf_header, elf_segments, elf_entry, elf_loaded, elf_company, elf_kind and elf_mutated, and
-tests/mutated_images: each fault of an ELF file, alone and in company, the borders of each field, what is loaded where, and
-what is not looked at.
+"""Writes the cases of tests/cases/elf_header, elf_cut, elf_segments, elf_entry, elf_loaded, elf_company, elf_kind and elf_mutated,
+and tests/mutated_images: each fault of an ELF file, alone and in company, the borders of each field, a file that is cut to each
+length, what is loaded where, and what is not looked at.
 
     tests/elf.py                      writes them anew
     tests/elf.py --check              tells whether they are what this script writes
@@ -99,10 +99,17 @@ def headers():
     for name, fields in (("e_phnum_0", {}), ("e_phnum_0_with_a_wild_table", {"phoff": ONES, "phentsize": 31})):
         case("elf_header", name, with_fields(GOOD, phnum=0, **fields), 0, SHOWN + ("csr 341",))
     case("elf_header", "e_phnum_0_in_52_bytes", with_fields(GOOD[:HEADER], phnum=0), 0, SHOWN + ("csr 341",))
-    for size in (0, 1, 3, 4, 16, 44, 51):
-        case("elf_header", "cut_to_%d_bytes" % size, GOOD[:size], 1, kind="elf")
-    for size, fault in ((52, 6), (83, 6), (84, 7), (87, 7)):
-        case("elf_header", "cut_to_%d_bytes" % size, GOOD[:size], fault)
+
+
+# ---- the file cut, and words of it that are all ones
+
+def cuts():
+    for size in range(len(GOOD) + 1):
+        fault = 1 if size < 52 else 6 if size < 84 else 7 if size < 88 else 0
+        case("elf_cut", "to_%d_bytes" % size, GOOD[:size], fault, kind="elf")
+        case("elf_cut", "to_%d_bytes_as_auto" % size, GOOD[:size], 0 if size < 4 else fault, kind="auto")
+    for place, new, fault in ((28, "ffffffff", 6), (56, "ffffffff", 7), (64, "f0ffffff", 9), (72, "ffffffff", 9)):
+        case("elf_cut", "bytes_%d_to_%d_set" % (place, place + 3), with_bytes(GOOD, place, bytes.fromhex(new)), fault, kind="elf")
 
 
 # ---- segments
@@ -381,7 +388,7 @@ def main(arguments):
         print(printed_company())
         return 0
     found = mutated()
-    for part in (worked_out_by_hand, headers, segments, overlaps, entries, loaded, not_looked_at, in_company, kinds):
+    for part in (worked_out_by_hand, headers, cuts, segments, overlaps, entries, loaded, not_looked_at, in_company, kinds):
         part()
     mutated_that_load(found)
     if arguments == ["--check"]:

@@ -38,10 +38,17 @@ if "$compiler" -shared -fPIC -nostdlib -fno-builtin "${linker[@]}" -o "$shim" "$
   for part in stdin stdout; do
     part_of first_replies/image_step_register "$part" "$scratch/first_$part"
     part_of asm/loop "$part" "$scratch/asm_$part"
-    part_of dis/loop "$part" "$scratch/dis_$part"
+    part_of dis/fences_and_a_word_of_no_instruction "$part" "$scratch/dis_$part"
   done
   refused_in_turn "run" "rvbench: memory/rvbench: ram 2/" "$scratch/first_stdin" 0 "$scratch/first_stdout"
   refused_in_turn "run --ram" "rvbench: memory/rvbench: ram 2/" "$scratch/first_stdin" 0 "$scratch/first_stdout" run --ram 65536
+  # after the first reply no growth is asked for: a long script meets no other answer
+  {
+    cat "$scratch/first_stdin"
+    for i in $(seq 100); do printf 'regs\nbreak %x\nwatch %x\nfly\nstep 1000\n' "$i" "$i"; done
+  } > "$scratch/long"
+  "$program" < "$scratch/long" > "$scratch/wanted"
+  refused_in_turn "run of a long script" "rvbench: memory/rvbench: ram 2/" "$scratch/long" 0 "$scratch/wanted"
   at_rest=$here/../examples/monitor_at_rest
   refused_in_turn "run --monitor" "rvbench: memory/rvbench: ram 2/" "$at_rest/stdin" 0 "$at_rest/stdout" run --monitor
   for part in stdin stdout; do part_of twin_examples/destroy_clears "$part" "$scratch/twin_$part"; done
