@@ -232,17 +232,20 @@ def lines_of(text):
 
 
 def cut_at(lines):
-    """The lines before the first line `--` and those behind it."""
-    cut = next((i for i, line in enumerate(lines) if line.strip(" \t") == "--"), len(lines))
+    """The lines before the first line `--` and those behind it; a line that is too long is no such line."""
+    cut = next((i for i, line in enumerate(lines) if len(line) <= MOST_LINE and line.strip(" \t") == "--"), len(lines))
     return lines[:cut], lines[cut + 1:]
 
 
 def image_of(lines):
+    """The bytes of an image's lines, each of an even number of digits between blanks."""
+    if not all(len(line) <= MOST_LINE and re.fullmatch("[ \t]*([0-9A-Fa-f]{2})*[ \t]*", line) for line in lines):
+        raise Fault("rvbench: hex")
     return bytes.fromhex("".join(line.strip(" \t") for line in lines))
 
 
 def output(text, **setup):
-    """What the program must write to an input whose image text has no fault, and its status."""
+    """What the program must write to an input, and its status."""
     image, script = cut_at(lines_of(text))
     try:
         bench = Bench(image_of(image), **setup)

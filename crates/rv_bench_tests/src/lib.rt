@@ -2,6 +2,8 @@
 #![tactic(auto)]
 
 #[cfg(test)]
+mod device_tests;
+#[cfg(test)]
 mod faulty;
 #[cfg(test)]
 mod image_tests;

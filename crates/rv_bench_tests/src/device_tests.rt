@@ -1,0 +1,189 @@
+//! Whole runs, under the monitor and of two benches too, over devices that move so many bytes a call and fail at each call in turn.
+use crate::faulty::{AtSetCall, FaultySink, FaultySource};
+use rv_bench::{BenchFault, MemorySink, MemorySource, run_job};
+use rv_command_line::{ImageKind, Job, Setup};
+use std::alloc::Global;
+use std::process::Abort;
+
+/// An input, what it is answered, and how many lines of the answer each of its lines has.
+struct Example {
+    job: Job,
+    input: &'static [u8],
+    output: &'static [u8],
+    told: &'static [usize],
+}
+
+/// A bench alone.
+const BARE: Example = Example {
+    job: Job::Run(Setup {
+        kind: ImageKind::Auto,
+        ram: 65536,
+        monitored: false,
+    }),
+    input: b"9300f0ff\n--\nstep 1\nreg 1\n",
+    output: b"ran 1 pc=80000004 mode=M world=bare why=done trap=-\nx1=ffffffff\n",
+    told: &[0, 0, 1, 1],
+};
+
+/// A create, and an access across the border of its region.
+const MONITORED: Example = Example {
+    job: Job::Run(Setup {
+        kind: ImageKind::Auto,
+        ram: 196_608,
+        monitored: true,
+    }),
+    input: b"7300000083220300\n--\nsetreg 17 0a454e43\nsetreg 16 1\nsetreg 10 80020000\n\
+        setreg 11 1000\nsetreg 14 80020000\nstep 1\naccess S r 8001fffe 4\nsetreg 6 8001fffe\n\
+        step 1\ncsr 141\ncsr 142\ncsr 143\n",
+    output: b"ok\nok\nok\nok\nok\n\
+        ran 1 pc=80010004 mode=S world=host why=done trap=00000009:00000000\n\
+        denied partial 1\nok\n\
+        ran 1 pc=00000000 mode=S world=host why=done trap=00000005:8001fffe\n\
+        csr 141=80010004\ncsr 142=00000005\ncsr 143=8001fffe\n",
+    told: &[0, 0, 1, 1, 1, 1, 1, 1, 1, 1, 1, 1, 1, 1],
+};
+
+/// Two benches, and a destroy of the enclave in which they differ. The line that ends the run is no line's.
+const TWIN: Example = Example {
+    job: Job::Twin(
+        Setup {
+            kind: ImageKind::Auto,
+            ram: 196_608,
+            monitored: true,
+        },
+        0,
+    ),
+    input: b"7300000073000000\n--\nsetreg 17 0a454e43\nsetreg 16 1\nsetreg 10 80020000\n\
+        setreg 11 1000\nsetreg 14 80020000\nstep 1\n--\nmem 80020000 1\nsetreg 16 2\nsetreg 10 0\n\
+        step 1\nmem 80020000 4\n",
+    output: b"ok\nok\nok\nok\nok\n\
+        ran 1 pc=80010004 mode=S world=host why=done trap=00000009:00000000\n\
+        error blind\na: ok\nb: ok\na: ok\nb: ok\n\
+        a: ran 1 pc=80010008 mode=S world=host why=done trap=00000009:00000000\n\
+        b: ran 1 pc=80010008 mode=S world=host why=done trap=00000009:00000000\n\
+        a: 80020000: 00 00 00 00\nb: 80020000: 00 00 00 00\ntwin end 4\n",
+    told: &[0, 0, 1, 1, 1, 1, 1, 1, 0, 1, 2, 2, 2, 2],
+};
+
+/// How many bytes a device moves at most in a call.
+const MOST: [usize; 3] = [1, 7, 100];
+
+/// The most bytes that an example writes.
+const ROOM: usize = 600;
+
+/// Whether two texts are the same.
+fn same(one: &[u8], other: &[u8]) -> bool {
+    one == other
+}
+
+/// How many line feeds there are in the first bytes of a text.
+fn lines_within(text: &[u8], len: usize) -> usize {
+    let mut count = 0usize;
+    for byte in text.iter().take(len) {
+        if *byte == b'\n' {
+            count = count.saturating_add(1);
+        }
+    }
+    count
+}
+
+/// The beginning of a text that has so many lines.
+fn first_lines(text: &[u8], count: usize) -> &[u8] {
+    let mut left = count;
+    let mut len = 0usize;
+    for byte in text {
+        if left == 0 {
+            break;
+        }
+        len = len.saturating_add(1);
+        if *byte == b'\n' {
+            left = left.saturating_sub(1);
+        }
+    }
+    &text[..len.min(text.len())]
+}
+
+/// What there is to tell of the lines that are complete in the first bytes of the input.
+fn told_of(example: &Example, read: usize) -> &'static [u8] {
+    let lines = lines_within(example.input, read);
+    let mut count = 0usize;
+    for told in example.told.iter().take(lines) {
+        count = count.saturating_add(*told);
+    }
+    first_lines(example.output, count)
+}
+
+/// Devices that never fail: the number of calls of the source, and of the sink.
+fn calls_of(rt: &impl Abort, alloc: Global, example: &Example, most: usize) -> (u64, u64) {
+    let mut buffer = [0u8; ROOM];
+    let mut sink = FaultySink::new(&mut buffer, most, 0, AtSetCall::Fail);
+    let source = FaultySource::new(example.input, most.max(1), 0);
+    let (source, outcome) = run_job(alloc, &example.job, source, &mut sink);
+    assert_eq!(rt; outcome, Ok(()));
+    assert!(rt; same(sink.bytes(), example.output), "{most} bytes a call");
+    assert!(rt; source.rest().is_empty());
+    (source.calls(), sink.calls())
+}
+
+/// The source fails at each of its calls in turn: the complete lines have their replies, and nothing else is written.
+fn fail_to_read(rt: &impl Abort, alloc: Global, example: &Example, most: usize, calls: u64) {
+    for set_call in 1..=calls {
+        let mut buffer = [0u8; ROOM];
+        let mut sink = MemorySink::new(&mut buffer);
+        let source = FaultySource::new(example.input, most.max(1), set_call);
+        let (source, outcome) = run_job(alloc, &example.job, source, &mut sink);
+        assert_eq!(rt; outcome, Err(BenchFault::Read), "call {set_call} of {most} bytes");
+        assert_eq!(rt; source.calls(), set_call);
+        let read = example.input.len().saturating_sub(source.rest().len());
+        assert!(rt; same(sink.bytes(), told_of(example, read)), "call {set_call} of {most} bytes");
+    }
+}
+
+/// The sink fails, or takes nothing, at each of its calls in turn: a beginning of the answer is written.
+fn fail_to_write(rt: &impl Abort, alloc: Global, example: &Example, most: usize, calls: u64, at: AtSetCall) {
+    for set_call in 1..=calls {
+        // the last call is that of `flush`, of which no byte is taken
+        if set_call == calls && at == AtSetCall::TakeNothing {
+            continue;
+        }
+        let mut buffer = [0u8; ROOM];
+        let mut sink = FaultySink::new(&mut buffer, most, set_call, at);
+        let source = MemorySource::new(example.input);
+        let (_, outcome) = run_job(alloc, &example.job, source, &mut sink);
+        assert_eq!(rt; outcome, Err(BenchFault::Write), "call {set_call} of {most} bytes");
+        assert_eq!(rt; sink.calls(), set_call);
+        assert!(rt; example.output.starts_with(sink.bytes()));
+        if most == 1 {
+            assert_eq!(rt; (sink.bytes().len() as u64).saturating_add(1), set_call);
+        }
+    }
+}
+
+/// All of the above, for each number of bytes a call.
+fn fails_at_each_call(rt: &impl Abort, alloc: Global, example: &Example) {
+    for most in MOST {
+        let (reads, writes) = calls_of(rt, alloc, example, most);
+        if most == 1 {
+            assert_eq!(rt; reads, (example.input.len() as u64).saturating_add(1));
+            assert_eq!(rt; writes, (example.output.len() as u64).saturating_add(1));
+        }
+        fail_to_read(rt, alloc, example, most, reads);
+        fail_to_write(rt, alloc, example, most, writes, AtSetCall::Fail);
+        fail_to_write(rt, alloc, example, most, writes, AtSetCall::TakeNothing);
+    }
+}
+
+#[test]
+fn a_bench_alone(rt: HostRuntime) {
+    fails_at_each_call(&rt, rt.alloc(), &BARE);
+}
+
+#[test]
+fn a_monitored_bench(rt: HostRuntime) {
+    fails_at_each_call(&rt, rt.alloc(), &MONITORED);
+}
+
+#[test]
+fn two_benches(rt: HostRuntime) {
+    fails_at_each_call(&rt, rt.alloc(), &TWIN);
+}

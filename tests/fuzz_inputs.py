@@ -1,0 +1,361 @@
+"""Random inputs for the program, of seven kinds: image texts, scripts of a bench alone, ELF files, assembler texts, images to
+disassemble, and scripts of the monitored bench and of two. Each is made from a generator of random numbers, and is the program's
+words and the bytes of its input. Nothing of the bench that is tested is used.
+"""
+import re
+
+from assembly_model import ABI_NAMES, CSRS, STATEMENTS, X_NAMES, based, csr, fence_set, register, target
+from elf_files import CODE, elf, segment, with_bytes
+from elf_model import ONES, START, LOAD, program_headers
+from elf_mutations import MUTATED, mutation
+from instruction_words import ROWS, WHOLE, assemble
+from monitor_bench import LIMITS, FORMS
+from monitor_model import CREATE, DESTROY, EXIT, KEY, MEASURE, RESUME, RUN, STOP, meet
+from monitor_play import REGIONS, WINDOWS, Play, TwinPlay
+from privileged_hart import KEPT
+
+BLANKS = ("", "", "", "", " ", "\t", "  ", " \t ")
+ENDS = ("\n",) * 12 + ("\r\n",) * 3 + ("\r\r\n", "", " \n")
+LONG = re.compile(rb"(?:step|run)[ \t]+0*[1-9][0-9]{3,}")  # more steps than a model does in time
+SIZES = (65536, 65536, 131072, 196608)
+
+
+def chance(rng, part):
+    return rng.random() < part
+
+
+# ---- bytes and lines
+
+def spoilt(rng, data):
+    """The bytes with a few of them changed, taken out, put in, or doubled."""
+    for _ in range(rng.choice((1, 1, 1, 2, 3))):
+        at, size = rng.randrange(len(data) + 1), rng.choice((1, 1, 1, 2, 5, 20))
+        new = rng.choice((bytes([rng.randrange(256)]), bytes([rng.choice(b" \t\r\n-#,():x0919afAF\x00\x7e\x7f\x80\xff")]),
+                          data[at:at + size], data[at:at + size] * 2, b"", b"--\n", b" " * size))
+        data = data[:at] + new + data[at + rng.choice((0, size)):]
+    return data
+
+
+def in_lines(rng, digits):
+    """An image's text of these digits, in lines of random lengths."""
+    lines = []
+    while digits:
+        size = rng.choice((8, 8, 8, 64, 120, 2, 2 * rng.randrange(1, 61)))
+        part, digits = digits[:size], digits[size:]
+        part = part.upper() if chance(rng, 0.1) else part
+        blank = rng.choice(BLANKS) if len(part) < 110 else ""
+        lines.append(blank + part + (rng.choice(BLANKS) if blank else "") + ("\r\n" if chance(rng, 0.05) else "\n"))
+        lines += ["\n"] * chance(rng, 0.02)
+    return "".join(lines)
+
+
+def joined(image, lines, end="\n"):
+    """The input of an image's text and a script, as bytes."""
+    return (image + "--\n" + "".join(line + "\n" for line in lines[:-1]) + "".join(line + end for line in lines[-1:])).encode("latin-1")
+
+
+def options(rng, is_bare=False):
+    """Words of `run`, most often good ones."""
+    words = ["run", "--ram", str(rng.choice(SIZES))]
+    if chance(rng, 0.03):
+        words[2] = str(rng.choice((0, 1, 65535, 65537, 1000, 16777216 + 65536, ONES)))
+    if not is_bare and chance(rng, 0.3):
+        words.append("--monitor")
+    if chance(rng, 0.3):
+        words += ["--kind", rng.choice(("auto", "raw", "elf"))]
+    return words
+
+
+# ---- commands
+
+def address(rng, size=65536):
+    """Most often one near a border of RAM or of the code."""
+    near = rng.choice((*[START + 4 * rng.randrange(24)] * 3, START, START + 0x100, START + 0x100, START + 0x200, START + size, START + 0x10000, 0, ONES))
+    return near + rng.choice((0, 0, 0, 1, 2, 3, 4, 8, -1, -2, -3, -4, -64, -63)) & ONES
+
+
+def number(rng, text):
+    """A number as text, sometimes in another form."""
+    return rng.choice((text,) * 60 + ("0" + text, "0x" + text, "-" + text, text + "0", text + " ", "+" + text, text.upper()))
+
+
+def operand(rng, form, name, place):
+    """Text for the form of an operand of a command."""
+    if name in LIMITS and LIMITS[name][0] == place:
+        _, least, most = LIMITS[name]
+        most = min(most, 64)
+        wrong = rng.choice((least - 1 & 0x7F, 1000001, most + 1)) if chance(rng, 0.1) else least
+        return number(rng, str(rng.choice((least, wrong, most, rng.randint(least, most), rng.randint(least, most)))))
+    if form == FORMS["csr"][0]:
+        return number(rng, "%x" % rng.choice((*KEPT, rng.randrange(4096))))
+    if form == FORMS["poke"][1]:
+        return number(rng, "%x" % rng.choice((0, 1, 0x13, 0x73, 0xFF, rng.randrange(256), rng.randrange(260))))
+    if form == FORMS["mem"][0]:
+        return number(rng, "%x" % rng.choice((address(rng), address(rng), rng.getrandbits(32), rng.randrange(4096))))
+    right, wrong = {"[MSU]": ("MSU", "m"), "[rwx]": ("rwx", "X"), "[124]": ("124", "38"), "on|off": (("on", "off"), ("maybe",))}[form]
+    return rng.choice(wrong if chance(rng, 0.03) else right)
+
+
+def command(rng):
+    """A line of a script."""
+    name = rng.choice((*FORMS, "step", "step", "run", "run", "setreg", "poke", "csr", "access", "timer"))
+    words = [name, *(operand(rng, form, name, place) for place, form in enumerate(FORMS[name]))]
+    line = rng.choice((" ", " ", " ", " ", "\t", "  ")).join(words)
+    if chance(rng, 0.06):
+        line = rng.choice(("", " ", "\t", "# x", "#", "--", "fly", "Step 1", line + " #", line + " 1", line[:-1], " " * 120, "#" * 121))
+    return rng.choice(BLANKS) + line + rng.choice(BLANKS) if len(line) < 100 else line
+
+
+# ---- instructions
+
+def instruction(rng):
+    """A word that most often spells an instruction, with registers and places that meet."""
+    if chance(rng, 0.06):
+        return rng.choice((rng.getrandbits(32), 0, ONES, *(WHOLE.values())))
+    if chance(rng, 0.12):
+        return rng.choice((0x73, 0x30200073, 0x10200073, 0x00100073, 0x10500073, 0x12000073, 0x0FF0000F))
+    name = rng.choice((*ROWS, *["csrrw", "csrrs", "addi", "lw", "sw", "lui", "auipc", "jal"] * 2))
+    low, high, small = rng.choice((1, 2, 3, 4, 5)), rng.choice((0, 1, 2, 3, 4, 5, 31)), rng.choice((0, 1, 2, 4, -1, -4, 2047, -2048))
+    near = 4 * rng.randrange(-4, 6) + rng.choice((0, 0, 0, 0, 2))
+    number_of = rng.choice((*KEPT, 0x300, 0x305, 0x341, 0x304, 0x3A0, 0x3B0, rng.randrange(4096)))
+    fields = {"lui": (high, rng.choice((0x80000, 0x80001, rng.randrange(1 << 20)))), "auipc": (high, rng.choice((0, 1, rng.randrange(1 << 20)))),
+              "jal": (high, near), "jalr": (high, small, low), "branch": (low, high, near), "load": (high, small, low),
+              "store": (high, small, low), "immediate": (high, low, small), "shift": (high, low, rng.randrange(32)),
+              "register": (high, low, rng.choice((1, 2, 3, 4, 5))), "csr": (high, number_of, rng.choice((0, low))),
+              "csr_number": (high, number_of, rng.choice((0, rng.randrange(32)))), "vma": (0, low)}
+    return assemble(name, *fields[ROWS[name][0]])[1]
+
+
+def protected(rng):
+    """Code and registers that set some of the PMP entries and mtvec, and then go to another mode; and where that goes."""
+    code, lines = [], []
+    for _ in range(rng.randrange(1, 4)):
+        base = START + rng.choice((0, 0x100, 0x200, 0x80, 4 * rng.randrange(80)))
+        word = rng.choice((base >> 2, base >> 2 | rng.choice((1, 3, 7, 15, 31)), ONES, ONES >> 1, rng.getrandbits(30)))
+        cfgs = rng.choice((0x1F, 0x18, 0x9F, 0x0F, 0x88, 0x17, 0x1B, 0x19, 0x0B, rng.randrange(256))) * rng.choice((1, 0x100, 0x10000, 0x1000000, 0x0101))
+        lines += ["setreg 6 %x" % word, "setreg 7 %x" % (cfgs & ONES), "step 2"]
+        code += [assemble("csrrw", 0, 0x3B0 + rng.choice((0, 1, 2, 3, 15)), 6)[1], assemble("csrrw", 0, 0x3A0 + rng.choice((0, 0, 0, 3)), 7)[1]]
+    if chance(rng, 0.6):
+        lines += ["setreg 6 %x" % (START + 4 * rng.choice((len(code) + 4, len(code) + 5, 20))), "setreg 7 %x" % rng.choice((0, 0x800, 0x880, 0x1888, 0x20800, 0x200800)),
+                  "step %d" % rng.choice((4, 4, 4, 5))]
+        code += [assemble("csrrw", 0, 0x305, 6)[1], assemble("csrrw", 0, 0x341, 6)[1], assemble("csrrw", 0, 0x300, 7)[1], 0x30200073]
+    return code, lines
+
+
+def digits_of(words):
+    return b"".join(word.to_bytes(4, "little") for word in words).hex()
+
+
+# ---- the kinds
+
+def image(rng):
+    """A text of an image, often faulty, and few commands."""
+    text = in_lines(rng, digits_of([instruction(rng) for _ in range(rng.randrange(8))]) + rng.choice(("", "", "13", "1300", "abc")))
+    script = [rng.choice(("step 1", "mem 80000000 8", "mem 80010000 16", "regs", "reg 1")) for _ in range(rng.randrange(4))]
+    data = joined(text, script, rng.choice(ENDS))
+    return options(rng), spoilt(rng, data) if chance(rng, 0.6) else data
+
+
+def script(rng):
+    """A script of a bench alone, over random code."""
+    first, lines = protected(rng) if chance(rng, 0.6) else ([], [])
+    text = in_lines(rng, digits_of(first + [instruction(rng) for _ in range(rng.randrange(1, 40))]))
+    lines += ["setreg %d %x" % (i, rng.choice((address(rng), rng.getrandbits(32), rng.choice((0, 1, 7, 0x1F, ONES, 1 << 31)))))
+             for i in range(1, 6)]
+    if chance(rng, 0.02):
+        lines += ["%s %x" % (rng.choice(("break", "break", "watch")), START + 4 * i) for i in range(64)]
+    lines += [command(rng) for _ in range(rng.randrange(2, 30))] + ["regs", "csr 300", "csr 341", "csr b02", "mem 80000000 64", "pmp"]
+    data = joined(text, lines, rng.choice(ENDS))
+    return options(rng, is_bare=True)[:3], spoilt(rng, data) if chance(rng, 0.2) else data
+
+
+def segments_of(rng, size):
+    low = rng.choice((START, START, START + 0x10000))
+    for _ in range(rng.choice((0, 1, 1, 2, 2, 3, 5))):
+        data = bytes(rng.randrange(256) for _ in range(rng.choice((0, 1, 4, 5, 16))))
+        place = rng.choice((low, low + 4 * rng.randrange(12), low + rng.randrange(64), START + size - rng.randrange(1, 20), address(rng, size)))
+        yield segment(place, data, rng.choice((None, len(data), len(data) + rng.randrange(20), rng.randrange(20), 0)),
+                      type=rng.choice((LOAD, LOAD, LOAD, LOAD, 0, 4)))
+
+
+def elf_file(rng):
+    """An ELF file, changed or cut, and commands that show what it has loaded."""
+    words = options(rng)
+    size = int(words[2])
+    file = MUTATED if chance(rng, 0.4) else elf(*segments_of(rng, size), entry=rng.choice((START, START, START + 0x10000, address(rng, size))),
+                                                tail=rng.choice((b"", CODE)))
+    for _ in range(rng.choice((0, 0, 1, 1, 2, 3))):
+        place, new = mutation(rng) if chance(rng, 0.8) else (rng.randrange(len(file)), bytes([rng.randrange(256)]))
+        file = with_bytes(file, min(place, len(file)), new)
+    file = file[:rng.randrange(len(file) + 1)] if chance(rng, 0.1) else file
+    shown = [START, START + 0x10000, *(it["paddr"] for it in program_headers(file))][:6]
+    lines = ["mem %x 64" % (max(START, min(at - 4, START + size - 64)) & ONES) for at in shown] + ["step 1", "csr 341", "regs"]
+    return words, joined(in_lines(rng, file.hex()), lines)
+
+
+def good_operand(rng, form, limits, names):
+    """Text that is most often right for the form of an operand of a statement."""
+    least, most = limits or (0, 1)
+    value = rng.choice((0, 2, 4, least, most, rng.randint(least, most))) & (~1 if most % 2 == 0 else -1)
+    choices = {register: rng.choice((*X_NAMES, *ABI_NAMES)), csr: rng.choice((*CSRS, "0x%x" % rng.randrange(4096))),
+               target: rng.choice((*names, *names, str(value))), based: "%d(%s)" % (value, rng.choice(ABI_NAMES)),
+               fence_set: rng.choice(("iorw", "r", "rw", "0", "io", "w", "ow"))}
+    return choices.get(form, str(value))
+
+
+def any_operand(rng, form, limits, names):
+    """Text for the form of an operand of a statement, right or wrong."""
+    least, most = limits or (0, 1)
+    value = rng.choice((0, 1, 2, 4, 8, -1, -4, least, most, most + 1, least - 1, rng.randint(least, most), rng.randint(least, most) & ~1))
+    shown = rng.choice((str(value),) * 5 + (hex(value & ONES), hex(value), "0%d" % value, "%d " % value, "-0", "0x", "+1"))
+    reg = rng.choice((*X_NAMES, *ABI_NAMES, "fp") * 3 + ("x32", "X1", "x01", "a8", ""))
+    choices = {register: reg, csr: rng.choice((*CSRS, "0x%x" % rng.randrange(4096), str(rng.randrange(4200)), "mhartid ", "CSR")),
+               target: rng.choice((*names, *names, shown, "nowhere" if chance(rng, 0.1) else shown)),
+               based: rng.choice(("%s(%s)",) * 9 + ("%s (%s)", "(%s)%s", "%s%s", "%s(%s))")) % (shown, reg),
+               fence_set: rng.choice(("iorw", "r", "rw", "0", "io", "w", "ow", "wr", "", "iorwx"))}
+    return choices.get(form, shown)
+
+
+def statement(rng, names, is_good):
+    name = rng.choice((*STATEMENTS, "li", "jal", "beq", "bne", "nop", "li"))
+    forms, limits = STATEMENTS[name]
+    operands = [(good_operand if is_good else any_operand)(rng, form, limits, names) for form in forms]
+    if not is_good and chance(rng, 0.04):
+        operands = operands[:-1] if chance(rng, 0.5) else operands + ["x1"]
+    blank = rng.choice((" ", " ", " ", "\t", "   "))
+    return name + (blank if operands else "") + rng.choice((",", ", ", ", ", " , ")).join(operands)
+
+
+def asm(rng):
+    """An assembler text: mostly right statements and labels, so that most faults stand alone."""
+    names = rng.sample(("a", "b", "loop", "_x", ".L1", "x1", "end_of.it9", "nop", "c" * 32), rng.randrange(1, 6))
+    left, lines, worst = list(names), [], rng.choice((0, 0, 0, 0.1, 0.5))
+    for _ in range(rng.randrange(1, 14)):
+        label = rng.choice(BLANKS) + left.pop() + ":" + rng.choice(BLANKS) if left and chance(rng, 0.4) else rng.choice(BLANKS)
+        body = rng.choice(("", "", "# nop", "nop # x", "nop"))
+        if chance(rng, 0.85):
+            body = rng.choice(names) + ":" if chance(rng, worst / 10) else statement(rng, names, not chance(rng, worst))
+        lines.append(label + body + rng.choice(("",) * 6 + (" # " + rng.choice(("x", "a:", "\x7e")), " ", "\t")))
+    lines += [rng.choice(BLANKS) + it + ":" for it in left if chance(rng, 0.97)]
+    data = ("".join(line + rng.choice(("\n",) * 9 + ("\r\n",)) for line in lines[:-1]) + lines[-1] + rng.choice(ENDS)).encode("latin-1")
+    return ["asm"], spoilt(rng, data) if chance(rng, 0.25) else data
+
+
+def dis(rng):
+    """An image to disassemble: instructions, some with a bit changed, and random words."""
+    words = [instruction(rng) ^ (1 << rng.randrange(32) if chance(rng, 0.3) else 0) if chance(rng, 0.8) else rng.getrandbits(32)
+             for _ in range(rng.choice((1, 2, 5, 20, 60)))]
+    text = in_lines(rng, digits_of(words)) + rng.choice(("",) * 8 + ("--\n", "--\nabc\n", "13\n", " --\t\n9300\n", "-- x\n"))
+    data = text.encode("latin-1")
+    return ["dis"], spoilt(rng, data) if chance(rng, 0.2) else data
+
+
+class Scenes:
+    """Lines for a monitored bench: calls, an enclave's steps, and what shows them. What lives and runs is only guessed."""
+
+    def __init__(self, rng):
+        self.rng, self.lines, self.states, self.regions, self.world, self.is_keyed = rng, ["setreg 17 %x" % KEY], {}, {}, None, set()
+
+    def call(self, function, *arguments):
+        """An ecall with these registers; an enclave needs the key once."""
+        rng = self.rng
+        if self.world is not None and self.world not in self.is_keyed:
+            self.is_keyed |= {self.world} if chance(rng, 0.95) else set()
+            self.lines.append("setreg 17 %x" % (KEY if self.world in self.is_keyed else KEY + 1))
+        self.lines += ["setreg 16 %x" % function, *("setreg %d %x" % it for it in zip((10, 11, 12, 13, 14), arguments)), "step 1"]
+
+    def create(self):
+        rng, slot = self.rng, min(set(range(14)) - {*self.states})
+        region, window = rng.choice(REGIONS), rng.choice(WINDOWS)
+        entry = region[0] + rng.choice((0, 0, 0, 4, 0x100, region[1] - 4, 2 if chance(rng, 0.1) else 0))
+        self.lines += ["poke %x 73" % (entry + 4 * i) for i in range(rng.randrange(4))]
+        if chance(rng, 0.2):
+            word = instruction(rng)
+            self.lines += ["poke %x %x" % (entry + i, word >> 8 * i & 0xFF) for i in range(4)]
+        self.call(CREATE, *region, *window, entry)
+        if not any(meet(region, other) for other in self.regions.values()):
+            self.states[slot], self.regions[slot] = "Fresh", region
+
+    def host(self):
+        rng = self.rng
+        slot = rng.choice((*self.states, *self.states, *self.states, 0, 13))
+        function = rng.choice((CREATE, CREATE, RUN, RUN, RUN, RESUME, RESUME, DESTROY, MEASURE, STOP))
+        if function == CREATE or not self.states:
+            return self.create()
+        wanted = {RUN: "Fresh", RESUME: "Stopped"}.get(function)
+        slot = next((it for it, state in self.states.items() if state == wanted), slot)
+        self.call(function, slot, address(rng) if chance(rng, 0.3) else 0x80030000)
+        if wanted and self.states.get(slot) == wanted:
+            self.world, self.states[slot] = slot, "Running"
+        elif function == DESTROY:
+            self.states.pop(slot, None), self.regions.pop(slot, None), self.is_keyed.discard(slot)
+
+    def enclave(self):
+        rng, function = self.rng, self.rng.choice((STOP, STOP, EXIT, MEASURE, RUN, None, None, 0))
+        if function is None:
+            self.lines += rng.choice((["timer on", "step 1"], ["timer on", "step 2"], ["step 1"], ["setreg 6 %x" % address(rng), "step 1"]))
+        else:
+            self.call(function, address(rng) if chance(rng, 0.3) else rng.randrange(8))
+        if function in (STOP, EXIT) or self.lines[-2] == "timer on":
+            self.states[self.world], self.world = "Exited" if function == EXIT else "Stopped", None
+
+    def show(self):
+        rng, regions = self.rng, [*self.regions.values(), (START, 0x10000)]
+        base, size = rng.choice(regions)
+        near = base + rng.choice((-4, -2, -1, 0, 4, size - 4, size - 2, size - 1, size, size // 2))
+        self.lines += rng.choice((["regs"], ["enclaves"], ["pmp"], ["csr 300", "csr 341", "csr 304"], ["mem %x %d" % (near, rng.choice((1, 4, 64)))],
+                                  ["access %s %s %x %s" % (rng.choice("MSU"), rng.choice("rwx"), near, rng.choice("124"))] * 2,
+                                  ["dis %x" % near], ["poke %x %x" % (near, rng.randrange(256))], [command(rng)], ["reg 10", "reg 11"]))
+
+    def turns(self, count):
+        for _ in range(count):
+            rng = self.rng
+            rng.choice((self.show, self.enclave if self.world is not None else self.host, self.enclave if self.world is not None else self.host))()
+        return self
+
+
+def staged(rng, is_twin):
+    """Scenes over an image of ecalls, and others of an image that is random."""
+    code = [0x73 if chance(rng, 0.97) else instruction(rng) for _ in range(60)]
+    scenes = Scenes(rng).turns(rng.choice((4, 8, 12)))
+    if is_twin:
+        if scenes.world is not None and chance(rng, 0.9):
+            scenes.lines += ["timer on", "step 1"]
+            scenes.states[scenes.world], scenes.world = "Stopped", None
+        slot = rng.choice((*scenes.states, *scenes.states, *scenes.states, 0, 12))
+        scenes.lines.append("--")
+        scenes.turns(rng.choice((4, 8, 12)))
+    words = ["twin", "--slot", str(slot)] if is_twin else ["run", "--monitor"]
+    data = joined(in_lines(rng, digits_of(code)), scenes.lines + ["enclaves", "regs", "pmp"])
+    return words + ["--ram", "262144"], spoilt(rng, data) if chance(rng, 0.1) else data
+
+
+def played(rng, kind):
+    """A script that is made while a model answers it, and perhaps lines of it taken out, doubled or put in."""
+    play = kind(rng.getrandbits(48), rng.choice((8, 16, 30, 60)))
+    lines = list(play.lines)
+    for _ in range(rng.choice((0, 0, 0, 1, 2, 5))):
+        at = rng.randrange(len(lines))
+        lines[at:at + rng.choice((0, 1))] = rng.choice(([], [command(rng)], [command(rng)], [lines[at]] * 2, ["--"]))
+        lines = lines or ["regs"]
+    data = joined(in_lines(rng, play.image.hex()), lines)
+    return play.words, spoilt(rng, data) if chance(rng, 0.03) else data
+
+
+def monitor(rng):
+    return played(rng, Play) if chance(rng, 0.3) else staged(rng, False)
+
+
+def twin(rng):
+    return played(rng, TwinPlay) if chance(rng, 0.3) else staged(rng, True)
+
+
+KINDS = {"image": image, "script": script, "elf": elf_file, "asm": asm, "dis": dis, "monitor": monitor, "twin": twin}
+
+
+def drawn(rng, kind):
+    """The words and the input of this kind."""
+    while True:
+        words, data = KINDS[kind](rng)
+        if not LONG.search(data):
+            return words, data
