@@ -174,7 +174,7 @@ def segments_of(rng, size):
     for _ in range(rng.choice((0, 1, 1, 2, 2, 3, 5))):
         data = bytes(rng.randrange(256) for _ in range(rng.choice((0, 1, 4, 5, 16))))
         place = rng.choice((low, low + 4 * rng.randrange(12), low + rng.randrange(64), START + size - rng.randrange(1, 20), address(rng, size)))
-        yield segment(place, data, rng.choice((None, len(data), len(data) + rng.randrange(20), rng.randrange(20), 0)),
+        yield segment(place & ONES, data, rng.choice((None, len(data), len(data) + rng.randrange(20), rng.randrange(20), 0)),
                       type=rng.choice((LOAD, LOAD, LOAD, LOAD, 0, 4)))
 
 
