@@ -12,7 +12,7 @@ from instruction_words import ROWS, WHOLE, assemble
 from monitor_bench import LIMITS, FORMS
 from monitor_model import CREATE, DESTROY, EXIT, KEY, MEASURE, RESUME, RUN, STOP, meet
 from monitor_play import REGIONS, WINDOWS, Play, TwinPlay
-from privileged_hart import KEPT
+from privileged_hart import KEPT, MEPC, MSTATUS, MTVEC, PMPADDR, PMPCFG
 
 BLANKS = ("", "", "", "", " ", "\t", "  ", " \t ")
 ENDS = ("\n",) * 12 + ("\r\n",) * 3 + ("\r\r\n", "", " \n")
@@ -70,7 +70,8 @@ def options(rng, is_bare=False):
 
 def address(rng, size=65536):
     """Most often one near a border of RAM or of the code."""
-    near = rng.choice((*[START + 4 * rng.randrange(24)] * 3, START, START + 0x100, START + 0x100, START + 0x200, START + size, START + 0x10000, 0, ONES))
+    near = rng.choice((*[START + 4 * rng.randrange(24)] * 3, START, *[START + 0x100] * 2, START + 0x200, START + size,
+                       START + 0x10000, 0, ONES))
     return near + rng.choice((0, 0, 0, 1, 2, 3, 4, 8, -1, -2, -3, -4, -64, -63)) & ONES
 
 
@@ -113,17 +114,23 @@ def instruction(rng):
     if chance(rng, 0.06):
         return rng.choice((rng.getrandbits(32), 0, ONES, *(WHOLE.values())))
     if chance(rng, 0.12):
-        return rng.choice((0x73, 0x30200073, 0x10200073, 0x00100073, 0x10500073, 0x12000073, 0x0FF0000F))
+        return rng.choice([WHOLE[name] for name in ("ecall", "mret", "sret", "ebreak", "wfi", "fence iorw, iorw")])
     name = rng.choice((*ROWS, *["csrrw", "csrrs", "addi", "lw", "sw", "lui", "auipc", "jal"] * 2))
     low, high, small = rng.choice((1, 2, 3, 4, 5)), rng.choice((0, 1, 2, 3, 4, 5, 31)), rng.choice((0, 1, 2, 4, -1, -4, 2047, -2048))
     near = 4 * rng.randrange(-4, 6) + rng.choice((0, 0, 0, 0, 2))
     number_of = rng.choice((*KEPT, 0x300, 0x305, 0x341, 0x304, 0x3A0, 0x3B0, rng.randrange(4096)))
-    fields = {"lui": (high, rng.choice((0x80000, 0x80001, rng.randrange(1 << 20)))), "auipc": (high, rng.choice((0, 1, rng.randrange(1 << 20)))),
+    fields = {"lui": (high, rng.choice((0x80000, 0x80001, rng.randrange(1 << 20)))),
+              "auipc": (high, rng.choice((0, 1, rng.randrange(1 << 20)))),
               "jal": (high, near), "jalr": (high, small, low), "branch": (low, high, near), "load": (high, small, low),
               "store": (high, small, low), "immediate": (high, low, small), "shift": (high, low, rng.randrange(32)),
               "register": (high, low, rng.choice((1, 2, 3, 4, 5))), "csr": (high, number_of, rng.choice((0, low))),
               "csr_number": (high, number_of, rng.choice((0, rng.randrange(32)))), "vma": (0, low)}
     return assemble(name, *fields[ROWS[name][0]])[1]
+
+
+def written(number_of, register_of):
+    """The word that writes a register to a control and status register."""
+    return assemble("csrrw", 0, number_of, register_of)[1]
 
 
 def protected(rng):
@@ -132,13 +139,14 @@ def protected(rng):
     for _ in range(rng.randrange(1, 4)):
         base = START + rng.choice((0, 0x100, 0x200, 0x80, 4 * rng.randrange(80)))
         word = rng.choice((base >> 2, base >> 2 | rng.choice((1, 3, 7, 15, 31)), ONES, ONES >> 1, rng.getrandbits(30)))
-        cfgs = rng.choice((0x1F, 0x18, 0x9F, 0x0F, 0x88, 0x17, 0x1B, 0x19, 0x0B, rng.randrange(256))) * rng.choice((1, 0x100, 0x10000, 0x1000000, 0x0101))
+        cfg = rng.choice((0x1F, 0x18, 0x9F, 0x0F, 0x88, 0x17, 0x1B, 0x19, 0x0B, rng.randrange(256)))
+        cfgs = cfg * rng.choice((1, 0x100, 0x10000, 0x1000000, 0x0101))
         lines += ["setreg 6 %x" % word, "setreg 7 %x" % (cfgs & ONES), "step 2"]
-        code += [assemble("csrrw", 0, 0x3B0 + rng.choice((0, 1, 2, 3, 15)), 6)[1], assemble("csrrw", 0, 0x3A0 + rng.choice((0, 0, 0, 3)), 7)[1]]
+        code += [written(PMPADDR[rng.choice((0, 1, 2, 3, 15))], 6), written(PMPCFG[rng.choice((0, 0, 0, 3))], 7)]
     if chance(rng, 0.6):
-        lines += ["setreg 6 %x" % (START + 4 * rng.choice((len(code) + 4, len(code) + 5, 20))), "setreg 7 %x" % rng.choice((0, 0x800, 0x880, 0x1888, 0x20800, 0x200800)),
-                  "step %d" % rng.choice((4, 4, 4, 5))]
-        code += [assemble("csrrw", 0, 0x305, 6)[1], assemble("csrrw", 0, 0x341, 6)[1], assemble("csrrw", 0, 0x300, 7)[1], 0x30200073]
+        lines += ["setreg 6 %x" % (START + 4 * rng.choice((len(code) + 4, len(code) + 5, 20))),
+                  "setreg 7 %x" % rng.choice((0, 0x800, 0x880, 0x1888, 0x20800, 0x200800)), "step %d" % rng.choice((4, 4, 4, 5))]
+        code += [written(MTVEC, 6), written(MEPC, 6), written(MSTATUS, 7), WHOLE["mret"]]
     return code, lines
 
 
@@ -173,7 +181,8 @@ def segments_of(rng, size):
     low = rng.choice((START, START, START + 0x10000))
     for _ in range(rng.choice((0, 1, 1, 2, 2, 3, 5))):
         data = bytes(rng.randrange(256) for _ in range(rng.choice((0, 1, 4, 5, 16))))
-        place = rng.choice((low, low + 4 * rng.randrange(12), low + rng.randrange(64), START + size - rng.randrange(1, 20), address(rng, size)))
+        place = rng.choice((low, low + 4 * rng.randrange(12), low + rng.randrange(64), START + size - rng.randrange(1, 20),
+                            address(rng, size)))
         yield segment(place & ONES, data, rng.choice((None, len(data), len(data) + rng.randrange(20), rng.randrange(20), 0)),
                       type=rng.choice((LOAD, LOAD, LOAD, LOAD, 0, 4)))
 
@@ -182,8 +191,8 @@ def elf_file(rng):
     """An ELF file, changed or cut, and commands that show what it has loaded."""
     words = options(rng)
     size = int(words[2])
-    file = MUTATED if chance(rng, 0.4) else elf(*segments_of(rng, size), entry=rng.choice((START, START, START + 0x10000, address(rng, size))),
-                                                tail=rng.choice((b"", CODE)))
+    entry = rng.choice((START, START, START + 0x10000, address(rng, size)))
+    file = MUTATED if chance(rng, 0.4) else elf(*segments_of(rng, size), entry=entry, tail=rng.choice((b"", CODE)))
     for _ in range(rng.choice((0, 0, 1, 1, 2, 3))):
         place, new = mutation(rng) if chance(rng, 0.8) else (rng.randrange(len(file)), bytes([rng.randrange(256)]))
         file = with_bytes(file, min(place, len(file)), new)
@@ -303,14 +312,15 @@ class Scenes:
         rng, regions = self.rng, [*self.regions.values(), (START, 0x10000)]
         base, size = rng.choice(regions)
         near = base + rng.choice((-4, -2, -1, 0, 4, size - 4, size - 2, size - 1, size, size // 2))
-        self.lines += rng.choice((["regs"], ["enclaves"], ["pmp"], ["csr 300", "csr 341", "csr 304"], ["mem %x %d" % (near, rng.choice((1, 4, 64)))],
+        self.lines += rng.choice((["regs"], ["enclaves"], ["pmp"], ["csr 300", "csr 341", "csr 304"], ["dis %x" % near],
+                                  ["mem %x %d" % (near, rng.choice((1, 4, 64)))],
                                   ["access %s %s %x %s" % (rng.choice("MSU"), rng.choice("rwx"), near, rng.choice("124"))] * 2,
-                                  ["dis %x" % near], ["poke %x %x" % (near, rng.randrange(256))], [command(rng)], ["reg 10", "reg 11"]))
+                                  ["poke %x %x" % (near, rng.randrange(256))], [command(rng)], ["reg 10", "reg 11"]))
 
     def turns(self, count):
         for _ in range(count):
-            rng = self.rng
-            rng.choice((self.show, self.enclave if self.world is not None else self.host, self.enclave if self.world is not None else self.host))()
+            turn = self.host if self.world is None else self.enclave
+            self.rng.choice((self.show, turn, turn))()
         return self
 
 

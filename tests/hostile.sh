@@ -43,7 +43,7 @@ for kind in garbage zeros digits; do
 done
 given() { printf -- '--\n'; stream faults 28000000; }
 stream --replies faults 28000000 > "$scratch/wanted"
-hostile "a million faulty lines" 0 4096
+hostile "1495000 faulty lines" 0 4096
 
 # one faulty line after another, and one of a million letters
 given() {
