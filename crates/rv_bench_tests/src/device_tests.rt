@@ -132,15 +132,29 @@ fn fail_to_read(rt: &impl Abort, alloc: Global, example: &Example, most: usize, 
         let mut sink = MemorySink::new(&mut buffer);
         let source = FaultySource::new(example.input, most.max(1), set_call);
         let (source, outcome) = run_job(alloc, &example.job, source, &mut sink);
-        assert_eq!(rt; outcome, Err(BenchFault::Read), "call {set_call} of {most} bytes");
+        assert_eq!(rt;
+            outcome,
+            Err(BenchFault::Read),
+            "call {set_call} of {most} bytes"
+        );
         assert_eq!(rt; source.calls(), set_call);
         let read = example.input.len().saturating_sub(source.rest().len());
-        assert!(rt; same(sink.bytes(), told_of(example, read)), "call {set_call} of {most} bytes");
+        assert!(rt;
+            same(sink.bytes(), told_of(example, read)),
+            "call {set_call} of {most} bytes"
+        );
     }
 }
 
 /// The sink fails, or takes nothing, at each of its calls in turn: a beginning of the answer is written.
-fn fail_to_write(rt: &impl Abort, alloc: Global, example: &Example, most: usize, calls: u64, at: AtSetCall) {
+fn fail_to_write(
+    rt: &impl Abort,
+    alloc: Global,
+    example: &Example,
+    most: usize,
+    calls: u64,
+    at: AtSetCall,
+) {
     for set_call in 1..=calls {
         // the last call is that of `flush`, of which no byte is taken
         if set_call == calls && at == AtSetCall::TakeNothing {
@@ -150,7 +164,11 @@ fn fail_to_write(rt: &impl Abort, alloc: Global, example: &Example, most: usize,
         let mut sink = FaultySink::new(&mut buffer, most, set_call, at);
         let source = MemorySource::new(example.input);
         let (_, outcome) = run_job(alloc, &example.job, source, &mut sink);
-        assert_eq!(rt; outcome, Err(BenchFault::Write), "call {set_call} of {most} bytes");
+        assert_eq!(rt;
+            outcome,
+            Err(BenchFault::Write),
+            "call {set_call} of {most} bytes"
+        );
         assert_eq!(rt; sink.calls(), set_call);
         assert!(rt; example.output.starts_with(sink.bytes()));
         if most == 1 {
