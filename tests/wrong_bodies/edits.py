@@ -1,10 +1,12 @@
 """Edits of a crate's files, and the functions that they change.
 
-An edit is a text of lines 'file: src/x.rt' and then pairs of lines 'old: TEXT' and 'new: TEXT'; each old text stands in that
-file exactly once. NAME.edit is a wrong body, which the prover must refuse. NAME.same changes nothing of meaning: the prover
-must not refuse it. Where no line of a body stands once in its file, the edit gives a line of the function's head, with the clauses
-and the wrong body behind it, and then the head of another function, which takes what follows.
+An edit is a text of lines. `file: src/x.rt` names a file of the crate. `fn: NAME` names a function of it, a method as
+`Type::method`, or `TypeTrait::method` where a trait's impl block has it. Then come pairs of lines `old: TEXT` and `new: TEXT`.
+Each old text stands exactly once in the body of that function, or, where there is no line `fn:`, in the whole file: so are
+constants, types, contracts and definitions edited. NAME.edit is a wrong body, which the prover must refuse. NAME.same changes
+nothing of meaning: the prover must not refuse it.
 """
+import functools
 import os
 import re
 
@@ -19,42 +21,48 @@ class BadEdit(Exception):
 
 
 class Edit:
-    """An edit: its crate, its name, its pairs (file, old text, new text), and whether it is right."""
+    """An edit: its crate, its name, the function that it changes, if it names one, its pairs (file, old text, new text), and
+    whether it is right."""
 
     def __init__(self, crate, path):
         self.crate = crate
         self.name, ending = os.path.splitext(os.path.basename(path))
         self.is_right = ending == ".same"
-        self.pairs = list(pairs_in(path))
+        self.function, self.pairs = read(path)
 
     def __str__(self):
         return f"{self.crate}/{self.name}"
 
 
-def pairs_in(path):
-    """The pairs of an edit's file, each with the name of the file that it changes."""
+def read(path):
+    """The function that an edit's file names, or None, and its pairs, each with the name of the file that it changes."""
     if not path.endswith((".edit", ".same")):
         raise BadEdit("its name ends neither in .edit nor in .same")
     with open(path, encoding="utf-8") as it:
         lines = [line for line in it.read().split("\n") if line.strip()]
-    file = old = None
-    count = 0
+    file = function = old = None
+    pairs = []
     for line in lines:
         key, _, text = line.partition(":")
         text = text[1:] if text.startswith(" ") else text
-        if key == "file" and old is None:
+        if key == "file" and old is None and function is None:
             file = text.strip()
             if not re.fullmatch(r"(src|specs|proofs)/[\w/+-]+\.(rt|antt)", file):
                 raise BadEdit(f"'{line}' names no file of src/, specs/ or proofs/")
+        elif key == "fn" and file and not pairs and function is None:
+            function = text.strip()
+            if not re.fullmatch(r"(\w+::)?\w+", function) or not file.endswith(".rt"):
+                raise BadEdit(f"'{line}' names no function of a file of src/")
         elif key == "old" and file and old is None and text:
             old = text
         elif key == "new" and old is not None:
-            yield file, old, text
-            old, count = None, count + 1
+            pairs.append((file, old, text))
+            old = None
         else:
             raise BadEdit(f"the line '{line}' is out of place")
-    if old is not None or not count:
+    if old is not None or not pairs:
         raise BadEdit("it has no pair of 'old:' and 'new:', or half of one")
+    return function, pairs
 
 
 def edited(folder, edits):
@@ -62,13 +70,20 @@ def edited(folder, edits):
     texts = {}
     for edit in edits:
         for file, old, new in edit.pairs:
-            if file not in texts:
-                texts[file] = text_of(folder, file)
-            count = texts[file].count(old)
-            if count != 1:
-                raise BadEdit(f"the text 'old: {old.strip()}' stands {count} times in {file}, and not once")
-            texts[file] = texts[file].replace(old, new)
+            text = texts[file] if file in texts else text_of(folder, file)
+            first, last = 0, len(text)
+            if edit.function:
+                function = function_of(edit, text)
+                first, last = function.body, function.end
+            texts[file] = text[:first] + replaced(text[first:last], old, new, edit.function or file) + text[last:]
     return texts
+
+
+def replaced(text, old, new, where):
+    """The text with the new part in place of the old one."""
+    if text.count(old) != 1:
+        raise BadEdit(f"the text 'old: {old.strip()}' stands {text.count(old)} times in {where}, and not once")
+    return text.replace(old, new)
 
 
 def text_of(folder, file):
@@ -79,62 +94,93 @@ def text_of(folder, file):
         raise BadEdit(f"there is no file {file}") from None
 
 
-class Place:
-    """A function as the prover names it, the type that it is a method of, if it is one, with the trait that has it, and where
-    it stands: its file, and its first and last line."""
+class Function:
+    """A function in a file's text: its name there, a method with its type; its trait, where a trait's impl block has it; how
+    far it is indented; and the places in the text where its attributes, its head and its body begin, and where it ends."""
 
-    def __init__(self, name, of, file, first, last):
-        self.name, self.type, self.file, self.first, self.last = name, of, file, first, last
+    def __init__(self, text, head):
+        self.indent, self.last_name = head.groups()
+        impls = [it for it in IMPL.finditer(text) if it.start() < head.start()] if self.indent else []
+        self.trait = impls[-1][1] if impls else None
+        self.type = impls[-1][2] + (self.trait or "").split("::")[-1] if impls else None
+        self.name = f"{self.type}::{self.last_name}" if self.type else self.last_name
+        opening = re.compile(rf"^{self.indent}(?:(?:\S.*)?\{{)$", re.M).search(text, head.start())
+        closing = opening and re.compile(rf"^{self.indent}\}}$", re.M).search(text, opening.end())
+        self.head, self.body = head.start(), opening.start() if opening else len(text)
+        self.end = closing.end() if closing else self.body
+        self.start = start_of_head(text, self.head)
+
+    def is_method_of_no_type(self):
+        return bool(self.indent) and self.type is None
+
+
+def start_of_head(text, head):
+    """The place where the attributes of a function begin whose head stands at this place."""
+    lines = text[:head].split("\n")[:-1]
+    first = len(lines)
+    for number in range(len(lines) - 1, -1, -1):
+        line = lines[number].strip()
+        if line.startswith("#["):
+            first = number
+        elif not line.endswith((",", "(", ")", ")]")) or line.startswith("//"):
+            break
+    return sum(len(line) + 1 for line in lines[:first])
+
+
+def functions_in(text):
+    """The functions that have a body, in the text of a file."""
+    found = (Function(text, it) for it in HEAD.finditer(text))
+    return [it for it in found if it.end > it.body and not it.is_method_of_no_type()]
+
+
+def function_of(edit, text):
+    """The function that the edit names, in the text of its file."""
+    found = [it for it in functions_in(text) if it.name == edit.function]
+    if len(found) != 1:
+        raise BadEdit(f"the file has {len(found)} functions {edit.function}, and not one")
+    return found[0]
+
+
+class Place:
+    """A function as the prover names it, a method by the module that declares its type; and where it stands: its file, and its
+    first and last line."""
+
+    def __init__(self, folder, crate, file, text, function):
+        module = [it for it in (declared_in(folder, function.type) or file)[len("src/") : -len(".rt")].split("/")]
+        path = [it for it in module if it not in ("lib", "main", "mod")] + ([function.type] if function.type else [])
+        self.name = "::".join([crate, *path, function.last_name])
+        self.file = file
+        self.first = text.count("\n", 0, function.head) + 1
+        self.last = text.count("\n", 0, function.end) + 1
 
     def holds(self, file, line):
         return file == self.file and self.first <= line <= self.last
-
-    def is_among(self, names):
-        """Whether the prover has it, perhaps a method by the module of its type, which is then its name here too."""
-        if self.name not in names and self.type:
-            found = [it for it in names if it.endswith(f"::{self.type}::{self.name.split('::')[-1]}")]
-            self.name = found[0] if len(found) == 1 else self.name
-        return self.name in names
 
     def proofs(self):
         """The folder of its proof files."""
         return "proofs/" + "/".join(self.name.split("::")[1:])
 
 
-def place_of(folder, edit, names):
-    """The one function whose body the edit changes, if there is one and it is among the names that the prover gives; an edit
-    of a constant, of a type, of a contract, of a proof or of several functions has none."""
-    places = {}
-    for file, old, new in edit.pairs:
-        text = text_of(folder, file)
-        place = function_at(edit.crate, file, text, text.find(old), has_body(new)) if file.endswith(".rt") else None
-        if place is None or not place.is_among(names):
-            return None
-        places[place.name] = place
-    return places.popitem()[1] if len(places) == 1 else None
+def declared_in(folder, name):
+    """The file of src/ that declares the type, if one does."""
+    return declarations(folder).get(name) if name else None
 
 
-def has_body(new):
-    """Whether a new text has a body, and behind it the head of another function."""
-    return re.search(r"\{ .* \} (?:pub )?(?:const )?fn \w+\(", new) is not None
+@functools.lru_cache(maxsize=None)
+def declarations(folder):
+    """The files of the crate's src/ by the names of the types that they declare; a type that two files declare has none."""
+    found = {}
+    for at, _, names in os.walk(f"{folder}/src"):
+        for file in (os.path.relpath(f"{at}/{it}", folder) for it in names if it.endswith(".rt")):
+            for name in re.findall(r"^(?:pub(?:\([a-z]+\))? )?(?:struct|enum) (\w+)", text_of(folder, file), re.M):
+                found[name] = None if name in found else file
+    return found
 
 
-def function_at(crate, file, text, at, with_head):
-    """The function whose body holds the place in a file's text, if one does; or whose head does, if that is asked for too."""
-    heads = [it for it in HEAD.finditer(text) if it.start() <= at]
-    if not heads:
+def place_of(folder, edit):
+    """The function whose body the edit changes, if it names one."""
+    if not edit.function:
         return None
-    head = heads[-1]
-    indent, name = head.groups()
-    opening = re.compile(rf"^{indent}(?:(?:\S.*)?\{{)$", re.M).search(text, head.start())
-    closing = opening and re.compile(rf"^{indent}\}}$", re.M).search(text, opening.end())
-    if not closing or not (head if with_head else opening).start() <= at < closing.start():
-        return None
-    impls = [it for it in IMPL.finditer(text) if it.start() < head.start()] if indent else []
-    if indent and not impls:
-        return None
-    of = impls[-1][2] + (impls[-1][1] or "").split("::")[-1] if impls else None
-    module = [it for it in file[len("src/"):-len(".rt")].split("/") if it not in ("lib", "main", "mod")]
-    path = "::".join([crate, *module, *([of] if of else []), name])
-    line = lambda place: text.count("\n", 0, place) + 1
-    return Place(path, of, file, line(head.start()), line(closing.start()))
+    file = edit.pairs[0][0]
+    text = text_of(folder, file)
+    return Place(folder, edit.crate, file, text, function_of(edit, text))

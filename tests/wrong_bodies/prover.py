@@ -1,8 +1,8 @@
 """Checks of a crate with edits: what the prover says of it, function by function.
 
-A check goes by `rattle check` with the words that `rt` gives it, in a scratch copy of the crate, over a folder of work that
-earlier checks of this run have kept, so that only what changed is proved again. Where a line is not of the form that is known
-here, the check counts for nothing: Unknown says so.
+A check goes by `rattle check` with the words that `rt` gives it, in a scratch copy of the crate. A whole one goes over a folder
+of work that earlier checks of this run have kept, so that only what changed is proved again; one of some functions, and what they
+call, over nothing. Where a line is not of the form that is known here, the check counts for nothing: Unknown says so.
 """
 import importlib.machinery
 import importlib.util
@@ -13,10 +13,9 @@ import subprocess
 import sys
 import tempfile
 
-# What the prover says of a function: that it is proved; that it is refused; that only what it calls is not proved.
+# What the prover says of a function: that it is proved; that it is refused.
 PROVED = re.compile(r"proved( where its callers give what it asks)?(, .*)?")
 REFUSED = re.compile(r"not proved(; .*)?|no proof: expected answers in \S+; `search` did not prove .*")
-CALLS = re.compile(r"no proof: it calls (`[^`]+`.*), (?:which|each of which|none of which) .*")
 # The other forms, which say nothing of the function's meaning.
 OTHER = re.compile(r"could not tell.*|no proof.*|not stated.*|assumed.*|not assumed.*")
 # A proof file that names what an edit took away.
@@ -46,13 +45,14 @@ class Answer:
     def __init__(self, status, text):
         self.lines = text.rstrip("\n").split("\n")
         last = self.lines[-1]
-        self.is_proved = status == 0 and last.startswith("logic=proved ")
-        self.is_refused = status == 1 and last.startswith("logic=not-proved")
+        asked = re.fullmatch(r"only=(\d+) proved=(\d+)", last)
+        self.is_proved = status == 0 and (last.startswith("logic=proved ") or bool(asked) and asked[1] == asked[2])
+        self.is_refused = status == 1 and (last.startswith("logic=not-proved") or bool(asked))
         self.functions = dict(re.findall(r"^fn (\S+): (.*)$", text, re.M))
         if status == 0 and not self.is_proved or self.is_proved and not all(map(PROVED.fullmatch, self.functions.values())):
             raise Unknown(f"a check that ends well has other lines than are known: {last[:200]}")
         for name, said in self.functions.items():
-            if not any(it.fullmatch(said) for it in (PROVED, REFUSED, CALLS, OTHER)):
+            if not any(it.fullmatch(said) for it in (PROVED, REFUSED, OTHER)):
                 raise Unknown(f"what is said of {name} has no known form: {said[:200]}")
         refused = [it for it in self.lines if re.match(r"\w+ \S+: (?!proved)", it)] or self.errors()
         if self.is_refused and not refused:
@@ -66,10 +66,8 @@ class Answer:
         unproved = [it for it in self.lines if re.match(r"\w+ \S+: (?!proved)", it)]
         return (self.errors() or unproved or [it for it in self.lines if it] or ["no line"])[0][:300]
 
-    def called(self, name):
-        """The functions, not proved, that the function calls, where that is all that is said of it."""
-        said = CALLS.fullmatch(self.functions[name])
-        return set(re.findall(r"`([^`]+)`", said[1])) if said else set()
+    def proves(self, name):
+        return bool(PROVED.fullmatch(self.functions[name]))
 
     def refuses(self, name):
         """Whether the function, or a closure in it, is refused, and not for what it calls."""
@@ -97,21 +95,22 @@ class Answer:
 
 
 class Prover:
-    """Checks one crate in a scratch folder, from a copy of its sources that is made here. The crate's own folder is only read."""
+    """Checks one crate in a scratch folder, from a copy of its sources that is made here, by so many processes. The crate's own
+    folder is only read."""
 
-    def __init__(self, rt, crate, scratch):
-        self.rt, self.crate, self.scratch = rt, crate, scratch
+    def __init__(self, rt, crate, scratch, jobs):
+        self.rt, self.crate, self.scratch, self.jobs = rt, crate, scratch, jobs
         self.sources, self.kept = f"{scratch}/sources", f"{scratch}/kept"
-        for part in [*rt.rtlib.PARTS, "out/incremental"]:
-            to = self.kept if part.startswith("out") else f"{self.sources}/{part}"
+        for part in rt.rtlib.PARTS:
             if os.path.isdir(f"{crate.folder}/{part}"):
-                shutil.copytree(f"{crate.folder}/{part}", to)
+                shutil.copytree(f"{crate.folder}/{part}", f"{self.sources}/{part}")
         os.makedirs(self.kept, exist_ok=True)
 
-    def check(self, texts, from_nothing=False):
-        """Checks the crate with these texts in place of its own. A check that is killed, as for memory, is tried once more."""
-        for _ in range(2):
-            ran = self.run(texts, from_nothing)
+    def check(self, texts, only=(), from_nothing=False):
+        """Checks the crate with these texts in place of its own, or only the functions of these names and what they call. A check
+        that is killed, as for memory, is tried once more, by one process."""
+        for jobs in (self.jobs, 1):
+            ran = self.run(texts, only, from_nothing, jobs)
             if ran.returncode >= 0:
                 break
         else:
@@ -122,13 +121,15 @@ class Prover:
             raise Unknown(f"rattle ended with status {ran.returncode}: {ran.stdout.strip()[-200:]}")
         return Answer(ran.returncode, ran.stdout)
 
-    def run(self, texts, from_nothing):
+    def run(self, texts, only, from_nothing, jobs):
         with tempfile.TemporaryDirectory(dir=self.scratch) as room:
             shutil.copytree(self.sources, room, dirs_exist_ok=True)
             for file, text in texts.items():
+                os.makedirs(os.path.dirname(f"{room}/{file}"), exist_ok=True)
                 with open(f"{room}/{file}", "w", encoding="utf-8") as it:
                     it.write(text)
-            words = [self.rt.rtlib.RATTLE, "check", *self.crate.words(["--jobs", "1"], keeps=False)]
-            words += [] if from_nothing else ["--incremental", self.kept]
+            words = [self.rt.rtlib.RATTLE, "check", *self.crate.words(["--jobs", str(jobs)], keeps=False)]
+            words += [it for name in only for it in ("--only", name)]
+            words += [] if only or from_nothing else ["--incremental", self.kept]
             how = {"cwd": room, "stdin": subprocess.DEVNULL, "stdout": subprocess.PIPE, "stderr": subprocess.STDOUT}
             return subprocess.run([*self.rt.rtlib.guarded(), *words], errors="replace", **how)

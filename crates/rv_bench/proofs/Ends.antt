@@ -1,8 +1,9 @@
 -- How lines come to their end.
-use Rattle.std.proofs.Common.{◌≡◌, Bool, true, false, inl, inr, refl, ◌∙◌, arith}
+use Rattle.std.proofs.Common.{◌≡◌, ℕ, Bool, true, false, inl, inr, Result, Ok, refl, ap, ◌∙◌, arith}
+use Rattle.std.specs.Result.{is_err}
 use Rattle.rv_bench.specs.declared.device.Source.{Ghosts}
 use Rattle.rv_bench.specs.declared.lines.Lines.{Lines}
-use Rattle.rv_bench.specs.Device.{one_more, HasRisen}
+use Rattle.rv_bench.specs.Device.{counted, one_more, HasRisen}
 use Rattle.rv_bench.specs.Unread.{HasEnded, TellsEnd}
 
 -- nothing has changed
@@ -21,6 +22,10 @@ TellsEnd-ends {S} {g} old new before after count =
       going = λ e. cc;
       ended = λ _. inr risen;
     }
+
+-- a read that did not fail leaves the count of failures as it was
+pub no_failure : {A E : Type 0} (old mid new : ℕ) (r : Result A E) (a : A) → new ≡ counted (is_err r) mid → r ≡ Ok a → mid ≡ old → new ≡ old
+no_failure old mid new r a count ok same = count ∙ (ap (λ r. counted (is_err r) mid) ok ∙ same)
 
 -- one call and another
 pub TellsEnd-more : {S : Type 0} {g : Ghosts S} (old mid new : Lines S g) → TellsEnd old mid → TellsEnd mid new → TellsEnd old new

@@ -1,5 +1,5 @@
 -- A twin run over an input, by its image and by its two scripts.
-use Rattle.std.proofs.Common.{◌≡◌, ℕ, Bool, cond, true, false, List, ◌++◌, inl, inr, IsTrue, Option, Some, None, Result, Ok, Err, refl, sym, ◌∙◌, ap, subst, arith, append_assoc}
+use Rattle.std.proofs.Common.{◌≡◌, ℕ, true, false, List, ◌++◌, inl, inr, IsTrue, Option, Some, None, Result, Ok, Err, refl, sym, ◌∙◌, ap, subst, arith, append_assoc}
 use Rattle.std.specs.Option.{IsSomeAnd}
 use Rattle.std.specs.Result.{IsOkAnd}
 use Rattle.rv_text.specs.Lines.{lines_of}
@@ -31,9 +31,13 @@ use Rattle.rv_bench.specs.Unread.{held, unread, TellsEnd}
 use Rattle.rv_bench.proofs.ApartLemmas.{front_after, front_more}
 use Rattle.rv_bench.proofs.Starts.{no_ram, has_ram, fault_has_ram}
 
--- no enclave can be scrambled
-pub not_apart : (slot : ℕ) (bench : BenchState) → can_scramble slot bench ≡ false → set_apart slot bench ≡ None
-not_apart slot bench none = ap (λ (can : Bool). cond can (Some (record { first = bench; second = scrambled slot bench; ran = 0; entered = false })) None) none
+-- no enclave can be scrambled, or that of the slot is
+pub not_apart : (slot : ℕ) (bench : BenchState) → can_scramble slot bench ≡ false → None ≡ set_apart slot bench
+not_apart slot bench none = rw none refl
+
+pub are_apart : (slot : ℕ) (bench second : BenchState) → can_scramble slot bench ≡ true → second ≡ scrambled slot bench
+    → Some (record { first = bench; second = second; ran = 0; entered = false }) ≡ set_apart slot bench
+are_apart slot bench second can is = rw can (ap (λ (second : BenchState). Some (record { first = bench; second = second; ran = 0; entered = false })) is)
 
 module _ {S W : Type 0} {g : SourceGhosts S} (h : SinkGhosts W) (setup : Setup) (slot : ℕ) (image : List ℕ) (old mid : Lines S g) (before : W)
     (reads : ReadsThroughSeparator old mid) (is : IsTrue g.tells → image_in (unread old) ≡ Ok image) where

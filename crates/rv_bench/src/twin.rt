@@ -1,6 +1,6 @@
 //! Two benches that are given the same script, and differ in what is private to an enclave.
 
-ghost use Rattle.std.specs.Prelude.{◌≡◌, Ok, Err, Some, MatchResult, [], false};
+ghost use Rattle.std.specs.Prelude.{◌≡◌, Ok, Err, Some, MatchResult, IfSome, [], false};
 ghost use Rattle.rv_bench.specs.Apart.{set_apart, no_slot_text};
 ghost use Rattle.rv_bench.specs.Loaded.{Starts, started};
 ghost use Rattle.rv_bench.specs.Twin.{RunsSecond, RunsTwin, monitored};
@@ -72,6 +72,24 @@ fn no_slot() -> Reply
     text
 }
 
+/// Scrambles the slot in the second bench, where that can be.
+fn scrambled(benches: EqualBenches, slot: u8) -> Option<Apart>
+    ensures apart { result ≡ set_apart slot benches.first }
+    ensures going { IfSome result (λ apart. apart.entered ≡ false) }
+{
+    let EqualBenches { first, second } = benches;
+    let mut second = second;
+    if !second.scramble(slot) {
+        return None;
+    }
+    Some(Apart {
+        first,
+        second,
+        ran: 0,
+        entered: false,
+    })
+}
+
 /// Scrambles the slot in the second bench, and runs the second script; or tells that this could not be.
 fn run_second<S: Source, W: Sink>(
     benches: EqualBenches,
@@ -83,16 +101,8 @@ fn run_second<S: Source, W: Sink>(
     ensures outcome { RunsSecond W.Sink slot (set_apart slot benches.first) lines.old lines.new sink.old sink.new result }
     ensures end { TellsEnd lines.old lines.new }
 {
-    let EqualBenches { first, second } = benches;
-    let mut second = second;
-    if !second.scramble(slot) {
+    let Some(mut apart) = scrambled(benches, slot) else {
         return write_last(&no_slot(), sink).map_err(|_| BenchFault::Write);
-    }
-    let mut apart = Apart {
-        first,
-        second,
-        ran: 0,
-        entered: false,
     };
     run_apart(&mut apart, slot, lines, sink)
 }

@@ -1,4 +1,5 @@
 //! Whole runs, under the monitor and of two benches too, over devices that move so many bytes a call and fail at each call in turn.
+use crate::expecting::{expect_beginning, expect_bytes, expect_number, expect_outcome};
 use crate::faulty::{AtSetCall, FaultySink, FaultySource};
 use rv_bench::{BenchFault, MemorySink, MemorySource, run_job};
 use rv_command_line::{ImageKind, Job, Setup};
@@ -71,15 +72,10 @@ const MOST: [usize; 3] = [1, 7, 100];
 /// The most bytes that an example writes.
 const ROOM: usize = 600;
 
-/// Whether two texts are the same.
-fn same(one: &[u8], other: &[u8]) -> bool {
-    one == other
-}
-
 /// How many line feeds there are in the first bytes of a text.
 fn lines_within(text: &[u8], len: usize) -> usize {
     let mut count = 0usize;
-    for byte in text.iter().take(len) {
+    for byte in &text[..len.min(text.len())] {
         if *byte == b'\n' {
             count = count.saturating_add(1);
         }
@@ -107,7 +103,7 @@ fn first_lines(text: &[u8], count: usize) -> &[u8] {
 fn told_of(example: &Example, read: usize) -> &'static [u8] {
     let lines = lines_within(example.input, read);
     let mut count = 0usize;
-    for told in example.told.iter().take(lines) {
+    for told in &example.told[..lines.min(example.told.len())] {
         count = count.saturating_add(*told);
     }
     first_lines(example.output, count)
@@ -119,8 +115,8 @@ fn calls_of(rt: &impl Abort, alloc: Global, example: &Example, most: usize) -> (
     let mut sink = FaultySink::new(&mut buffer, most, 0, AtSetCall::Fail);
     let source = FaultySource::new(example.input, most.max(1), 0);
     let (source, outcome) = run_job(alloc, &example.job, source, &mut sink);
-    assert_eq!(rt; outcome, Ok(()));
-    assert!(rt; same(sink.bytes(), example.output), "{most} bytes a call");
+    expect_outcome(rt, outcome, Ok(()), most as u64);
+    expect_bytes(rt, sink.bytes(), example.output, most as u64);
     assert!(rt; source.rest().is_empty());
     (source.calls(), sink.calls())
 }
@@ -132,17 +128,10 @@ fn fail_to_read(rt: &impl Abort, alloc: Global, example: &Example, most: usize, 
         let mut sink = MemorySink::new(&mut buffer);
         let source = FaultySource::new(example.input, most.max(1), set_call);
         let (source, outcome) = run_job(alloc, &example.job, source, &mut sink);
-        assert_eq!(rt;
-            outcome,
-            Err(BenchFault::Read),
-            "call {set_call} of {most} bytes"
-        );
-        assert_eq!(rt; source.calls(), set_call);
+        expect_outcome(rt, outcome, Err(BenchFault::Read), set_call);
+        expect_number(rt, source.calls(), set_call, most as u64);
         let read = example.input.len().saturating_sub(source.rest().len());
-        assert!(rt;
-            same(sink.bytes(), told_of(example, read)),
-            "call {set_call} of {most} bytes"
-        );
+        expect_bytes(rt, sink.bytes(), told_of(example, read), set_call);
     }
 }
 
@@ -164,15 +153,12 @@ fn fail_to_write(
         let mut sink = FaultySink::new(&mut buffer, most, set_call, at);
         let source = MemorySource::new(example.input);
         let (_, outcome) = run_job(alloc, &example.job, source, &mut sink);
-        assert_eq!(rt;
-            outcome,
-            Err(BenchFault::Write),
-            "call {set_call} of {most} bytes"
-        );
-        assert_eq!(rt; sink.calls(), set_call);
-        assert!(rt; example.output.starts_with(sink.bytes()));
+        expect_outcome(rt, outcome, Err(BenchFault::Write), set_call);
+        expect_number(rt, sink.calls(), set_call, most as u64);
+        expect_beginning(rt, sink.bytes(), example.output, set_call);
         if most == 1 {
-            assert_eq!(rt; (sink.bytes().len() as u64).saturating_add(1), set_call);
+            let len = sink.bytes().len() as u64;
+            expect_number(rt, len.saturating_add(1), set_call, 1);
         }
     }
 }
@@ -182,8 +168,10 @@ fn fails_at_each_call(rt: &impl Abort, alloc: Global, example: &Example) {
     for most in MOST {
         let (reads, writes) = calls_of(rt, alloc, example, most);
         if most == 1 {
-            assert_eq!(rt; reads, (example.input.len() as u64).saturating_add(1));
-            assert_eq!(rt; writes, (example.output.len() as u64).saturating_add(1));
+            let input_len = example.input.len() as u64;
+            let output_len = example.output.len() as u64;
+            expect_number(rt, reads, input_len.saturating_add(1), 1);
+            expect_number(rt, writes, output_len.saturating_add(1), 1);
         }
         fail_to_read(rt, alloc, example, most, reads);
         fail_to_write(rt, alloc, example, most, writes, AtSetCall::Fail);

@@ -1,7 +1,10 @@
 //! Images of each kind, and those that do not load.
+use crate::expecting::{expect_bytes, expect_outcome};
 use rv_bench::{BenchFault, Lines, MemorySink, MemorySource, run_bench};
 use rv_command_line::{ImageKind, Setup};
 use rv_elf::ElfFault;
+use std::alloc::Global;
+use std::process::Abort;
 
 /// An ELF file of one segment: addi x1, x0, -1 at address 80000000, and four zeros behind it.
 const FILE: [u8; 88] =
@@ -20,33 +23,55 @@ const LOADED: &[u8] =
 const AS_RAW: &[u8] =
     b"ran 1 pc=00000000 mode=M world=bare why=done trap=00000002:464c457f\n80000000: 7f 45 4c 46 01 01 01 00\n";
 
+/// The kind that an image is taken as, which bytes of the file it is, its fault, and the replies.
+const IMAGES: &[(ImageKind, usize, usize, Option<ElfFault>, &[u8])] = &[
+    (ImageKind::Auto, 0, 88, None, LOADED),
+    (ImageKind::Elf, 0, 88, None, LOADED),
+    (ImageKind::Raw, 0, 88, None, AS_RAW),
+    (ImageKind::Auto, 84, 88, None, LOADED),
+    (ImageKind::Raw, 84, 88, None, LOADED),
+    (ImageKind::Elf, 84, 88, Some(ElfFault::Truncated), b""),
+    (ImageKind::Auto, 0, 4, Some(ElfFault::Truncated), b""),
+    (ImageKind::Auto, 0, 52, Some(ElfFault::BadHeader), b""),
+    (
+        ImageKind::Auto,
+        0,
+        87,
+        Some(ElfFault::SegmentTruncated),
+        b"",
+    ),
+];
+
+/// Runs the script over an image that is taken as of a kind: its fault, and the replies.
+fn expect_image(
+    rt: &impl Abort,
+    alloc: Global,
+    kind: ImageKind,
+    image: &[u8],
+    fault: Option<ElfFault>,
+    written: &[u8],
+) {
+    let setup = Setup {
+        kind,
+        ..Setup::default()
+    };
+    let mut buffer = [0u8; 128];
+    let mut lines = Lines::new(MemorySource::new(SCRIPT));
+    let mut sink = MemorySink::new(&mut buffer);
+    let outcome = run_bench(alloc, image, &setup, &mut lines, &mut sink);
+    let want = match fault {
+        None => Ok(()),
+        Some(fault) => Err(BenchFault::Image(fault)),
+    };
+    expect_outcome(rt, outcome, want, image.len() as u64);
+    expect_bytes(rt, sink.bytes(), written, image.len() as u64);
+}
+
 #[test]
 fn reads_images_by_their_kind(rt: HostRuntime) {
-    let cases: [(ImageKind, &[u8], Result<&[u8], ElfFault>); 9] = [
-        (ImageKind::Auto, &FILE, Ok(LOADED)),
-        (ImageKind::Elf, &FILE, Ok(LOADED)),
-        (ImageKind::Raw, &FILE, Ok(AS_RAW)),
-        (ImageKind::Auto, &FILE[84..], Ok(LOADED)),
-        (ImageKind::Raw, &FILE[84..], Ok(LOADED)),
-        (ImageKind::Elf, &FILE[84..], Err(ElfFault::Truncated)),
-        (ImageKind::Auto, &FILE[..4], Err(ElfFault::Truncated)),
-        (ImageKind::Auto, &FILE[..52], Err(ElfFault::BadHeader)),
-        (
-            ImageKind::Auto,
-            &FILE[..87],
-            Err(ElfFault::SegmentTruncated),
-        ),
-    ];
-    for (kind, image, want) in cases {
-        let setup = Setup {
-            kind,
-            ..Setup::default()
-        };
-        let mut buffer = [0u8; 128];
-        let mut lines = Lines::new(MemorySource::new(SCRIPT));
-        let mut sink = MemorySink::new(&mut buffer);
-        let outcome = run_bench(rt.alloc(), image, &setup, &mut lines, &mut sink);
-        assert_eq!(rt; outcome, want.map(|_| ()).map_err(BenchFault::Image));
-        assert_eq!(rt; sink.bytes(), want.unwrap_or(b""));
+    let file: &[u8] = &FILE;
+    for (kind, from, to, fault, written) in IMAGES {
+        let image = file.get(*from..*to).expect(&rt, "a part of the file");
+        expect_image(&rt, rt.alloc(), *kind, image, *fault, written);
     }
 }

@@ -1,4 +1,5 @@
 //! Jobs over memory, and over devices that move few bytes a call and fail at each call in turn.
+use crate::expecting::{expect_beginning, expect_bytes, expect_number, expect_outcome};
 use crate::faulty::{AtSetCall, FaultySink, FaultySource, FeedSource};
 use rv_asm::{AsmFault, AsmFaultKind};
 use rv_bench::{
@@ -6,6 +7,8 @@ use rv_bench::{
 };
 use rv_command_line::{Job, Setup};
 use rv_memory::RamFault;
+use std::alloc::Global;
+use std::process::Abort;
 
 const PROGRAM: &[u8] = b"loop: addi x1, x1, -1\n bne x1, x0, loop\n";
 
@@ -20,46 +23,84 @@ const LONG_WORDS: usize = 200;
 
 /// The text of an image of 200 words.
 fn long_image() -> [u8; 9 * LONG_WORDS] {
+    let line = b"93800000\n";
     let mut text = [0u8; 9 * LONG_WORDS];
-    for line in text.chunks_exact_mut(9) {
-        line.copy_from_slice(b"93800000\n");
+    for place in 0..9 * LONG_WORDS {
+        text[place] = line[place % 9];
     }
     text
 }
 
+/// Does a job over memory: its outcome, what it writes, and what is left of the text.
+fn expect_job(
+    rt: &impl Abort,
+    alloc: Global,
+    job: &Job,
+    text: &[u8],
+    want: Result<(), BenchFault>,
+    written: &[u8],
+    left: &[u8],
+) {
+    let mut buffer = [0u8; 128];
+    let mut sink = MemorySink::new(&mut buffer);
+    let (source, outcome) = run_job(alloc, job, MemorySource::new(text), &mut sink);
+    expect_outcome(rt, outcome, want, 0);
+    expect_bytes(rt, sink.bytes(), written, 0);
+    expect_bytes(rt, source.rest(), left, 0);
+}
+
+/// Assembles a text that has a fault, or has none.
+fn expect_assembly(
+    rt: &impl Abort,
+    alloc: Global,
+    text: &[u8],
+    want: Result<(), BenchFault>,
+    written: &[u8],
+) {
+    let mut buffer = [0u8; 64];
+    let mut source = MemorySource::new(text);
+    let mut sink = MemorySink::new(&mut buffer);
+    expect_outcome(rt, run_asm(alloc, &mut source, &mut sink), want, 0);
+    expect_bytes(rt, sink.bytes(), written, 0);
+    if want.is_ok() {
+        assert!(rt; source.rest().is_empty());
+    }
+}
+
+/// Disassembles an image that has a fault, or has none.
+fn expect_disassembly(
+    rt: &impl Abort,
+    alloc: Global,
+    text: &[u8],
+    want: Result<(), BenchFault>,
+    written: &[u8],
+) {
+    let mut buffer = [0u8; 64];
+    let mut lines = Lines::new(MemorySource::new(text));
+    let mut sink = MemorySink::new(&mut buffer);
+    expect_outcome(rt, run_dis(alloc, &mut lines, &mut sink), want, 0);
+    expect_bytes(rt, sink.bytes(), written, 0);
+}
+
 #[test]
 fn assembles_a_text(rt: HostRuntime) {
-    let mut buffer = [0u8; 64];
-    let mut source = MemorySource::new(PROGRAM);
-    let mut sink = MemorySink::new(&mut buffer);
-    assert_eq!(rt; run_asm(rt.alloc(), &mut source, &mut sink), Ok(()));
-    assert_eq!(rt; sink.bytes(), IMAGE);
-    assert!(rt; source.rest().is_empty());
+    expect_assembly(&rt, rt.alloc(), PROGRAM, Ok(()), IMAGE);
 }
 
 #[test]
 fn tells_the_fault_of_a_text(rt: HostRuntime) {
-    let mut buffer = [0u8; 64];
-    let mut source = MemorySource::new(b"addi x1, x1, -1\nfoo x1\n");
-    let mut sink = MemorySink::new(&mut buffer);
     let fault = AsmFault {
         line: 2,
         kind: AsmFaultKind::UnknownName,
     };
-    assert_eq!(rt;
-        run_asm(rt.alloc(), &mut source, &mut sink),
-        Err(BenchFault::Asm(fault))
-    );
-    assert!(rt; sink.bytes().is_empty());
+    let text = b"addi x1, x1, -1\nfoo x1\n";
+    expect_assembly(&rt, rt.alloc(), text, Err(BenchFault::Asm(fault)), b"");
 }
 
 #[test]
 fn disassembles_an_image(rt: HostRuntime) {
-    let mut buffer = [0u8; 64];
-    let mut lines = Lines::new(MemorySource::new(b"0f00f00f\n"));
-    let mut sink = MemorySink::new(&mut buffer);
-    assert_eq!(rt; run_dis(rt.alloc(), &mut lines, &mut sink), Ok(()));
-    assert_eq!(rt; sink.bytes(), b"0ff0000f fence iorw, iorw\n".as_slice());
+    let written = b"0ff0000f fence iorw, iorw\n";
+    expect_disassembly(&rt, rt.alloc(), b"0f00f00f\n", Ok(()), written);
 }
 
 #[test]
@@ -71,45 +112,34 @@ fn disassembles_whole_words(rt: HostRuntime) {
         b"0f00f00f\n9300\nf0\n",
     ];
     for text in cases {
-        let mut buffer = [0u8; 64];
-        let mut lines = Lines::new(MemorySource::new(text));
-        let mut sink = MemorySink::new(&mut buffer);
-        let outcome = run_dis(rt.alloc(), &mut lines, &mut sink);
-        assert_eq!(rt; outcome, Err(BenchFault::Hex));
-        assert!(rt; sink.bytes().is_empty());
+        expect_disassembly(&rt, rt.alloc(), text, Err(BenchFault::Hex), b"");
     }
 }
 
 #[test]
 fn does_a_run(rt: HostRuntime) {
-    let mut buffer = [0u8; 128];
-    let mut sink = MemorySink::new(&mut buffer);
     let job = Job::Run(Setup::default());
-    let (source, outcome) = run_job(rt.alloc(), &job, MemorySource::new(INPUT), &mut sink);
-    assert_eq!(rt; outcome, Ok(()));
-    assert!(rt; source.rest().is_empty());
-    assert_eq!(rt; sink.bytes(), OUTPUT);
+    expect_job(&rt, rt.alloc(), &job, INPUT, Ok(()), OUTPUT, b"");
 }
 
 #[test]
 fn does_an_assembly(rt: HostRuntime) {
-    let mut buffer = [0u8; 128];
-    let mut sink = MemorySink::new(&mut buffer);
-    let (source, outcome) = run_job(rt.alloc(), &Job::Asm, MemorySource::new(PROGRAM), &mut sink);
-    assert_eq!(rt; outcome, Ok(()));
-    assert!(rt; source.rest().is_empty());
-    assert_eq!(rt; sink.bytes(), IMAGE);
+    expect_job(&rt, rt.alloc(), &Job::Asm, PROGRAM, Ok(()), IMAGE, b"");
 }
 
 #[test]
 fn does_a_disassembly(rt: HostRuntime) {
-    let mut buffer = [0u8; 128];
-    let mut sink = MemorySink::new(&mut buffer);
     let text = b"0f00f00f\n--\nstep 1\n";
-    let (source, outcome) = run_job(rt.alloc(), &Job::Dis, MemorySource::new(text), &mut sink);
-    assert_eq!(rt; outcome, Ok(()));
-    assert_eq!(rt; source.rest(), b"step 1\n".as_slice());
-    assert!(rt; sink.bytes().starts_with(b"0ff0000f "));
+    let written = b"0ff0000f fence iorw, iorw\n";
+    expect_job(
+        &rt,
+        rt.alloc(),
+        &Job::Dis,
+        text,
+        Ok(()),
+        written,
+        b"step 1\n",
+    );
 }
 
 #[test]
@@ -121,24 +151,82 @@ fn refuses_a_setup(rt: HostRuntime) {
         ..Setup::default()
     });
     let (_, outcome) = run_job(rt.alloc(), &job, MemorySource::new(INPUT), &mut sink);
-    assert_eq!(rt; outcome, Err(BenchFault::Ram(RamFault::BadSize)));
-    assert!(rt; sink.bytes().is_empty());
+    expect_outcome(&rt, outcome, Err(BenchFault::Ram(RamFault::BadSize)), 0);
+    expect_bytes(&rt, sink.bytes(), b"", 0);
+}
+
+/// The source fails at a call: nothing is written, and each call before that gave one byte.
+fn fail_to_read(rt: &impl Abort, alloc: Global, job: &Job, text: &[u8], set_call: u64) {
+    let mut buffer = [0u8; 128];
+    let mut sink = FaultySink::new(&mut buffer, 100, 0, AtSetCall::Fail);
+    let source = FaultySource::new(text, 1, set_call);
+    let (source, outcome) = run_job(alloc, job, source, &mut sink);
+    expect_outcome(rt, outcome, Err(BenchFault::Read), set_call);
+    expect_number(rt, sink.calls(), 0, set_call);
+    expect_number(rt, source.calls(), set_call, set_call);
+    let left = source.rest().len() as u64;
+    expect_number(
+        rt,
+        left.saturating_add(set_call),
+        (text.len() as u64).saturating_add(1),
+        set_call,
+    );
 }
 
 #[test]
 fn writes_nothing_after_a_failed_read(rt: HostRuntime) {
     for (job, text) in [(Job::Asm, PROGRAM), (Job::Dis, IMAGE)] {
         for set_call in 1..=text.len() as u64 + 1 {
-            let mut buffer = [0u8; 128];
-            let mut sink = FaultySink::new(&mut buffer, 100, 0, AtSetCall::Fail);
-            let source = FaultySource::new(text, 1, set_call);
-            let (source, outcome) = run_job(rt.alloc(), &job, source, &mut sink);
-            assert_eq!(rt; outcome, Err(BenchFault::Read), "at {set_call}");
-            assert_eq!(rt; sink.calls(), 0u64, "at {set_call}");
-            assert_eq!(rt; source.calls(), set_call);
-            assert_eq!(rt;
-                source.rest().len() as u64 + set_call,
-                text.len() as u64 + 1
+            fail_to_read(&rt, rt.alloc(), &job, text, set_call);
+        }
+    }
+}
+
+/// The sink fails, or takes nothing, at a call: a beginning of the answer is written.
+fn fail_to_write(
+    rt: &impl Abort,
+    alloc: Global,
+    job: &Job,
+    text: &[u8],
+    whole: &[u8],
+    set_call: u64,
+    at_set_call: AtSetCall,
+) {
+    let mut buffer = [0u8; 60 * LONG_WORDS];
+    let mut sink = FaultySink::new(&mut buffer, 100, set_call, at_set_call);
+    let (_, outcome) = run_job(alloc, job, MemorySource::new(text), &mut sink);
+    expect_outcome(rt, outcome, Err(BenchFault::Write), set_call);
+    expect_number(rt, sink.calls(), set_call, set_call);
+    expect_beginning(rt, sink.bytes(), whole, set_call);
+}
+
+/// The sink fails, or takes nothing, at each of its calls in turn.
+fn fail_at_each_call(rt: &impl Abort, alloc: Global, job: &Job, text: &[u8]) {
+    let mut whole = [0u8; 60 * LONG_WORDS];
+    let mut sink = FaultySink::new(&mut whole, 100, 0, AtSetCall::Fail);
+    let (_, outcome) = run_job(alloc, job, MemorySource::new(text), &mut sink);
+    expect_outcome(rt, outcome, Ok(()), 0);
+    let calls = sink.calls();
+    for set_call in 1..=calls {
+        fail_to_write(
+            rt,
+            alloc,
+            job,
+            text,
+            sink.bytes(),
+            set_call,
+            AtSetCall::Fail,
+        );
+        // the last call is that of `flush`, of which no byte is taken
+        if set_call < calls {
+            fail_to_write(
+                rt,
+                alloc,
+                job,
+                text,
+                sink.bytes(),
+                set_call,
+                AtSetCall::TakeNothing,
             );
         }
     }
@@ -146,30 +234,19 @@ fn writes_nothing_after_a_failed_read(rt: HostRuntime) {
 
 #[test]
 fn writes_a_beginning_before_a_failed_write(rt: HostRuntime) {
-    let image = long_image();
-    let jobs: [(Job, &[u8]); 3] = [(Job::Asm, PROGRAM), (Job::Dis, IMAGE), (Job::Dis, &image)];
-    for (job, text) in jobs {
-        let mut whole = [0u8; 60 * LONG_WORDS];
-        let mut sink = FaultySink::new(&mut whole, 100, 0, AtSetCall::Fail);
-        let (_, outcome) = run_job(rt.alloc(), &job, MemorySource::new(text), &mut sink);
-        assert_eq!(rt; outcome, Ok(()));
-        let calls = sink.calls();
-        for set_call in 1..=calls {
-            for at_set_call in [AtSetCall::Fail, AtSetCall::TakeNothing] {
-                // the last call is that of `flush`, of which no byte is taken
-                if set_call == calls && at_set_call == AtSetCall::TakeNothing {
-                    continue;
-                }
-                let mut buffer = [0u8; 60 * LONG_WORDS];
-                let mut stopped = FaultySink::new(&mut buffer, 100, set_call, at_set_call);
-                let source = MemorySource::new(text);
-                let (_, outcome) = run_job(rt.alloc(), &job, source, &mut stopped);
-                assert_eq!(rt; outcome, Err(BenchFault::Write), "at {set_call}");
-                assert_eq!(rt; stopped.calls(), set_call);
-                assert!(rt; sink.bytes().starts_with(stopped.bytes()), "at {set_call}");
-            }
-        }
+    fail_at_each_call(&rt, rt.alloc(), &Job::Asm, PROGRAM);
+    fail_at_each_call(&rt, rt.alloc(), &Job::Dis, IMAGE);
+    fail_at_each_call(&rt, rt.alloc(), &Job::Dis, &long_image());
+}
+
+/// How many line feeds a text has, each behind the line of the one word.
+fn count_lines(rt: &impl Abort, text: &[u8]) -> u64 {
+    let mut count = 0u64;
+    for line in text.split_inclusive(|byte| *byte == b'\n') {
+        assert!(rt; line.starts_with(b"00008093 "));
+        count = count.saturating_add(1);
     }
+    count
 }
 
 #[test]
@@ -178,27 +255,31 @@ fn gathers_the_lines(rt: HostRuntime) {
     let mut buffer = [0u8; 60 * LONG_WORDS];
     let mut sink = FaultySink::new(&mut buffer, 60 * LONG_WORDS, 0, AtSetCall::Fail);
     let (_, outcome) = run_job(rt.alloc(), &Job::Dis, MemorySource::new(&image), &mut sink);
-    assert_eq!(rt; outcome, Ok(()));
-    assert!(rt; sink.calls() < 12u64);
-    let mut count = 0usize;
-    for line in sink.bytes().split_inclusive(|byte| *byte == b'\n') {
-        assert!(rt; line.starts_with(b"00008093 "));
-        count = count.saturating_add(1);
-    }
-    assert_eq!(rt; count, LONG_WORDS);
+    expect_outcome(&rt, outcome, Ok(()), 0);
+    assert!(rt; sink.calls() < 12);
+    expect_number(&rt, count_lines(&rt, sink.bytes()), LONG_WORDS as u64, 0);
+}
+
+/// Does a job without input, whose sink fails at a call, or never: its outcome, and the calls of the sink.
+fn expect_calls(
+    rt: &impl Abort,
+    alloc: Global,
+    job: &Job,
+    set_call: u64,
+    want: Result<(), BenchFault>,
+) {
+    let mut buffer = [0u8; 8];
+    let mut sink = FaultySink::new(&mut buffer, 8, set_call, AtSetCall::Fail);
+    let (_, outcome) = run_job(alloc, job, MemorySource::new(b""), &mut sink);
+    expect_outcome(rt, outcome, want, set_call);
+    expect_number(rt, sink.calls(), 1, set_call);
 }
 
 #[test]
 fn flushes_once(rt: HostRuntime) {
     for job in [Job::Asm, Job::Dis, Job::Run(Setup::default())] {
-        let mut buffer = [0u8; 8];
-        let mut sink = FaultySink::new(&mut buffer, 8, 0, AtSetCall::Fail);
-        let (_, outcome) = run_job(rt.alloc(), &job, MemorySource::new(b""), &mut sink);
-        assert_eq!(rt; outcome, Ok(()));
-        assert_eq!(rt; sink.calls(), 1u64);
-        let mut sink = FaultySink::new(&mut buffer, 8, 1, AtSetCall::Fail);
-        let (_, outcome) = run_job(rt.alloc(), &job, MemorySource::new(b""), &mut sink);
-        assert_eq!(rt; outcome, Err(BenchFault::Write));
+        expect_calls(&rt, rt.alloc(), &job, 0, Ok(()));
+        expect_calls(&rt, rt.alloc(), &job, 1, Err(BenchFault::Write));
     }
 }
 
@@ -217,8 +298,13 @@ fn takes_a_text_up_to_its_limit(rt: HostRuntime) {
         let mut buffer = [0u8; 8];
         let mut sink = MemorySink::new(&mut buffer);
         let mut source = FeedSource::new(len);
-        assert_eq!(rt; run_asm(rt.alloc(), &mut source, &mut sink), want);
-        assert!(rt; sink.bytes().is_empty());
+        expect_outcome(
+            &rt,
+            run_asm(rt.alloc(), &mut source, &mut sink),
+            want,
+            len as u64,
+        );
+        expect_bytes(&rt, sink.bytes(), b"", len as u64);
         assert!(rt; source.given() <= ASM_TEXT_MAX + 4096);
     }
 }

@@ -4,6 +4,8 @@
 #[cfg(test)]
 mod device_tests;
 #[cfg(test)]
+mod expecting;
+#[cfg(test)]
 mod faulty;
 #[cfg(test)]
 mod image_tests;

@@ -1,9 +1,12 @@
 //! Whole runs over memory, and over devices that move few bytes a call and fail at each call in turn.
+use crate::expecting::{expect_bytes, expect_number, expect_outcome};
 use crate::faulty::{AtSetCall, FaultySink, FaultySource};
 use rv_bench::{BenchFault, Lines, MemorySink, MemorySource, run_bench, run_stream};
 use rv_command_line::Setup;
 use rv_elf::ElfFault;
 use rv_memory::{Ram, RamFault};
+use std::alloc::Global;
+use std::process::Abort;
 
 const INPUT: &[u8] = b"9300f0ff\n--\nstep 1\nreg 1\n";
 
@@ -20,26 +23,45 @@ fn replies_within(read: usize) -> &'static [u8] {
     }
 }
 
+/// Runs a script over an image: it ends well, and these are its replies.
+fn expect_replies(rt: &impl Abort, alloc: Global, image: &[u8], script: &[u8], want: &[u8]) {
+    let mut buffer = [0u8; 1024];
+    let mut lines = Lines::new(MemorySource::new(script));
+    let mut sink = MemorySink::new(&mut buffer);
+    let outcome = run_bench(alloc, image, &Setup::default(), &mut lines, &mut sink);
+    expect_outcome(rt, outcome, Ok(()), 0);
+    expect_bytes(rt, sink.bytes(), want, 0);
+}
+
+/// Runs an image and a script: how it ends, and what is written.
+fn expect_stream(
+    rt: &impl Abort,
+    alloc: Global,
+    setup: &Setup,
+    input: &[u8],
+    want: Result<(), BenchFault>,
+    written: &[u8],
+) {
+    let mut buffer = [0u8; 256];
+    let mut lines = Lines::new(MemorySource::new(input));
+    let mut sink = MemorySink::new(&mut buffer);
+    let outcome = run_stream(alloc, setup, &mut lines, &mut sink);
+    expect_outcome(rt, outcome, want, 0);
+    expect_bytes(rt, sink.bytes(), written, 0);
+    if want.is_ok() {
+        assert!(rt; lines.is_at_end());
+    }
+}
+
 #[test]
 fn answers_a_stream(rt: HostRuntime) {
-    let mut buffer = [0u8; 128];
-    let mut lines = Lines::new(MemorySource::new(INPUT));
-    let mut sink = MemorySink::new(&mut buffer);
-    let outcome = run_stream(rt.alloc(), &Setup::default(), &mut lines, &mut sink);
-    assert_eq!(rt; outcome, Ok(()));
-    assert_eq!(rt; sink.bytes(), OUTPUT);
-    assert!(rt; lines.is_at_end());
+    expect_stream(&rt, rt.alloc(), &Setup::default(), INPUT, Ok(()), OUTPUT);
 }
 
 #[test]
 fn answers_a_script(rt: HostRuntime) {
-    let mut buffer = [0u8; 128];
-    let mut lines = Lines::new(MemorySource::new(b"step 1\nreg 1"));
-    let mut sink = MemorySink::new(&mut buffer);
     let image = b"\x93\x00\xf0\xff";
-    let outcome = run_bench(rt.alloc(), image, &Setup::default(), &mut lines, &mut sink);
-    assert_eq!(rt; outcome, Ok(()));
-    assert_eq!(rt; sink.bytes(), OUTPUT);
+    expect_replies(&rt, rt.alloc(), image, b"step 1\nreg 1", OUTPUT);
 }
 
 /// The image is the host above the monitor: it begins in mode S at 80010000, and its load of the monitor's range is passed on to it.
@@ -49,52 +71,28 @@ fn answers_under_the_monitor(rt: HostRuntime) {
         monitored: true,
         ..Setup::default()
     };
-    let mut buffer = [0u8; 256];
-    let mut lines = Lines::new(MemorySource::new(
-        b"83220300\n--\nsetreg 6 8000fffc\nstep 1\ncsr 141\nenclaves",
-    ));
-    let mut sink = MemorySink::new(&mut buffer);
-    let outcome = run_stream(rt.alloc(), &setup, &mut lines, &mut sink);
-    assert_eq!(rt; outcome, Ok(()));
-    assert_eq!(rt;
-        sink.bytes(),
-        b"ok\nran 1 pc=00000000 mode=S world=host why=done trap=00000005:8000fffc\n\
-          csr 141=80010000\n"
-            .as_slice()
-    );
+    let input = b"83220300\n--\nsetreg 6 8000fffc\nstep 1\ncsr 141\nenclaves";
+    let written = b"ok\nran 1 pc=00000000 mode=S world=host why=done trap=00000005:8000fffc\n\
+          csr 141=80010000\n";
+    expect_stream(&rt, rt.alloc(), &setup, input, Ok(()), written);
 }
 
 #[test]
 fn answers_csr_and_timer(rt: HostRuntime) {
-    let mut buffer = [0u8; 128];
     let script = b"csr 344\ntimer on\ncsr 344\ntimer off\ncsr 344\ncsr 301\ncsr 7a0";
-    let mut lines = Lines::new(MemorySource::new(script));
-    let mut sink = MemorySink::new(&mut buffer);
-    let outcome = run_bench(rt.alloc(), b"", &Setup::default(), &mut lines, &mut sink);
-    assert_eq!(rt; outcome, Ok(()));
-    assert_eq!(rt;
-        sink.bytes(),
-        b"csr 344=00000000\nok\ncsr 344=00000080\nok\ncsr 344=00000000\n\
-          csr 301=40141100\nerror csr\n"
-            .as_slice()
-    );
+    let want = b"csr 344=00000000\nok\ncsr 344=00000080\nok\ncsr 344=00000000\n\
+          csr 301=40141100\nerror csr\n";
+    expect_replies(&rt, rt.alloc(), b"", script, want);
 }
 
 #[test]
 fn answers_pmp_and_access(rt: HostRuntime) {
-    let mut buffer = [0u8; 1024];
     // writes x1 to pmpaddr0 and x2 to pmpcfg0: four bytes from 80000100 on, for each kind of access
     let image = b"\x73\x90\x00\x3b\x73\x10\x01\x3a";
     let script = b"setreg 1 20000040\nsetreg 2 17\nstep 2\n\
         access M r 800000fe 4\naccess M r 80000100 4\naccess U x 80000102 2\n\
         access U w 800000fc 4\naccess M w 800000fc 4\naccess U r fffffffe 4\npmp";
-    let mut lines = Lines::new(MemorySource::new(script));
-    let mut sink = MemorySink::new(&mut buffer);
-    let outcome = run_bench(rt.alloc(), image, &Setup::default(), &mut lines, &mut sink);
-    assert_eq!(rt; outcome, Ok(()));
-    assert_eq!(rt;
-        sink.bytes(),
-        b"ok\n\
+    let want = b"ok\n\
           ok\n\
           ran 2 pc=80000008 mode=M world=bare why=done trap=-\n\
           denied partial 0\n\
@@ -118,9 +116,8 @@ fn answers_pmp_and_access(rt: HostRuntime) {
           pmp 12 cfg=00 addr=00000000\n\
           pmp 13 cfg=00 addr=00000000\n\
           pmp 14 cfg=00 addr=00000000\n\
-          pmp 15 cfg=00 addr=00000000\n"
-            .as_slice()
-    );
+          pmp 15 cfg=00 addr=00000000\n";
+    expect_replies(&rt, rt.alloc(), image, script, want);
 }
 
 #[test]
@@ -129,34 +126,45 @@ fn flushes_once(rt: HostRuntime) {
     let mut lines = Lines::new(FaultySource::new(INPUT, 1, 0));
     let mut sink = FaultySink::new(&mut buffer, 1, 0, AtSetCall::Fail);
     let outcome = run_stream(rt.alloc(), &Setup::default(), &mut lines, &mut sink);
-    assert_eq!(rt; outcome, Ok(()));
-    assert_eq!(rt; sink.bytes(), OUTPUT);
-    assert_eq!(rt; sink.calls(), OUTPUT.len() as u64 + 1);
+    expect_outcome(&rt, outcome, Ok(()), 0);
+    expect_bytes(&rt, sink.bytes(), OUTPUT, 0);
+    expect_number(&rt, sink.calls(), OUTPUT.len() as u64 + 1, 0);
+}
+
+/// The source gives one byte a call, and fails at a set call: the lines that are complete have their replies.
+fn fail_to_read(rt: &impl Abort, alloc: Global, set_call: usize) {
+    let mut buffer = [0u8; 128];
+    let mut lines = Lines::new(FaultySource::new(INPUT, 1, set_call as u64));
+    let mut sink = MemorySink::new(&mut buffer);
+    let outcome = run_stream(alloc, &Setup::default(), &mut lines, &mut sink);
+    let written = replies_within(set_call.saturating_sub(1));
+    expect_outcome(rt, outcome, Err(BenchFault::Read), set_call as u64);
+    expect_bytes(rt, sink.bytes(), written, set_call as u64);
 }
 
 #[test]
 fn stops_at_a_failed_read(rt: HostRuntime) {
     for set_call in 1..=INPUT.len() + 1 {
-        let mut buffer = [0u8; 128];
-        let mut lines = Lines::new(FaultySource::new(INPUT, 1, set_call as u64));
-        let mut sink = MemorySink::new(&mut buffer);
-        let outcome = run_stream(rt.alloc(), &Setup::default(), &mut lines, &mut sink);
-        assert_eq!(rt; outcome, Err(BenchFault::Read), "at {set_call}");
-        assert_eq!(rt; sink.bytes(), replies_within(set_call - 1), "at {set_call}");
+        fail_to_read(&rt, rt.alloc(), set_call);
     }
+}
+
+/// The sink takes one byte a call, and fails or takes nothing at a set call: what it took before that is written.
+fn fail_to_write(rt: &impl Abort, alloc: Global, set_call: usize, at_set_call: AtSetCall) {
+    let mut buffer = [0u8; 128];
+    let mut lines = Lines::new(MemorySource::new(INPUT));
+    let mut sink = FaultySink::new(&mut buffer, 1, set_call as u64, at_set_call);
+    let outcome = run_stream(alloc, &Setup::default(), &mut lines, &mut sink);
+    let written = &OUTPUT[..set_call.saturating_sub(1).min(OUTPUT.len())];
+    expect_outcome(rt, outcome, Err(BenchFault::Write), set_call as u64);
+    expect_bytes(rt, sink.bytes(), written, set_call as u64);
 }
 
 #[test]
 fn stops_at_a_failed_write(rt: HostRuntime) {
-    for at_set_call in [AtSetCall::Fail, AtSetCall::TakeNothing] {
-        for set_call in 1..=OUTPUT.len() {
-            let mut buffer = [0u8; 128];
-            let mut lines = Lines::new(MemorySource::new(INPUT));
-            let mut sink = FaultySink::new(&mut buffer, 1, set_call as u64, at_set_call);
-            let outcome = run_stream(rt.alloc(), &Setup::default(), &mut lines, &mut sink);
-            assert_eq!(rt; outcome, Err(BenchFault::Write), "at {set_call}");
-            assert_eq!(rt; sink.bytes(), &OUTPUT[..set_call - 1], "at {set_call}");
-        }
+    for set_call in 1..=OUTPUT.len() {
+        fail_to_write(&rt, rt.alloc(), set_call, AtSetCall::Fail);
+        fail_to_write(&rt, rt.alloc(), set_call, AtSetCall::TakeNothing);
     }
 }
 
@@ -166,8 +174,8 @@ fn stops_at_a_failed_flush(rt: HostRuntime) {
     let mut lines = Lines::new(MemorySource::new(INPUT));
     let mut sink = FaultySink::new(&mut buffer, 1000, 3, AtSetCall::Fail);
     let outcome = run_stream(rt.alloc(), &Setup::default(), &mut lines, &mut sink);
-    assert_eq!(rt; outcome, Err(BenchFault::Write));
-    assert_eq!(rt; sink.bytes(), OUTPUT);
+    expect_outcome(&rt, outcome, Err(BenchFault::Write), 0);
+    expect_bytes(&rt, sink.bytes(), OUTPUT, 0);
 }
 
 #[test]
@@ -176,82 +184,79 @@ fn stops_at_a_full_sink(rt: HostRuntime) {
     let mut lines = Lines::new(MemorySource::new(INPUT));
     let mut sink = MemorySink::new(&mut buffer);
     let outcome = run_stream(rt.alloc(), &Setup::default(), &mut lines, &mut sink);
-    assert_eq!(rt; outcome, Err(BenchFault::Write));
-    assert_eq!(rt; sink.bytes(), &OUTPUT[..60]);
+    expect_outcome(&rt, outcome, Err(BenchFault::Write), 0);
+    expect_bytes(&rt, sink.bytes(), &OUTPUT[..60], 0);
+}
+
+/// The refusal of an input over a RAM of a size, before anything is written.
+fn expect_refusal(rt: &impl Abort, alloc: Global, input: &[u8], ram: u32, want: BenchFault) {
+    let setup = Setup {
+        ram,
+        ..Setup::default()
+    };
+    expect_stream(rt, alloc, &setup, input, Err(want), b"");
 }
 
 #[test]
 fn refuses_in_order(rt: HostRuntime) {
-    let lawful = Setup {
-        ram: 65536,
-        ..Setup::default()
-    };
-    let unlawful = Setup {
-        ram: 1000,
-        ..Setup::default()
-    };
-    let cases: [(&[u8], Setup, BenchFault); 6] = [
-        (b"abc\n--\nreg 0\n", unlawful, BenchFault::Hex),
-        (
-            b"7f454c46\n--\nreg 0\n",
-            unlawful,
-            BenchFault::Ram(RamFault::BadSize),
-        ),
-        (
-            b"7f454c46\n--\nreg 0\n",
-            lawful,
-            BenchFault::Image(ElfFault::Truncated),
-        ),
-        (
-            b"00\n--\nreg 0\n",
-            unlawful,
-            BenchFault::Ram(RamFault::BadSize),
-        ),
-        (b"0\n--\nreg 0\n", lawful, BenchFault::Hex),
-        (b"00 00\n", lawful, BenchFault::Hex),
+    let bad_size = BenchFault::Ram(RamFault::BadSize);
+    let truncated = BenchFault::Image(ElfFault::Truncated);
+    let cases: [(&[u8], u32, BenchFault); 6] = [
+        (b"abc\n--\nreg 0\n", 1000, BenchFault::Hex),
+        (b"7f454c46\n--\nreg 0\n", 1000, bad_size),
+        (b"7f454c46\n--\nreg 0\n", 65536, truncated),
+        (b"00\n--\nreg 0\n", 1000, bad_size),
+        (b"0\n--\nreg 0\n", 65536, BenchFault::Hex),
+        (b"00 00\n", 65536, BenchFault::Hex),
     ];
-    for (input, setup, want) in cases {
-        let mut buffer = [0u8; 128];
-        let mut lines = Lines::new(MemorySource::new(input));
-        let mut sink = MemorySink::new(&mut buffer);
-        assert_eq!(rt;
-            run_stream(rt.alloc(), &setup, &mut lines, &mut sink),
-            Err(want)
-        );
-        assert!(rt; sink.bytes().is_empty());
+    for (input, ram, want) in cases {
+        expect_refusal(&rt, rt.alloc(), input, ram, want);
     }
 }
 
-#[test]
-fn refuses_an_image_past_the_ram(rt: HostRuntime) {
+/// Loads an image into a RAM of 65536 bytes, and asks for its last byte: how it ends, and what is written.
+fn expect_last_byte(
+    rt: &impl Abort,
+    alloc: Global,
+    image: &[u8],
+    want: Result<(), BenchFault>,
+    written: &[u8],
+) {
     let setup = Setup {
         ram: 65536,
         ..Setup::default()
     };
+    let mut buffer = [0u8; 128];
+    let mut lines = Lines::new(MemorySource::new(b"mem 8000ffff 1\n"));
+    let mut sink = MemorySink::new(&mut buffer);
+    let outcome = run_bench(alloc, image, &setup, &mut lines, &mut sink);
+    expect_outcome(rt, outcome, want, image.len() as u64);
+    expect_bytes(rt, sink.bytes(), written, image.len() as u64);
+}
+
+#[test]
+fn refuses_an_image_past_the_ram(rt: HostRuntime) {
     let image = [0x11u8; 65537];
-    for (len, want) in [
-        (65536usize, Ok(())),
-        (65537, Err(BenchFault::Image(ElfFault::SegmentOutside))),
-    ] {
-        let mut buffer = [0u8; 128];
-        let mut lines = Lines::new(MemorySource::new(b"mem 8000ffff 1\n"));
-        let mut sink = MemorySink::new(&mut buffer);
-        let outcome = run_bench(rt.alloc(), &image[..len], &setup, &mut lines, &mut sink);
-        assert_eq!(rt; outcome, want);
-        let written: &[u8] = if want.is_ok() { b"8000ffff: 11\n" } else { b"" };
-        assert_eq!(rt; sink.bytes(), written);
-    }
+    expect_last_byte(&rt, rt.alloc(), &image[..65536], Ok(()), b"8000ffff: 11\n");
+    let fault = BenchFault::Image(ElfFault::SegmentOutside);
+    expect_last_byte(&rt, rt.alloc(), &image, Err(fault), b"");
+}
+
+/// Whether a RAM can be made of a size, and has it.
+fn is_made(alloc: Global, size: u32) -> Result<bool, RamFault> {
+    let ram = Ram::new(alloc, size)?;
+    Ok(ram.size() == size)
 }
 
 #[test]
 fn makes_memories_of_lawful_sizes(rt: HostRuntime) {
     for size in [65536u32, 131_072, 16_777_216] {
-        assert_eq!(rt; Ram::new(rt.alloc(), size).map(|ram| ram.size()), Ok(size));
+        assert!(rt; is_made(rt.alloc(), size) == Ok(true), "{size}");
     }
     for size in [0u32, 1, 65535, 65537, 16_777_217, 16_842_752, u32::MAX] {
-        assert_eq!(rt;
-            Ram::new(rt.alloc(), size).map(|ram| ram.size()),
-            Err(RamFault::BadSize)
+        assert!(rt;
+            is_made(rt.alloc(), size) == Err(RamFault::BadSize),
+            "{size}"
         );
     }
 }

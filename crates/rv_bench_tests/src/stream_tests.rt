@@ -1,4 +1,7 @@
 //! Lines, texts and images over devices that move few bytes a call and fail.
+use crate::expecting::{
+    expect_beginning, expect_bytes, expect_line, expect_no_line, expect_number,
+};
 use crate::faulty::{AtSetCall, FaultySink, FaultySource};
 use rv_asm::{AsmFault, AsmFaultKind};
 use rv_bench::{
@@ -7,8 +10,9 @@ use rv_bench::{
 };
 use rv_elf::ElfFault;
 use rv_memory::RamFault;
+use std::alloc::Global;
 use std::collections::VecDeque;
-use std::test::Fail;
+use std::process::Abort;
 
 const TEXT: &[u8] = b"00ff\r\n\n\r\nstep 1\rx\n--\nlast\r";
 
@@ -16,43 +20,74 @@ const PROGRAM: &[u8] = b"loop: addi x1, x1, -1\n bne x1, x0, loop\n";
 
 const IMAGE: &[u8] = b"9380f0ff\ne39e00fe\n";
 
-const LINES: [&[u8]; 6] = [b"00ff", b"", b"", b"step 1\rx", b"--", b"last\r"];
+const LINES: &[&[u8]] = &[b"00ff", b"", b"", b"step 1\rx", b"--", b"last\r"];
+
+/// The lines of the text, which comes in parts of at most so many bytes.
+fn expect_lines(rt: &impl Abort, most: usize) {
+    let mut lines = Lines::new(FaultySource::new(TEXT, most.max(1), 0));
+    for want in LINES {
+        expect_line(rt, &mut lines, want, most as u64);
+    }
+    expect_no_line(rt, &mut lines);
+    assert!(rt; lines.is_at_end());
+}
 
 #[test]
 fn reads_lines_in_parts(rt: HostRuntime) {
     for most in [1usize, 2, 3, 1000] {
-        let mut lines = Lines::new(FaultySource::new(TEXT, most, 0));
-        for want in LINES {
-            let line = lines
-                .next_line()
-                .expect(&rt, "a line")
-                .expect(&rt, "a line");
-            assert_eq!(rt; line.as_slice(), want, "at {most}");
-        }
-        assert!(rt; lines.next_line() == Ok(None));
-        assert!(rt; lines.is_at_end());
+        expect_lines(&rt, most);
     }
+}
+
+/// A line of these bytes, at the first call or, where that one fails, at the second; whether it failed.
+fn expect_line_in_two(
+    rt: &impl Abort,
+    lines: &mut Lines<FaultySource<'_>>,
+    want: &[u8],
+    case: u64,
+) -> bool {
+    let found = lines.next_line();
+    if found == Err(DeviceFault) {
+        expect_line(rt, lines, want, case);
+        return true;
+    }
+    let line = found.expect(rt, "a line").expect(rt, "a line");
+    expect_bytes(rt, line.as_slice(), want, case);
+    false
+}
+
+/// The lines of the text, where the source fails once, at a set call: no byte is lost.
+fn expect_lines_past(rt: &impl Abort, set_call: u64) {
+    let mut lines = Lines::new(FaultySource::new(TEXT, 1, set_call));
+    let mut failures = 0u64;
+    for want in LINES {
+        if expect_line_in_two(rt, &mut lines, want, set_call) {
+            failures = failures.saturating_add(1);
+        }
+    }
+    expect_number(rt, failures, 1, set_call);
+    expect_no_line(rt, &mut lines);
+    expect_number(rt, lines.source().calls(), TEXT.len() as u64 + 2, set_call);
+    assert!(rt; lines.into_source().rest().is_empty());
 }
 
 #[test]
 fn goes_on_after_a_failed_read(rt: HostRuntime) {
     for set_call in 1..=TEXT.len() as u64 + 1 {
-        let mut lines = Lines::new(FaultySource::new(TEXT, 1, set_call));
-        let mut failures = 0u64;
-        for want in LINES {
-            let mut found = lines.next_line();
-            if found == Err(DeviceFault) {
-                failures = failures.saturating_add(1);
-                found = lines.next_line();
-            }
-            let line = found.expect(&rt, "a line").expect(&rt, "a line");
-            assert_eq!(rt; line.as_slice(), want, "at {set_call}");
-        }
-        assert_eq!(rt; failures, 1u64, "at {set_call}");
-        assert!(rt; lines.next_line() == Ok(None));
-        assert_eq!(rt; lines.source().calls(), TEXT.len() as u64 + 2);
-        assert!(rt; lines.into_source().rest().is_empty());
+        expect_lines_past(&rt, set_call);
     }
+}
+
+/// How many bytes are shown of a line of so many, with an ending behind it.
+fn expect_shown(rt: &impl Abort, len: usize, ending: &[u8], shown: usize) {
+    let mut text = [b'a'; 502];
+    let end = len.saturating_add(ending.len());
+    text.get_mut(len..end)
+        .expect(rt, "room")
+        .copy_from_slice(ending);
+    let mut lines = Lines::new(MemorySource::new(text.get(..end).expect(rt, "room")));
+    expect_line(rt, &mut lines, &[b'a'; 121][..shown.min(121)], len as u64);
+    expect_no_line(rt, &mut lines);
 }
 
 #[test]
@@ -64,19 +99,21 @@ fn shows_the_front_of_a_long_line(rt: HostRuntime) {
         (122, 121),
         (500, 121),
     ] {
-        for ending in [b"\n".as_slice(), b"\r\n".as_slice(), b"".as_slice()] {
-            let mut text = [b'a'; 502];
-            let end = len + ending.len();
-            text[len..end].copy_from_slice(ending);
-            let mut lines = Lines::new(MemorySource::new(&text[..end]));
-            let line = lines
-                .next_line()
-                .expect(&rt, "a line")
-                .expect(&rt, "a line");
-            assert_eq!(rt; line.len(), shown, "of {len}");
-            assert!(rt; lines.next_line() == Ok(None));
-        }
+        expect_shown(&rt, len, b"\n", shown);
+        expect_shown(&rt, len, b"\r\n", shown);
+        expect_shown(&rt, len, b"", shown);
     }
+}
+
+/// The sink takes two bytes a call, and fails or takes nothing at a set call: what it took before that is written.
+fn fail_to_write(rt: &impl Abort, alloc: Global, set_call: u64, at_set_call: AtSetCall) {
+    let mut buffer = [0u8; 32];
+    let mut sink = FaultySink::new(&mut buffer, 2, set_call, at_set_call);
+    let mut source = MemorySource::new(PROGRAM);
+    assert!(rt; run_asm(alloc, &mut source, &mut sink) == Err(BenchFault::Write));
+    expect_beginning(rt, sink.bytes(), IMAGE, set_call);
+    let taken = set_call.saturating_sub(1).saturating_mul(2);
+    expect_number(rt, sink.bytes().len() as u64, taken, set_call);
 }
 
 #[test]
@@ -85,17 +122,11 @@ fn writes_words_in_parts(rt: HostRuntime) {
     let mut sink = FaultySink::new(&mut buffer, 2, 0, AtSetCall::Fail);
     let mut source = MemorySource::new(PROGRAM);
     assert!(rt; run_asm(rt.alloc(), &mut source, &mut sink).is_ok());
-    assert_eq!(rt; sink.bytes(), IMAGE);
-    assert_eq!(rt; sink.calls(), 10u64);
-    for at_set_call in [AtSetCall::Fail, AtSetCall::TakeNothing] {
-        for set_call in 1..=9u64 {
-            let mut buffer = [0u8; 32];
-            let mut sink = FaultySink::new(&mut buffer, 2, set_call, at_set_call);
-            let mut source = MemorySource::new(PROGRAM);
-            assert!(rt; run_asm(rt.alloc(), &mut source, &mut sink) == Err(BenchFault::Write));
-            assert!(rt; IMAGE.starts_with(sink.bytes()), "at {set_call}");
-            assert_eq!(rt; sink.bytes().len() as u64, 2 * (set_call - 1));
-        }
+    expect_bytes(&rt, sink.bytes(), IMAGE, 0);
+    expect_number(&rt, sink.calls(), 10, 0);
+    for set_call in 1..=9u64 {
+        fail_to_write(&rt, rt.alloc(), set_call, AtSetCall::Fail);
+        fail_to_write(&rt, rt.alloc(), set_call, AtSetCall::TakeNothing);
     }
 }
 
@@ -103,128 +134,150 @@ fn writes_words_in_parts(rt: HostRuntime) {
 fn a_full_sink_takes_nothing(rt: HostRuntime) {
     let mut buffer = [0u8; 5];
     let mut sink = MemorySink::new(&mut buffer);
-    assert_eq!(rt; sink.write_some(b"abc"), Ok(3));
-    assert_eq!(rt; sink.write_some(b"def"), Ok(2));
-    assert_eq!(rt; sink.write_some(b"f"), Ok(0));
+    for (part, taken) in [(b"abc".as_slice(), 3), (b"def", 2), (b"f", 0)] {
+        assert!(rt; sink.write_some(part) == Ok(taken));
+    }
     let mut source = MemorySource::new(PROGRAM);
     assert!(rt; run_asm(rt.alloc(), &mut source, &mut sink) == Err(BenchFault::Write));
-    assert_eq!(rt; sink.bytes(), b"abcde".as_slice());
+    expect_bytes(&rt, sink.bytes(), b"abcde", 0);
+}
+
+/// A text, its bytes or none where it is faulty, and what is left of it.
+const TEXTS: &[(&[u8], Option<&[u8]>, &[u8])] = &[
+    (b"", Some(b""), b""),
+    (
+        b"9300f0ff\n--\nstep 1\n",
+        Some(b"\x93\x00\xf0\xff"),
+        b"step 1\n",
+    ),
+    (
+        b"9300\r\n\nF0fF\r\n--\r\n--\n",
+        Some(b"\x93\x00\xf0\xff"),
+        b"--\n",
+    ),
+    (b" \t00\t \n\t--  \nx", Some(b"\x00"), b"x"),
+    (b"00\n--", Some(b"\x00"), b""),
+    (b"00", Some(b"\x00"), b""),
+    (b"abc", None, b""),
+    (b"zz\n--\n", None, b"--\n"),
+    (b"00 00\n", None, b""),
+    (b"00\n-- x\n", None, b""),
+    (b"--x\n", None, b""),
+    (b"# 00\n", None, b""),
+    (b"-\n", None, b""),
+    (b"00\r", None, b""),
+    (b"00\x0b\n", None, b""),
+    (b"00\xa0\n", None, b""),
+];
+
+/// Reads an image from a text: its bytes, or none where it is faulty, and what is left of the text.
+fn expect_image(rt: &impl Abort, alloc: Global, text: &[u8], want: Option<&[u8]>, rest: &[u8]) {
+    let mut lines = Lines::new(MemorySource::new(text));
+    match (read_image(alloc, &mut lines), want) {
+        (Ok(image), Some(bytes)) => expect_bytes(rt, image.as_slice(), bytes, 0),
+        (Err(fault), None) => assert!(rt; fault == BenchFault::Hex),
+        _ => panic!(rt; "another answer"),
+    }
+    expect_bytes(rt, lines.source().rest(), rest, 0);
 }
 
 #[test]
 fn reads_an_image(rt: HostRuntime) {
-    let cases: [(&[u8], Result<&[u8], BenchFault>, &[u8]); 16] = [
-        (b"", Ok(b""), b""),
-        (
-            b"9300f0ff\n--\nstep 1\n",
-            Ok(b"\x93\x00\xf0\xff"),
-            b"step 1\n",
-        ),
-        (
-            b"9300\r\n\nF0fF\r\n--\r\n--\n",
-            Ok(b"\x93\x00\xf0\xff"),
-            b"--\n",
-        ),
-        (b" \t00\t \n\t--  \nx", Ok(b"\x00"), b"x"),
-        (b"00\n--", Ok(b"\x00"), b""),
-        (b"00", Ok(b"\x00"), b""),
-        (b"abc", Err(BenchFault::Hex), b""),
-        (b"zz\n--\n", Err(BenchFault::Hex), b"--\n"),
-        (b"00 00\n", Err(BenchFault::Hex), b""),
-        (b"00\n-- x\n", Err(BenchFault::Hex), b""),
-        (b"--x\n", Err(BenchFault::Hex), b""),
-        (b"# 00\n", Err(BenchFault::Hex), b""),
-        (b"-\n", Err(BenchFault::Hex), b""),
-        (b"00\r", Err(BenchFault::Hex), b""),
-        (b"00\x0b\n", Err(BenchFault::Hex), b""),
-        (b"00\xa0\n", Err(BenchFault::Hex), b""),
-    ];
-    for (text, want, rest) in cases {
-        let mut lines = Lines::new(MemorySource::new(text));
-        match (read_image(rt.alloc(), &mut lines), want) {
-            (Ok(image), Ok(bytes)) => assert_eq!(rt; image.as_slice(), bytes),
-            (Err(fault), Err(other)) => assert_eq!(rt; fault, other),
-            _ => panic!(rt; "another answer"),
+    for (text, want, rest) in TEXTS {
+        expect_image(&rt, rt.alloc(), text, *want, rest);
+    }
+}
+
+/// Whether `--`, spaces up to so many bytes, and a line feed are the line that ends an image.
+fn ends_image(rt: &impl Abort, alloc: Global, len: usize) -> bool {
+    let mut text = [b' '; 122];
+    text[0] = b'-';
+    text[1] = b'-';
+    text[len.min(121)] = b'\n';
+    let text = text.get(..len.saturating_add(1)).expect(rt, "room");
+    let mut lines = Lines::new(MemorySource::new(text));
+    match read_image(alloc, &mut lines) {
+        Ok(_) => true,
+        Err(fault) => {
+            assert!(rt; fault == BenchFault::Hex);
+            false
         }
-        assert_eq!(rt; lines.source().rest(), rest);
     }
 }
 
 #[test]
 fn a_padded_separator_is_a_bad_line(rt: HostRuntime) {
-    let mut text = [b' '; 122];
-    text[0] = b'-';
-    text[1] = b'-';
-    text[120] = b'\n';
-    let mut lines = Lines::new(MemorySource::new(&text[..121]));
-    assert!(rt; read_image(rt.alloc(), &mut lines).is_ok());
-    text[120] = b' ';
-    text[121] = b'\n';
-    let mut lines = Lines::new(MemorySource::new(&text));
-    assert!(rt; read_image(rt.alloc(), &mut lines) == Err(BenchFault::Hex));
+    assert!(rt; ends_image(&rt, rt.alloc(), 120));
+    assert!(rt; !ends_image(&rt, rt.alloc(), 121));
+}
+
+/// What is answered to an image whose source fails at a set call.
+fn read_with(alloc: Global, set_call: u64) -> Result<(), BenchFault> {
+    let text = b"9300\nf0ff\n--\nstep";
+    let mut lines = Lines::new(FaultySource::new(text, 1, set_call));
+    read_image(alloc, &mut lines)?;
+    Ok(())
 }
 
 #[test]
 fn an_image_stops_at_a_failed_read(rt: HostRuntime) {
-    let text = b"9300\nf0ff\n--\nstep";
     for set_call in 1..=13 {
-        let mut lines = Lines::new(FaultySource::new(text, 1, set_call));
         assert!(rt;
-            read_image(rt.alloc(), &mut lines) == Err(BenchFault::Read),
+            read_with(rt.alloc(), set_call) == Err(BenchFault::Read),
             "at {set_call}"
         );
     }
-    let mut lines = Lines::new(FaultySource::new(text, 1, 14));
-    assert!(rt; read_image(rt.alloc(), &mut lines).is_ok());
+    assert!(rt; read_with(rt.alloc(), 14).is_ok());
 }
 
-#[test]
-fn streams_of_std_pass_all_bytes(rt: HostRuntime) -> Result<(), Fail> {
-    let mut queue = VecDeque::new(rt.alloc());
-    let mut sink = StandardSink::new(&mut queue);
+/// Writes a thousand lines to a queue.
+fn write_lines(rt: &impl Abort, queue: &mut VecDeque<u8>) {
+    let mut sink = StandardSink::new(queue);
     for _ in 0..1000 {
-        assert_eq!(rt; sink.write_some(b"0123456789\n"), Ok(11));
+        assert!(rt; sink.write_some(b"0123456789\n") == Ok(11));
     }
     assert!(rt; sink.flush().is_ok());
-    drop(sink);
-    assert_eq!(rt; queue.len(), 11000usize);
-    let mut lines = Lines::new(StandardSource::new(queue));
-    for _ in 0..1000 {
-        let line = lines
-            .next_line()
-            .expect(&rt, "a line")
-            .expect(&rt, "a line");
-        assert_eq!(rt; line.as_slice(), b"0123456789".as_slice());
-    }
-    assert!(rt; lines.next_line() == Ok(None));
-    Ok(())
 }
 
 #[test]
-fn faults_show_their_lines(rt: HostRuntime) -> Result<(), Fail> {
-    for (fault, number, line) in [
-        (
-            BenchFault::Image(ElfFault::BadEntry),
-            1,
-            "rvbench: image 11",
-        ),
-        (BenchFault::Ram(RamFault::BadSize), 2, "rvbench: ram 1"),
-        (BenchFault::Read, 3, "rvbench: read"),
-        (BenchFault::Write, 4, "rvbench: write"),
-        (BenchFault::Hex, 5, "rvbench: hex"),
-        (BenchFault::TooLong, 6, "rvbench: too long"),
-        (BenchFault::NoMemory, 7, "rvbench: memory"),
-        (
-            BenchFault::Asm(AsmFault {
-                line: 12,
-                kind: AsmFaultKind::LabelTwice,
-            }),
-            8,
-            "rvbench: line 12 fault 6",
-        ),
-    ] {
-        assert_eq!(rt; fault.number(), number);
-        assert_eq!(rt; format!(in rt.alloc(); "{fault}")?.as_str(), line);
+fn streams_of_std_pass_all_bytes(rt: HostRuntime) {
+    let mut queue = VecDeque::new(rt.alloc());
+    write_lines(&rt, &mut queue);
+    assert!(rt; queue.len() == 11000usize);
+    let mut lines = Lines::new(StandardSource::new(queue));
+    for _ in 0..1000 {
+        expect_line(&rt, &mut lines, b"0123456789", 0);
     }
-    Ok(())
+    expect_no_line(&rt, &mut lines);
+}
+
+/// The number of a fault, and its line.
+fn expect_fault(rt: &impl Abort, alloc: Global, fault: BenchFault, number: u64, line: &[u8]) {
+    expect_number(rt, u64::from(fault.number()), number, number);
+    let shown = format!(in alloc; "{fault}").expect(rt, "memory");
+    expect_bytes(rt, shown.as_bytes(), line, number);
+}
+
+#[test]
+fn faults_show_their_lines(rt: HostRuntime) {
+    let image = BenchFault::Image(ElfFault::BadEntry);
+    let ram = BenchFault::Ram(RamFault::BadSize);
+    let asm = BenchFault::Asm(AsmFault {
+        line: 12,
+        kind: AsmFaultKind::LabelTwice,
+    });
+    expect_fault(&rt, rt.alloc(), image, 1, b"rvbench: image 11");
+    expect_fault(&rt, rt.alloc(), ram, 2, b"rvbench: ram 1");
+    expect_fault(&rt, rt.alloc(), BenchFault::Read, 3, b"rvbench: read");
+    expect_fault(&rt, rt.alloc(), BenchFault::Write, 4, b"rvbench: write");
+    expect_fault(&rt, rt.alloc(), BenchFault::Hex, 5, b"rvbench: hex");
+    expect_fault(
+        &rt,
+        rt.alloc(),
+        BenchFault::TooLong,
+        6,
+        b"rvbench: too long",
+    );
+    expect_fault(&rt, rt.alloc(), BenchFault::NoMemory, 7, b"rvbench: memory");
+    expect_fault(&rt, rt.alloc(), asm, 8, b"rvbench: line 12 fault 6");
 }

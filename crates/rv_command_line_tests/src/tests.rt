@@ -1,6 +1,7 @@
 //! The command line, word by word.
 use rv_command_line::{ImageKind, Job, Setup, WordsFault, read_words};
-use std::test::Fail;
+use std::alloc::Global;
+use std::process::Abort;
 
 /// What words are answered with; the text of help apart.
 #[derive(Clone, Copy, Debug, PartialEq, Eq)]
@@ -11,378 +12,540 @@ enum Answer {
 }
 
 /// The answer to words. Refused memory fails the test.
-fn answer_to(rt: &HostRuntime, words: &[&str]) -> Result<Answer, Fail> {
-    match read_words(rt.alloc(), words) {
-        Ok(job) => Ok(Answer::Named(job)),
-        Err(WordsFault::Refused) => Ok(Answer::Refused),
-        Err(WordsFault::Help(_)) => Ok(Answer::Help),
-        Err(WordsFault::NoMemory) => Err("memory".into()),
+fn answer_to(rt: &impl Abort, alloc: Global, words: &[&str]) -> Answer {
+    match read_words(alloc, words) {
+        Ok(job) => Answer::Named(job),
+        Err(WordsFault::Refused) => Answer::Refused,
+        Err(WordsFault::Help(_)) => Answer::Help,
+        Err(WordsFault::NoMemory) => panic!(rt; "memory"),
+    }
+}
+
+/// Words that have this answer. The assertion stands here alone: in each test it would make its proof long.
+fn expect_answer(rt: &impl Abort, alloc: Global, words: &[&str], want: Answer) {
+    let answer = answer_to(rt, alloc, &*words);
+    let last = words.last().copied().unwrap_or("");
+    assert_eq!(rt; answer, want, "at {last}");
+}
+
+/// Words that are refused.
+fn expect_refusals(rt: &impl Abort, alloc: Global, cases: &[&[&str]]) {
+    for words in cases {
+        expect_answer(rt, alloc, words, Answer::Refused);
     }
 }
 
 /// The help that words ask for.
-fn help(rt: &HostRuntime, words: &[&str]) -> Result<String, Fail> {
-    match read_words(rt.alloc(), words) {
-        Err(WordsFault::Help(text)) => Ok(text),
-        Err(WordsFault::NoMemory) => Err("memory".into()),
-        _ => Err("help".into()),
+fn help(rt: &impl Abort, alloc: Global, words: &[&str]) -> String {
+    match read_words(alloc, words) {
+        Err(WordsFault::Help(text)) => text,
+        _ => panic!(rt; "no help"),
     }
 }
 
-/// A run with an image of this kind and so much RAM.
-fn run_with(kind: ImageKind, ram: u32) -> Answer {
-    Answer::Named(Job::Run(Setup {
-        kind,
-        ram,
-        monitored: false,
-    }))
+/// Words that ask for a help with these parts.
+fn expect_help(rt: &impl Abort, alloc: Global, words: &[&str], parts: &[&str]) {
+    let text = help(rt, alloc, words);
+    for part in parts {
+        assert!(rt; text.contains(*part), "at {part}");
+    }
 }
 
-/// A run with so much RAM.
-fn run(ram: u32) -> Answer {
-    run_with(ImageKind::Auto, ram)
+/// Words that name a run with an image of a kind, so much RAM, and the monitor or not.
+type RunRow = (&'static [&'static str], ImageKind, u32, bool);
+
+/// Words that name runs.
+fn expect_runs(rt: &impl Abort, alloc: Global, rows: &[RunRow]) {
+    for (words, kind, ram, monitored) in rows {
+        let setup = Setup {
+            kind: *kind,
+            ram: *ram,
+            monitored: *monitored,
+        };
+        expect_answer(rt, alloc, words, Answer::Named(Job::Run(setup)));
+    }
 }
+
+const NAMES_JOBS: &[RunRow] = &[
+    (&[], ImageKind::Auto, 1_048_576, false),
+    (&["rvbench"], ImageKind::Auto, 1_048_576, false),
+    (&["rvbench", "run"], ImageKind::Auto, 1_048_576, false),
+    (
+        &["rvbench", "run", "--ram", "65536"],
+        ImageKind::Auto,
+        65_536,
+        false,
+    ),
+    (
+        &["rvbench", "run", "--ram=65536"],
+        ImageKind::Auto,
+        65_536,
+        false,
+    ),
+    (&["rvbench", "run", "--ram", "0"], ImageKind::Auto, 0, false),
+    (
+        &["rvbench", "run", "--ram", "4294967295"],
+        ImageKind::Auto,
+        4_294_967_295,
+        false,
+    ),
+    (
+        &["rvbench", "run", "--ram", "+65537"],
+        ImageKind::Auto,
+        65_537,
+        false,
+    ),
+    (
+        &["rvbench", "run", "--ram", "0065537"],
+        ImageKind::Auto,
+        65_537,
+        false,
+    ),
+];
 
 #[test]
-fn names_jobs(rt: HostRuntime) -> Result<(), Fail> {
-    let cases: [(&[&str], Answer); 12] = [
-        (&[], run(1_048_576)),
-        (&["rvbench"], run(1_048_576)),
-        (&["rvbench", "run"], run(1_048_576)),
-        (&["rvbench", "run", "--ram", "65536"], run(65_536)),
-        (&["rvbench", "run", "--ram=65536"], run(65_536)),
-        (&["rvbench", "run", "--ram", "0"], run(0)),
-        (
-            &["rvbench", "run", "--ram", "4294967295"],
-            run(4_294_967_295),
-        ),
-        (&["rvbench", "run", "--ram", "+65537"], run(65_537)),
-        (&["rvbench", "run", "--ram", "0065537"], run(65_537)),
-        (&["rvbench", "asm"], Answer::Named(Job::Asm)),
-        (&["rvbench", "dis"], Answer::Named(Job::Dis)),
-        (&["./another/name", "dis"], Answer::Named(Job::Dis)),
-    ];
-    for (words, want) in cases {
-        assert_eq!(rt; answer_to(&rt, words)?, want, "at {words:?}");
-    }
-    Ok(())
+fn names_jobs(rt: HostRuntime) {
+    expect_runs(&rt, rt.alloc(), NAMES_JOBS);
+    let asm = Answer::Named(Job::Asm);
+    expect_answer(&rt, rt.alloc(), &["rvbench", "asm"], asm);
+    let dis = Answer::Named(Job::Dis);
+    expect_answer(&rt, rt.alloc(), &["rvbench", "dis"], dis);
+    expect_answer(&rt, rt.alloc(), &["./another/name", "dis"], dis);
 }
+
+const NAMES_KINDS: &[RunRow] = &[
+    (
+        &["rvbench", "run", "--kind", "auto"],
+        ImageKind::Auto,
+        1_048_576,
+        false,
+    ),
+    (
+        &["rvbench", "run", "--kind=auto"],
+        ImageKind::Auto,
+        1_048_576,
+        false,
+    ),
+    (
+        &["rvbench", "run", "--kind", "auto", "--ram", "65536"],
+        ImageKind::Auto,
+        65_536,
+        false,
+    ),
+    (
+        &["rvbench", "run", "--ram", "65536", "--kind", "auto"],
+        ImageKind::Auto,
+        65_536,
+        false,
+    ),
+    (
+        &["rvbench", "run", "--kind=auto", "--ram=65536"],
+        ImageKind::Auto,
+        65_536,
+        false,
+    ),
+    (
+        &["rvbench", "run", "--ram=65536", "--kind=auto"],
+        ImageKind::Auto,
+        65_536,
+        false,
+    ),
+    (
+        &["rvbench", "run", "--kind", "raw"],
+        ImageKind::Raw,
+        1_048_576,
+        false,
+    ),
+    (
+        &["rvbench", "run", "--kind=raw"],
+        ImageKind::Raw,
+        1_048_576,
+        false,
+    ),
+    (
+        &["rvbench", "run", "--kind", "raw", "--ram", "65536"],
+        ImageKind::Raw,
+        65_536,
+        false,
+    ),
+    (
+        &["rvbench", "run", "--ram", "65536", "--kind", "raw"],
+        ImageKind::Raw,
+        65_536,
+        false,
+    ),
+    (
+        &["rvbench", "run", "--kind=raw", "--ram=65536"],
+        ImageKind::Raw,
+        65_536,
+        false,
+    ),
+    (
+        &["rvbench", "run", "--ram=65536", "--kind=raw"],
+        ImageKind::Raw,
+        65_536,
+        false,
+    ),
+    (
+        &["rvbench", "run", "--kind", "elf"],
+        ImageKind::Elf,
+        1_048_576,
+        false,
+    ),
+    (
+        &["rvbench", "run", "--kind=elf"],
+        ImageKind::Elf,
+        1_048_576,
+        false,
+    ),
+    (
+        &["rvbench", "run", "--kind", "elf", "--ram", "65536"],
+        ImageKind::Elf,
+        65_536,
+        false,
+    ),
+    (
+        &["rvbench", "run", "--ram", "65536", "--kind", "elf"],
+        ImageKind::Elf,
+        65_536,
+        false,
+    ),
+    (
+        &["rvbench", "run", "--kind=elf", "--ram=65536"],
+        ImageKind::Elf,
+        65_536,
+        false,
+    ),
+    (
+        &["rvbench", "run", "--ram=65536", "--kind=elf"],
+        ImageKind::Elf,
+        65_536,
+        false,
+    ),
+];
 
 #[test]
-fn names_kinds(rt: HostRuntime) -> Result<(), Fail> {
-    let cases: [(&str, &str, ImageKind); 3] = [
-        ("auto", "--kind=auto", ImageKind::Auto),
-        ("raw", "--kind=raw", ImageKind::Raw),
-        ("elf", "--kind=elf", ImageKind::Elf),
-    ];
-    for (name, word, kind) in cases {
-        let alone = run_with(kind, 1_048_576);
-        let both = run_with(kind, 65_536);
-        let lines: [(&[&str], Answer); 6] = [
-            (&["rvbench", "run", "--kind", name], alone),
-            (&["rvbench", "run", word], alone),
-            (&["rvbench", "run", "--kind", name, "--ram", "65536"], both),
-            (&["rvbench", "run", "--ram", "65536", "--kind", name], both),
-            (&["rvbench", "run", word, "--ram=65536"], both),
-            (&["rvbench", "run", "--ram=65536", word], both),
-        ];
-        for (words, want) in lines {
-            assert_eq!(rt; answer_to(&rt, words)?, want, "at {words:?}");
-        }
-    }
-    Ok(())
+fn names_kinds(rt: HostRuntime) {
+    expect_runs(&rt, rt.alloc(), NAMES_KINDS);
 }
 
-/// A run above the monitor with an image of this kind and so much RAM.
-fn monitored(kind: ImageKind, ram: u32) -> Answer {
-    Answer::Named(Job::Run(Setup {
-        kind,
-        ram,
-        monitored: true,
-    }))
-}
+const NAMES_THE_MONITOR: &[RunRow] = &[
+    (
+        &["rvbench", "run", "--monitor"],
+        ImageKind::Auto,
+        1_048_576,
+        true,
+    ),
+    (
+        &["rvbench", "run", "--monitor", "--ram", "65536"],
+        ImageKind::Auto,
+        65_536,
+        true,
+    ),
+    (
+        &["rvbench", "run", "--ram=65536", "--monitor"],
+        ImageKind::Auto,
+        65_536,
+        true,
+    ),
+    (
+        &["rvbench", "run", "--kind", "elf", "--monitor"],
+        ImageKind::Elf,
+        1_048_576,
+        true,
+    ),
+    (
+        &["rvbench", "run", "--monitor", "--kind=raw"],
+        ImageKind::Raw,
+        1_048_576,
+        true,
+    ),
+    (
+        &["rvbench", "run", "--kind", "raw", "--monitor", "--ram", "0"],
+        ImageKind::Raw,
+        0,
+        true,
+    ),
+    (
+        &["rvbench", "run", "--ram", "0", "--kind", "raw"],
+        ImageKind::Raw,
+        0,
+        false,
+    ),
+];
 
 #[test]
-fn names_the_monitor(rt: HostRuntime) -> Result<(), Fail> {
-    let cases: [(&[&str], Answer); 7] = [
-        (
-            &["rvbench", "run", "--monitor"],
-            monitored(ImageKind::Auto, 1_048_576),
-        ),
-        (
-            &["rvbench", "run", "--monitor", "--ram", "65536"],
-            monitored(ImageKind::Auto, 65_536),
-        ),
-        (
-            &["rvbench", "run", "--ram=65536", "--monitor"],
-            monitored(ImageKind::Auto, 65_536),
-        ),
-        (
-            &["rvbench", "run", "--kind", "elf", "--monitor"],
-            monitored(ImageKind::Elf, 1_048_576),
-        ),
-        (
-            &["rvbench", "run", "--monitor", "--kind=raw"],
-            monitored(ImageKind::Raw, 1_048_576),
-        ),
-        (
-            &["rvbench", "run", "--kind", "raw", "--monitor", "--ram", "0"],
-            monitored(ImageKind::Raw, 0),
-        ),
-        (
-            &["rvbench", "run", "--ram", "0", "--kind", "raw"],
-            run_with(ImageKind::Raw, 0),
-        ),
-    ];
-    for (words, want) in cases {
-        assert_eq!(rt; answer_to(&rt, words)?, want, "at {words:?}");
-    }
-    Ok(())
+fn names_the_monitor(rt: HostRuntime) {
+    expect_runs(&rt, rt.alloc(), NAMES_THE_MONITOR);
 }
+
+const REFUSES_THE_MONITOR: &[&[&str]] = &[
+    &["rvbench", "--monitor"],
+    &["rvbench", "--monitor", "run"],
+    &["rvbench", "run", "--monitor", "--monitor"],
+    &["rvbench", "run", "--monitor", "--ram", "65536", "--monitor"],
+    &["rvbench", "run", "--monitor="],
+    &["rvbench", "run", "--monitor=true"],
+    &["rvbench", "run", "--monitor=false"],
+    &["rvbench", "run", "--monitor", "true"],
+    &["rvbench", "run", "--monitor", "false"],
+    &["rvbench", "run", "--monito"],
+    &["rvbench", "run", "--monitored"],
+    &["rvbench", "run", "--Monitor"],
+    &["rvbench", "run", "--no-monitor"],
+    &["rvbench", "run", "-m"],
+    &["rvbench", "run", "monitor"],
+    &["rvbench", "run", "--", "--monitor"],
+    &["rvbench", "run", "--ram", "--monitor"],
+    &["rvbench", "run", "--kind", "--monitor"],
+    &["rvbench", "asm", "--monitor"],
+    &["rvbench", "dis", "--monitor"],
+];
 
 /// It stands once, behind `run`, by its whole name, and takes no value.
 #[test]
-fn refuses_the_monitor(rt: HostRuntime) -> Result<(), Fail> {
-    let cases: [&[&str]; 20] = [
-        &["rvbench", "--monitor"],
-        &["rvbench", "--monitor", "run"],
-        &["rvbench", "run", "--monitor", "--monitor"],
-        &["rvbench", "run", "--monitor", "--ram", "65536", "--monitor"],
-        &["rvbench", "run", "--monitor="],
-        &["rvbench", "run", "--monitor=true"],
-        &["rvbench", "run", "--monitor=false"],
-        &["rvbench", "run", "--monitor", "true"],
-        &["rvbench", "run", "--monitor", "false"],
-        &["rvbench", "run", "--monito"],
-        &["rvbench", "run", "--monitored"],
-        &["rvbench", "run", "--Monitor"],
-        &["rvbench", "run", "--no-monitor"],
-        &["rvbench", "run", "-m"],
-        &["rvbench", "run", "monitor"],
-        &["rvbench", "run", "--", "--monitor"],
-        &["rvbench", "run", "--ram", "--monitor"],
-        &["rvbench", "run", "--kind", "--monitor"],
-        &["rvbench", "asm", "--monitor"],
-        &["rvbench", "dis", "--monitor"],
-    ];
-    for words in cases {
-        assert_eq!(rt; answer_to(&rt, words)?, Answer::Refused, "at {words:?}");
-    }
-    Ok(())
+fn refuses_the_monitor(rt: HostRuntime) {
+    expect_refusals(&rt, rt.alloc(), REFUSES_THE_MONITOR);
 }
 
-/// Two benches with an image of this kind and so much RAM, which differ in the enclave of this slot.
-fn twin(kind: ImageKind, ram: u32, slot: u8) -> Answer {
-    let setup = Setup {
-        kind,
-        ram,
-        monitored: true,
-    };
-    Answer::Named(Job::Twin(setup, slot))
-}
+/// Words that name two benches with an image of a kind and so much RAM, which differ in the enclave of a slot.
+type TwinRow = (&'static [&'static str], ImageKind, u32, u8);
+
+const NAMES_TWINS: &[TwinRow] = &[
+    (&["rvbench", "twin"], ImageKind::Auto, 1_048_576, 0),
+    (
+        &["rvbench", "twin", "--slot", "0"],
+        ImageKind::Auto,
+        1_048_576,
+        0,
+    ),
+    (
+        &["rvbench", "twin", "--slot", "1"],
+        ImageKind::Auto,
+        1_048_576,
+        1,
+    ),
+    (
+        &["rvbench", "twin", "--slot=12"],
+        ImageKind::Auto,
+        1_048_576,
+        12,
+    ),
+    (
+        &["rvbench", "twin", "--slot", "+7"],
+        ImageKind::Auto,
+        1_048_576,
+        7,
+    ),
+    (
+        &["rvbench", "twin", "--slot", "0012"],
+        ImageKind::Auto,
+        1_048_576,
+        12,
+    ),
+    (
+        &["rvbench", "twin", "--ram", "65536"],
+        ImageKind::Auto,
+        65_536,
+        0,
+    ),
+    (
+        &["rvbench", "twin", "--ram", "4294967295", "--slot", "3"],
+        ImageKind::Auto,
+        4_294_967_295,
+        3,
+    ),
+    (
+        &["rvbench", "twin", "--kind", "elf"],
+        ImageKind::Elf,
+        1_048_576,
+        0,
+    ),
+    (
+        &["rvbench", "twin", "--kind=raw", "--slot=5", "--ram=0"],
+        ImageKind::Raw,
+        0,
+        5,
+    ),
+    (
+        &[
+            "rvbench", "twin", "--slot", "5", "--ram", "0", "--kind", "raw",
+        ],
+        ImageKind::Raw,
+        0,
+        5,
+    ),
+    (
+        &["./another/name", "twin", "--slot", "2"],
+        ImageKind::Auto,
+        1_048_576,
+        2,
+    ),
+];
 
 #[test]
-fn names_twins(rt: HostRuntime) -> Result<(), Fail> {
-    let plain = |slot: u8| twin(ImageKind::Auto, 1_048_576, slot);
-    let cases: [(&[&str], Answer); 12] = [
-        (&["rvbench", "twin"], plain(0)),
-        (&["rvbench", "twin", "--slot", "0"], plain(0)),
-        (&["rvbench", "twin", "--slot", "1"], plain(1)),
-        (&["rvbench", "twin", "--slot=12"], plain(12)),
-        (&["rvbench", "twin", "--slot", "+7"], plain(7)),
-        (&["rvbench", "twin", "--slot", "0012"], plain(12)),
-        (
-            &["rvbench", "twin", "--ram", "65536"],
-            twin(ImageKind::Auto, 65_536, 0),
-        ),
-        (
-            &["rvbench", "twin", "--ram", "4294967295", "--slot", "3"],
-            twin(ImageKind::Auto, 4_294_967_295, 3),
-        ),
-        (
-            &["rvbench", "twin", "--kind", "elf"],
-            twin(ImageKind::Elf, 1_048_576, 0),
-        ),
-        (
-            &["rvbench", "twin", "--kind=raw", "--slot=5", "--ram=0"],
-            twin(ImageKind::Raw, 0, 5),
-        ),
-        (
-            &[
-                "rvbench", "twin", "--slot", "5", "--ram", "0", "--kind", "raw",
-            ],
-            twin(ImageKind::Raw, 0, 5),
-        ),
-        (&["./another/name", "twin", "--slot", "2"], plain(2)),
-    ];
-    for (words, want) in cases {
-        assert_eq!(rt; answer_to(&rt, words)?, want, "at {words:?}");
+fn names_twins(rt: HostRuntime) {
+    for (words, kind, ram, slot) in NAMES_TWINS {
+        let setup = Setup {
+            kind: *kind,
+            ram: *ram,
+            monitored: true,
+        };
+        let twin = Answer::Named(Job::Twin(setup, *slot));
+        expect_answer(&rt, rt.alloc(), words, twin);
     }
-    Ok(())
 }
+
+const REFUSES_TWINS: &[&[&str]] = &[
+    &["rvbench", "twin", "--slot"],
+    &["rvbench", "twin", "--slot="],
+    &["rvbench", "twin", "--slot", ""],
+    &["rvbench", "twin", "--slot", "13"],
+    &["rvbench", "twin", "--slot", "255"],
+    &["rvbench", "twin", "--slot", "256"],
+    &["rvbench", "twin", "--slot", "18446744073709551616"],
+    &["rvbench", "twin", "--slot", "-1"],
+    &["rvbench", "twin", "--slot=-1"],
+    &["rvbench", "twin", "--slot", "x"],
+    &["rvbench", "twin", "--slot", "0x1"],
+    &["rvbench", "twin", "--slot", " 1"],
+    &["rvbench", "twin", "--slot", "1", "1"],
+    &["rvbench", "twin", "--slot", "1", "--slot", "1"],
+    &["rvbench", "twin", "--slot=1", "--slot=2"],
+    &["rvbench", "twin", "-s", "1"],
+    &["rvbench", "twin", "--slo", "1"],
+    &["rvbench", "twin", "--monitor"],
+    &["rvbench", "twin", "--slot", "1", "--monitor"],
+    &["rvbench", "twin", "--ram", "65536", "--ram", "65536"],
+    &["rvbench", "twin", "--ram", "4294967296"],
+    &["rvbench", "twin", "--kind", "x"],
+    &["rvbench", "twin", "--kind", "raw", "--kind", "raw"],
+    &["rvbench", "twin", "twin"],
+    &["rvbench", "twin", "1"],
+    &["rvbench", "--slot", "1"],
+    &["rvbench", "--slot", "1", "twin"],
+    &["rvbench", "run", "--slot", "1"],
+    &["rvbench", "asm", "--slot", "1"],
+    &["rvbench", "TWIN"],
+];
 
 /// Its options stand behind it, each once; it has no flag of the monitor, and `run` has no slot.
 #[test]
-fn refuses_twins(rt: HostRuntime) -> Result<(), Fail> {
-    let cases: [&[&str]; 30] = [
-        &["rvbench", "twin", "--slot"],
-        &["rvbench", "twin", "--slot="],
-        &["rvbench", "twin", "--slot", ""],
-        &["rvbench", "twin", "--slot", "13"],
-        &["rvbench", "twin", "--slot", "255"],
-        &["rvbench", "twin", "--slot", "256"],
-        &["rvbench", "twin", "--slot", "18446744073709551616"],
-        &["rvbench", "twin", "--slot", "-1"],
-        &["rvbench", "twin", "--slot=-1"],
-        &["rvbench", "twin", "--slot", "x"],
-        &["rvbench", "twin", "--slot", "0x1"],
-        &["rvbench", "twin", "--slot", " 1"],
-        &["rvbench", "twin", "--slot", "1", "1"],
-        &["rvbench", "twin", "--slot", "1", "--slot", "1"],
-        &["rvbench", "twin", "--slot=1", "--slot=2"],
-        &["rvbench", "twin", "-s", "1"],
-        &["rvbench", "twin", "--slo", "1"],
-        &["rvbench", "twin", "--monitor"],
-        &["rvbench", "twin", "--slot", "1", "--monitor"],
-        &["rvbench", "twin", "--ram", "65536", "--ram", "65536"],
-        &["rvbench", "twin", "--ram", "4294967296"],
-        &["rvbench", "twin", "--kind", "x"],
-        &["rvbench", "twin", "--kind", "raw", "--kind", "raw"],
-        &["rvbench", "twin", "twin"],
-        &["rvbench", "twin", "1"],
-        &["rvbench", "--slot", "1"],
-        &["rvbench", "--slot", "1", "twin"],
-        &["rvbench", "run", "--slot", "1"],
-        &["rvbench", "asm", "--slot", "1"],
-        &["rvbench", "TWIN"],
-    ];
-    for words in cases {
-        assert_eq!(rt; answer_to(&rt, words)?, Answer::Refused, "at {words:?}");
+fn refuses_twins(rt: HostRuntime) {
+    expect_refusals(&rt, rt.alloc(), REFUSES_TWINS);
+}
+
+const REFUSES_KINDS: &[&[&str]] = &[
+    &["rvbench", "run", "--kind"],
+    &["rvbench", "run", "--kind="],
+    &["rvbench", "run", "--kind", ""],
+    &["rvbench", "run", "--kind", "x"],
+    &["rvbench", "run", "--kind=x"],
+    &["rvbench", "run", "--kind", "ELF"],
+    &["rvbench", "run", "--kind", "Raw"],
+    &["rvbench", "run", "--kind", "au"],
+    &["rvbench", "run", "--kind", "autos"],
+    &["rvbench", "run", "--kind", " raw"],
+    &["rvbench", "run", "--kind", "--ram", "65536"],
+    &["rvbench", "run", "--kind", "raw", "raw"],
+    &["rvbench", "run", "--kind", "raw", "--kind", "raw"],
+    &["rvbench", "run", "--kind=raw", "--kind=elf"],
+    &["rvbench", "run", "-k", "raw"],
+    &["rvbench", "run", "--kin", "raw"],
+    &["rvbench", "run", "raw"],
+    &["rvbench", "--kind", "raw"],
+    &["rvbench", "asm", "--kind", "raw"],
+    &["rvbench", "dis", "--kind=raw"],
+];
+
+#[test]
+fn refuses_kinds(rt: HostRuntime) {
+    expect_refusals(&rt, rt.alloc(), REFUSES_KINDS);
+}
+
+const REFUSES_VALUES: &[&[&str]] = &[
+    &["rvbench", "run", "--ram"],
+    &["rvbench", "run", "--ram="],
+    &["rvbench", "run", "--ram", ""],
+    &["rvbench", "run", "--ram", "x"],
+    &["rvbench", "run", "--ram", "64k"],
+    &["rvbench", "run", "--ram", "0x10000"],
+    &["rvbench", "run", "--ram", " 65536"],
+    &["rvbench", "run", "--ram", "-1"],
+    &["rvbench", "run", "--ram=-1"],
+    &["rvbench", "run", "--ram", "4294967296"],
+    &["rvbench", "run", "--ram", "18446744073709617152"],
+    &["rvbench", "run", "--ram", "65536", "65536"],
+    &["rvbench", "run", "--ram", "65536", "--ram", "65536"],
+    &["rvbench", "run", "--ram=65536", "--ram=131072"],
+];
+
+#[test]
+fn refuses_values(rt: HostRuntime) {
+    expect_refusals(&rt, rt.alloc(), REFUSES_VALUES);
+}
+
+const REFUSES_OTHER_WORDS: &[&[&str]] = &[
+    &["rvbench", "fly"],
+    &["rvbench", ""],
+    &["rvbench", "RUN"],
+    &["rvbench", "--ram", "65536"],
+    &["rvbench", "--ram=65536", "run"],
+    &["rvbench", "--kind=raw", "run"],
+    &["rvbench", "--version"],
+    &["rvbench", "-V"],
+    &["rvbench", "--fly"],
+    &["rvbench", "run", "run"],
+    &["rvbench", "run", "--fly"],
+    &["rvbench", "run", "--ra", "65536"],
+    &["rvbench", "run", "-r", "65536"],
+    &["rvbench", "run", "--", "--ram"],
+    &["rvbench", "asm", "extra"],
+    &["rvbench", "dis", "--ram", "65536"],
+    &["rvbench", "help", "fly"],
+];
+
+#[test]
+fn refuses_other_words(rt: HostRuntime) {
+    expect_refusals(&rt, rt.alloc(), REFUSES_OTHER_WORDS);
+}
+
+const GIVES_HELP: &[&[&str]] = &[
+    &["rvbench", "--help"],
+    &["rvbench", "-h"],
+    &["rvbench", "help"],
+    &["rvbench", "help", "help"],
+    &["rvbench", "help", "run"],
+    &["rvbench", "run", "--help"],
+    &["rvbench", "run", "-h"],
+    &["rvbench", "run", "--ram", "65536", "--help"],
+    &["rvbench", "run", "--kind", "raw", "--help"],
+    &["rvbench", "run", "--monitor", "--help"],
+    &["rvbench", "twin", "--help"],
+    &["rvbench", "twin", "--slot", "3", "-h"],
+    &["rvbench", "help", "twin"],
+    &["rvbench", "asm", "--help"],
+    &["rvbench", "help", "dis"],
+];
+
+#[test]
+fn gives_help(rt: HostRuntime) {
+    for words in GIVES_HELP {
+        expect_help(&rt, rt.alloc(), words, &["rvbench"]);
     }
-    Ok(())
 }
 
 #[test]
-fn refuses_kinds(rt: HostRuntime) -> Result<(), Fail> {
-    let cases: [&[&str]; 20] = [
-        &["rvbench", "run", "--kind"],
-        &["rvbench", "run", "--kind="],
-        &["rvbench", "run", "--kind", ""],
-        &["rvbench", "run", "--kind", "x"],
-        &["rvbench", "run", "--kind=x"],
-        &["rvbench", "run", "--kind", "ELF"],
-        &["rvbench", "run", "--kind", "Raw"],
-        &["rvbench", "run", "--kind", "au"],
-        &["rvbench", "run", "--kind", "autos"],
-        &["rvbench", "run", "--kind", " raw"],
-        &["rvbench", "run", "--kind", "--ram", "65536"],
-        &["rvbench", "run", "--kind", "raw", "raw"],
-        &["rvbench", "run", "--kind", "raw", "--kind", "raw"],
-        &["rvbench", "run", "--kind=raw", "--kind=elf"],
-        &["rvbench", "run", "-k", "raw"],
-        &["rvbench", "run", "--kin", "raw"],
-        &["rvbench", "run", "raw"],
-        &["rvbench", "--kind", "raw"],
-        &["rvbench", "asm", "--kind", "raw"],
-        &["rvbench", "dis", "--kind=raw"],
-    ];
-    for words in cases {
-        assert_eq!(rt; answer_to(&rt, words)?, Answer::Refused, "at {words:?}");
-    }
-    Ok(())
-}
-
-#[test]
-fn refuses_values(rt: HostRuntime) -> Result<(), Fail> {
-    let cases: [&[&str]; 14] = [
-        &["rvbench", "run", "--ram"],
-        &["rvbench", "run", "--ram="],
-        &["rvbench", "run", "--ram", ""],
-        &["rvbench", "run", "--ram", "x"],
-        &["rvbench", "run", "--ram", "64k"],
-        &["rvbench", "run", "--ram", "0x10000"],
-        &["rvbench", "run", "--ram", " 65536"],
-        &["rvbench", "run", "--ram", "-1"],
-        &["rvbench", "run", "--ram=-1"],
-        &["rvbench", "run", "--ram", "4294967296"],
-        &["rvbench", "run", "--ram", "18446744073709617152"],
-        &["rvbench", "run", "--ram", "65536", "65536"],
-        &["rvbench", "run", "--ram", "65536", "--ram", "65536"],
-        &["rvbench", "run", "--ram=65536", "--ram=131072"],
-    ];
-    for words in cases {
-        assert_eq!(rt; answer_to(&rt, words)?, Answer::Refused, "at {words:?}");
-    }
-    Ok(())
-}
-
-#[test]
-fn refuses_other_words(rt: HostRuntime) -> Result<(), Fail> {
-    let cases: [&[&str]; 17] = [
-        &["rvbench", "fly"],
-        &["rvbench", ""],
-        &["rvbench", "RUN"],
-        &["rvbench", "--ram", "65536"],
-        &["rvbench", "--ram=65536", "run"],
-        &["rvbench", "--kind=raw", "run"],
-        &["rvbench", "--version"],
-        &["rvbench", "-V"],
-        &["rvbench", "--fly"],
-        &["rvbench", "run", "run"],
-        &["rvbench", "run", "--fly"],
-        &["rvbench", "run", "--ra", "65536"],
-        &["rvbench", "run", "-r", "65536"],
-        &["rvbench", "run", "--", "--ram"],
-        &["rvbench", "asm", "extra"],
-        &["rvbench", "dis", "--ram", "65536"],
-        &["rvbench", "help", "fly"],
-    ];
-    for words in cases {
-        assert_eq!(rt; answer_to(&rt, words)?, Answer::Refused, "at {words:?}");
-    }
-    Ok(())
-}
-
-#[test]
-fn gives_help(rt: HostRuntime) -> Result<(), Fail> {
-    let cases: [&[&str]; 15] = [
-        &["rvbench", "--help"],
-        &["rvbench", "-h"],
-        &["rvbench", "help"],
-        &["rvbench", "help", "help"],
-        &["rvbench", "help", "run"],
-        &["rvbench", "run", "--help"],
-        &["rvbench", "run", "-h"],
-        &["rvbench", "run", "--ram", "65536", "--help"],
-        &["rvbench", "run", "--kind", "raw", "--help"],
-        &["rvbench", "run", "--monitor", "--help"],
-        &["rvbench", "twin", "--help"],
-        &["rvbench", "twin", "--slot", "3", "-h"],
-        &["rvbench", "help", "twin"],
-        &["rvbench", "asm", "--help"],
-        &["rvbench", "help", "dis"],
-    ];
-    for words in cases {
-        let text = help(&rt, words)?;
-        assert!(rt; text.contains("rvbench"), "at {words:?}");
-    }
-    Ok(())
-}
-
-#[test]
-fn help_shows_a_first_input(rt: HostRuntime) -> Result<(), Fail> {
-    let program = help(&rt, &["rvbench", "--help"])?;
-    for part in [
+fn help_shows_a_first_input(rt: HostRuntime) {
+    let program = [
         "run",
         "twin",
         "asm",
         "dis",
         "printf '9300f0ff\\n--\\nstep 1\\nreg 1\\n' | rvbench",
-    ] {
-        assert!(rt; program.contains(part), "at {part}");
-    }
-    let run = help(&rt, &["rvbench", "run", "--help"])?;
-    for part in [
+    ];
+    expect_help(&rt, rt.alloc(), &["rvbench", "--help"], &program);
+    let run = [
         "--kind <KIND>",
         "[default: auto]",
         "[possible values: auto, raw, elf]",
@@ -392,27 +555,22 @@ fn help_shows_a_first_input(rt: HostRuntime) -> Result<(), Fail> {
         "[default: 1048576]",
         "--monitor",
         "80010000",
-    ] {
-        assert!(rt; run.contains(part), "at {part}");
-    }
-    let twin = help(&rt, &["rvbench", "twin", "--help"])?;
-    for part in [
+    ];
+    expect_help(&rt, rt.alloc(), &["rvbench", "run", "--help"], &run);
+    let twin = [
         "--slot <K>",
         "from 0 to 12 [default: 0]",
         "--kind <KIND>",
         "--ram <BYTES>",
         "rvbench twin",
-    ] {
-        assert!(rt; twin.contains(part), "at {part}");
-    }
-    Ok(())
+    ];
+    expect_help(&rt, rt.alloc(), &["rvbench", "twin", "--help"], &twin);
 }
 
 #[test]
-fn numbers_faults(rt: HostRuntime) -> Result<(), Fail> {
-    let help = WordsFault::Help(help(&rt, &["rvbench", "help"])?);
-    assert_eq!(rt; WordsFault::Refused.number(), 1);
-    assert_eq!(rt; WordsFault::NoMemory.number(), 2);
-    assert_eq!(rt; help.number(), 3);
-    Ok(())
+fn numbers_faults(rt: HostRuntime) {
+    let asked = WordsFault::Help(help(&rt, rt.alloc(), &["rvbench", "help"]));
+    assert!(rt; asked.number() == 3);
+    assert!(rt; WordsFault::Refused.number() == 1);
+    assert!(rt; WordsFault::NoMemory.number() == 2);
 }

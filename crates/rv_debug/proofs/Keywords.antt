@@ -1,20 +1,43 @@
 -- The keyword that a word spells, as a search by spelling.
-use Rattle.std.proofs.Common.{◌≡◌, ◌≢◌, ℕ, Bool, false, List, [], ◌∷◌, Option, Some, None, MatchOption, refl, ap}
+use Rattle.std.proofs.Common.{◌≡◌, ◌∙◌, ℕ, Bool, true, false, cond, List, [], ◌∷◌, map, Option, Some, None, Bor, refl, sym, ap}
 use Rattle.std.specs.List.{find}
+use Rattle.std.specs.Option.{option_map}
 use Rattle.std.specs.Str.{bytes_eq}
-use Rattle.std.proofs.lemmas.Slice.Eq.{bytes_eq-Decides}
-use Rattle.std.proofs.lemmas.Bool.{false_from_ne_true}
 use Rattle.rv_debug.specs.declared.keyword.Keyword.{Keyword}
 use Rattle.rv_debug.specs.declared.keyword.Keyword.TheVariants.{Step, Run, Break, Clear, Watch, Unwatch, Reg, Regs, SetReg, Csr, Mem, Poke, Dis, Pmp, Enclaves, Access, Timer}
 use Rattle.rv_debug.specs.Command.{spelling_of, keywords, keyword_of}
 
-find_none : {X : Type 0} (test : X → Bool) (xs : List X) → ((x : X) → test x ≡ false) → None ≡ find test xs
-find_none test [] none = refl
-find_none test (x ∷ xs) none = rw none (find_none test xs none)
+mapped_if : {A B : Type 0} (f : A → B) (b : Bool) (x : A) (o : Option A) (p : Option B) → option_map f o ≡ p → option_map f (cond b (Some x) o) ≡ cond b (Some (f x)) p
+mapped_if f true x o p is = refl
+mapped_if f false x o p is = is
 
-bytes_eq_other : (word other : List ℕ) → word ≢ other → bytes_eq word other ≡ false
-bytes_eq_other word other differs =
-    false_from_ne_true (bytes_eq word other) (λ e. differs ((bytes_eq-Decides word other).0 e))
+found_in_map : {A B : Type 0} (f : A → B) (test : B → Bool) (xs : List A) → option_map f (find (λ x. test (f x)) xs) ≡ find test (map f xs)
+found_in_map f test [] = refl
+found_in_map f test (x ∷ xs) = mapped_if f (test (f x)) x (find (λ x. test (f x)) xs) (find test (map f xs)) (found_in_map f test xs)
+
+-- what is found among rows that are lent
+abbrev row_of : Bor (List ℕ) × Keyword → List ℕ × Keyword
+row_of row = (row.0.now, row.1)
+
+values : (r : Option (Bor (Bor (List ℕ) × Keyword))) → option_map (λ x. x.now.1) r ≡ option_map (λ (x : List ℕ × Keyword). x.1) (option_map row_of (option_map (λ x. x.now) r))
+values None = refl
+values (Some x) = refl
+
+pub row-found : (word : List ℕ) (rows : List (Bor (List ℕ) × Keyword)) (r : Option (Bor (Bor (List ℕ) × Keyword)))
+    → option_map (λ x. x.now) r ≡ find (λ row. bytes_eq word row.0.now) rows
+    → option_map (λ x. x.now.1) r ≡ option_map (λ (row : List ℕ × Keyword). row.1) (find (λ row. bytes_eq word row.0) (map row_of rows))
+row-found word rows r is = values r ∙ ap (λ o. option_map (λ x. x.1) (option_map row_of o)) is ∙ ap (option_map (λ x. x.1)) (found_in_map row_of (λ x. bytes_eq word x.0) rows)
+
+-- the keyword in the row of a word
+second : (r : Option Keyword) → option_map (λ (row : List ℕ × Keyword). row.1) (option_map (λ k. (spelling_of k, k)) r) ≡ r
+second None = refl
+second (Some k) = refl
+
+pub keyword_of-rows : (word : List ℕ) → option_map (λ (row : List ℕ × Keyword). row.1) (find (λ row. bytes_eq word row.0) (map (λ k. (spelling_of k, k)) keywords)) ≡ keyword_of word
+unfolding keyword_of
+keyword_of-rows word =
+    ap (option_map (λ (row : List ℕ × Keyword). row.1)) (sym (found_in_map (λ k. (spelling_of k, k)) (λ row. bytes_eq word row.0) keywords))
+    ∙ second (find (λ k. bytes_eq word (spelling_of k)) keywords)
 
 -- each keyword is the one that its spelling spells
 pub keyword_of-spelling_of : (k : Keyword) → Some k ≡ keyword_of (spelling_of k)
@@ -36,11 +59,6 @@ keyword_of-spelling_of Pmp = refl
 keyword_of-spelling_of Enclaves = refl
 keyword_of-spelling_of Access = refl
 keyword_of-spelling_of Timer = refl
-
-pub keyword_of-from_cases : (word : List ℕ) (r : Option Keyword) → MatchOption r ((k : Keyword) → word ≢ spelling_of k) (λ k. word ≡ spelling_of k) → r ≡ keyword_of word
-unfolding keyword_of
-keyword_of-from_cases word None none = find_none (λ k. bytes_eq word (spelling_of k)) keywords (λ k. bytes_eq_other word (spelling_of k) (none k))
-keyword_of-from_cases word (Some k) is = rw is (keyword_of-spelling_of k)
 
 -- no two keywords are spelled alike
 pub spelling_of-injective : (j k : Keyword) → spelling_of j ≡ spelling_of k → j ≡ k

@@ -2,7 +2,7 @@
 
 ghost use Rattle.std.specs.Prelude.{◌≡◌, [], ◌∷◌, map};
 ghost use Rattle.rv_debug.specs.TwoBenches.{named};
-ghost use Rattle.rv_debug.specs.Command.{register_of, switch_of, mode_of, access_of, width_of, operands_of, meaning_of, parse_of, number_of_fault};
+ghost use Rattle.rv_debug.specs.Command.{decimal_within, register_of, switch_of, mode_of, access_of, width_of, operands_of, meaning_of, parse_of, number_of_fault};
 
 use crate::keyword::Keyword;
 use crate::numbers::{byte, csr_number, decimal, hexadecimal};
@@ -130,6 +130,13 @@ fn register(operand: &[u8]) -> Option<Reg>
     Some(Reg::new(number as u8))
 }
 
+/// The number of steps that an operand names: a decimal number, 1 to 1000000.
+fn step_count(operand: &[u8]) -> Option<StepCount>
+    ensures { result ≡ decimal_within 1 1000000 operand.now }
+{
+    StepCount::new(decimal(operand)?)
+}
+
 /// Whether an operand says `on` rather than `off`; any other says neither.
 fn switch(operand: &[u8]) -> Option<bool>
     ensures { result ≡ switch_of operand.now }
@@ -193,19 +200,19 @@ fn with_none(keyword: Keyword) -> Option<Command>
 fn with_one(keyword: Keyword, operand: &[u8]) -> Option<Command>
     ensures { result ≡ operands_of keyword (operand.now ∷ []) }
 {
-    Some(match keyword {
-        Keyword::Step => Command::Step(StepCount::new(decimal(operand)?)?),
-        Keyword::Run => Command::Run(StepCount::new(decimal(operand)?)?),
-        Keyword::Break => Command::Break(hexadecimal(operand)?),
-        Keyword::Clear => Command::Clear(hexadecimal(operand)?),
-        Keyword::Watch => Command::Watch(hexadecimal(operand)?),
-        Keyword::Unwatch => Command::Unwatch(hexadecimal(operand)?),
-        Keyword::Reg => Command::Reg(register(operand)?),
-        Keyword::Csr => Command::Csr(csr_number(operand)?),
-        Keyword::Dis => Command::Dis(hexadecimal(operand)?),
-        Keyword::Timer => Command::Timer(switch(operand)?),
-        _ => return None,
-    })
+    match keyword {
+        Keyword::Step => step_count(operand).map(Command::Step),
+        Keyword::Run => step_count(operand).map(Command::Run),
+        Keyword::Break => hexadecimal(operand).map(Command::Break),
+        Keyword::Clear => hexadecimal(operand).map(Command::Clear),
+        Keyword::Watch => hexadecimal(operand).map(Command::Watch),
+        Keyword::Unwatch => hexadecimal(operand).map(Command::Unwatch),
+        Keyword::Reg => register(operand).map(Command::Reg),
+        Keyword::Csr => csr_number(operand).map(Command::Csr),
+        Keyword::Dis => hexadecimal(operand).map(Command::Dis),
+        Keyword::Timer => switch(operand).map(Command::Timer),
+        _ => None,
+    }
 }
 
 /// The command that a keyword makes of two operands.

@@ -1,7 +1,9 @@
 //! The first words of the commands.
 
-ghost use Rattle.std.specs.Prelude.{◌≡◌, ◌≢◌, MatchOption};
-ghost use Rattle.rv_debug.specs.Command.{spelling_of, keyword_of};
+ghost use Rattle.std.specs.Prelude.{◌≡◌, ℕ, List, find, map};
+ghost use Rattle.std.specs.Option.{option_map};
+ghost use Rattle.std.specs.Str.{bytes_eq};
+ghost use Rattle.rv_debug.specs.Command.{keyword_of};
 
 /// A command's first word.
 #[derive(Clone, Copy, Debug, PartialEq, Eq)]
@@ -25,36 +27,40 @@ pub(crate) enum Keyword {
     Timer,
 }
 
+/// How the keywords are spelled.
+const SPELLINGS: [(&str, Keyword); 17] = [
+    ("step", Keyword::Step),
+    ("run", Keyword::Run),
+    ("break", Keyword::Break),
+    ("clear", Keyword::Clear),
+    ("watch", Keyword::Watch),
+    ("unwatch", Keyword::Unwatch),
+    ("reg", Keyword::Reg),
+    ("regs", Keyword::Regs),
+    ("setreg", Keyword::SetReg),
+    ("csr", Keyword::Csr),
+    ("mem", Keyword::Mem),
+    ("poke", Keyword::Poke),
+    ("dis", Keyword::Dis),
+    ("pmp", Keyword::Pmp),
+    ("enclaves", Keyword::Enclaves),
+    ("access", Keyword::Access),
+    ("timer", Keyword::Timer),
+];
+
 impl Keyword {
     /// The keyword that a word spells, if there is one. Upper and lower case differ.
     pub(crate) fn find(word: &[u8]) -> Option<Keyword>
         ensures { result ≡ keyword_of word.now }
     {
-        Self::matching(word)
+        Self::matching(&SPELLINGS, word)
     }
 
-    fn matching(word: &[u8]) -> Option<Keyword>
-        ensures { MatchOption result ((k : Keyword) → word.now ≢ spelling_of k) (λ k. word.now ≡ spelling_of k) }
+    /// The keyword in the row of a word, if there is one.
+    fn matching(rows: &[(&str, Keyword)], word: &[u8]) -> Option<Keyword>
+        ensures { result ≡ option_map (λ (row : List ℕ × Keyword). row.1) (find (λ row. bytes_eq word.now row.0) (map (λ row. (row.0.now, row.1)) rows.now)) }
     {
-        match word {
-            b"step" => Some(Keyword::Step),
-            b"run" => Some(Keyword::Run),
-            b"break" => Some(Keyword::Break),
-            b"clear" => Some(Keyword::Clear),
-            b"watch" => Some(Keyword::Watch),
-            b"unwatch" => Some(Keyword::Unwatch),
-            b"reg" => Some(Keyword::Reg),
-            b"regs" => Some(Keyword::Regs),
-            b"setreg" => Some(Keyword::SetReg),
-            b"csr" => Some(Keyword::Csr),
-            b"mem" => Some(Keyword::Mem),
-            b"poke" => Some(Keyword::Poke),
-            b"dis" => Some(Keyword::Dis),
-            b"pmp" => Some(Keyword::Pmp),
-            b"enclaves" => Some(Keyword::Enclaves),
-            b"access" => Some(Keyword::Access),
-            b"timer" => Some(Keyword::Timer),
-            _ => None,
-        }
+        let row = rows.iter().find(|row| word == row.0.as_bytes())?;
+        Some(row.1)
     }
 }

@@ -6,6 +6,8 @@ mod bench_tests;
 #[cfg(test)]
 mod benches;
 #[cfg(test)]
+mod both_tests;
+#[cfg(test)]
 mod command_tests;
 #[cfg(test)]
 mod monitored_tests;

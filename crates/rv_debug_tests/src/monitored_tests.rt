@@ -1,43 +1,27 @@
 //! Lines of a bench over a monitored machine: enclaves are made, entered, left and ended.
 
-use crate::benches::poke_words;
+use crate::benches::{Line, expect, poke_words};
 use rv_debug::Bench;
 use rv_memory::Ram;
 use rv_monitor::Monitored;
-use rv_text::Reply;
+use std::alloc::Global;
 use std::process::Abort;
-use std::test::Fail;
 
 /// Where the host begins.
 const FIRST: u32 = 0x8001_0000;
 
-/// A line, the reply that it must have, and the slots that it must enter: bit k for slot k.
-type Line<'a> = (&'a [u8], &'a [u8], u16);
-
-/// A monitored machine whose host begins with four ecalls.
-fn machine_of_calls(rt: HostRuntime) -> Result<Monitored, Fail> {
-    let mut ram = Ram::new(rt.alloc(), 1_048_576).map_err(|_| "a RAM")?;
+/// Gives lines to a bench over a monitored machine whose host begins with four ecalls, of which the first creates an enclave.
+fn expect_created(rt: &impl Abort, alloc: Global, lines: &[Line]) {
+    let mut ram = Ram::new(alloc, 1_048_576).expect(rt, "a RAM");
     poke_words(&mut ram, FIRST, &[0x73; 4]);
-    Ok(Monitored::new(ram, FIRST))
-}
-
-/// A bench over it.
-fn bench_of_calls(rt: HostRuntime) -> Result<Bench, Fail> {
-    Ok(Bench::monitored(machine_of_calls(rt)?))
-}
-
-/// Gives lines to a bench, each with the reply that it must have and the slots that it must enter.
-fn expect(rt: &impl Abort, bench: &mut Bench, lines: &[Line<'_>]) {
-    let mut reply = Reply::new();
-    for (line, wanted, slots) in lines {
-        let entered = bench.answer_line(line, &mut reply);
-        assert_eq!(rt; reply.as_slice(), *wanted);
-        assert_eq!(rt; entered, *slots);
-    }
+    let mut bench = Bench::monitored(Monitored::new(ram, FIRST));
+    expect(rt, &mut bench, &[(b"enclaves", b"", 0)]);
+    expect(rt, &mut bench, CREATE);
+    expect(rt, &mut bench, lines);
 }
 
 /// The registers of a call to create an enclave of 4096 bytes at 80020000, without a window, and the call.
-const CREATE: [Line<'static>; 6] = [
+const CREATE: &[Line] = &[
     (b"setreg 17 0a454e43", b"ok\n", 0),
     (b"setreg 16 1", b"ok\n", 0),
     (b"setreg 10 80020000", b"ok\n", 0),
@@ -50,139 +34,130 @@ const CREATE: [Line<'static>; 6] = [
     ),
 ];
 
+const SHOWS_THE_WORLD_AND_THE_ENCLAVES: &[Line] = &[
+    (
+        b"enclaves",
+        b"enclave 0 Fresh 80020000 00001000 00000000 00000000 80020000 \
+        b72e8d278cd05a0f5288f8ada3f430f62d4995d24f5198d6495796bbbcb97390\n",
+        0,
+    ),
+    (b"poke 80020000 13", b"ok\n", 0),
+    (b"setreg 16 3", b"ok\n", 0),
+    (b"setreg 10 0", b"ok\n", 0),
+    (
+        b"step 1",
+        b"ran 1 pc=80020000 mode=S world=e0 why=done trap=00000009:00000000\n",
+        1,
+    ),
+    (
+        b"enclaves",
+        b"enclave 0 Running 80020000 00001000 00000000 00000000 80020000 \
+        b72e8d278cd05a0f5288f8ada3f430f62d4995d24f5198d6495796bbbcb97390\n",
+        0,
+    ),
+    (b"timer on", b"ok\n", 0),
+    (
+        b"run 1",
+        b"ran 1 pc=80010008 mode=S world=host why=done trap=80000007:00000000\n",
+        0,
+    ),
+    (
+        b"enclaves",
+        b"enclave 0 Stopped 80020000 00001000 00000000 00000000 80020000 \
+        b72e8d278cd05a0f5288f8ada3f430f62d4995d24f5198d6495796bbbcb97390\n",
+        0,
+    ),
+];
+
 #[test]
-fn shows_the_world_and_the_enclaves(rt: HostRuntime) -> Result<(), Fail> {
-    let mut bench = bench_of_calls(rt)?;
-    expect(&rt, &mut bench, &[(b"enclaves", b"", 0)]);
-    expect(&rt, &mut bench, &CREATE);
-    let lines: [Line<'_>; 9] = [
-        (
-            b"enclaves",
-            b"enclave 0 Fresh 80020000 00001000 00000000 00000000 80020000 \
-            b72e8d278cd05a0f5288f8ada3f430f62d4995d24f5198d6495796bbbcb97390\n",
-            0,
-        ),
-        (b"poke 80020000 13", b"ok\n", 0),
-        (b"setreg 16 3", b"ok\n", 0),
-        (b"setreg 10 0", b"ok\n", 0),
-        (
-            b"step 1",
-            b"ran 1 pc=80020000 mode=S world=e0 why=done trap=00000009:00000000\n",
-            1,
-        ),
-        (
-            b"enclaves",
-            b"enclave 0 Running 80020000 00001000 00000000 00000000 80020000 \
-            b72e8d278cd05a0f5288f8ada3f430f62d4995d24f5198d6495796bbbcb97390\n",
-            0,
-        ),
-        (b"timer on", b"ok\n", 0),
-        (
-            b"run 1",
-            b"ran 1 pc=80010008 mode=S world=host why=done trap=80000007:00000000\n",
-            0,
-        ),
-        (
-            b"enclaves",
-            b"enclave 0 Stopped 80020000 00001000 00000000 00000000 80020000 \
-            b72e8d278cd05a0f5288f8ada3f430f62d4995d24f5198d6495796bbbcb97390\n",
-            0,
-        ),
-    ];
-    expect(&rt, &mut bench, &lines);
-    Ok(())
+fn shows_the_world_and_the_enclaves(rt: HostRuntime) {
+    expect_created(&rt, rt.alloc(), SHOWS_THE_WORLD_AND_THE_ENCLAVES);
 }
+
+const TELLS_THE_SLOTS_ENTERED_IN_ONE_COMMAND: &[Line] = &[
+    (b"setreg 10 80022000", b"ok\n", 0),
+    (b"setreg 11 2000", b"ok\n", 0),
+    (b"setreg 12 80030000", b"ok\n", 0),
+    (b"setreg 13 1000", b"ok\n", 0),
+    (b"setreg 14 80022004", b"ok\n", 0),
+    (
+        b"run 1",
+        b"ran 1 pc=80010008 mode=S world=host why=done trap=00000009:00000000\n",
+        0,
+    ),
+    (b"reg 11", b"x11=00000001\n", 0),
+    (b"setreg 16 3", b"ok\n", 0),
+    (b"setreg 10 1", b"ok\n", 0),
+    (b"timer on", b"ok\n", 0),
+    (
+        b"step 2",
+        b"ran 2 pc=8001000c mode=S world=host why=done trap=80000007:00000000\n",
+        2,
+    ),
+    (
+        b"enclaves",
+        b"enclave 0 Fresh 80020000 00001000 00000000 00000000 80020000 \
+        b72e8d278cd05a0f5288f8ada3f430f62d4995d24f5198d6495796bbbcb97390\n\
+        enclave 1 Stopped 80022000 00002000 80030000 00001000 80022004 \
+        f69b488af4a36026f2d1787b44bd6208aceb32eaa89601d7d51bab4fc61e54ab\n",
+        0,
+    ),
+    (b"setreg 10 0", b"ok\n", 0),
+    (
+        b"run 1",
+        b"ran 1 pc=80020000 mode=S world=e0 why=done trap=00000009:00000000\n",
+        1,
+    ),
+];
 
 /// One command enters and leaves: the timer stops the enclave before its first instruction.
 #[test]
-fn tells_the_slots_entered_in_one_command(rt: HostRuntime) -> Result<(), Fail> {
-    let mut bench = bench_of_calls(rt)?;
-    expect(&rt, &mut bench, &CREATE);
-    let lines: [Line<'_>; 14] = [
-        (b"setreg 10 80022000", b"ok\n", 0),
-        (b"setreg 11 2000", b"ok\n", 0),
-        (b"setreg 12 80030000", b"ok\n", 0),
-        (b"setreg 13 1000", b"ok\n", 0),
-        (b"setreg 14 80022004", b"ok\n", 0),
-        (
-            b"run 1",
-            b"ran 1 pc=80010008 mode=S world=host why=done trap=00000009:00000000\n",
-            0,
-        ),
-        (b"reg 11", b"x11=00000001\n", 0),
-        (b"setreg 16 3", b"ok\n", 0),
-        (b"setreg 10 1", b"ok\n", 0),
-        (b"timer on", b"ok\n", 0),
-        (
-            b"step 2",
-            b"ran 2 pc=8001000c mode=S world=host why=done trap=80000007:00000000\n",
-            2,
-        ),
-        (
-            b"enclaves",
-            b"enclave 0 Fresh 80020000 00001000 00000000 00000000 80020000 \
-            b72e8d278cd05a0f5288f8ada3f430f62d4995d24f5198d6495796bbbcb97390\n\
-            enclave 1 Stopped 80022000 00002000 80030000 00001000 80022004 \
-            f69b488af4a36026f2d1787b44bd6208aceb32eaa89601d7d51bab4fc61e54ab\n",
-            0,
-        ),
-        (b"setreg 10 0", b"ok\n", 0),
-        (
-            b"run 1",
-            b"ran 1 pc=80020000 mode=S world=e0 why=done trap=00000009:00000000\n",
-            1,
-        ),
-    ];
-    expect(&rt, &mut bench, &lines);
-    Ok(())
+fn tells_the_slots_entered_in_one_command(rt: HostRuntime) {
+    expect_created(&rt, rt.alloc(), TELLS_THE_SLOTS_ENTERED_IN_ONE_COMMAND);
 }
+
+const WATCHES_NO_WRITES_OF_THE_MONITOR: &[Line] = &[
+    (b"poke 80020000 5a", b"ok\n", 0),
+    (b"watch 80020000", b"ok\n", 0),
+    (b"watch 80040000", b"ok\n", 0),
+    (b"setreg 16 5", b"ok\n", 0),
+    (b"setreg 10 0", b"ok\n", 0),
+    (b"setreg 11 80040000", b"ok\n", 0),
+    (
+        b"run 1",
+        b"ran 1 pc=80010008 mode=S world=host why=done trap=00000009:00000000\n",
+        0,
+    ),
+    (b"mem 80040000 4", b"80040000: b7 2e 8d 27\n", 0),
+    (b"setreg 16 2", b"ok\n", 0),
+    (b"setreg 10 0", b"ok\n", 0),
+    (b"mem 80020000 1", b"80020000: 5a\n", 0),
+    (
+        b"run 1",
+        b"ran 1 pc=8001000c mode=S world=host why=done trap=00000009:00000000\n",
+        0,
+    ),
+    (b"mem 80020000 1", b"80020000: 00\n", 0),
+    (b"enclaves", b"", 0),
+];
 
 /// A watch on bytes that destroy zeroes and measure writes stays silent, for those are no loads or stores of an instruction.
 #[test]
-fn watches_no_writes_of_the_monitor(rt: HostRuntime) -> Result<(), Fail> {
-    let mut bench = bench_of_calls(rt)?;
-    expect(&rt, &mut bench, &CREATE);
-    let lines: [Line<'_>; 14] = [
-        (b"poke 80020000 5a", b"ok\n", 0),
-        (b"watch 80020000", b"ok\n", 0),
-        (b"watch 80040000", b"ok\n", 0),
-        (b"setreg 16 5", b"ok\n", 0),
-        (b"setreg 10 0", b"ok\n", 0),
-        (b"setreg 11 80040000", b"ok\n", 0),
-        (
-            b"run 1",
-            b"ran 1 pc=80010008 mode=S world=host why=done trap=00000009:00000000\n",
-            0,
-        ),
-        (b"mem 80040000 4", b"80040000: b7 2e 8d 27\n", 0),
-        (b"setreg 16 2", b"ok\n", 0),
-        (b"setreg 10 0", b"ok\n", 0),
-        (b"mem 80020000 1", b"80020000: 5a\n", 0),
-        (
-            b"run 1",
-            b"ran 1 pc=8001000c mode=S world=host why=done trap=00000009:00000000\n",
-            0,
-        ),
-        (b"mem 80020000 1", b"80020000: 00\n", 0),
-        (b"enclaves", b"", 0),
-    ];
-    expect(&rt, &mut bench, &lines);
-    Ok(())
+fn watches_no_writes_of_the_monitor(rt: HostRuntime) {
+    expect_created(&rt, rt.alloc(), WATCHES_NO_WRITES_OF_THE_MONITOR);
 }
+
+const TELLS_WHAT_IS_IN_REACH: &[Line] = &[
+    (b"access S r 8001fffc 4", b"allowed entry 15\n", 0),
+    (b"access S r 8001fffe 4", b"denied partial 1\n", 0),
+    (b"access U w 80020000 1", b"denied entry 1\n", 0),
+    (b"access S x 8000fffc 4", b"denied entry 0\n", 0),
+    (b"access S r 80021000 4", b"allowed entry 15\n", 0),
+    (b"poke 80020000 z", b"error operand\n", 0),
+];
 
 /// `access` is permitted in S where the world reaches, and nowhere else.
 #[test]
-fn tells_what_is_in_reach(rt: HostRuntime) -> Result<(), Fail> {
-    let mut bench = bench_of_calls(rt)?;
-    expect(&rt, &mut bench, &CREATE);
-    let lines: [Line<'_>; 6] = [
-        (b"access S r 8001fffc 4", b"allowed entry 15\n", 0),
-        (b"access S r 8001fffe 4", b"denied partial 1\n", 0),
-        (b"access U w 80020000 1", b"denied entry 1\n", 0),
-        (b"access S x 8000fffc 4", b"denied entry 0\n", 0),
-        (b"access S r 80021000 4", b"allowed entry 15\n", 0),
-        (b"poke 80020000 z", b"error operand\n", 0),
-    ];
-    expect(&rt, &mut bench, &lines);
-    Ok(())
+fn tells_what_is_in_reach(rt: HostRuntime) {
+    expect_created(&rt, rt.alloc(), TELLS_WHAT_IS_IN_REACH);
 }

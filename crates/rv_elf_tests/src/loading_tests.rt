@@ -1,10 +1,10 @@
 //! What is in RAM after an image was loaded, or refused: the bytes of its segments, zeros behind them, and all others as before.
 
-use crate::files::{ProgramHeader, file_of, segment};
+use crate::files::{ProgramHeader, expect_number, file_of, segment};
 use rv_elf::{ElfFault, load, plan, plan_raw};
 use rv_memory::{RAM_BASE, Ram};
 use std::alloc::Global;
-use std::test::Fail;
+use std::process::Abort;
 
 /// A file with one segment of 8 bytes at 80000000, of which the file has 4.
 const WORKED: [u8; 88] = [
@@ -22,21 +22,23 @@ fn byte_before(address: u32) -> u8 {
 }
 
 /// A RAM as it is before an image is loaded, with other bytes at some addresses.
-fn ram_with(alloc: Global, parts: &[(u32, &[u8])]) -> Result<Ram, Fail> {
-    let mut ram = Ram::new(alloc, RAM_SIZE).map_err(|_| "a RAM")?;
+fn ram_with(rt: &impl Abort, alloc: Global, parts: &[(u32, &[u8])]) -> Ram {
+    let mut ram = Ram::new(alloc, RAM_SIZE).expect(rt, "a RAM");
     for address in RAM_BASE..RAM_BASE + RAM_SIZE {
         ram.poke(address, byte_before(address));
     }
     for (start, bytes) in parts {
         put(&mut ram, *start, bytes);
     }
-    Ok(ram)
+    ram
 }
 
 /// Puts bytes from an address on, as far as they are inside.
 fn put(ram: &mut Ram, start: u32, bytes: &[u8]) {
-    for (address, byte) in (start..=u32::MAX).zip(bytes) {
+    let mut address = start;
+    for byte in bytes {
         ram.poke(address, *byte);
+        address = address.wrapping_add(1);
     }
 }
 
@@ -52,22 +54,24 @@ fn load_file(file: &[u8], ram: &mut Ram) -> Result<u32, ElfFault> {
     Ok(plan.entry())
 }
 
+/// Loads an ELF file into the RAM as it was before: its entry, and what is elsewhere than before.
+fn expect_loaded(rt: &impl Abort, alloc: Global, file: &[u8], entry: u32, parts: &[(u32, &[u8])]) {
+    let mut ram = ram_with(rt, alloc, &[]);
+    let found = load_file(file, &mut ram).expect(rt, "no fault");
+    expect_number(rt, u64::from(found), u64::from(entry), 0);
+    assert!(rt; are_equal(&ram, &ram_with(rt, alloc, parts)));
+}
+
 #[test]
-fn loads_the_worked_file(rt: HostRuntime) -> Result<(), Fail> {
-    let mut ram = ram_with(rt.alloc(), &[])?;
-    assert_eq!(rt; load_file(&WORKED, &mut ram), Ok(0x8000_0000));
-    let wanted = ram_with(
-        rt.alloc(),
-        &[(RAM_BASE, &[0x93, 0x00, 0xf0, 0xff, 0, 0, 0, 0])],
-    )?;
-    assert!(rt; are_equal(&ram, &wanted));
-    Ok(())
+fn loads_the_worked_file(rt: HostRuntime) {
+    let parts: [(u32, &[u8]); 1] = [(RAM_BASE, &[0x93, 0x00, 0xf0, 0xff, 0, 0, 0, 0])];
+    expect_loaded(&rt, rt.alloc(), &WORKED, 0x8000_0000, &parts);
 }
 
 /// In falling order and at odd addresses, side by side and apart, with zeros behind, of zeros alone, of no bytes at an address
 /// that RAM does not have, of the same bytes of the file as another, and of the header.
 #[test]
-fn loads_several_segments(rt: HostRuntime) -> Result<(), Fail> {
+fn loads_several_segments(rt: HostRuntime) {
     let headers = [
         segment(0, RAM_BASE + 0xfffd, 3, 3),
         segment(308, RAM_BASE + 0x103, 5, 9),
@@ -78,20 +82,14 @@ fn loads_several_segments(rt: HostRuntime) -> Result<(), Fail> {
         segment(312, RAM_BASE + 1, 4, 4),
         segment(4, RAM_BASE, 1, 1),
     ];
-    let file = file_of(RAM_BASE + 4, &headers, b"abcdefgh")?;
-    let mut ram = ram_with(rt.alloc(), &[])?;
-    assert_eq!(rt; load_file(file.as_slice(), &mut ram), Ok(RAM_BASE + 4));
-    let wanted = ram_with(
-        rt.alloc(),
-        &[
-            (RAM_BASE, b"\x01efgh"),
-            (RAM_BASE + 0x80, b"\0\0\0\0\0\0"),
-            (RAM_BASE + 0x101, b"d\0abcde\0\0\0\0"),
-            (RAM_BASE + 0xfffd, b"\x7fEL"),
-        ],
-    )?;
-    assert!(rt; are_equal(&ram, &wanted));
-    Ok(())
+    let file = file_of(&rt, RAM_BASE + 4, &headers, b"abcdefgh");
+    let parts: [(u32, &[u8]); 4] = [
+        (RAM_BASE, b"\x01efgh"),
+        (RAM_BASE + 0x80, b"\0\0\0\0\0\0"),
+        (RAM_BASE + 0x101, b"d\0abcde\0\0\0\0"),
+        (RAM_BASE + 0xfffd, b"\x7fEL"),
+    ];
+    expect_loaded(&rt, rt.alloc(), file.as_slice(), RAM_BASE + 4, &parts);
 }
 
 /// Headers of 64 segments in an order that steps over so many of them: each takes 5 of 8 bytes of RAM, and has three bytes of
@@ -105,63 +103,74 @@ fn headers_of_64(step: u32) -> [ProgramHeader; 64] {
     headers
 }
 
-#[test]
-fn loads_64_segments(rt: HostRuntime) -> Result<(), Fail> {
-    let mut data = [0; 192];
-    for (byte, value) in data.iter_mut().zip(0u8..) {
-        *byte = value;
-    }
-    let mut wanted = ram_with(rt.alloc(), &[])?;
+/// The RAM behind them, where the 192 bytes are the numbers from 0 on.
+fn ram_of_64(rt: &impl Abort, alloc: Global) -> Ram {
+    let mut ram = ram_with(rt, alloc, &[]);
     for number in 0..64u32 {
-        let first = (3 * number) as u8;
+        let first = 3 * (number as u8);
         put(
-            &mut wanted,
+            &mut ram,
             RAM_BASE + 8 * number,
             &[first, first + 1, first + 2, 0, 0],
         );
     }
+    ram
+}
+
+#[test]
+fn loads_64_segments(rt: HostRuntime) {
+    let mut data = [0; 192];
+    for (byte, value) in data.iter_mut().zip(0u8..) {
+        *byte = value;
+    }
+    let wanted = ram_of_64(&rt, rt.alloc());
     for step in [1, 63, 37] {
-        let file = file_of(RAM_BASE, &headers_of_64(step), &data)?;
-        let mut ram = ram_with(rt.alloc(), &[])?;
-        assert_eq!(rt;
-            load_file(file.as_slice(), &mut ram),
-            Ok(RAM_BASE),
+        let file = file_of(&rt, RAM_BASE, &headers_of_64(step), &data);
+        let mut ram = ram_with(&rt, rt.alloc(), &[]);
+        assert!(rt;
+            load_file(file.as_slice(), &mut ram) == Ok(RAM_BASE),
             "{step}"
         );
         assert!(rt; are_equal(&ram, &wanted), "{step}");
     }
-    Ok(())
 }
 
 #[test]
-fn loads_both_ends_of_ram(rt: HostRuntime) -> Result<(), Fail> {
+fn loads_both_ends_of_ram(rt: HostRuntime) {
     let last = RAM_BASE + RAM_SIZE - 1;
     let headers = [segment(116, RAM_BASE, 1, 1), segment(117, last, 1, 1)];
-    let file = file_of(RAM_BASE, &headers, b"ab")?;
-    let mut ram = ram_with(rt.alloc(), &[])?;
-    assert_eq!(rt; load_file(file.as_slice(), &mut ram), Ok(RAM_BASE));
-    let wanted = ram_with(rt.alloc(), &[(RAM_BASE, b"a"), (last, b"b")])?;
-    assert!(rt; are_equal(&ram, &wanted));
-    Ok(())
+    let file = file_of(&rt, RAM_BASE, &headers, b"ab");
+    let parts: [(u32, &[u8]); 2] = [(RAM_BASE, b"a"), (last, b"b")];
+    expect_loaded(&rt, rt.alloc(), file.as_slice(), RAM_BASE, &parts);
 }
 
 /// The zeros of one segment, which is all of a RAM.
 #[test]
-fn loads_all_of_ram(rt: HostRuntime) -> Result<(), Fail> {
-    let file = file_of(RAM_BASE, &[segment(84, RAM_BASE, 2, RAM_SIZE)], b"abcd")?;
-    let mut ram = ram_with(rt.alloc(), &[])?;
-    assert_eq!(rt; load_file(file.as_slice(), &mut ram), Ok(RAM_BASE));
-    let mut wanted = Ram::new(rt.alloc(), RAM_SIZE).map_err(|_| "a RAM")?;
+fn loads_all_of_ram(rt: HostRuntime) {
+    let file = file_of(
+        &rt,
+        RAM_BASE,
+        &[segment(84, RAM_BASE, 2, RAM_SIZE)],
+        b"abcd",
+    );
+    let mut ram = ram_with(&rt, rt.alloc(), &[]);
+    assert!(rt; load_file(file.as_slice(), &mut ram) == Ok(RAM_BASE));
+    let mut wanted = Ram::new(rt.alloc(), RAM_SIZE).expect(&rt, "a RAM");
     put(&mut wanted, RAM_BASE, b"ab");
     assert!(rt; are_equal(&ram, &wanted));
-    Ok(())
+}
+
+/// A file is refused for this, and RAM is as it was before.
+fn expect_refused(rt: &impl Abort, alloc: Global, file: &[u8], fault: ElfFault) {
+    let mut ram = ram_with(rt, alloc, &[]);
+    assert!(rt; load_file(file, &mut ram) == Err(fault), "{fault:?}");
+    assert!(rt; are_equal(&ram, &ram_with(rt, alloc, &[])));
 }
 
 /// Two segments that share a byte, and one that lies behind RAM: what comes before them in the table is not loaded either.
 #[test]
-fn refused_files_leave_ram(rt: HostRuntime) -> Result<(), Fail> {
+fn refused_files_leave_ram(rt: HostRuntime) {
     let first = segment(116, RAM_BASE, 4, 8);
-    let before = ram_with(rt.alloc(), &[])?;
     for (second, fault) in [
         (segment(116, RAM_BASE + 7, 4, 4), ElfFault::SegmentOverlap),
         (
@@ -171,22 +180,22 @@ fn refused_files_leave_ram(rt: HostRuntime) -> Result<(), Fail> {
         (segment(116, RAM_BASE + 8, 4, 3), ElfFault::SegmentSizes),
         (segment(116, RAM_BASE + 8, 5, 8), ElfFault::SegmentTruncated),
     ] {
-        let file = file_of(RAM_BASE, &[first, second], b"data")?;
-        let mut ram = ram_with(rt.alloc(), &[])?;
-        assert_eq!(rt; load_file(file.as_slice(), &mut ram), Err(fault));
-        assert!(rt; are_equal(&ram, &before));
+        let file = file_of(&rt, RAM_BASE, &[first, second], b"data");
+        expect_refused(&rt, rt.alloc(), file.as_slice(), fault);
     }
-    Ok(())
+}
+
+/// Loads a raw image into the RAM as it was before.
+fn expect_raw(rt: &impl Abort, alloc: Global, image: &[u8]) {
+    let mut ram = ram_with(rt, alloc, &[]);
+    let plan = plan_raw(image.len(), ram.size(), false).expect(rt, "no fault");
+    load(&plan, image, &mut ram);
+    assert!(rt; are_equal(&ram, &ram_with(rt, alloc, &[(RAM_BASE, image)])));
 }
 
 #[test]
-fn loads_raw_images(rt: HostRuntime) -> Result<(), Fail> {
-    for image in [b"".as_slice(), b"\xff", b"\x01\x02\x03\x04\x05"] {
-        let mut ram = ram_with(rt.alloc(), &[])?;
-        let plan = plan_raw(image.len(), ram.size(), false).map_err(|_| "the image has no fault")?;
-        load(&plan, image, &mut ram);
-        let wanted = ram_with(rt.alloc(), &[(RAM_BASE, image)])?;
-        assert!(rt; are_equal(&ram, &wanted));
-    }
-    Ok(())
+fn loads_raw_images(rt: HostRuntime) {
+    expect_raw(&rt, rt.alloc(), b"");
+    expect_raw(&rt, rt.alloc(), b"\xff");
+    expect_raw(&rt, rt.alloc(), b"\x01\x02\x03\x04\x05");
 }

@@ -92,7 +92,7 @@ fn jalr(word: u32) -> Option<Instr>
 
 /// The instruction of a word of opcode 1100011.
 #[inline(always)]
-#[tactic(auto, using(crate::proofs::ReadingLemmas::only_branch), unfolding(crate::specs::Rows::word_of))]
+#[tactic(auto, unfolding(crate::specs::Rows::word_of))]
 fn branch(word: u32) -> Option<Instr>
     requires { bits_of word 6 0 ≡ 0b1100011 }
     ensures found { IfSome result (Spells word) }
@@ -109,7 +109,7 @@ fn branch(word: u32) -> Option<Instr>
 
 /// The instruction of a word of opcode 0000011.
 #[inline(always)]
-#[tactic(auto, using(crate::proofs::ReadingLemmas::only_load), unfolding(crate::specs::Rows::word_of))]
+#[tactic(auto, unfolding(crate::specs::Rows::word_of))]
 fn load(word: u32) -> Option<Instr>
     requires { bits_of word 6 0 ≡ 0b0000011 }
     ensures found { IfSome result (Spells word) }
@@ -126,7 +126,7 @@ fn load(word: u32) -> Option<Instr>
 
 /// The instruction of a word of opcode 0100011.
 #[inline(always)]
-#[tactic(auto, using(crate::proofs::ReadingLemmas::only_store), unfolding(crate::specs::Rows::word_of))]
+#[tactic(auto, unfolding(crate::specs::Rows::word_of))]
 fn store(word: u32) -> Option<Instr>
     requires { bits_of word 6 0 ≡ 0b0100011 }
     ensures found { IfSome result (Spells word) }
@@ -169,7 +169,7 @@ fn op_imm(word: u32) -> Option<Instr>
 
 /// The instruction of a word of opcode 0110011.
 #[inline(always)]
-#[tactic(auto, using(crate::proofs::ReadingLemmas::only_op), unfolding(crate::specs::Rows::word_of))]
+#[tactic(auto, unfolding(crate::specs::Rows::word_of))]
 fn op(word: u32) -> Option<Instr>
     requires { bits_of word 6 0 ≡ 0b0110011 }
     ensures found { IfSome result (Spells word) }

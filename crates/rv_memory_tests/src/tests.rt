@@ -1,174 +1,149 @@
 //! The calls of a memory on their happy path, and at its edges.
 
+mod followed;
+
+use followed::{Line, run};
 use rv_memory::{AccessFault, RAM_BASE, Ram, RamFault};
-use rv_pmp::{Access, Mode, Pmp, PmpIndex, Verdict};
+use rv_pmp::{Access, Mode, PmpIndex, Verdict};
 use rv_word::Width;
 use std::test::Fail;
 
 /// The address behind the last byte of the smallest memory.
 const END: u32 = RAM_BASE + 65_536;
 
+/// The size of a new memory.
+fn size_of_new(rt: HostRuntime, size: u32) -> Result<u32, RamFault> {
+    match Ram::new(rt.alloc(), size) {
+        Ok(ram) => Ok(ram.size()),
+        Err(fault) => Err(fault),
+    }
+}
+
 #[test]
-fn makes_lawful_sizes_alone(rt: HostRuntime) -> Result<(), Fail> {
+fn makes_lawful_sizes_alone(rt: HostRuntime) {
     for size in [65_536, 131_072, 1_048_576, 16_777_216] {
-        let ram = Ram::new(rt.alloc(), size).map_err(|_| "a RAM")?;
-        assert_eq!(rt; ram.size(), size);
+        assert_eq!(rt; size_of_new(rt, size), Ok(size));
     }
     for size in [0, 1, 65_535, 65_537, 98_304, 16_842_752, 0xffff_0000] {
-        assert_eq!(rt;
-            Ram::new(rt.alloc(), size).err(),
-            Some(RamFault::BadSize),
-            "{size}"
-        );
+        assert_eq!(rt; size_of_new(rt, size), Err(RamFault::BadSize), "{size}");
     }
-    assert_eq!(rt; RamFault::BadSize.number(), 1);
-    assert_eq!(rt; RamFault::NoMemory.number(), 2);
-    assert_eq!(rt; AccessFault::Outside.number(), 1);
-    Ok(())
 }
+
+#[test]
+fn numbers_of_faults(rt: HostRuntime) {
+    let of_memory = [RamFault::BadSize.number(), RamFault::NoMemory.number()];
+    let refused = AccessFault::Refused(Verdict::DeniedFree);
+    let of_access = [AccessFault::Outside.number(), refused.number()];
+    assert_eq!(rt; (of_memory, of_access), ([1, 2], [1, 2]));
+}
+
+const STORED: [Line; 8] = [
+    Line::Store(Mode::M, RAM_BASE + 1, Width::Word, 0x8765_4321, Ok(())),
+    Line::Store(Mode::M, RAM_BASE + 2, Width::Half, 0xabcd_1234, Ok(())),
+    Line::Store(Mode::M, RAM_BASE + 4, Width::Byte, 0xffff_ffee, Ok(())),
+    Line::First([0x00, 0x21, 0x34, 0x12, 0xee, 0x00]),
+    Line::Load(Mode::M, RAM_BASE + 1, Width::Word, Ok(0xee12_3421)),
+    Line::Load(Mode::M, RAM_BASE + 3, Width::Half, Ok(0xee12)),
+    Line::Load(Mode::M, RAM_BASE + 4, Width::Byte, Ok(0xee)),
+    Line::Fetch(Mode::M, RAM_BASE, Ok(0x1234_2100)),
+];
 
 #[test]
 fn loads_what_was_stored(rt: HostRuntime) -> Result<(), Fail> {
-    let mut ram = Ram::new(rt.alloc(), 65_536).map_err(|_| "a RAM")?;
-    let mut pmp = Pmp::new();
-    assert_eq!(rt;
-        ram.store(&mut pmp, Mode::M, RAM_BASE + 1, Width::Word, 0x8765_4321),
-        Ok(())
-    );
-    assert_eq!(rt;
-        ram.store(&mut pmp, Mode::M, RAM_BASE + 2, Width::Half, 0xabcd_1234),
-        Ok(())
-    );
-    assert_eq!(rt;
-        ram.store(&mut pmp, Mode::M, RAM_BASE + 4, Width::Byte, 0xffff_ffee),
-        Ok(())
-    );
-    assert_eq!(rt;
-        ram.part(RAM_BASE, 6),
-        [0x00, 0x21, 0x34, 0x12, 0xee, 0x00].as_slice()
-    );
-    assert_eq!(rt;
-        ram.load(&mut pmp, Mode::M, RAM_BASE + 1, Width::Word),
-        Ok(0xee12_3421)
-    );
-    assert_eq!(rt;
-        ram.load(&mut pmp, Mode::M, RAM_BASE + 3, Width::Half),
-        Ok(0xee12)
-    );
-    assert_eq!(rt;
-        ram.load(&mut pmp, Mode::M, RAM_BASE + 4, Width::Byte),
-        Ok(0xee)
-    );
-    assert_eq!(rt; ram.fetch(&mut pmp, Mode::M, RAM_BASE), Ok(0x1234_2100));
-    Ok(())
+    run(rt, &STORED)
 }
+
+const OUTSIDE: [Line; 5] = [
+    Line::Edges(Width::Byte, END - 1),
+    Line::Edges(Width::Half, END - 2),
+    Line::Edges(Width::Word, END - 4),
+    Line::Last([0x00, 0xff, 0xff, 0xff, 0xff]),
+    Line::Fetch(Mode::M, END - 2, Err(AccessFault::Outside)),
+];
 
 #[test]
 fn refuses_what_is_outside(rt: HostRuntime) -> Result<(), Fail> {
-    let mut ram = Ram::new(rt.alloc(), 65_536).map_err(|_| "a RAM")?;
-    let mut pmp = Pmp::new();
-    for (width, last) in [
-        (Width::Byte, END - 1),
-        (Width::Half, END - 2),
-        (Width::Word, END - 4),
-    ] {
-        assert_eq!(rt; ram.store(&mut pmp, Mode::M, last, width, u32::MAX), Ok(()));
-        for address in [last + 1, RAM_BASE - 1, u32::MAX, 0] {
-            assert_eq!(rt;
-                ram.load(&mut pmp, Mode::M, address, width),
-                Err(AccessFault::Outside)
-            );
-            assert_eq!(rt;
-                ram.store(&mut pmp, Mode::M, address, width, 0),
-                Err(AccessFault::Outside)
-            );
-        }
-    }
-    assert_eq!(rt;
-        ram.part(END - 5, 5),
-        [0x00, 0xff, 0xff, 0xff, 0xff].as_slice()
-    );
-    assert_eq!(rt;
-        ram.fetch(&mut pmp, Mode::M, END - 2),
-        Err(AccessFault::Outside)
-    );
-    Ok(())
+    run(rt, &OUTSIDE)
 }
+
+const CHANGED: [Line; 10] = [
+    Line::WriteFirst([1, 2, 3, 4, 5]),
+    Line::Zero(RAM_BASE + 1, 2),
+    Line::Poke(RAM_BASE + 3, 9, true),
+    Line::First([1, 0, 0, 9, 5, 0]),
+    Line::Peek(RAM_BASE + 3, Some(9)),
+    Line::Contains(END - 1, 1, true),
+    Line::Contains(END - 1, 2, false),
+    Line::Poke(END, 1, false),
+    Line::Peek(END, None),
+    Line::Peek(RAM_BASE - 1, None),
+];
 
 #[test]
 fn changes_named_bytes_alone(rt: HostRuntime) -> Result<(), Fail> {
-    let mut ram = Ram::new(rt.alloc(), 65_536).map_err(|_| "a RAM")?;
-    ram.write_part(RAM_BASE, &[1, 2, 3, 4, 5]);
-    ram.zero(RAM_BASE + 1, 2);
-    assert!(rt; ram.poke(RAM_BASE + 3, 9));
-    assert_eq!(rt; ram.part(RAM_BASE, 6), [1, 0, 0, 9, 5, 0].as_slice());
-    assert_eq!(rt; ram.peek(RAM_BASE + 3), Some(9));
-    assert!(rt; ram.contains(END - 1, 1));
-    assert!(rt; !ram.contains(END - 1, 2));
-    assert!(rt; !ram.poke(END, 1));
-    assert_eq!(rt; ram.peek(END), None);
-    assert_eq!(rt; ram.peek(RAM_BASE - 1), None);
-    Ok(())
+    run(rt, &CHANGED)
+}
+
+const IN_ENTRY: u32 = RAM_BASE + 0xffc;
+
+const fn refused(verdict: Verdict) -> AccessFault {
+    AccessFault::Refused(verdict)
+}
+
+/// What the entries answer, with the first of them.
+fn asked(first: PmpIndex) -> [Line; 8] {
+    [
+        Line::Entry(0x2000_01ff, 0x19),
+        Line::Load(Mode::U, IN_ENTRY, Width::Word, Ok(0)),
+        Line::Store(
+            Mode::U,
+            IN_ENTRY,
+            Width::Word,
+            1,
+            Err(refused(Verdict::Denied(first))),
+        ),
+        Line::Fetch(Mode::U, IN_ENTRY, Err(refused(Verdict::Denied(first)))),
+        Line::Load(
+            Mode::M,
+            IN_ENTRY + 2,
+            Width::Word,
+            Err(refused(Verdict::DeniedPartial(first))),
+        ),
+        Line::Load(
+            Mode::U,
+            IN_ENTRY + 4,
+            Width::Byte,
+            Err(refused(Verdict::DeniedFree)),
+        ),
+        Line::Load(Mode::U, END, Width::Byte, Err(AccessFault::Outside)),
+        Line::Judge(
+            Mode::M,
+            Access::Write,
+            IN_ENTRY,
+            Width::Byte,
+            Verdict::Allowed(first),
+        ),
+    ]
 }
 
 /// An entry that may be read and not written, and nothing else for mode U.
 #[test]
 fn asks_the_entries_after_the_bounds(rt: HostRuntime) -> Result<(), Fail> {
-    let mut ram = Ram::new(rt.alloc(), 65_536).map_err(|_| "a RAM")?;
-    let mut pmp = Pmp::new();
-    let first = PmpIndex::new(0);
-    pmp.write_addr(first, 0x2000_01ff);
-    pmp.write_cfg(first, 0x19);
-    let in_entry = RAM_BASE + 0xffc;
-    assert_eq!(rt; ram.load(&mut pmp, Mode::U, in_entry, Width::Word), Ok(0));
-    let denied = Err(AccessFault::Refused(Verdict::Denied(first)));
-    assert_eq!(rt;
-        ram.store(&mut pmp, Mode::U, in_entry, Width::Word, 1),
-        denied
-    );
-    let denied = Err(AccessFault::Refused(Verdict::Denied(first)));
-    assert_eq!(rt; ram.fetch(&mut pmp, Mode::U, in_entry), denied);
-    let partial = Err(AccessFault::Refused(Verdict::DeniedPartial(first)));
-    assert_eq!(rt;
-        ram.load(&mut pmp, Mode::M, in_entry + 2, Width::Word),
-        partial
-    );
-    let free = Err(AccessFault::Refused(Verdict::DeniedFree));
-    assert_eq!(rt;
-        ram.load(&mut pmp, Mode::U, in_entry + 4, Width::Byte),
-        free
-    );
-    assert_eq!(rt;
-        ram.load(&mut pmp, Mode::U, END, Width::Byte),
-        Err(AccessFault::Outside)
-    );
-    assert_eq!(rt;
-        pmp.judge(Mode::M, Access::Write, in_entry, Width::Byte),
-        Verdict::Allowed(first)
-    );
-    assert_eq!(rt; AccessFault::Refused(Verdict::DeniedFree).number(), 2);
-    Ok(())
+    run(rt, &asked(PmpIndex::new(0)))
 }
+
+const COMPLEMENTED: [Line; 8] = [
+    Line::WriteLast([0x11, 0x22, 0x80, 0xff]),
+    Line::Complement(END - 3, 2),
+    Line::Last([0x00, 0x11, 0xdd, 0x7f, 0xff]),
+    Line::Complement(END - 3, 0),
+    Line::Last([0x00, 0x11, 0xdd, 0x7f, 0xff]),
+    Line::Complement(RAM_BASE, 65_536),
+    Line::Last([0xff, 0xee, 0x22, 0x80, 0x00]),
+    Line::Peek(RAM_BASE, Some(0xff)),
+];
 
 #[test]
 fn complements_a_part(rt: HostRuntime) -> Result<(), Fail> {
-    let mut ram = Ram::new(rt.alloc(), 65_536).map_err(|_| "a RAM")?;
-    ram.write_part(END - 4, &[0x11, 0x22, 0x80, 0xff]);
-    ram.complement(END - 3, 2);
-    assert_eq!(rt;
-        ram.part(END - 5, 5),
-        [0x00, 0x11, 0xdd, 0x7f, 0xff].as_slice()
-    );
-    ram.complement(END - 3, 0);
-    assert_eq!(rt;
-        ram.part(END - 5, 5),
-        [0x00, 0x11, 0xdd, 0x7f, 0xff].as_slice()
-    );
-    ram.complement(RAM_BASE, 65_536);
-    assert_eq!(rt;
-        ram.part(END - 5, 5),
-        [0xff, 0xee, 0x22, 0x80, 0x00].as_slice()
-    );
-    assert_eq!(rt; ram.peek(RAM_BASE), Some(0xff));
-    Ok(())
+    run(rt, &COMPLEMENTED)
 }

@@ -38,6 +38,28 @@ fn index(number: u8) -> PmpIndex {
     PmpIndex::new(number.min(15))
 }
 
+/// A verdict on an access, which the remembered entries give too, twice. The assertions stand here alone: in each test they would
+/// make its proof long.
+fn expect_verdict(rt: &impl Abort, pmp: &mut Pmp, row: &Row) {
+    let (mode, access, addr, width, expected) = *row;
+    let verdict = pmp.judge(mode, access, addr, width);
+    assert_eq!(rt; numbered(verdict), expected);
+    for _ in 0..2 {
+        assert!(rt; pmp.check(mode, access, addr, width) == verdict.permits());
+    }
+}
+
+/// The cfg byte and the pmpaddr that are stored for an entry.
+fn expect_entry(rt: &impl Abort, pmp: &Pmp, number: u8, cfg: u8, addr: u32) {
+    assert!(rt; pmp.cfg(index(number)) == cfg, "cfg of {number}");
+    assert!(rt; pmp.addr(index(number)) == addr, "addr of {number}");
+}
+
+/// The range that an entry covers.
+fn expect_range(rt: &impl Abort, pmp: &Pmp, number: u8, range: Option<(u64, u64)>) {
+    assert_eq!(rt; pmp.entry_range(index(number)), range);
+}
+
 /// Asserts that the entries, each a number, a cfg byte and a pmpaddr, give the verdicts of the rows.
 fn agrees(rt: &impl Abort, entries: &[(u8, u8, u32)], rows: &[Row]) {
     let mut pmp = Pmp::new();
@@ -47,21 +69,17 @@ fn agrees(rt: &impl Abort, entries: &[(u8, u8, u32)], rows: &[Row]) {
     for (number, cfg, _) in entries {
         pmp.write_cfg(index(*number), *cfg);
     }
-    for (mode, access, addr, width, expected) in rows {
-        let verdict = pmp.judge(*mode, *access, *addr, *width);
-        assert_eq!(rt; numbered(verdict), *expected);
-        for _ in 0..2 {
-            assert_eq!(rt; pmp.check(*mode, *access, *addr, *width), verdict.permits());
-        }
+    for row in rows {
+        expect_verdict(rt, &mut pmp, row);
     }
 }
 
 /// Privileged Architecture, table 1.1.
 #[test]
 fn modes_are_numbered(rt: HostRuntime) {
-    assert_eq!(rt; Mode::U.number(), 0);
-    assert_eq!(rt; Mode::S.number(), 1);
-    assert_eq!(rt; Mode::M.number(), 3);
+    for (mode, number) in [(Mode::U, 0), (Mode::S, 1), (Mode::M, 3)] {
+        assert!(rt; mode.number() == number, "{number}");
+    }
 }
 
 #[test]
@@ -105,14 +123,14 @@ fn sixteen_apart(rt: HostRuntime) {
 }
 
 /// Whether a word may be read in mode U, by the verdict and by what is remembered.
-fn is_open(rt: &impl Abort, pmp: &mut Pmp, addr: u32) -> bool {
+fn expect_open(rt: &impl Abort, pmp: &mut Pmp, addr: u32, open: bool) {
     let judged = pmp
         .judge(Mode::U, Access::Read, addr, Width::Word)
         .permits();
+    assert!(rt; judged == open, "{addr}");
     for _ in 0..2 {
-        assert_eq!(rt; pmp.check(Mode::U, Access::Read, addr, Width::Word), judged);
+        assert!(rt; pmp.check(Mode::U, Access::Read, addr, Width::Word) == judged);
     }
-    judged
 }
 
 /// Each write of an entry is seen by the next access.
@@ -120,11 +138,11 @@ fn is_open(rt: &impl Abort, pmp: &mut Pmp, addr: u32) -> bool {
 fn writes_are_seen(rt: HostRuntime) {
     let mut pmp = Pmp::new();
     pmp.write_cfg(index(0), 0x19);
-    assert_eq!(&rt; is_open(&rt, &mut pmp, 0x8000_0000), false);
+    expect_open(&rt, &mut pmp, 0x8000_0000, false);
     pmp.write_addr(index(0), 0x2000_01ff);
-    assert_eq!(&rt; is_open(&rt, &mut pmp, 0x8000_0000), true);
+    expect_open(&rt, &mut pmp, 0x8000_0000, true);
     pmp.write_cfg_word(PmpRegister::new(0), 0x0000_0018);
-    assert_eq!(&rt; is_open(&rt, &mut pmp, 0x8000_0000), false);
+    expect_open(&rt, &mut pmp, 0x8000_0000, false);
 }
 
 /// All sixteen entries at once, their cfg bytes in their stored forms, and seen by the next access.
@@ -132,32 +150,32 @@ fn writes_are_seen(rt: HostRuntime) {
 fn sixteen_at_once(rt: HostRuntime) {
     let mut pmp = Pmp::new();
     pmp.set_entries(&[0x7b; 16], &[0x2000_01ff; 16]);
-    assert_eq!(&rt; is_open(&rt, &mut pmp, 0x8000_0ffc), true);
-    assert_eq!(&rt; is_open(&rt, &mut pmp, 0x8000_0ffe), false);
-    assert_eq!(&rt; pmp.cfg(index(15)), 0x1b);
-    assert_eq!(&rt; pmp.addr(index(15)), 0x2000_01ff);
+    expect_open(&rt, &mut pmp, 0x8000_0ffc, true);
+    expect_open(&rt, &mut pmp, 0x8000_0ffe, false);
+    expect_entry(&rt, &pmp, 15, 0x1b, 0x2000_01ff);
 }
 
 /// A locked TOR entry keeps the pmpaddr below it, also where it covers nothing, and W without R is stored as neither.
 #[test]
 fn locks_and_stored_bytes(rt: HostRuntime) {
     let mut pmp = Pmp::new();
-    pmp.write_cfg(index(1), 0x8f);
-    pmp.write_cfg(index(2), 0x80);
-    pmp.write_cfg(index(3), 0x66);
-    pmp.write_addr(index(0), 0x1234_5678);
-    pmp.write_addr(index(1), 0x1234_5678);
-    pmp.write_addr(index(2), 0x1234_5678);
-    pmp.write_addr(index(3), 0x1234_5678);
-    pmp.write_cfg(index(1), 0x1f);
-    pmp.write_cfg(index(2), 0x1f);
-    assert_eq!(rt; pmp.addr(index(0)), 0);
-    assert_eq!(rt; pmp.addr(index(1)), 0);
-    assert_eq!(rt; pmp.addr(index(2)), 0);
-    assert_eq!(rt; pmp.addr(index(3)), 0x1234_5678);
-    assert_eq!(rt; pmp.cfg(index(1)), 0x8f);
-    assert_eq!(rt; pmp.cfg(index(2)), 0x80);
-    assert_eq!(rt; pmp.cfg(index(3)), 0x04);
+    for (number, cfg) in [(1, 0x8f), (2, 0x80), (3, 0x66)] {
+        pmp.write_cfg(index(number), cfg);
+    }
+    for number in 0..4 {
+        pmp.write_addr(index(number), 0x1234_5678);
+    }
+    for (number, cfg) in [(1, 0x1f), (2, 0x1f)] {
+        pmp.write_cfg(index(number), cfg);
+    }
+    for (number, cfg, addr) in [
+        (0, 0, 0),
+        (1, 0x8f, 0),
+        (2, 0x80, 0),
+        (3, 0x04, 0x1234_5678),
+    ] {
+        expect_entry(&rt, &pmp, number, cfg, addr);
+    }
 }
 
 /// A write of a whole register leaves the byte of a locked entry, and locks bind from the next write on.
@@ -177,7 +195,7 @@ fn register_of_four_entries(rt: HostRuntime) {
         (14, 0),
         (15, 0x9f),
     ] {
-        assert_eq!(rt; pmp.cfg(index(number)), cfg);
+        expect_entry(&rt, &pmp, number, cfg, 0);
     }
 }
 
@@ -196,7 +214,7 @@ fn ranges(rt: HostRuntime) {
     ] {
         pmp.write_cfg(index(number), cfg);
         pmp.write_addr(index(number), addr);
-        assert_eq!(rt; pmp.entry_range(index(number)), range);
+        expect_range(&rt, &pmp, number, range);
     }
 }
 
@@ -205,11 +223,8 @@ fn ranges(rt: HostRuntime) {
 fn set_entry(rt: HostRuntime) {
     let mut pmp = Pmp::new();
     pmp.set_entry(PmpIndex::new(7), 0x7a, 0x2000_01ff);
-    assert_eq!(rt; pmp.cfg(index(7)), 0x18);
-    assert_eq!(rt; pmp.addr(index(7)), 0x2000_01ff);
-    assert_eq!(rt; pmp.entry_range(index(7)), Some((0x8000_0000, 0x8000_1000)));
-    assert_eq!(rt;
-        pmp.judge(Mode::M, Access::Read, 0x8000_0ffe, Width::Word),
-        Verdict::DeniedPartial(index(7))
-    );
+    expect_entry(&rt, &pmp, 7, 0x18, 0x2000_01ff);
+    expect_range(&rt, &pmp, 7, Some((0x8000_0000, 0x8000_1000)));
+    let across = pmp.judge(Mode::M, Access::Read, 0x8000_0ffe, Width::Word);
+    assert!(rt; numbered(across) == Expected::DeniedPartial(7));
 }

@@ -1,9 +1,10 @@
 //! Every number in every mode.
 
-use super::{differing, put};
+use super::followed::{Line, run};
 use rv_pmp::Mode;
 use rv_state::{CsrFault, Csrs, Regs};
 use rv_word::Reg;
+use std::test::Fail;
 
 /// The registers that there are, by rising numbers, written from the table of docs/ISA.md: the first and the last
 /// number of those that are alike, what they read at reset, and in mode M after all ones were written.
@@ -64,21 +65,64 @@ fn is_allowed(number: u16, mode: Mode) -> bool {
     }
 }
 
+/// What a read of a register in a mode gives at reset.
+fn wanted_read(number: u16, mode: Mode) -> Result<u32, CsrFault> {
+    match expected(number) {
+        None => Err(CsrFault::Missing),
+        Some(_) if !is_allowed(number, mode) => Err(CsrFault::Privilege),
+        Some((at_reset, _)) => Ok(at_reset),
+    }
+}
+
+/// What a write of all ones in a mode gives at reset, and what is read in mode M then.
+type Written = (Result<(), CsrFault>, Result<u32, CsrFault>);
+
+fn wanted_write(number: u16, mode: Mode) -> Written {
+    match expected(number) {
+        None => (Err(CsrFault::Missing), Err(CsrFault::Missing)),
+        Some((at_reset, _)) if !is_allowed(number, mode) => {
+            (Err(CsrFault::Privilege), Ok(at_reset))
+        }
+        Some((at_reset, _)) if number >= 0xC00 => (Err(CsrFault::ReadOnly), Ok(at_reset)),
+        Some((_, after_ones)) => (Ok(()), Ok(after_ones)),
+    }
+}
+
+// these promise nothing: a run shows what they do, and the proofs of the tests need not carry what their calls ensure
+
+fn read(csrs: &Csrs, number: u16, mode: Mode) -> Result<u32, CsrFault> {
+    csrs.read(number, mode)
+}
+
+fn write(csrs: &mut Csrs, number: u16, word: u32, mode: Mode) -> Result<(), CsrFault> {
+    csrs.write(number, word, mode)
+}
+
+fn written(number: u16, mode: Mode) -> Written {
+    let mut csrs = Csrs::new();
+    let done = write(&mut csrs, number, 0xFFFF_FFFF, mode);
+    (done, read(&csrs, number, Mode::M))
+}
+
 #[test]
-fn every_number_reads_in_every_mode_as_listed(rt: HostRuntime) {
+fn every_number_reads_in_every_mode_as_listed() -> Result<(), Fail> {
     let csrs = Csrs::new();
+    for number in 0u16..4096 {
+        for mode in [Mode::U, Mode::S, Mode::M] {
+            let shown = read(&csrs, number, mode);
+            if shown != wanted_read(number, mode) {
+                return Err(Fail::new(format_args!("{number:03x} in {mode:?}: {shown:?}")));
+            }
+        }
+    }
+    Ok(())
+}
+
+#[test]
+fn so_many_registers_are_listed(rt: HostRuntime) {
     let mut found = 0u32;
     for number in 0u16..4096 {
-        let wanted = expected(number);
-        for mode in [Mode::U, Mode::S, Mode::M] {
-            let reads = match wanted {
-                None => Err(CsrFault::Missing),
-                Some(_) if !is_allowed(number, mode) => Err(CsrFault::Privilege),
-                Some((at_reset, _)) => Ok(at_reset),
-            };
-            assert_eq!(rt; csrs.read(number, mode), reads, "{number:03x} in {mode:?}");
-        }
-        if wanted.is_some() {
+        if expected(number).is_some() {
             found = found.wrapping_add(1);
         }
     }
@@ -86,63 +130,65 @@ fn every_number_reads_in_every_mode_as_listed(rt: HostRuntime) {
 }
 
 #[test]
-fn every_number_is_written_in_every_mode_as_listed(rt: HostRuntime) {
+fn every_number_is_written_in_every_mode_as_listed() -> Result<(), Fail> {
     for number in 0u16..4096 {
-        let wanted = expected(number);
         for mode in [Mode::U, Mode::S, Mode::M] {
-            let (written, read) = match wanted {
-                None => (Err(CsrFault::Missing), Err(CsrFault::Missing)),
-                Some((at_reset, _)) if !is_allowed(number, mode) => {
-                    (Err(CsrFault::Privilege), Ok(at_reset))
-                }
-                Some((at_reset, _)) if number >= 0xC00 => (Err(CsrFault::ReadOnly), Ok(at_reset)),
-                Some((_, after_ones)) => (Ok(()), Ok(after_ones)),
-            };
-            let mut csrs = Csrs::new();
-            assert_eq!(rt;
-                csrs.write(number, 0xFFFF_FFFF, mode),
-                written,
-                "{number:03x} in {mode:?}"
-            );
-            assert_eq!(rt;
-                csrs.read(number, Mode::M),
-                read,
-                "{number:03x} in {mode:?}"
-            );
+            let shown = written(number, mode);
+            if shown != wanted_write(number, mode) {
+                return Err(Fail::new(format_args!("{number:03x} in {mode:?}: {shown:?}")));
+            }
         }
     }
+    Ok(())
 }
+
+const FIELDS: [Line; 10] = [
+    Line::Put(0x300, 0x1000),
+    Line::Reads(0x300, 0),
+    Line::Put(0x300, 0x0800),
+    Line::Put(0x100, 0xFFFF_FFFF),
+    Line::Put(0xB80, 0x1234_5678),
+    Line::Put(0xB00, 0x9ABC_DEF0),
+    Line::Reads(0x300, 0x0008_0922),
+    Line::Reads(0xB80, 0x1234_5678),
+    Line::Reads(0xB00, 0x9ABC_DEF0),
+    Line::Reads(0xB82, 0),
+];
 
 /// MPP (bits 12:11) has no mode 2, and each half of a counter is kept apart.
 #[test]
-fn keeps_fields_and_halves(rt: HostRuntime) {
-    let mut csrs = Csrs::new();
-    put(&mut csrs, &[(0x300, 0x1000)]);
-    assert_eq!(rt; differing(&csrs, &[(0x300, 0)]), None);
-    put(&mut csrs, &[(0x300, 0x0800), (0x100, 0xFFFF_FFFF)]);
-    put(&mut csrs, &[(0xB80, 0x1234_5678), (0xB00, 0x9ABC_DEF0)]);
-    let wanted = [
-        (0x300, 0x0008_0922),
-        (0xB80, 0x1234_5678),
-        (0xB00, 0x9ABC_DEF0),
-        (0xB82, 0),
-    ];
-    assert_eq!(rt; differing(&csrs, &wanted), None);
+fn keeps_fields_and_halves() -> Result<(), Fail> {
+    run(&FIELDS)
 }
 
-/// satp is refused to mode S while TVM (bit 20) is set, after all other faults.
+/// What satp reads in a mode, and the fault of a write.
+type Answered = (Result<u32, CsrFault>, Option<CsrFault>);
+
+fn satp(csrs: &mut Csrs, mode: Mode) -> Answered {
+    let shown = read(csrs, 0x180, mode);
+    (shown, write(csrs, 0x180, 1, mode).err())
+}
+
+/// What satp answers in mode U, in mode S and in mode M while TVM (bit 20) is set.
+fn satp_under_tvm() -> [Answered; 3] {
+    let mut csrs = Csrs::new();
+    let _ = write(&mut csrs, 0x300, 0x0010_0000, Mode::M);
+    let of_user = satp(&mut csrs, Mode::U);
+    let of_supervisor = satp(&mut csrs, Mode::S);
+    [of_user, of_supervisor, satp(&mut csrs, Mode::M)]
+}
+
+/// satp is refused to mode S while TVM is set, after all other faults.
 #[test]
 fn refuses_satp_under_tvm(rt: HostRuntime) {
-    let mut csrs = Csrs::new();
-    put(&mut csrs, &[(0x300, 0x0010_0000)]);
-    for (mode, wanted) in [
-        (Mode::U, Err(CsrFault::Privilege)),
-        (Mode::S, Err(CsrFault::Trapped)),
-        (Mode::M, Ok(0)),
-    ] {
-        assert_eq!(rt; csrs.read(0x180, mode), wanted);
-        assert_eq!(rt; csrs.write(0x180, 1, mode).err(), wanted.err());
-    }
+    let denied = CsrFault::Privilege;
+    let trapped = CsrFault::Trapped;
+    let wanted = [
+        (Err(denied), Some(denied)),
+        (Err(trapped), Some(trapped)),
+        (Ok(0), None),
+    ];
+    assert_eq!(rt; satp_under_tvm(), wanted);
 }
 
 #[test]

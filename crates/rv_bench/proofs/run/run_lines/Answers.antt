@@ -7,7 +7,7 @@ use Rattle.rv_bench.specs.Run.{RunsLines}
 use Rattle.rv_bench.specs.Script.{script_lines}
 use Rattle.rv_bench.specs.Unread.{unread}
 use Rattle.rv_bench.specs.Transfer.{WritesFront}
-use Rattle.rv_bench.proofs.Ends.{TellsEnd-none, TellsEnd-more}
+use Rattle.rv_bench.proofs.Ends.{no_failure, TellsEnd-none, TellsEnd-more}
 use Rattle.rv_bench.proofs.Mapped.{OnOk-always, ok_mapped, err_mapped, mapped}
 use Rattle.rv_bench.proofs.Runs.{RunsScript-whole, AnswersFronts, AnswersLines-none, AnswersLines-more, AnswersLines-read, AnswersLines-written, AnswersLines-stopped, AnswersLines-all, AnswersLines-state, StopsAtWrite-front, going_on}
 use Rattle.rv_bench.proofs.ScriptLemmas.{FindsEnd-whole}
@@ -50,7 +50,7 @@ loop-line-preserved g c =
           (ap (bench_line (g.T.Answers.bench c.loop-line.bench)) (sym c.as_slice.ensures.value) ∙ c.answer_line.ensures.answer)
           (λ told. IfOk-at_ok _ wrote c.write_all.ensures.written told ∙ ap (λ t. g.W.Sink.taken c.loop-line.sink ++ t) c.as_slice-in-Some.ensures.value);
       end = TellsEnd-more _ _ _ c.loop-line.invariant.end c.next_line_before.ensures.end;
-      source_failures = search rules;
+      source_failures = no_failure _ _ _ _ _ c.next_line_before.ensures.failures found c.loop-line.invariant.source_failures;
       sink_failures = same.0 ∙ c.loop-line.invariant.sink_failures;
       sink_refusals = same.1 ∙ c.loop-line.invariant.sink_refusals;
     }
@@ -68,7 +68,7 @@ returns-in_err-map_err-clause-outcome g c =
     (ap (bench_line (g.T.Answers.bench c.loop-line.bench)) (sym c.as_slice.ensures.value) ∙ c.answer_line.ensures.answer)
     (λ told. subst (λ t. WritesFront (g.W.Sink.taken c.loop-line.sink) (g.W.Sink.taken c.write_all.new.sink) t) c.as_slice-in-Some.ensures.value (c.write_all.ensures.front told)) in
     rw is (
-      record { source = search rules; sink = search rules; emptied = search rules; front = λ tells told. StopsAtWrite-front bench_line _ _ _ _ _ _ _ (stops tells) told },
+      record { source = no_failure _ _ _ _ _ c.next_line_before.ensures.failures found c.loop-line.invariant.source_failures; sink = search rules; emptied = search rules; front = λ tells told. StopsAtWrite-front bench_line _ _ _ _ _ _ _ (stops tells) told },
       stops,
     )
 
@@ -80,12 +80,12 @@ returns-in-Input-clause-outcome g c =
     let whole = λ (tells : IsTrue g.S.Source.tells). FindsEnd-whole c.args.lines.now c.loop-line.lines c.next_line_before.new.self _ _ none (answered tells).taken tells in
     mapped (RunsLines g.W.Sink c.args.end (g.T.Answers.bench c.args.bench.now) c.args.lines.now c.next_line_before.new.self c.args.sink.now c.flush.new.self) _ Write c.flush.result c.map_err-in-Input.result c.map_err-in-Input.ensures.cases (λ e d is. search rules)
     (λ _ flushed.
-    RunsScript-whole g.W.Sink _ _ _ _ _ _ _ (search rules) (search rules) (search rules) (TellsEnd-more _ _ _ c.loop-line.invariant.end c.next_line_before.ensures.end) none
+    RunsScript-whole g.W.Sink _ _ _ _ _ _ _ (no_failure _ _ _ _ _ c.next_line_before.ensures.failures found c.loop-line.invariant.source_failures) (search rules) (search rules) (TellsEnd-more _ _ _ c.loop-line.invariant.end c.next_line_before.ensures.end) none
     (λ tells. ((answered tells).lines, (answered tells).taken))
     (λ tells told. c.flush.ensures.bytes told ∙ AnswersLines-all bench_line _ _ _ _ _ _ _ _ _ _ (answered tells) (whole tells) told))
     (λ _ failed.
     let stops = λ (tells : IsTrue g.S.Source.tells). AnswersLines-written bench_line _ _ _ _ _ _ _ _ _ _ _ (answered tells) (whole tells) c.flush.ensures.bytes in (
-      record { source = search rules; sink = search rules; emptied = search rules; front = λ tells told. StopsAtWrite-front bench_line _ _ _ _ _ _ _ (stops tells) told },
+      record { source = no_failure _ _ _ _ _ c.next_line_before.ensures.failures found c.loop-line.invariant.source_failures; sink = search rules; emptied = search rules; front = λ tells told. StopsAtWrite-front bench_line _ _ _ _ _ _ _ (stops tells) told },
       stops,
     ))
 
@@ -105,7 +105,7 @@ returns-in-Separator-clause-outcome g c =
     let none = IfOk-at_ok _ found c.next_line_before.ensures.none in
     let answered = c.loop-line.invariant.answered in
     let whole = λ (tells : IsTrue g.S.Source.tells). FindsEnd-whole c.args.lines.now c.loop-line.lines c.next_line_before.new.self _ _ none (answered tells).taken tells in
-    RunsScript-whole g.W.Sink _ _ _ _ _ _ _ (search rules) (search rules) (c.loop-line.invariant.sink_failures, c.loop-line.invariant.sink_refusals)
+    RunsScript-whole g.W.Sink _ _ _ _ _ _ _ (no_failure _ _ _ _ _ c.next_line_before.ensures.failures found c.loop-line.invariant.source_failures) (search rules) (c.loop-line.invariant.sink_failures, c.loop-line.invariant.sink_refusals)
     (TellsEnd-more _ _ _ c.loop-line.invariant.end c.next_line_before.ensures.end) none
     (λ tells. ((answered tells).lines, (answered tells).taken))
     (λ tells told. AnswersLines-all bench_line _ _ _ _ _ _ _ _ _ _ (answered tells) (whole tells) told)

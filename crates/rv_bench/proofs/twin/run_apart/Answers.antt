@@ -7,7 +7,7 @@ use Rattle.rv_bench.specs.Transfer.{WritesFront}
 use Rattle.rv_bench.specs.Twin.{RunsSecond}
 use Rattle.rv_bench.specs.Unread.{unread}
 use Rattle.rv_bench.proofs.ApartLemmas.{at_input_end, ended_all, ended_front, entered_all, entered_at, front_all, front_more}
-use Rattle.rv_bench.proofs.Ends.{TellsEnd-none, TellsEnd-more}
+use Rattle.rv_bench.proofs.Ends.{no_failure, TellsEnd-none, TellsEnd-more}
 use Rattle.rv_bench.proofs.Mapped.{ok_mapped, err_mapped, mapped}
 use Rattle.rv_bench.proofs.Runs.{AnswersFronts, AnswersLines, AnswersLines-none, AnswersLines-more, AnswersLines-read, AnswersLines-stopped, StopsAtWrite-front, going_on}
 use Rattle.rv_bench.proofs.ScriptLemmas.{FindsEnd-whole}
@@ -52,7 +52,7 @@ loop-line-preserved g c =
           (λ told. IfOk-at_ok _ wrote c.write_all.ensures.written told ∙ ap (λ t. g.W.Sink.taken c.loop-line.sink ++ t) c.as_slice-in-Some.ensures.value);
       end = TellsEnd-more _ _ _ c.loop-line.invariant.end c.next_line_before.ensures.end;
       going = search rules;
-      source_failures = search rules;
+      source_failures = no_failure _ _ _ _ _ c.next_line_before.ensures.failures found c.loop-line.invariant.source_failures;
       sink_failures = same.0 ∙ c.loop-line.invariant.sink_failures;
       sink_refusals = same.1 ∙ c.loop-line.invariant.sink_refusals;
     }
@@ -70,7 +70,7 @@ returns-in_err-map_err-clause-outcome g c =
     (ap (apart_line c.args.slot c.loop-line.apart) (sym c.as_slice.ensures.value) ∙ c.answer_line.ensures.answer)
     (λ told. subst (λ t. WritesFront (g.W.Sink.taken c.loop-line.sink) (g.W.Sink.taken c.write_all.new.sink) t) c.as_slice-in-Some.ensures.value (c.write_all.ensures.front told)) in
     rw is (record {
-      source = search rules;
+      source = no_failure _ _ _ _ _ c.next_line_before.ensures.failures found c.loop-line.invariant.source_failures;
       sink = search rules;
       emptied = search rules;
       front = λ tells told. front_more _ _ _ _ (StopsAtWrite-front (apart_line c.args.slot) Input _ _ _ _ _ _ (stops tells) told);
@@ -93,14 +93,14 @@ returns-then-apart-clause-outcome g c =
     (λ told. IfOk-at_ok _ wrote c.write_all.ensures.written told ∙ ap (λ t. g.W.Sink.taken c.loop-line.sink ++ t) c.as_slice-in-Some.ensures.value) in
     mapped (RunsSecond g.W.Sink slot (Some start) c.args.lines.now c.next_line_before.new.self c.args.sink.now c.flush.new.self) _ Write c.flush.result c.map_err-then-apart.result c.map_err-then-apart.ensures.cases (λ e d is. search rules)
     (λ _ flushed. record {
-      source = search rules;
+      source = no_failure _ _ _ _ _ c.next_line_before.ensures.failures found c.loop-line.invariant.source_failures;
       sink = search rules;
       emptied = search rules;
       read = inr (λ tells. entered_at slot start c.answer_line.new.self _ _ _ _ (answered tells).taken.reads (answered tells).state c.if-apart.true);
       written = λ tells told. c.flush.ensures.bytes told ∙ entered_all slot start c.answer_line.new.self _ _ _ _ _ _ (answered tells).taken.reads (answered tells).state c.if-apart.true ((answered tells).written told);
     })
     (λ _ failed. record {
-      source = search rules;
+      source = no_failure _ _ _ _ _ c.next_line_before.ensures.failures found c.loop-line.invariant.source_failures;
       sink = search rules;
       emptied = search rules;
       front = λ tells told. front_all _ _ _ (c.flush.ensures.bytes told ∙ entered_all slot start c.answer_line.new.self _ _ _ _ _ _ (answered tells).taken.reads (answered tells).state c.if-apart.true ((answered tells).written told));
@@ -124,7 +124,7 @@ returns-clause-outcome g c =
     (λ _ wrote.
     let same = IfOk-at_ok _ wrote c.write_last.ensures.ok in
     let ended = at_input_end none in record {
-      source = search rules;
+      source = no_failure _ _ _ _ _ c.next_line_before.ensures.failures found c.loop-line.invariant.source_failures;
       sink = (same.0 ∙ c.loop-line.invariant.sink_failures, same.1 ∙ c.loop-line.invariant.sink_refusals);
       emptied = search rules;
       read = inl (ended.at_end, end.ended ended.at_end, ended.left);
@@ -133,7 +133,7 @@ returns-clause-outcome g c =
           ∙ ended_all slot start now _ (unread c.args.lines.now) _ _ _ (answered tells).state c.loop-line.invariant.going (whole tells).all ((answered tells).written told) last;
     })
     (λ _ failed. record {
-      source = search rules;
+      source = no_failure _ _ _ _ _ c.next_line_before.ensures.failures found c.loop-line.invariant.source_failures;
       sink = search rules;
       emptied = search rules;
       front = λ tells told.

@@ -1,19 +1,15 @@
-use Rattle.std.proofs.Common.{rules, ◌≡◌, ◌++◌, ◌∙◌, refl, sym, ap, subst, inr, false, None}
+use Rattle.std.proofs.Common.{rules, ◌++◌, ◌∙◌, refl, sym, ap, subst, inr, None}
 use Rattle.std.proofs.lemmas.Result.{IfOk-at_ok}
-use Rattle.rv_debug.specs.TwoBenches.{can_scramble}
 use Rattle.rv_bench.specs.declared.fault.BenchFault.TheVariants.{Write}
 use Rattle.rv_bench.specs.Transfer.{WritesFront}
 use Rattle.rv_bench.specs.Twin.{RunsSecond}
 use Rattle.rv_bench.proofs.Mapped.{mapped}
-use Rattle.rv_bench.proofs.Twins.{not_apart}
 use Rattle.rv_bench.proofs.twin.run_second.Goals as goal
 
-pub returns-then-not-scramble-clause-outcome : goal.returns-then-not-scramble-clause-outcome
-returns-then-not-scramble-clause-outcome g c =
-    let slot = c.args.slot in
-    let none : can_scramble slot c.args.benches.first ≡ false = search rules in
-    subst (λ apart. RunsSecond g.W.Sink slot apart c.args.lines.now c.args.lines.now c.args.sink.now c.write_last.new.sink c.map_err.result) (sym (not_apart slot c.args.benches.first none))
-    (mapped (RunsSecond g.W.Sink slot None c.args.lines.now c.args.lines.now c.args.sink.now c.write_last.new.sink) _ Write c.write_last.result c.map_err.result c.map_err.ensures.cases (λ e d is. search rules)
+pub returns-in_default-clause-outcome : goal.returns-in_default-clause-outcome
+returns-in_default-clause-outcome g c =
+    subst (λ apart. RunsSecond g.W.Sink c.args.slot apart c.args.lines.now c.args.lines.now c.args.sink.now c.write_last.new.sink c.map_err.result) (sym c.in_default.is ∙ c.scrambled.ensures.apart)
+    (mapped (RunsSecond g.W.Sink c.args.slot None c.args.lines.now c.args.lines.now c.args.sink.now c.write_last.new.sink) _ Write c.write_last.result c.map_err.result c.map_err.ensures.cases (λ e d is. search rules)
     (λ _ wrote. record {
       source = refl;
       sink = IfOk-at_ok _ wrote c.write_last.ensures.ok;
@@ -27,3 +23,7 @@ returns-then-not-scramble-clause-outcome g c =
       emptied = c.requires;
       front = λ tells told. subst (WritesFront (g.W.Sink.taken c.args.sink.now) (g.W.Sink.taken c.write_last.new.sink)) c.no_slot.ensures (c.write_last.ensures.front told);
     }))
+
+pub returns-clause-outcome : goal.returns-clause-outcome
+returns-clause-outcome g c =
+    subst (λ apart. RunsSecond g.W.Sink c.args.slot apart c.args.lines.now c.run_apart.new.lines c.args.sink.now c.run_apart.new.sink c.run_apart.result) (sym c.in-Some.is ∙ c.scrambled.ensures.apart) c.run_apart.ensures.outcome

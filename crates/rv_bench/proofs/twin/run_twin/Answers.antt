@@ -25,3 +25,9 @@ returns-clause-outcome g c =
     _ c.in_ok-benches.ensures c.run_lines.new.lines c.run_lines.new.sink c.in_ok-run_lines.ensures.outcome _ c.in_ok-run_lines.ensures.state
     c.run_second.new.lines c.run_second.new.sink (TellsEnd-more _ _ _ c.in_ok-image.ensures.end (TellsEnd-more _ _ _ c.run_lines.ensures.end c.run_second.ensures.end))
     c.run_second.result c.run_second.ensures.outcome
+
+pub returns-in_err-run_lines-clause-end : goal.returns-in_err-run_lines-clause-end
+returns-in_err-run_lines-clause-end g c = TellsEnd-more _ _ _ c.in_ok-image.ensures.end c.run_lines.ensures.end
+
+pub returns-clause-end : goal.returns-clause-end
+returns-clause-end g c = TellsEnd-more _ _ _ c.in_ok-image.ensures.end (TellsEnd-more _ _ _ c.run_lines.ensures.end c.run_second.ensures.end)

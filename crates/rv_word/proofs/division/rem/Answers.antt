@@ -3,12 +3,11 @@ use Rattle.rv_word.specs.Division.{remainder}
 use Rattle.rv_word.proofs.DivisionLemmas.{remainder-equation, remainder-unique}
 use Rattle.rv_word.proofs.division.rem.Goals as goal
 
-pub returns-else-divisor-eq0-clause-equation : goal.returns-else-divisor-eq0-clause-equation
-returns-else-divisor-eq0-clause-equation c =
-    let value : c.cast_unsigned.result ≡ remainder c.args.dividend c.args.divisor = search rules
-    in remainder-equation c.args.dividend c.args.divisor c.cast_unsigned.result c.ranges.divisor.fits value
-
-pub returns-else-divisor-eq0-clause-unique : goal.returns-else-divisor-eq0-clause-unique
-returns-else-divisor-eq0-clause-unique c =
-    let value : c.cast_unsigned.result ≡ remainder c.args.dividend c.args.divisor = search rules
-    in remainder-unique c.args.dividend c.args.divisor c.cast_unsigned.result value c.if-divisor-eq0.false
+pub returns-else-divisor-eq0 : goal.returns-else-divisor-eq0
+returns-else-divisor-eq0 c =
+    let value : c.cast_unsigned.result ≡ remainder c.args.dividend c.args.divisor = search rules in
+    record {
+      value = value;
+      equation = remainder-equation c.args.dividend c.args.divisor c.cast_unsigned.result c.ranges.divisor.fits value;
+      unique = remainder-unique c.args.dividend c.args.divisor c.cast_unsigned.result value c.if-divisor-eq0.false;
+    }

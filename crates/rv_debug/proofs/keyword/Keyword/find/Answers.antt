@@ -1,5 +1,6 @@
-use Rattle.rv_debug.proofs.Keywords.{keyword_of-from_cases}
+use Rattle.std.proofs.Common.{◌∙◌}
+use Rattle.rv_debug.proofs.Keywords.{keyword_of-rows}
 use Rattle.rv_debug.proofs.keyword.Keyword.find.Goals as goal
 
 pub returns : goal.returns
-returns c = keyword_of-from_cases c.args.word.now _ c.matching.ensures
+returns c = c.matching.ensures ∙ keyword_of-rows c.args.word.now

@@ -1,0 +1,516 @@
+//! One list of commands for two benches, and the second bench that is made for it. The tables are constants, and each test is a
+//! call or two: tables and benches in a test would make its proof long.
+
+use crate::benches::{expect_text, poke_words, with_words};
+use rv_debug::{Bench, Both, BothWhy, Command, both_command, parse, run_both};
+use rv_memory::Ram;
+use rv_monitor::Monitored;
+use rv_text::Reply;
+use std::alloc::Global;
+use std::process::Abort;
+
+/// Where the host begins.
+const FIRST: u32 = 0x8001_0000;
+
+/// How a bench is made.
+#[derive(Clone, Copy)]
+enum Made {
+    /// Without the monitor, over addi x1, x0, -1.
+    Bare,
+    /// Under the monitor, with no enclave.
+    Free,
+    /// Under the monitor, with an enclave in slot 0.
+    Live,
+    /// The same, with the enclave's secret complemented.
+    Other,
+}
+
+/// Two benches that differ in nothing but the enclave's secret.
+const PAIR: (Made, Made) = (Made::Live, Made::Other);
+
+/// A create of an enclave of 4096 bytes at 80020000, without a window. The host goes on at 80010004.
+const CREATE: &[&[u8]] = &[
+    b"setreg 17 0a454e43",
+    b"setreg 16 1",
+    b"setreg 10 80020000",
+    b"setreg 11 1000",
+    b"setreg 14 80020000",
+    b"step 1",
+];
+
+/// The registers of a call to run the enclave of slot 0.
+const RUN: &[&[u8]] = &[b"setreg 17 0a454e43", b"setreg 16 3", b"setreg 10 0"];
+
+/// A command for two benches, how it ends, and the replies of the first and of the second.
+type Row = (&'static [u8], BothWhy, &'static [u8], &'static [u8]);
+
+/// A line that each bench is given by itself, and the replies of the first and of the second.
+type After = (&'static [u8], &'static [u8], &'static [u8]);
+
+/// Gives lines to a bench, whatever it replies.
+fn give(bench: &mut Bench, lines: &[&[u8]]) {
+    let mut reply = Reply::new();
+    for line in lines {
+        let _ = bench.answer_line(line, &mut reply);
+    }
+}
+
+/// A bench of 196608 bytes under the monitor, whose host begins with four ecalls.
+fn bench_of_calls(rt: &impl Abort, alloc: Global) -> Bench {
+    let mut ram = Ram::new(alloc, 196_608).expect(rt, "a RAM");
+    poke_words(&mut ram, FIRST, &[0x73; 4]);
+    Bench::monitored(Monitored::new(ram, FIRST))
+}
+
+/// A bench with an enclave in slot 0.
+fn bench_with_enclave(rt: &impl Abort, alloc: Global) -> Bench {
+    let mut bench = bench_of_calls(rt, alloc);
+    give(&mut bench, CREATE);
+    bench
+}
+
+/// A bench that is made so, and then is given lines.
+fn bench_of(rt: &impl Abort, alloc: Global, made: Made, lines: &[&[u8]]) -> Bench {
+    let mut bench = match made {
+        Made::Bare => with_words(rt, alloc, &[0xfff0_0093]),
+        Made::Free => bench_of_calls(rt, alloc),
+        Made::Live | Made::Other => bench_with_enclave(rt, alloc),
+    };
+    if let Made::Other = made {
+        assert!(rt; bench.scramble(0));
+    }
+    give(&mut bench, lines);
+    bench
+}
+
+/// Gives a line to a bench, which must have this reply.
+fn expect_reply(rt: &impl Abort, bench: &mut Bench, line: &[u8], want: &[u8]) {
+    let mut reply = Reply::new();
+    let _ = bench.answer_line(line, &mut reply);
+    expect_text(rt, &reply, want);
+}
+
+/// Gives lines to each of two benches by itself.
+fn expect_after(rt: &impl Abort, a: &mut Bench, b: &mut Bench, after: &[After]) {
+    for (line, first, second) in after {
+        expect_reply(rt, a, line, first);
+        expect_reply(rt, b, line, second);
+    }
+}
+
+/// Gives a command to two benches.
+fn expect_row(rt: &impl Abort, a: &mut Bench, b: &mut Bench, slot: u8, row: &Row) {
+    let (line, why, first_want, second_want) = *row;
+    // what the buffers hold before is replaced
+    let mut first = Reply::new();
+    let mut second = Reply::new();
+    first.push(b'?');
+    second.push(b'?');
+    let command = parse(line).expect(rt, "a command");
+    let found = both_command(a, b, slot, &command, &mut first, &mut second);
+    assert!(rt; found == why, "{slot}");
+    expect_text(rt, &first, first_want);
+    expect_text(rt, &second, second_want);
+}
+
+/// Gives lines to each of two benches, then commands to both, one by one, and then lines to each again.
+fn expect_both(
+    rt: &impl Abort,
+    alloc: Global,
+    made: (Made, Made),
+    lines: &[&[u8]],
+    slot: u8,
+    rows: &[Row],
+    after: &[After],
+) {
+    let mut a = bench_of(rt, alloc, made.0, lines);
+    let mut b = bench_of(rt, alloc, made.1, lines);
+    for row in rows {
+        expect_row(rt, &mut a, &mut b, slot, row);
+    }
+    expect_after(rt, &mut a, &mut b, after);
+}
+
+/// The commands of lines, of which there are at most four.
+fn commands_of(rt: &impl Abort, lines: &[&[u8]]) -> [Command; 4] {
+    let mut commands = [Command::Blank; 4];
+    for (command, line) in commands.iter_mut().zip(lines) {
+        *command = parse(line).expect(rt, "a command");
+    }
+    commands
+}
+
+/// Gives a list of commands to a pair of benches, and then lines to each.
+fn expect_list(rt: &impl Abort, alloc: Global, lines: &[&[u8]], want: Both, after: &[After]) {
+    let mut a = bench_of(rt, alloc, PAIR.0, &[]);
+    let mut b = bench_of(rt, alloc, PAIR.1, &[]);
+    let commands = commands_of(rt, lines);
+    let list = commands.get(..lines.len()).expect(rt, "at most four");
+    assert!(rt; run_both(&mut a, &mut b, 0, list) == want);
+    expect_after(rt, &mut a, &mut b, after);
+}
+
+/// Gives lines to a bench, scrambles it so many times, each with this answer, and gives it lines again.
+fn expect_scrambled(
+    rt: &impl Abort,
+    alloc: Global,
+    (made, lines): (Made, &[&[u8]]),
+    slot: u8,
+    (times, want): (u8, bool),
+    after: &[After],
+) {
+    let mut bench = bench_of(rt, alloc, made, lines);
+    for _ in 0..times {
+        assert!(rt; bench.scramble(slot) == want, "{slot}");
+    }
+    for (line, reply, _) in after {
+        expect_reply(rt, &mut bench, line, reply);
+    }
+}
+
+const FRESH: &[u8] = b"enclave 0 Fresh 80020000 00001000 00000000 00000000 80020000 \
+    b72e8d278cd05a0f5288f8ada3f430f62d4995d24f5198d6495796bbbcb97390\n";
+
+const ALIKE: &[Row] = &[
+    (b"enclaves", BothWhy::All, FRESH, FRESH),
+    (
+        b"reg 10",
+        BothWhy::All,
+        b"x10=00000000\n",
+        b"x10=00000000\n",
+    ),
+    (
+        b"reg 14",
+        BothWhy::All,
+        b"x14=80020000\n",
+        b"x14=80020000\n",
+    ),
+    (
+        b"access S r 80020000 4",
+        BothWhy::All,
+        b"denied entry 1\n",
+        b"denied entry 1\n",
+    ),
+];
+
+/// All but the region and the kept registers is equal, and so is what commands show of it.
+#[test]
+fn alike_benches_reply_alike(rt: HostRuntime) {
+    expect_both(&rt, rt.alloc(), PAIR, &[], 0, ALIKE, &[]);
+}
+
+const BESIDE: &[Row] = &[
+    (b"poke 8001ffff 5a", BothWhy::All, b"ok\n", b"ok\n"),
+    (
+        b"mem 8001fffe 2",
+        BothWhy::All,
+        b"8001fffe: 00 5a\n",
+        b"8001fffe: 00 5a\n",
+    ),
+    (
+        b"dis 8001fffc",
+        BothWhy::All,
+        b"8001fffc: 5a000000 .word 0x5a000000\n",
+        b"8001fffc: 5a000000 .word 0x5a000000\n",
+    ),
+    (b"poke 80021000 a5", BothWhy::All, b"ok\n", b"ok\n"),
+    (
+        b"mem 80021000 2",
+        BothWhy::All,
+        b"80021000: a5 00\n",
+        b"80021000: a5 00\n",
+    ),
+    (
+        b"dis 80021000",
+        BothWhy::All,
+        b"80021000: 000000a5 .word 0x000000a5\n",
+        b"80021000: 000000a5 .word 0x000000a5\n",
+    ),
+];
+
+/// What ends right before the region, or begins right behind it, is done.
+#[test]
+fn what_is_beside_the_region_is_blind(rt: HostRuntime) {
+    expect_both(&rt, rt.alloc(), PAIR, &[], 0, BESIDE, &[]);
+}
+
+const INSIDE: &[Row] = &[
+    (b"mem 80020000 1", BothWhy::NotBlind, b"", b""),
+    (b"mem 8001ffff 2", BothWhy::NotBlind, b"", b""),
+    (b"mem 80020fff 64", BothWhy::NotBlind, b"", b""),
+    (b"dis 8001fffd", BothWhy::NotBlind, b"", b""),
+    (b"dis 80020fff", BothWhy::NotBlind, b"", b""),
+    (b"poke 80020000 11", BothWhy::NotBlind, b"", b""),
+    (b"poke 80020fff 11", BothWhy::NotBlind, b"", b""),
+];
+
+const SECRETS: &[After] = &[
+    (b"mem 80020000 1", b"80020000: 00\n", b"80020000: ff\n"),
+    (b"mem 80020fff 1", b"80020fff: 00\n", b"80020fff: ff\n"),
+];
+
+/// One byte of the region is enough, at either end. Nothing is done, and both replies are empty.
+#[test]
+fn what_names_a_byte_of_the_region_is_not_blind(rt: HostRuntime) {
+    expect_both(&rt, rt.alloc(), PAIR, &[], 0, INSIDE, SECRETS);
+}
+
+const SHOWN: &[Row] = &[(
+    b"mem 80020000 1",
+    BothWhy::All,
+    b"80020000: 00\n",
+    b"80020000: ff\n",
+)];
+
+/// A slot without a live enclave has no region, and there is none over 12: both benches show the bytes in which they differ.
+#[test]
+fn a_free_slot_hides_nothing(rt: HostRuntime) {
+    for slot in [1, 12, 13, 16, 255] {
+        expect_both(&rt, rt.alloc(), PAIR, &[], slot, SHOWN, &[]);
+    }
+}
+
+const IN_ONE: &[Row] = &[
+    (b"mem 80020000 1", BothWhy::NotBlind, b"", b""),
+    (b"poke 80020000 11", BothWhy::NotBlind, b"", b""),
+];
+
+const ZEROS: &[After] = &[(b"mem 80020000 1", b"80020000: 00\n", b"80020000: 00\n")];
+
+/// The region of one bench is enough, and neither does the command.
+#[test]
+fn blindness_is_asked_of_both(rt: HostRuntime) {
+    for made in [(Made::Live, Made::Free), (Made::Free, Made::Live)] {
+        expect_both(&rt, rt.alloc(), made, &[], 0, IN_ONE, ZEROS);
+    }
+}
+
+const FAULTS: &[Row] = &[
+    (b"csr 7a0", BothWhy::All, b"error csr\n", b"error csr\n"),
+    (
+        b"mem 8002ffff 2",
+        BothWhy::All,
+        b"error outside\n",
+        b"error outside\n",
+    ),
+    (b"# mem 80020000 1", BothWhy::All, b"", b""),
+    (b"", BothWhy::All, b"", b""),
+];
+
+/// What is refused for its own sake, or has no reply, is done.
+#[test]
+fn faults_and_blanks_are_replies(rt: HostRuntime) {
+    expect_both(&rt, rt.alloc(), PAIR, &[], 0, FAULTS, &[]);
+}
+
+const BARE_RAN: &[u8] = b"ran 1 pc=80000004 mode=M world=bare why=done trap=-\n";
+
+const ALL_BARE: &[Row] = &[
+    (b"step 1", BothWhy::All, BARE_RAN, BARE_RAN),
+    (b"reg 1", BothWhy::All, b"x1=ffffffff\n", b"x1=ffffffff\n"),
+    (
+        b"mem 80000000 4",
+        BothWhy::All,
+        b"80000000: 93 00 f0 ff\n",
+        b"80000000: 93 00 f0 ff\n",
+    ),
+];
+
+/// A bench without the monitor has no enclave.
+#[test]
+fn bare_benches_do_all(rt: HostRuntime) {
+    let made = (Made::Bare, Made::Bare);
+    expect_both(&rt, rt.alloc(), made, &[], 0, ALL_BARE, &[]);
+}
+
+const ENTERED: &[u8] = b"ran 1 pc=80020000 mode=S world=e0 why=done trap=00000009:00000000\n";
+
+const ENTERS: &[Row] = &[(b"step 1", BothWhy::Entered, ENTERED, ENTERED)];
+
+/// The step of the call ends in the enclave, at its entry, in both.
+#[test]
+fn an_entry_is_told(rt: HostRuntime) {
+    expect_both(&rt, rt.alloc(), PAIR, RUN, 0, ENTERS, &[]);
+}
+
+const LEFT: &[u8] = b"ran 2 pc=80010008 mode=S world=host why=done trap=80000007:00000000\n";
+
+const ENTERS_AND_LEAVES: &[Row] = &[
+    (b"timer on", BothWhy::All, b"ok\n", b"ok\n"),
+    (b"step 2", BothWhy::Entered, LEFT, LEFT),
+];
+
+/// The timer stops the enclave before its first instruction, so that the host runs before the command and after it.
+#[test]
+fn an_entry_within_a_command_is_told(rt: HostRuntime) {
+    expect_both(&rt, rt.alloc(), PAIR, RUN, 0, ENTERS_AND_LEAVES, &[]);
+}
+
+const ENTERS_ANOTHER: &[Row] = &[(b"step 1", BothWhy::All, ENTERED, ENTERED)];
+
+/// Only the slot that is named counts.
+#[test]
+fn an_entry_of_another_slot_is_none(rt: HostRuntime) {
+    let made = (Made::Live, Made::Live);
+    for slot in [1, 15, 16, 255] {
+        expect_both(&rt, rt.alloc(), made, RUN, slot, ENTERS_ANOTHER, &[]);
+    }
+}
+
+const REFUSED: &[u8] = b"ran 1 pc=80010004 mode=S world=host why=done trap=00000009:00000000\n";
+
+const FIRST_ENTERS: &[Row] = &[(b"step 1", BothWhy::Entered, ENTERED, REFUSED)];
+
+const SECOND_ENTERS: &[Row] = &[(b"step 1", BothWhy::Entered, REFUSED, ENTERED)];
+
+/// An entry in one bench is enough; the other, which has no enclave to run, refuses the call, and goes on past it.
+#[test]
+fn entries_are_asked_of_both(rt: HostRuntime) {
+    let made = (Made::Live, Made::Free);
+    expect_both(&rt, rt.alloc(), made, RUN, 0, FIRST_ENTERS, &[]);
+    let made = (Made::Free, Made::Live);
+    expect_both(&rt, rt.alloc(), made, RUN, 0, SECOND_ENTERS, &[]);
+}
+
+const PASSING: &[&[u8]] = &[b"setreg 5 7", b"", b"csr 7a0", b"poke 80021000 a5"];
+
+const PASSED: &[After] = &[
+    (b"reg 5", b"x5=00000007\n", b"x5=00000007\n"),
+    (b"mem 80021000 1", b"80021000: a5\n", b"80021000: a5\n"),
+    (b"mem 80020000 1", b"80020000: 00\n", b"80020000: ff\n"),
+];
+
+/// Each command that was done is counted, also one without a reply and one that is refused, and what it did is there to be seen.
+#[test]
+fn a_list_passes_by(rt: HostRuntime) {
+    let why = BothWhy::All;
+    expect_list(&rt, rt.alloc(), &[], Both { ran: 0, why }, SECRETS);
+    expect_list(&rt, rt.alloc(), PASSING, Both { ran: 4, why }, PASSED);
+}
+
+const SEEING: &[&[u8]] = &[b"setreg 5 7", b"poke 80020000 11", b"setreg 5 8"];
+
+const STOPPED: &[After] = &[
+    (b"reg 5", b"x5=00000007\n", b"x5=00000007\n"),
+    (b"mem 80020000 1", b"80020000: 00\n", b"80020000: ff\n"),
+];
+
+/// The next command is neither done nor counted, nor is one behind it.
+#[test]
+fn a_list_stops_before_one_that_is_not_blind(rt: HostRuntime) {
+    let why = BothWhy::NotBlind;
+    expect_list(&rt, rt.alloc(), SEEING, Both { ran: 1, why }, STOPPED);
+}
+
+const ENTERING: &[&[u8]] = &[b"setreg 16 3", b"setreg 10 0", b"step 1", b"setreg 10 8"];
+
+const IN_THE_ENCLAVE: &[After] = &[
+    (b"reg 10", b"x10=80020000\n", b"x10=7ffdffff\n"),
+    (b"reg 5", b"x5=00000000\n", b"x5=ffffffff\n"),
+];
+
+/// The entering command is done and counted, and none behind it. What the enclave then has in a0 is its region's base, or the
+/// complement of that.
+#[test]
+fn a_list_stops_at_the_entry(rt: HostRuntime) {
+    let why = BothWhy::Entered;
+    expect_list(
+        &rt,
+        rt.alloc(),
+        ENTERING,
+        Both { ran: 3, why },
+        IN_THE_ENCLAVE,
+    );
+}
+
+const ENDING: &[&[u8]] = &[b"setreg 16 2", b"setreg 10 0", b"step 1", b"mem 80020000 4"];
+
+const ENDED: &[After] = &[
+    (b"enclaves", b"", b""),
+    (
+        b"mem 80020ffc 4",
+        b"80020ffc: 00 00 00 00\n",
+        b"80020ffc: 00 00 00 00\n",
+    ),
+];
+
+/// A destroy zeroes the region, which is nobody's from then on: a command that names it is blind, and the benches are equal.
+#[test]
+fn a_list_may_end_the_enclave(rt: HostRuntime) {
+    let why = BothWhy::All;
+    expect_list(&rt, rt.alloc(), ENDING, Both { ran: 4, why }, ENDED);
+}
+
+const POKES: &[&[u8]] = &[b"poke 80020000 5a", b"poke 80021000 5a"];
+
+const ONCE: &[After] = &[
+    (b"mem 8001ffff 3", b"8001ffff: 00 a5 ff\n", b""),
+    (b"mem 80020fff 2", b"80020fff: ff 5a\n", b""),
+];
+
+const TWICE: &[After] = &[
+    (b"mem 8001ffff 3", b"8001ffff: 00 5a 00\n", b""),
+    (b"mem 80020fff 2", b"80020fff: 00 5a\n", b""),
+];
+
+/// Each byte of the region and no other; twice is as before.
+#[test]
+fn scramble_complements_the_region(rt: HostRuntime) {
+    expect_scrambled(&rt, rt.alloc(), (Made::Live, POKES), 0, (1, true), ONCE);
+    expect_scrambled(&rt, rt.alloc(), (Made::Live, POKES), 0, (2, true), TWICE);
+}
+
+const STOP: &[&[u8]] = &[
+    b"setreg 16 3",
+    b"setreg 10 0",
+    b"timer on",
+    b"step 2",
+    b"setreg 5 7",
+];
+
+const KEPT: &[After] = &[
+    (b"reg 5", b"x5=00000007\n", b""),
+    (
+        b"enclaves",
+        b"enclave 0 Stopped 80020000 00001000 00000000 00000000 80020000 \
+        b72e8d278cd05a0f5288f8ada3f430f62d4995d24f5198d6495796bbbcb97390\n",
+        b"",
+    ),
+    (b"setreg 16 4", b"ok\n", b""),
+    (b"setreg 10 0", b"ok\n", b""),
+    (b"step 1", ENTERED, b""),
+    (b"reg 0", b"x0=00000000\n", b""),
+    (b"reg 5", b"x5=ffffffff\n", b""),
+    (b"reg 11", b"x11=ffffefff\n", b""),
+];
+
+/// The registers of a stopped enclave are complemented; pc, the mode, the host's registers and the record are not.
+#[test]
+fn scramble_complements_what_is_kept(rt: HostRuntime) {
+    expect_scrambled(&rt, rt.alloc(), (Made::Live, STOP), 0, (1, true), KEPT);
+}
+
+const BARE_CODE: &[After] = &[(b"mem 80000000 4", b"80000000: 93 00 f0 ff\n", b"")];
+
+/// A bench without the monitor, a free slot, and one over 12: nothing changes.
+#[test]
+fn scramble_refuses_a_slot_that_is_not_live(rt: HostRuntime) {
+    expect_scrambled(&rt, rt.alloc(), (Made::Bare, &[]), 0, (1, false), BARE_CODE);
+    expect_scrambled(&rt, rt.alloc(), (Made::Free, &[]), 0, (1, false), ZEROS);
+    for slot in [1, 12, 13, 255] {
+        expect_scrambled(&rt, rt.alloc(), (Made::Live, &[]), slot, (1, false), ZEROS);
+    }
+}
+
+const ENTER: &[&[u8]] = &[b"setreg 16 3", b"setreg 10 0", b"step 1"];
+
+const RUNNING: &[After] = &[
+    (b"mem 80020000 1", b"80020000: 00\n", b""),
+    (b"reg 10", b"x10=80020000\n", b""),
+];
+
+/// The enclave that runs.
+#[test]
+fn scramble_refuses_the_slot_that_runs(rt: HostRuntime) {
+    expect_scrambled(&rt, rt.alloc(), (Made::Live, ENTER), 0, (1, false), RUNNING);
+}

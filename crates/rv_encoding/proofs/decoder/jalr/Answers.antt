@@ -1,0 +1,7 @@
+use Rattle.std.proofs.Common.{◌≡◌, Some, arith}
+use Rattle.rv_encoding.proofs.Reading.{read_jalr}
+use Rattle.rv_encoding.proofs.ReadingLemmas.{only_jalr}
+use Rattle.rv_encoding.proofs.decoder.jalr.Goals as goal
+
+pub returns-clause-only : goal.returns-clause-only
+returns-clause-only c = λ instr spells. let is : read_jalr c.args.word ≡ Some instr = only_jalr c.args.word instr c.requires spells in grind arith

@@ -1,0 +1,10 @@
+use Rattle.std.proofs.Common.{◌≡◌, Some, arith}
+use Rattle.rv_encoding.proofs.Reading.{read_system}
+use Rattle.rv_encoding.proofs.ReadingLemmas.{only_system}
+use Rattle.rv_encoding.proofs.decoder.system.Goals as goal
+
+pub returns-in-Some-clause-only : goal.returns-in-Some-clause-only
+returns-in-Some-clause-only c = λ instr spells. let is : read_system c.args.word ≡ Some instr = only_system c.args.word instr c.requires spells in grind arith
+
+pub returns-clause-only : goal.returns-clause-only
+returns-clause-only c = λ instr spells. let is : read_system c.args.word ≡ Some instr = only_system c.args.word instr c.requires spells in grind arith

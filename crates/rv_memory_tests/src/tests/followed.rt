@@ -1,0 +1,164 @@
+//! What a test does with a memory and PMP entries, as lines.
+
+use super::END;
+use rv_memory::{AccessFault, RAM_BASE, Ram};
+use rv_pmp::{Access, Mode, Pmp, PmpIndex, Verdict};
+use rv_word::Width;
+use std::test::Fail;
+
+/// A line of a test: a call, with what it is to answer.
+#[derive(Clone, Copy)]
+pub enum Line {
+    Load(Mode, u32, Width, Result<u32, AccessFault>),
+    Fetch(Mode, u32, Result<u32, AccessFault>),
+    /// A store, with its word.
+    Store(Mode, u32, Width, u32, Result<(), AccessFault>),
+    /// A store to the last address that has room for it, and loads and stores at addresses that are outside.
+    Edges(Width, u32),
+    /// Sets the address and the configuration of entry 0.
+    Entry(u32, u8),
+    Judge(Mode, Access, u32, Width, Verdict),
+    /// The first six bytes of the memory, and its last five.
+    First([u8; 6]),
+    Last([u8; 5]),
+    /// Writes the first five bytes, and the last four.
+    WriteFirst([u8; 5]),
+    WriteLast([u8; 4]),
+    Zero(u32, u32),
+    Complement(u32, u32),
+    Contains(u32, u32, bool),
+    Poke(u32, u8, bool),
+    Peek(u32, Option<u8>),
+}
+
+/// Follows lines with a new memory of 65536 bytes and reset entries. It fails at the first that does not hold, and tells its place,
+/// from 0.
+///
+/// What this calls promises nothing: a run shows what it does, and the proof of a test is small as long as it need not carry what
+/// each call of the memory ensures.
+pub fn run(rt: HostRuntime, lines: &[Line]) -> Result<(), Fail> {
+    let mut ram = Ram::new(rt.alloc(), 65_536).ok().ok_or("a RAM")?;
+    let mut pmp = Pmp::new();
+    for (place, line) in lines.iter().enumerate() {
+        if !accesses(&mut ram, &mut pmp, *line) {
+            return Err(Fail::new(format_args!("line {place}")));
+        }
+    }
+    Ok(())
+}
+
+/// Whether a line holds, if it is about accesses and entries; else it is about bytes.
+fn accesses(ram: &mut Ram, pmp: &mut Pmp, line: Line) -> bool {
+    match line {
+        Line::Load(mode, address, width, wanted) => {
+            load(ram, pmp, mode, address, width) == wanted
+        }
+        Line::Fetch(mode, address, wanted) => fetch(ram, pmp, mode, address) == wanted,
+        Line::Store(mode, address, width, value, wanted) => {
+            store(ram, pmp, mode, address, width, value) == wanted
+        }
+        Line::Edges(width, last) => edges(ram, pmp, width, last),
+        Line::Entry(address, configuration) => {
+            set_entry(pmp, address, configuration);
+            true
+        }
+        Line::Judge(mode, access, address, width, wanted) => {
+            pmp.judge(mode, access, address, width) == wanted
+        }
+        other => bytes(ram, other),
+    }
+}
+
+/// Whether a line about bytes holds.
+fn bytes(ram: &mut Ram, line: Line) -> bool {
+    match line {
+        Line::First(wanted) => shows(ram, RAM_BASE, 6, &wanted),
+        Line::Last(wanted) => shows(ram, END - 5, 5, &wanted),
+        Line::WriteFirst(bytes) => write(ram, RAM_BASE, &bytes),
+        Line::WriteLast(bytes) => write(ram, END - 4, &bytes),
+        Line::Zero(base, size) => zero(ram, base, size),
+        Line::Complement(base, size) => complement(ram, base, size),
+        Line::Contains(base, size, wanted) => ram.contains(base, size) == wanted,
+        Line::Poke(address, byte, wanted) => ram.poke(address, byte) == wanted,
+        Line::Peek(address, wanted) => ram.peek(address) == wanted,
+        _ => false,
+    }
+}
+
+fn load(
+    ram: &Ram,
+    pmp: &mut Pmp,
+    mode: Mode,
+    address: u32,
+    width: Width,
+) -> Result<u32, AccessFault> {
+    ram.load(pmp, mode, address, width)
+}
+
+fn fetch(ram: &Ram, pmp: &mut Pmp, mode: Mode, address: u32) -> Result<u32, AccessFault> {
+    ram.fetch(pmp, mode, address)
+}
+
+fn store(
+    ram: &mut Ram,
+    pmp: &mut Pmp,
+    mode: Mode,
+    address: u32,
+    width: Width,
+    value: u32,
+) -> Result<(), AccessFault> {
+    ram.store(pmp, mode, address, width, value)
+}
+
+fn edges(ram: &mut Ram, pmp: &mut Pmp, width: Width, last: u32) -> bool {
+    if store(ram, pmp, Mode::M, last, width, u32::MAX) != Ok(()) {
+        return false;
+    }
+    for address in [last.wrapping_add(1), RAM_BASE - 1, u32::MAX, 0] {
+        let loaded = load(ram, pmp, Mode::M, address, width);
+        let stored = store(ram, pmp, Mode::M, address, width, 0);
+        if loaded != Err(AccessFault::Outside) || stored != Err(AccessFault::Outside) {
+            return false;
+        }
+    }
+    true
+}
+
+fn set_entry(pmp: &mut Pmp, address: u32, configuration: u8) {
+    let first = PmpIndex::new(0);
+    pmp.write_addr(first, address);
+    pmp.write_cfg(first, configuration);
+}
+
+/// Whether bytes are those from an address on.
+fn shows(ram: &Ram, base: u32, size: u32, wanted: &[u8]) -> bool {
+    ram.contains(base, size) && ram.part(base, size) == wanted
+}
+
+/// Writes bytes, and says whether they have room.
+fn write(ram: &mut Ram, base: u32, bytes: &[u8]) -> bool {
+    let Ok(size) = u32::try_from(bytes.len()) else {
+        return false;
+    };
+    let is_inside = ram.contains(base, size);
+    if is_inside {
+        ram.write_part(base, bytes);
+    }
+    is_inside
+}
+
+fn zero(ram: &mut Ram, base: u32, size: u32) -> bool {
+    let is_inside = ram.contains(base, size);
+    if is_inside {
+        ram.zero(base, size);
+    }
+    is_inside
+}
+
+fn complement(ram: &mut Ram, base: u32, size: u32) -> bool {
+    let is_inside = ram.contains(base, size);
+    if is_inside {
+        ram.complement(base, size);
+    }
+    is_inside
+}
