@@ -141,6 +141,11 @@ def function_of(edit, text):
     return found[0]
 
 
+def is_of_trait(folder, edit):
+    """Whether the edit changes a method that a trait's impl block has."""
+    return bool(edit.function and function_of(edit, text_of(folder, edit.pairs[0][0])).trait)
+
+
 class Place:
     """A function as the prover names it, a method by the module that declares its type; and where it stands: its file, and its
     first and last line."""

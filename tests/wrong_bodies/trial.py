@@ -1,8 +1,9 @@
 """The trial of a crate's edits: what the prover says of each.
 
 All copies (copies.py) stand in one check, with everything that the crate has: each wrong one must be refused, each right one
-proved, and so must every function of the crate itself. An edit that cannot be copied is tried alone, in place, and so is a wrong
-copy that the check did not refuse; over all that these checks kept, the unchanged crate must prove again. Where only some of a
+proved, and so must every function of the crate itself. Edits of a trait's methods cannot be copied: one of each method stands in a
+second check, in place. What these checks did not refuse is tried alone, in place, and so is what else cannot be copied; over all
+that was kept, the unchanged crate must prove again. Where only some of a
 crate's edits are tried, their checks are of those functions and what they call. An edit has failed too where it does not fit its
 file, does not compile, or is refused only because a proof file names what it took away; and a check whose lines are of no known
 form fails everything that it was to show.
@@ -10,7 +11,7 @@ form fails everything that it was to show.
 import time
 
 from copies import Copy, can_be_copied, with_copies
-from edits import edited, place_of
+from edits import edited, is_of_trait, place_of
 from prover import Unknown
 
 
@@ -25,10 +26,9 @@ class Trial:
 
     def run(self):
         missed = self.try_copies() if self.copied else []
-        alone = [*missed, *self.in_place]
-        for it in alone:
+        for it in [*missed, *self.try_in_place()]:
             self.alone(it)
-        if alone and self.is_whole and not self.prover.check({}).is_proved:
+        if (missed or self.in_place) and self.is_whole and not self.prover.check({}).is_proved:
             raise Unknown("the unchanged crate is no longer proved")
         count, crate = len(self.copied + self.in_place), self.prover.crate.name
         self.report.say(f"{crate}: {count} edits, in {time.time() - self.begun:.0f} s")
@@ -49,6 +49,18 @@ class Trial:
         self.all_others_proved(answer, places)
         seconds = self.seconds() / len(copies)
         return [it for it, place in places.items() if not self.is_shown(answer, it, place, seconds)]
+
+    def try_in_place(self):
+        """Tries in one check, in place, a wrong body of each method of a trait that has one, and gives the edits that want a check alone."""
+        places = {place_of(self.folder, it).name: it for it in self.in_place if not it.is_right and is_of_trait(self.folder, it)}
+        places = {it: place_of(self.folder, it) for it in places.values()}
+        if len(places) < 2:
+            return self.in_place
+        answer = self.prover.check(edited(self.folder, places), () if self.is_whole else [it.name for it in places.values()])
+        said = [it for it, place in places.items() if answer.is_refused and place.name in answer.functions]
+        seconds = self.seconds() / len(places)
+        shown = [it for it in said if self.is_shown(answer, it, places[it], seconds)]
+        return [it for it in self.in_place if it not in shown]
 
     def not_compiled(self, answer, places):
         """The edits in whose copies the errors stand of a check that reached no prover; the others are tried again without them."""
