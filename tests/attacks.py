@@ -1,9 +1,11 @@
 #!/usr/bin/env python3
-"""Builds the attacks of examples/attacks: victim.s and behind it a folder's attack.s are assembled by assembly_model.py to the folder's
-image and listing, the image is put before the script of its stdin, and the model of monitor_bench.py writes its stdout.
+"""Builds the attacks of examples/attacks, and examples/race: victim.s, or runner.s where no twin is run, and behind it a folder's
+attack.s, or the folder's program.s, are assembled by assembly_model.py to the folder's image and listing, the image is put before the
+script of its stdin, and the model of monitor_bench.py writes its stdout.
 
     tests/attacks.py            builds all of them
-    tests/attacks.py --check    tells whether they are as it builds them, and whether both benches answer each line alike
+    tests/attacks.py --check    tells whether they are as it builds them, and whether each attack fails: both benches answer each line
+                                alike, or the enclave that runs comes to its end and has counted to 32
 
 Nothing here comes from the bench.
 """
@@ -16,19 +18,20 @@ from monitor_bench import cut_at, wanted
 from monitor_model import HOST_ENTRY
 
 ROOT = os.path.dirname(os.path.dirname(os.path.abspath(__file__)))
-ATTACKS = os.path.join(ROOT, "examples", "attacks")
+EXAMPLES = os.path.join(ROOT, "examples")
 
 
 def text_of(*names):
     try:
-        with open(os.path.join(ATTACKS, *names), encoding="ascii") as file:
+        with open(os.path.join(EXAMPLES, *names), encoding="ascii") as file:
             return file.read()
-    except FileNotFoundError:
+    except (FileNotFoundError, NotADirectoryError):
         return ""
 
 
 def folders():
-    return sorted(name for name in os.listdir(ATTACKS) if os.path.isfile(os.path.join(ATTACKS, name, "attack.s")))
+    attacks = (os.path.join("attacks", name) for name in os.listdir(os.path.join(EXAMPLES, "attacks")))
+    return [*sorted(name for name in attacks if text_of(name, "attack.s")), "race"]
 
 
 def listing_of(source, words):
@@ -49,9 +52,18 @@ def listing_of(source, words):
     return "".join(it.rstrip() + "\n" for it in told)
 
 
+def is_twin(name):
+    return text_of(name, "words").split()[:1] == ["twin"]
+
+
+def source_of(name):
+    attack = text_of(name, "attack.s")
+    return text_of("attacks", "victim.s" if is_twin(name) else "runner.s") + attack if attack else text_of(name, "program.s")
+
+
 def built(name):
     """The texts of a folder's files, by their names."""
-    source = text_of("victim.s") + text_of(name, "attack.s")
+    source = source_of(name)
     words = assembled(source)
     assert isinstance(words, list), (name, words)
     image = "".join(word.to_bytes(4, "little").hex() + "\n" for word in words)
@@ -68,6 +80,11 @@ def are_alike(stdout):
     return one == other != []
 
 
+def has_counted(stdout):
+    """Whether the last that is shown is the exit of the enclave, with 32."""
+    return stdout.endswith("\nx10=00000000\nx11=00000020\n")
+
+
 def main(arguments):
     if arguments not in ([], ["--check"]):
         print(__doc__)
@@ -77,12 +94,12 @@ def main(arguments):
         for part, text in built(name).items():
             count += 1
             if not arguments:
-                with open(os.path.join(ATTACKS, name, part), "w", encoding="ascii") as file:
+                with open(os.path.join(EXAMPLES, name, part), "w", encoding="ascii") as file:
                     file.write(text)
             elif text_of(name, part) != text:
                 wrong.append("%s/%s" % (name, part))
-        if not are_alike(text_of(name, "stdout")):
-            wrong.append(name + ": the benches differ")
+        if name != "race" and not (are_alike if is_twin(name) else has_counted)(text_of(name, "stdout")):
+            wrong.append(name + (": the benches differ" if is_twin(name) else ": the enclave has not counted to 32"))
     print("\n".join(["differs: " + it for it in wrong] + ["%d compared, %d differ" % (count, len(wrong))]))
     return 1 if wrong else 0
 

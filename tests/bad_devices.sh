@@ -16,6 +16,13 @@ expect "input that is closed" 1 $? "$scratch/wanted" "$scratch/out"
 printf -- '--\nreg 0\n' | "$program" >&- 2> "$scratch/out"
 expect "output that is closed" 1 $? "$scratch/wanted" "$scratch/out"
 
+# Two harts without the monitor are refused before the input is read.
+printf 'rvbench: command line\n' > "$scratch/wanted"
+"$program" run --harts 2 < / > "$scratch/out"
+expect "two bare harts, of a folder" 2 $? "$scratch/wanted" "$scratch/out"
+"$program" run --harts 2 <&- > "$scratch/out"
+expect "two bare harts, of an input that is closed" 2 $? "$scratch/wanted" "$scratch/out"
+
 # The assembler and the disassembler read all of their text before they write.
 for subcommand in asm dis; do
   printf 'rvbench: read\n' > "$scratch/wanted"

@@ -21,10 +21,12 @@ expect() {
   fi
 }
 
-# run_cases [NAME...]: the command-line cases with these names, or all, are counted.
+# run_cases [--beside] [NAME...]: the command-line cases with these names, or all, are counted; those beside a second hart, where
+# that is said.
 run_cases() {
-  local line
-  "$here/run_cases" "$program" "$@" > "$scratch/cases"
+  local line words=("$program" "$@")
+  if [ "$1" = --beside ]; then words=(--beside "$program" "${@:2}"); fi
+  "$here/run_cases" "${words[@]}" > "$scratch/cases"
   line=$(tail -1 "$scratch/cases")
   if [[ $line =~ ^([0-9]+)\ passed,\ ([0-9]+)\ failed$ ]]; then
     head -n -1 "$scratch/cases"

@@ -1,6 +1,7 @@
 #!/usr/bin/env python3
 """Writes the cases of tests/cases/debugger: where runs end by watches and breaks at each border of an access, what is asked
-first, sets of 32 addresses and one more, poke, every malformed line of these commands, and long scripts of them.
+first, sets of 32 addresses and one more, poke, hart and sched of the one hart, every malformed line of these commands, and long
+scripts of them.
 
     tests/debugger.py                      writes the file anew
     tests/debugger.py --check              tells whether they are what this script writes
@@ -110,6 +111,14 @@ class Case:
 
     def run(self, count):
         return self.go("run", count)
+
+    def sched(self, digits):
+        """Steps of the one hart, which look at nothing; none where another is named."""
+        if "1" in digits:
+            return self.tell("sched " + digits, "error hart")
+        traps = [trap for trap, _ in (self.step() for _ in digits) if trap]
+        return self.tell("sched " + digits, "hart 0 %d pc=%08x mode=M world=bare trap=%s"
+                         % (len(digits), self.pc, "%08x:%08x" % traps[-1] if traps else "-"))
 
     def put(self, command, address):
         """break or watch."""
@@ -324,6 +333,30 @@ def pokes():
     case.tell(" enclaves\t")
 
 
+def one_hart():
+    """hart and sched of the hart that there is, and of one that there is not: then no step is done, not even an earlier digit's."""
+    case = Case("one_hart", [("addi", 1, 1, 1), ("sw", 1, 0, 8), ("ecall",), BACK])
+    case.setreg(31, START)
+    case.setreg(8, AREA)
+    case.put("break", START + 4)
+    case.put("watch", AREA)
+    for digits in ("0", "1", "00", "01", "10", "0" * 64, "0" * 63 + "1", "1" * 64):
+        case.sched(digits)
+        case.reg(1)
+    for line, reply in (("hart 0", "ok"), ("hart 1", "error hart"), ("csr f14", "csr f14=00000000"), (" hart\t0 ", "ok")):
+        case.tell(line, reply)
+    case.setreg(31, START)
+    for line in ("hart", "hart 2", "hart 00", "hart 01", "hart 0x1", "hart -1", "hart 1 1", "hart 1 # x", "hart one", "sched", "sched 2",
+                 "sched 12", "sched 0 0", "sched " + "0" * 65, "sched " + "1" * 65, "sched " + "0" * 63 + "2", "sched 0x0", "sched 0,0"):
+        case.tell(line, "error operand")
+    for line in ("Hart 0", "harts 0", "Sched 0", "sched0", "schedule 0"):
+        case.tell(line, "error command")
+    case.tell("sched 0" + " " * 114, "error line")
+    case.sched("0")
+    case.run(9)
+    case.reg(1)
+
+
 def malformed():
     case = Case("operands", [("addi", 0, 0, 0)])
     counts = ["", "0", "00", "1000001", "00000001", "0x1", "+1", "-1", "1 1", "a", "1.", "1 # x"]
@@ -360,7 +393,7 @@ def hostile_lines():
             ("reg", "error operand"), ("regs 1", "error operand"), ("mem 80000000 65", "error operand"),
             ("poke 80000000 100", "error operand"), ("csr 0x300", "error operand"), ("access M r 80000000 3", "error operand"),
             ("timer maybe", "error operand"), ("mem 800fffff 2", "error outside"), ("mem ffffffff 2", "error outside"),
-            ("dis fffffffe", "error outside"), ("csr 7a0", "error csr"), ("sched 0101", "error command"), ("--", "error command"),
+            ("dis fffffffe", "error outside"), ("csr 7a0", "error csr"), ("sched 0101", "error hart"), ("--", "error command"),
             ("reg\0 1", "error line"), ("a" * 121, "error line"), ("a" * 120, "error command"), ("#" * 120, None), ("\t", None),
             ("# x", None), ("#\t\x7f", "error line")):
         case.tell(line, *[reply] if reply else [])
@@ -406,6 +439,7 @@ order()
 breaks_on_the_way()
 full_sets()
 pokes()
+one_hart()
 malformed()
 hostile_lines()
 long_scripts()

@@ -1,5 +1,5 @@
 """Random inputs for the program, of seven kinds: image texts, scripts of a bench alone, ELF files, assembler texts, images to
-disassemble, and scripts of the monitored bench and of two. Each is made from a generator of random numbers, and is the program's
+disassemble, and scripts of the monitored bench and of two, of one hart and of two. Each is made from a generator of random numbers, and is the program's
 words and the bytes of its input. Nothing of the bench that is tested is used.
 """
 import re
@@ -61,6 +61,8 @@ def options(rng, is_bare=False):
         words[2] = str(rng.choice((0, 1, 65535, 65537, 1000, 16777216 + 65536, ONES)))
     if not is_bare and chance(rng, 0.3):
         words.append("--monitor")
+    if not is_bare and chance(rng, 0.2 if words[-1] == "--monitor" else 0.03):
+        words += ["--harts", rng.choice("122")]
     if chance(rng, 0.3):
         words += ["--kind", rng.choice(("auto", "raw", "elf"))]
     return words
@@ -93,7 +95,11 @@ def operand(rng, form, name, place):
         return number(rng, "%x" % rng.choice((0, 1, 0x13, 0x73, 0xFF, rng.randrange(256), rng.randrange(260))))
     if form == FORMS["mem"][0]:
         return number(rng, "%x" % rng.choice((address(rng), address(rng), rng.getrandbits(32), rng.randrange(4096))))
-    right, wrong = {"[MSU]": ("MSU", "m"), "[rwx]": ("rwx", "X"), "[124]": ("124", "38"), "on|off": (("on", "off"), ("maybe",))}[form]
+    if form == FORMS["sched"][0]:
+        digits = "".join(rng.choices("01" if chance(rng, 0.5) else "0", k=rng.choice((1, 2, 3, 4, 8, 63, 64))))
+        return rng.choice((digits,) * 20 + (digits + "0", digits + "2", "0" * 65, digits.replace("0", "1")))
+    right, wrong = {"[MSU]": ("MSU", "m"), "[rwx]": ("rwx", "X"), "[124]": ("124", "38"), "on|off": (("on", "off"), ("maybe",)),
+                    "[01]": ("001", ("2", "00", "01", "x"))}[form]
     return rng.choice(wrong if chance(rng, 0.03) else right)
 
 
@@ -260,10 +266,34 @@ def dis(rng):
 
 
 class Scenes:
-    """Lines for a monitored bench: calls, an enclave's steps, and what shows them. What lives and runs is only guessed."""
+    """Lines for a monitored bench: calls, an enclave's steps, and what shows them. What lives and runs, and where, is only guessed.
+    `worlds` are those of the harts, and the lines are of one of these."""
 
-    def __init__(self, rng):
-        self.rng, self.lines, self.states, self.regions, self.world, self.is_keyed = rng, ["setreg 17 %x" % KEY], {}, {}, None, set()
+    def __init__(self, rng, harts=1):
+        self.rng, self.lines, self.states, self.regions, self.is_keyed = rng, [], {}, {}, set()
+        self.worlds, self.hart = [None] * harts, 0
+        for hart in reversed(range(harts)):
+            self.go_on(hart)
+            self.lines.append("setreg 17 %x" % KEY)
+
+    @property
+    def world(self):
+        return self.worlds[self.hart]
+
+    @world.setter
+    def world(self, slot):
+        self.worlds[self.hart] = slot
+
+    def go_on(self, hart):
+        """The lines are of this hart."""
+        self.lines += ["hart %d" % hart] * (self.hart != hart)
+        self.hart = hart
+
+    def step(self):
+        """One step of the hart, and perhaps some of another."""
+        here, other = str(self.hart), str(1 - self.hart)
+        is_raced = len(self.worlds) > 1 and chance(self.rng, 0.4)
+        return "sched " + self.rng.choice((here + other, other + here, here + here + other, here)) if is_raced else "step 1"
 
     def call(self, function, *arguments):
         """An ecall with these registers; an enclave needs the key once."""
@@ -271,7 +301,7 @@ class Scenes:
         if self.world is not None and self.world not in self.is_keyed:
             self.is_keyed |= {self.world} if chance(rng, 0.95) else set()
             self.lines.append("setreg 17 %x" % (KEY if self.world in self.is_keyed else KEY + 1))
-        self.lines += ["setreg 16 %x" % function, *("setreg %d %x" % it for it in zip((10, 11, 12, 13, 14), arguments)), "step 1"]
+        self.lines += ["setreg 16 %x" % function, *("setreg %d %x" % it for it in zip((10, 11, 12, 13, 14), arguments)), self.step()]
 
     def create(self):
         rng, slot = self.rng, min(set(range(14)) - {*self.states})
@@ -319,6 +349,8 @@ class Scenes:
 
     def turns(self, count):
         for _ in range(count):
+            if len(self.worlds) > 1 and chance(self.rng, 0.4):
+                self.go_on(1 - self.hart)
             turn = self.host if self.world is None else self.enclave
             self.rng.choice((self.show, turn, turn))()
         return self
@@ -326,23 +358,25 @@ class Scenes:
 
 def staged(rng, is_twin):
     """Scenes over an image of ecalls, and others of an image that is random."""
-    code = [0x73 if chance(rng, 0.97) else instruction(rng) for _ in range(60)]
-    scenes = Scenes(rng).turns(rng.choice((4, 8, 12)))
+    code, harts = [0x73 if chance(rng, 0.97) else instruction(rng) for _ in range(60)], rng.choice((1, 1, 2, 2))
+    scenes = Scenes(rng, harts).turns(rng.choice((4, 8, 12)))
     if is_twin:
-        if scenes.world is not None and chance(rng, 0.9):
-            scenes.lines += ["timer on", "step 1"]
-            scenes.states[scenes.world], scenes.world = "Stopped", None
+        for hart in range(harts):
+            if scenes.worlds[hart] is not None and chance(rng, 0.9):
+                scenes.go_on(hart)
+                scenes.lines += ["timer on", "step 1"]
+                scenes.states[scenes.world], scenes.world = "Stopped", None
         slot = rng.choice((*scenes.states, *scenes.states, *scenes.states, 0, 12))
         scenes.lines.append("--")
         scenes.turns(rng.choice((4, 8, 12)))
     words = ["twin", "--slot", str(slot)] if is_twin else ["run", "--monitor"]
     data = joined(in_lines(rng, digits_of(code)), scenes.lines + ["enclaves", "regs", "pmp"])
-    return words + ["--ram", "262144"], spoilt(rng, data) if chance(rng, 0.1) else data
+    return words + ["--ram", "262144"] + ["--harts", "2"] * (harts > 1), spoilt(rng, data) if chance(rng, 0.1) else data
 
 
 def played(rng, kind):
     """A script that is made while a model answers it, and perhaps lines of it taken out, doubled or put in."""
-    play = kind(rng.getrandbits(48), rng.choice((8, 16, 30, 60)))
+    play = kind(rng.getrandbits(48), rng.choice((8, 16, 30, 60)), rng.choice((1, 2)))
     lines = list(play.lines)
     for _ in range(rng.choice((0, 0, 0, 1, 2, 5))):
         at = rng.randrange(len(lines))

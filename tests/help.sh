@@ -29,12 +29,14 @@ done
 help_has ' *--ram <BYTES>' run --help
 help_has ' *--kind <' run --help
 help_has ' *--monitor ' run --help
+help_has ' *--harts <HARTS>' run --help
 help_has ' *--ram <BYTES>' help run
 help_has ' *--kind <' help run
-help_has ' *--monitor ' run --help
 help_has ' *--monitor ' help run
+help_has ' *--harts <HARTS>' help run
 help_has 'Example: ' twin --help
-for option in '--slot <K>' '--kind <' '--ram <BYTES>'; do help_has " *$option" twin --help; done
+for option in '--slot <K>' '--kind <' '--ram <BYTES>' '--harts <HARTS>'; do help_has " *$option" twin --help; done
 help_has 'Usage: rvbench run' run --ram 65536 --help
+help_has 'Usage: rvbench run' run --harts 2 --help
 help_has 'Example: ' run --help
-for name in step run break watch reg csr mem dis pmp, enclaves; do help_has "  $name " run --help; done
+for name in step run break watch reg csr mem dis pmp, enclaves hart; do help_has "  $name " run --help; done

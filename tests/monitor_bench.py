@@ -1,8 +1,8 @@
-"""A bench of the monitored machine of monitor_model.py, or of a bare hart: images, the debugger's commands, and the replies to a
-script, of one bench or of two that differ in one enclave, by docs/IMAGES.md and docs/COMMANDS.md. Nothing of the bench that is
-tested is used.
+"""A bench of the monitored machine of monitor_model.py, of one hart or two, or of a bare hart: images, the debugger's commands, and
+the replies to a script, of one bench or of two that differ in one enclave, by docs/IMAGES.md and docs/COMMANDS.md. Nothing of the
+bench that is tested is used.
 
-    tests/monitor_bench.py [run --monitor .. | twin --slot K ..] < stdin    writes what the program must write
+    tests/monitor_bench.py [run --monitor --harts 2 .. | twin --slot K ..] < stdin    writes what the program must write
 """
 import argparse
 import copy
@@ -21,9 +21,12 @@ MODE = {letter: mode for mode, letter in LETTER.items()}
 HEX, COUNT, BYTE, CSR = "(?:0x)?[0-9a-fA-F]{1,8}", "[0-9]{1,7}", "[0-9a-fA-F]{1,2}", "[0-9a-fA-F]{1,3}"
 FORMS = {"step": [COUNT], "run": [COUNT], "break": [HEX], "clear": [HEX], "watch": [HEX], "unwatch": [HEX], "reg": [COUNT],
          "regs": [], "setreg": [COUNT, HEX], "csr": [CSR], "mem": [HEX, COUNT], "poke": [HEX, BYTE], "dis": [HEX], "pmp": [],
-         "enclaves": [], "access": ["[MSU]", "[rwx]", HEX, "[124]"], "timer": ["on|off"]}
+         "enclaves": [], "access": ["[MSU]", "[rwx]", HEX, "[124]"], "timer": ["on|off"], "hart": ["[01]"], "sched": ["[01]{1,64}"]}
 # the place and the least and greatest value of a decimal operand
 LIMITS = {"step": (0, 1, MOST_STEPS), "run": (0, 1, MOST_STEPS), "reg": (0, 0, 31), "setreg": (0, 0, 31), "mem": (1, 1, MOST_SHOWN)}
+
+
+MHARTID = 0xF14  # the debugger tells the chosen hart's number
 
 
 class Fault(Exception):
@@ -36,7 +39,7 @@ class BareHart(HartInMemory):
 
     def __init__(self, ram, entry):
         super().__init__(ram)
-        self.pc, self.mode = entry, M
+        self.pc, self.mode, self.peers = entry, M, [self]
 
 
 # ---- images
@@ -81,6 +84,10 @@ def loaded(image, kind, size, is_monitored):
 
 # ---- commands
 
+def shown(trap):
+    return "%08x:%08x" % (trap.cause, trap.tval) if trap else "-"
+
+
 def parsed(line):
     """The words of the command in a line of a script, which is text of one character a byte; none where it has no reply."""
     if len(line) > MOST_LINE or re.search("[^\t -~]", line):
@@ -101,12 +108,18 @@ def parsed(line):
 
 
 class Bench:
-    """`machine` is what the commands work on; `entered` are the slots that the last command entered."""
+    """`machine` is the hart that the commands work on, the chosen one; `entered` are the slots that the last command entered."""
 
-    def __init__(self, image, kind="auto", ram=1048576, is_monitored=True):
+    def __init__(self, image, kind="auto", ram=1048576, is_monitored=True, harts=1):
         ram, entry = loaded(image, kind, ram, is_monitored)
         self.machine = (Monitored if is_monitored else BareHart)(ram, entry)
+        for _ in range(1, harts):
+            self.machine.add_hart()
         self.breaks, self.watches, self.entered = set(), set(), set()
+
+    @property
+    def harts(self):
+        return self.machine.peers
 
     def replies(self, line):
         """The lines that answer a line of a script."""
@@ -126,14 +139,24 @@ class Bench:
         return [answer] if isinstance(answer, str) else answer
 
     def world(self):
-        world = self.machine.world
-        return "host" if world is None else world if world == "bare" else "e%d" % world
+        return self.place_of(self.machine)[2]
+
+    @staticmethod
+    def place_of(hart):
+        """Where a hart is: its pc, mode and world."""
+        world = hart.world
+        return hart.pc, LETTER[hart.mode], "host" if world is None else world if world == "bare" else "e%d" % world
+
+    def step_of(self, hart):
+        """One step of a hart; answers its trap."""
+        trap = hart.step()
+        self.entered |= {hart.entered} - {None}
+        return trap
 
     def stepped(self, count, breaks, watches):
         done, last, why = 0, None, None
         while why is None:
-            last = self.machine.step() or last
-            self.entered |= {self.machine.entered} - {None}
+            last = self.step_of(self.machine) or last
             done += 1
             watched = watches.intersection(self.machine.reached)
             if watched:
@@ -142,15 +165,31 @@ class Bench:
                 why = "done"
             elif self.machine.pc in breaks:
                 why = "break"
-        trap = "%08x:%08x" % (last.cause, last.tval) if last else "-"
-        return "ran %d pc=%08x mode=%s world=%s why=%s trap=%s" % (
-            done, self.machine.pc, LETTER[self.machine.mode], self.world(), why, trap)
+        return "ran %d pc=%08x mode=%s world=%s why=%s trap=%s" % (done, *self.place_of(self.machine), why, shown(last))
 
     def do_step(self, count):
         return self.stepped(count, set(), set())
 
     def do_run(self, count):
         return self.stepped(count, self.breaks, self.watches)
+
+    def hart_of(self, digit):
+        if int(digit) >= len(self.harts):
+            raise Fault("error hart")
+        return self.harts[int(digit)]
+
+    def do_hart(self, digit):
+        self.machine = self.hart_of(digit)
+        return "ok"
+
+    def do_sched(self, digits):
+        order = [self.hart_of(digit) for digit in digits]  # before any step
+        traps = [(hart, self.step_of(hart)) for hart in order]
+        told = []
+        for number, hart in enumerate(self.harts):
+            last = next((trap for stepped, trap in reversed(traps) if stepped is hart and trap), None)
+            told.append("hart %d %d pc=%08x mode=%s world=%s trap=%s" % (number, order.count(hart), *self.place_of(hart), shown(last)))
+        return told
 
     def put_into(self, addresses, text):
         address = int(text, 16)
@@ -184,9 +223,11 @@ class Bench:
         return "ok"
 
     def do_csr(self, text):
-        if int(text, 16) not in KEPT:
+        number = int(text, 16)
+        if number not in KEPT:
             raise Fault("error csr")
-        return "csr %03x=%08x" % (int(text, 16), self.machine.reading(int(text, 16)))
+        word = self.harts.index(self.machine) if number == MHARTID else self.machine.reading(number)
+        return "csr %03x=%08x" % (number, word)
 
     def inside(self, text, count):
         address = int(text, 16)
@@ -318,6 +359,7 @@ def setup_of(words):
     parser = argparse.ArgumentParser()
     parser.add_argument("--kind", default="auto", choices=("auto", "raw", "elf"))
     parser.add_argument("--ram", default=1048576, type=int)
+    parser.add_argument("--harts", default=1, type=int, choices=(1, 2))
     if words[:1] == ["twin"]:
         parser.add_argument("--slot", default=0, type=int, choices=range(SLOTS))
     else:
@@ -327,7 +369,10 @@ def setup_of(words):
 
 def wanted(text, words):
     """What the program must write with these words, and its status."""
-    return (twin_output if words[:1] == ["twin"] else output)(text, **setup_of(words))
+    setup = setup_of(words)
+    if setup["harts"] > 1 and not setup.get("is_monitored", True):
+        return "rvbench: command line\n", 2
+    return (twin_output if words[:1] == ["twin"] else output)(text, **setup)
 
 
 def main(words):

@@ -130,7 +130,7 @@ def shown_anywhere():
     case.create(BASE)
     case.enter(0)
     for line in ("enclaves 0", "enclave", "Enclaves", "step 0", "run", "access S r 80020000 3", "pmp 1", "timer", "timer On",
-                 "csr 0x300", "sched 00", "hart 0", "--", "world", "x" * 121, "poke 80020000 100", "mem 7fffffff 1"):
+                 "csr 0x300", "--", "world", "x" * 121, "poke 80020000 100", "mem 7fffffff 1"):
         case.say(line)
     case.say("enclaves", "regs")
 

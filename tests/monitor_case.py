@@ -20,9 +20,9 @@ class Case:
     """`topic` and `name` are those of the files; options stand behind run --monitor."""
     all, words = [], {}
 
-    def __init__(self, topic, name, ram=MEMORY):
-        self.topic, self.name, self.ram, self.image = "monitor_" + topic, name, ram, {}
-        self.bench, self.script, self.replies = Bench(b"", ram=ram), [], []
+    def __init__(self, topic, name, ram=MEMORY, harts=1):
+        self.topic, self.name, self.setup, self.image = "monitor_" + topic, name, {"ram": ram, "harts": harts}, {}
+        self.bench, self.script, self.replies = Bench(b"", **self.setup), [], []
         Case.all.append(self)
 
     @property
@@ -33,11 +33,16 @@ class Case:
         """The image, which has all code of the host."""
         return bytes(self.image.get(a, 0) for a in range(HOST_ENTRY, max(self.image, default=HOST_ENTRY - 1) + 1)).hex()
 
+    def options(self):
+        """The words of the setup."""
+        usual = {"ram": MEMORY, "harts": 1}
+        return [word for key, it in self.setup.items() if it != usual[key] for word in ("--" + key, str(it))]
+
     def files(self):
         stdin = input_of(self.digits(), self.script)
-        words = ["run", "--monitor"] + (["--ram", str(self.ram)] if self.ram != MEMORY else [])
+        words = ["run", "--monitor", *self.options()]
         stdout = "".join(it + "\n" for it in self.replies)
-        assert output(stdin, ram=self.ram) == (stdout, 0), self.name  # with all of the code there from the start
+        assert output(stdin, **self.setup) == (stdout, 0), self.name  # with all of the code there from the start
         return {"args": "".join(it + "\n" for it in words), "stdin": stdin, "stdout": stdout}
 
     # ---- lines
@@ -62,6 +67,11 @@ class Case:
 
     def tell(self, text):
         self.script.append("# " + text)
+
+    def on(self, hart):
+        """From now on the lines are of this hart."""
+        if self.machine is not self.machine.peers[hart]:
+            self.say("hart %d" % hart)
 
     def set(self, number, word):
         if self.machine.regs[number] != word & ONES:
@@ -119,13 +129,17 @@ class Case:
 
     # ---- calls
 
-    def call(self, function, *arguments, key=KEY, wants=None):
-        """A call with these registers from a0 on. Where an answer is wanted, the status and the result by hand, no world is
-        left and it is shown."""
+    def ready(self, function, *arguments, key=KEY):
+        """The registers of a call."""
         self.set(17, key)
         self.set(16, function)
         for i, word in enumerate(arguments):
             self.set(10 + i, word)
+
+    def call(self, function, *arguments, key=KEY, wants=None):
+        """A call with these registers from a0 on. Where an answer is wanted, the status and the result by hand, no world is
+        left and it is shown."""
+        self.ready(function, *arguments, key=key)
         world = self.machine.world
         reply = self.do(ECALL)
         if wants is not None:
@@ -174,7 +188,7 @@ class WholeCase:
     def __init__(self, topic, name, setup, stdin, stdout, status):
         self.topic, self.name, self.stdin, self.stdout, self.status = topic, name, stdin, stdout, status
         self.arguments = ["run", "--monitor"]
-        for option in ("kind", "ram"):
+        for option in ("kind", "ram", "harts"):
             if option in setup:
                 self.arguments += ["--" + option, str(setup[option])]
         Case.all.append(self)

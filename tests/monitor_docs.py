@@ -1,15 +1,16 @@
 #!/usr/bin/env python3
 """tests/monitor_docs.py --check: tells whether the lines of commands and replies in docs/MONITOR.md and docs/COMMANDS.md are those of
 the examples that they name. A part of them begins with the name of its example, as `# examples/enclave_adds`; its lines stand in that
-order in the example's script, each with the reply of the model of monitor_bench.py, and perhaps a comment. Where the example is one of
-two benches, a reply that both give stands without its mark.
+order in the example's script, each with the reply of the model of monitor_bench.py, and perhaps a comment. Of a reply of more lines the
+first stands there, of `sched` all, with ` / ` between them. Where the example is one of two benches, a reply that both give stands
+without its mark.
 """
 import os
 import re
 import sys
 
 sys.dont_write_bytecode = True
-from monitor_bench import FORMS, Bench, Twins, cut_at, image_of, lines_of
+from monitor_bench import FORMS, Bench, Twins, cut_at, image_of, lines_of, setup_of
 
 ROOT = os.path.dirname(os.path.dirname(os.path.abspath(__file__)))
 PAGES = ("MONITOR.md", "COMMANDS.md")
@@ -21,17 +22,25 @@ def text_of(*names):
 
 
 def session_of(name):
-    """Each command of the example's script with its first reply, of both where there are two benches."""
+    """Each command of the example's script with what is told of its reply, of both where there are two benches."""
     image, script = cut_at(lines_of(text_of(name, "stdin")))
     first, second = cut_at(script)
-    bench = Bench(image_of(image))
-    session = [(line, " ".join(bench.replies(line)[:1])) for line in first]
-    twins = Twins(bench, 0) if text_of(name, "words").startswith("twin") else None
+    words = text_of(name, "words").split()
+    setup = setup_of(words)
+    slot = setup.pop("slot", 0)
+    bench = Bench(image_of(image), **setup)
+    session = [(line, told(line, bench.replies(line))) for line in first]
+    twins = Twins(bench, slot) if words[0] == "twin" else None
     for line in second:
         replies = twins.replies(line)[0]
         marked = [it[3:] for it in replies if it.startswith("a: ")]
-        session.append((line, " ".join((marked or replies)[:1])))
+        session.append((line, told(line, marked or replies)))
     return session
+
+
+def told(line, replies):
+    """What of the replies stands on a page."""
+    return " / ".join(replies if line.startswith("sched") else replies[:1])
 
 
 def parts_of(text):

@@ -1,5 +1,5 @@
-# The examples of the monitored profile, those of one bench and those of two: the model, which knows nothing of the program, gives the output that stands there, and
-# each has its image before its script.
+# The examples of the monitored profile, those of one bench, of two, and of two harts: the model, which knows nothing of the program,
+# gives the output that stands there, and each has its image before its script.
 for example in "$here"/../examples/*/words "$here"/../examples/attacks/*/words; do
   example=$(dirname "$example")
   name=examples/${example#*/examples/}
@@ -10,9 +10,11 @@ for example in "$here"/../examples/*/words "$here"/../examples/attacks/*/words; 
   expect "$name/stdin" 0 $? "$example/image" "$scratch/out"
 done
 
-# The attacks: their sources assemble to their images.
+# The attacks and the race: their sources assemble to their images.
 for example in "$here"/../examples/attacks/*/attack.s; do
   example=$(dirname "$example")
   cat "$example/../victim.s" "$example/attack.s" | "$program" asm > "$scratch/out"
   expect "examples/attacks/$(basename "$example")/attack.s" 0 $? "$example/image" "$scratch/out"
 done
+"$program" asm < "$here/../examples/race/program.s" > "$scratch/out"
+expect "examples/race/program.s" 0 $? "$here/../examples/race/image" "$scratch/out"

@@ -1,4 +1,4 @@
-"""The monitored machine: a hart under a security monitor in the manner of Keystone (EuroSys 2020), by the tables of
+"""The monitored machine: a hart, or two, under a security monitor in the manner of Keystone (EuroSys 2020), by the tables of
 docs/MONITOR.md: the table of enclaves, the entries, the calls with their refusals in order, the switches between worlds, the
 timer's stop, and the traps that are passed on. SHA-256 is hashlib's. Nothing of the bench is used.
 """
@@ -58,13 +58,21 @@ def measurement_of(region, window, entry, data):
 
 
 class Monitored(HartInMemory):
-    """`world` is None for the host, or the slot of the enclave that runs; `entered` the slot that the last step entered."""
+    """A hart: `world` is None for the host, or the slot of the enclave that runs; `entered` the slot that the last step entered.
+    `peers` are all harts of the machine, this one with them, which have one RAM and one table."""
 
     def __init__(self, ram, entry):
         super().__init__(ram)
         self.pc, self.mode, self.world, self.host, self.entered = entry, S, None, None, None
-        self.table = {}
+        self.table, self.peers = {}, [self]
         self.lay_out()
+
+    def add_hart(self):
+        """A second hart of the machine at reset: it begins as the first one, but for its number in a0."""
+        other = Monitored(b"", self.pc)
+        other.ram, other.table, other.peers = self.ram, self.table, self.peers
+        other.set(10, len(self.peers))
+        self.peers.append(other)
 
     # ---- blocks, and the entries
 
@@ -73,7 +81,7 @@ class Monitored(HartInMemory):
         return size >= LEAST_SIZE and size & size - 1 == 0 and base % size == 0 and self.is_inside(base, size)
 
     def lay_out(self):
-        """The sixteen entries and mie, of the table and the world."""
+        """The sixteen entries and mie, of the table and the hart's own world."""
         entries = {0: (0x18, napot(START, MONITOR_SIZE))}
         for slot, enclave in self.table.items():
             entries[slot + 1] = (0x1F if slot == self.world else 0x18, napot(*enclave.region))
@@ -88,7 +96,7 @@ class Monitored(HartInMemory):
     # ---- a step
 
     def step(self):
-        """The bare step; after a trap the monitor does its part, and returns."""
+        """The bare step; after a trap the monitor does its part, lays out every hart, and returns."""
         self.entered = None
         trap = super().step()
         if trap:
@@ -100,7 +108,8 @@ class Monitored(HartInMemory):
                 self.leave_enclave("Stopped", self.saved(self.kept[MEPC], mode), INTERRUPTED, 0)
             else:
                 self.pass_on(trap, mode)
-            self.lay_out()
+            for hart in self.peers:
+                hart.lay_out()
         return trap
 
     def return_to(self, pc, mode):
@@ -148,7 +157,7 @@ class Monitored(HartInMemory):
     # ---- what is no step
 
     def scramble(self, slot):
-        """Makes of a live enclave that does not run another one: the complement of each byte of its region and of each saved
+        """Makes of a live enclave that runs on no hart another one: the complement of each byte of its region and of each saved
         register. Whether there is such an enclave."""
         if slot not in self.table or self.table[slot].state == "Running":
             return False

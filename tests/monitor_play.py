@@ -2,10 +2,11 @@
 """Plays the monitored machine at random: long scripts of calls, steps, pokes, registers and timer lines, which the program must
 answer as the model of monitor_bench.py does. Regions and windows come from a small pool, so that several enclaves live, run,
 stop, exit and are destroyed in one script; the code of all worlds is ecalls, accesses, returns, jumps and illegal words. With
---twin the script is cut in two, and its second part goes to two benches that differ in one enclave, which must answer alike.
+--harts 2 the harts take turns, and race. With --twin the script is cut in two, and its second part goes to two benches that differ in
+one enclave, which must answer alike.
 
-    tests/monitor_play.py PROGRAM [--twin] [--seed S] [--count N] [--lines L]    N scripts of L lines, from this seed on
-    tests/monitor_play.py --alone ..                                             plays the model alone
+    tests/monitor_play.py PROGRAM [--twin] [--harts H] [--seed S] [--count N] [--lines L]    N scripts of L lines, from this seed on
+    tests/monitor_play.py --alone ..                                                         plays the model alone
 
 Where a reply differs, the script is made as small as it gets and printed, with both replies. The last line counts the scripts.
 """
@@ -41,16 +42,20 @@ SHOWN = [*CSRS, "mstatus", "mie", "mip", "mepc", "mcause", "mtval", "mtvec", "mc
 
 class Play:
     """A script that is made while the model answers it. `taken` counts what happened on the way, `words` are the program's."""
-    words = ["run", "--monitor", "--ram", str(MEMORY)]
 
-    def __init__(self, seed, count):
-        self.rng = random.Random(seed)
+    def __init__(self, seed, count, harts=1):
+        self.rng, self.options = random.Random(seed), ["--ram", str(MEMORY)] + ["--harts", str(harts)] * (harts > 1)
+        self.words = ["run", "--monitor", *self.options]
         code = [assemble("csrrw", 0, NUMBER["stvec"], 31)[1]] + [self.rng.choice((0x73, 0x73, self.code())) for _ in range(200)]
         self.image = b"".join(word.to_bytes(4, "little") for word in code)
-        self.bench, self.lines, self.replies, self.taken = Bench(self.image, ram=MEMORY), [], [], collections.Counter()
-        self.say("setreg 31 %x" % HANDLER, "step 1")
+        self.bench, self.lines, self.replies, self.taken = Bench(self.image, ram=MEMORY, harts=harts), [], [], collections.Counter()
+        for hart in reversed(range(harts)):
+            self.on(hart)
+            self.say("setreg 31 %x" % HANDLER, "step 1")
         self.play(count)
-        self.say("regs", "enclaves", "pmp", *("csr %x" % NUMBER[name] for name in SHOWN))
+        for hart in range(harts):
+            self.on(hart)
+            self.say("regs", "enclaves", "pmp", *("csr %x" % NUMBER[name] for name in SHOWN))
 
     def play(self, count):
         """Turns until there are so many lines."""
@@ -61,6 +66,15 @@ class Play:
     def machine(self):
         return self.bench.machine
 
+    @property
+    def harts(self):
+        return self.bench.harts
+
+    def on(self, hart):
+        """From now on the lines are of this hart."""
+        if self.machine is not self.harts[hart]:
+            self.say("hart %d" % hart)
+
     def say(self, *lines):
         """Lines, and what each changes of the enclaves."""
         self.lines += lines
@@ -70,6 +84,7 @@ class Play:
             now = {slot: it.state for slot, it in self.machine.table.items()}
             self.taken.update("%s to %s" % (states.get(slot, "free"), now.get(slot, "free"))
                               for slot in {*states, *now} if states.get(slot) != now.get(slot))
+            self.taken["both in enclaves"] += len(self.harts) > 1 and all(hart.world is not None for hart in self.harts)
 
     def given(self, line):
         """The replies of the model."""
@@ -79,10 +94,14 @@ class Play:
         return self.replies
 
     def is_stuck(self):
-        """Whether the host is nowhere, and so is its handler: nothing but traps would come."""
-        machine = self.machine
-        places = machine.pc, machine.reading(NUMBER["stvec"]) & ~3
-        return machine.world is None and not any(machine.is_done(S, "x", place, 4) for place in places)
+        """Whether no hart has more than traps to come."""
+        return all(map(self.is_nowhere, self.harts))
+
+    @staticmethod
+    def is_nowhere(hart):
+        """Whether the host on it is nowhere, and so is its handler."""
+        places = hart.pc, hart.reading(NUMBER["stvec"]) & ~3
+        return hart.world is None and not any(hart.is_done(S, "x", place, 4) for place in places)
 
     # ---- what is drawn
 
@@ -129,7 +148,12 @@ class Play:
         return self.rng.choice(fitting) if fitting and self.rng.random() < 0.85 else self.rng.choice([*range(15), ONES])
 
     def call(self):
-        """The registers of a call, and most often an ecall at pc in S, which is stepped."""
+        """A call, which is stepped."""
+        self.ready()
+        self.say("%s %d" % (self.rng.choice(("step", "run")), self.rng.choice((1, 1, 1, 1, 2, 3))))
+
+    def ready(self):
+        """The registers of a call, and most often an ecall at pc in S."""
         rng, host = self.rng, self.machine.world is None
         function = rng.choices(*((CREATE, DESTROY, RUN, RESUME, MEASURE, STOP, 0), (5, 2, 4, 4, 2, 1, 1)) if host
                                else ((MEASURE, STOP, EXIT, RUN, 8), (3, 4, 2, 1, 1)))[0]
@@ -142,6 +166,9 @@ class Play:
         else:
             states = {DESTROY: ("Fresh", "Stopped", "Exited"), RUN: ("Fresh",), RESUME: ("Stopped",)}
             arguments = [self.drawn_slot(*states.get(function, ("Fresh", "Stopped", "Exited", "Running"))), self.address()]
+            if rng.random() < 0.2:
+                arguments[0] = next((hart.world for hart in self.harts if hart.world is not None), arguments[0])
+            self.taken["called where it runs elsewhere"] += host and any(arguments[0] == hart.world for hart in self.harts)
         for number, word in ((17, KEY if rng.random() < 0.97 else self.word()), (16, function), *enumerate(arguments, 10)):
             self.set(number, word)
         if rng.random() < 0.95:
@@ -151,10 +178,23 @@ class Play:
             handled = [assemble("auipc", 13, 0)[1], assemble("csrrw", 0, NUMBER["stvec"], 13)[1]]
             for i, word in enumerate([*handled, *(self.code() for _ in range(rng.randrange(4)))]):
                 self.put(arguments[4] + 4 * i, word)
-        self.say("%s %d" % (rng.choice(("step", "run")), rng.choice((1, 1, 1, 1, 2, 3))))
+
+    def sched(self):
+        """Steps of either hart."""
+        digits = "".join(self.rng.choices("01", k=self.rng.choice((1, 2, 2, 2, 3, 4, 4, 5, 8, 20, 64))))
+        self.say("sched " + (digits if len(self.harts) > 1 else digits.replace("1", "0")))
+
+    def race(self):
+        """A call of each hart, in one sched."""
+        for hart in self.rng.sample(range(len(self.harts)), len(self.harts)):
+            self.on(hart)
+            self.ready()
+        self.sched()
 
     def steps(self):
-        self.say("%s %d" % (self.rng.choice(("step", "run")), self.rng.choice((1, 1, 1, 2, 2, 3, 5, 20))))
+        if len(self.harts) > 1 and self.rng.random() < 0.4:
+            return self.sched()
+        return self.say("%s %d" % (self.rng.choice(("step", "run")), self.rng.choice((1, 1, 1, 2, 2, 3, 5, 20))))
 
     def recode(self):
         """New code where the world goes on, or would after a trap, or anywhere."""
@@ -194,15 +234,21 @@ class Play:
             self.say("step 1")
             self.taken["rescued"] += 1
 
+    def choose(self):
+        """The hart of the next turn, which is not nowhere."""
+        if len(self.harts) > 1 and (self.rng.random() < 0.25 or self.is_nowhere(self.machine)):
+            self.on(self.rng.choice([i for i, hart in enumerate(self.harts) if not self.is_nowhere(hart)]))
+
     def turn(self):
         """One of the turns, and often what a switch, or else a call, has left."""
+        self.choose()
         machine = self.machine
         world, mode, can_go_on = machine.world, machine.mode, machine.is_done(machine.mode, "x", machine.pc, 4)
         if not can_go_on and self.rng.random() < 0.5 or mode < S and self.rng.random() < 0.1:
             self.rescue()
         else:
-            turns = (self.call, self.steps, self.recode, self.change, self.lines_of_the_timer, self.stops, self.show)
-            self.rng.choices(turns, (12, 3, 6, 3, 1, 1, 3))[0]()
+            turns = (self.call, self.steps, self.recode, self.change, self.lines_of_the_timer, self.stops, self.show, self.race)
+            self.rng.choices(turns, (12, 3, 6, 3, 1, 1, 3, 6 if len(self.harts) > 1 else 0))[0]()
         if machine.world != world and self.rng.random() < 0.8:
             self.say("regs", *("csr %x" % NUMBER[name] for name in self.rng.sample(SHOWN, 6)))
         elif self.rng.random() < 0.3:
@@ -221,7 +267,7 @@ class TwinPlay(Play):
                 break
             self.turn()
         self.slot = self.rng.choice(fitting) if fitting and self.rng.random() < 0.95 else self.rng.randrange(13)
-        self.words = ["twin", "--slot", str(self.slot), "--ram", str(MEMORY)]
+        self.words = ["twin", "--slot", str(self.slot), *self.options]
         self.lines.append("--")
         self.twins = Twins(self.bench, self.slot)
         self.is_over = not self.twins.is_apart
@@ -307,12 +353,12 @@ def main(words):
     parser.add_argument("program", nargs="?")
     for option in ("--twin", "--alone"):
         parser.add_argument(option, action="store_true")
-    for option, default in (("--seed", 1), ("--count", 4), ("--lines", 1500)):
+    for option, default in (("--seed", 1), ("--count", 4), ("--lines", 1500), ("--harts", 1)):
         parser.add_argument(option, type=int, default=default)
     asked = parser.parse_args(words)
     taken, failed, program = collections.Counter(), 0, None if asked.alone else os.path.realpath(asked.program)
     for seed in range(asked.seed, asked.seed + asked.count):
-        play = (TwinPlay if asked.twin else Play)(seed, asked.lines)
+        play = (TwinPlay if asked.twin else Play)(seed, asked.lines, asked.harts)
         taken.update(play.taken)
         given = right(play, play.lines) if asked.alone else answered(program, play, play.lines)
         if given != "".join(reply + "\n" for reply in play.all_replies()):

@@ -51,6 +51,8 @@ if "$compiler" -shared -fPIC -nostdlib -fno-builtin "${linker[@]}" -o "$shim" "$
   refused_in_turn "run of a long script" "rvbench: memory/rvbench: ram 2/" "$scratch/long" 0 "$scratch/wanted"
   at_rest=$here/../examples/monitor_at_rest
   refused_in_turn "run --monitor" "rvbench: memory/rvbench: ram 2/" "$at_rest/stdin" 0 "$at_rest/stdout" run --monitor
+  harts=$here/../examples/two_harts
+  refused_in_turn "run --harts" "rvbench: memory/rvbench: ram 2/" "$harts/stdin" 0 "$harts/stdout" run --monitor --harts 2
   for part in stdin stdout; do part_of twin_examples/destroy_clears "$part" "$scratch/twin_$part"; done
   refused_in_turn "twin" "rvbench: memory/rvbench: ram 2/" "$scratch/twin_stdin" 0 "$scratch/twin_stdout" twin
   refused_in_turn "asm" "rvbench: memory/rvbench: line N fault 8/" "$scratch/asm_stdin" 0 "$scratch/asm_stdout" asm
@@ -66,6 +68,7 @@ if "$compiler" -shared -fPIC -nostdlib -fno-builtin "${linker[@]}" -o "$shim" "$
   echo 'rvbench: command line' > "$scratch/wanted"
   refused_in_turn "a refused word" "rvbench: memory/" /dev/null 2 "$scratch/wanted" fly
   refused_in_turn "a refused number" "rvbench: memory/" /dev/null 2 "$scratch/wanted" run --ram x
+  refused_in_turn "two bare harts" "rvbench: memory/" /dev/null 2 "$scratch/wanted" run --harts 2
   "$program" --help < /dev/null > "$scratch/wanted"
   refused_in_turn "help" "rvbench: memory/" /dev/null 0 "$scratch/wanted" --help
 else

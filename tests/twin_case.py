@@ -8,9 +8,9 @@ from monitor_case import CODE, MEMORY, Case, input_of
 class TwinCase(Case):
     """Options stand behind twin. `is_over` once the run has ended by itself."""
 
-    def __init__(self, topic, name, slot=0, ram=MEMORY):
+    def __init__(self, topic, name, slot=0, ram=MEMORY, harts=1):
         self.twins, self.is_over, self.slot = None, False, slot
-        super().__init__(topic, name, ram)
+        super().__init__(topic, name, ram, harts)
         self.topic = "twin_" + topic
 
     @property
@@ -21,10 +21,9 @@ class TwinCase(Case):
         if self.twins is None:
             self.apart()
         stdin = input_of(self.digits(), self.script)
-        words = ["twin"] + (["--slot", str(self.slot)] if self.slot else [])
-        words += ["--ram", str(self.ram)] if self.ram != MEMORY else []
+        words = ["twin"] + (["--slot", str(self.slot)] if self.slot else []) + self.options()
         stdout = "".join(it + "\n" for it in self.replies + ([] if self.is_over else ["twin end %d" % self.twins.count]))
-        assert twin_output(stdin, self.slot, ram=self.ram) == (stdout, 0), self.name  # with all of the code there from the start
+        assert twin_output(stdin, self.slot, **self.setup) == (stdout, 0), self.name  # with all of the code there from the start
         return {"args": "".join(it + "\n" for it in words), "stdin": stdin, "stdout": stdout}
 
     # ---- lines
@@ -87,6 +86,6 @@ def state_of(bench):
     """All of a bench, as plain values. What is remembered of verdicts is no part of it."""
     def plain(value):
         if isinstance(value, dict):
-            return {key: plain(it) for key, it in value.items() if key != "verdicts"}
+            return {key: plain(it) for key, it in value.items() if key not in ("verdicts", "peers")}
         return plain(vars(value)) if hasattr(value, "__dict__") else [plain(it) for it in value] if isinstance(value, list) else value
-    return plain(vars(bench))
+    return plain([vars(bench), *map(vars, bench.harts)])

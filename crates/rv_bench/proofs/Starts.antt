@@ -13,13 +13,13 @@ use Rattle.rv_elf.specs.declared.elf_fault.ElfFault.{ElfFault}
 use Rattle.rv_command_line.specs.declared.setup.Setup.{Setup}
 use Rattle.rv_bench.specs.declared.fault.BenchFault.TheVariants.{Image, Ram}
 use Rattle.rv_memory.specs.declared.ram_fault.RamFault.TheVariants.{BadSize}
-use Rattle.rv_bench.specs.Loaded.{memory_loaded, planned, reset_over, started}
+use Rattle.rv_bench.specs.Loaded.{harts_of, memory_loaded, planned, reset_over, started}
 
 -- a RAM that is made, loaded by the image's plan and given to a bench
 pub started_ok : (image : List ℕ) (setup : Setup) (plan : LoadPlan) (zeros memory : List ℕ) (entry : ℕ) (bench : BenchState)
     → is_ram_size setup.ram ≡ true → planned image setup ≡ Ok plan → zeros ≡ replicate setup.ram 0
     → memory ≡ loaded_memory image plan.segments zeros → entry ≡ plan.entry
-    → bench ≡ reset_over setup.monitored memory entry → started image setup ≡ Ok bench
+    → bench ≡ reset_over setup memory entry → started image setup ≡ Ok bench
 unfolding started
 started_ok image setup plan zeros memory entry bench lawful plans made loads enters is =
     rw (lawful, plans, is, enters, loads, made) refl
@@ -39,7 +39,7 @@ no_ram image setup unlawful = rw unlawful refl
 pub has_ram : (image : List ℕ) (setup : Setup) (bench : BenchState) → started image setup ≡ Ok bench → is_ram_size setup.ram ≡ true
 unfolding started
 has_ram image setup bench is = go (is_ram_size setup.ram) is where
-  go : (b : Bool) → cond b (result_case (planned image setup) (λ plan. Ok (reset_over setup.monitored (memory_loaded image setup plan) plan.entry)) (λ fault. Err (Image fault))) (Err (Ram BadSize)) ≡ Ok bench → b ≡ true
+  go : (b : Bool) → cond b (result_case (planned image setup) (λ plan. Ok (reset_over setup (memory_loaded image setup plan) plan.entry)) (λ fault. Err (Image fault))) (Err (Ram BadSize)) ≡ Ok bench → b ≡ true
   go true e = refl
   go false e = cc
 
@@ -47,7 +47,7 @@ has_ram image setup bench is = go (is_ram_size setup.ram) is where
 pub fault_has_ram : (image : List ℕ) (setup : Setup) (fault : ElfFault) → started image setup ≡ Err (Image fault) → is_ram_size setup.ram ≡ true
 unfolding started
 fault_has_ram image setup fault is = go (is_ram_size setup.ram) is where
-  go : (b : Bool) → cond b (result_case (planned image setup) (λ plan. Ok (reset_over setup.monitored (memory_loaded image setup plan) plan.entry)) (λ fault. Err (Image fault))) (Err (Ram BadSize)) ≡ Err (Image fault) → b ≡ true
+  go : (b : Bool) → cond b (result_case (planned image setup) (λ plan. Ok (reset_over setup (memory_loaded image setup plan) plan.entry)) (λ fault. Err (Image fault))) (Err (Ram BadSize)) ≡ Err (Image fault) → b ≡ true
   go true e = refl
   go false e = cc
 
@@ -58,15 +58,17 @@ loaded_size image setup plan =
     let zeros = replicate setup.ram 0 in
     length-map-range_with_len (byte_after image plan.segments zeros) ram_base (length zeros) ∙ length-replicate setup.ram 0
 
-reset_keeps : (monitored : Bool) (memory : List ℕ) (entry : ℕ) → is_ram_size (length memory) ≡ true → KeepsMonitor (reset_over monitored memory entry).target
-reset_keeps false memory entry lawful = tt
-reset_keeps true memory entry lawful = start_kept memory entry lawful
+reset_keeps : (setup : Setup) (memory : List ℕ) (entry : ℕ) → is_ram_size (length memory) ≡ true → KeepsMonitor (reset_over setup memory entry).target
+reset_keeps setup memory entry lawful = go setup.monitored where
+  go : (monitored : Bool) → KeepsMonitor (reset_over (record setup { monitored = monitored }) memory entry).target
+  go false = tt
+  go true = start_kept memory entry (harts_of setup.harts) lawful
 
 pub started_keeps : (image : List ℕ) (setup : Setup) → IfOk (started image setup) (λ state. KeepsMonitor state.target)
 unfolding started
 started_keeps image setup = go (is_ram_size setup.ram) refl (planned image setup) where
   go : (lawful : Bool) → is_ram_size setup.ram ≡ lawful → (plan : Result LoadPlan ElfFault)
-      → IfOk (cond lawful (result_case plan (λ plan. Ok (reset_over setup.monitored (memory_loaded image setup plan) plan.entry)) (λ fault. Err (Image fault))) (Err (Ram BadSize))) (λ state. KeepsMonitor state.target)
+      → IfOk (cond lawful (result_case plan (λ plan. Ok (reset_over setup (memory_loaded image setup plan) plan.entry)) (λ fault. Err (Image fault))) (Err (Ram BadSize))) (λ state. KeepsMonitor state.target)
   go false is plan = tt
   go true is (Err fault) = tt
-  go true is (Ok plan) = reset_keeps setup.monitored (memory_loaded image setup plan) plan.entry (rw (loaded_size image setup plan) is)
+  go true is (Ok plan) = reset_keeps setup (memory_loaded image setup plan) plan.entry (rw (loaded_size image setup plan) is)

@@ -6,12 +6,16 @@ use Rattle.rv_pmp.specs.declared.mode.Mode.TheVariants.{M}
 use Rattle.rv_hart.specs.Hart.{at_reset}
 use Rattle.rv_memory.specs.Memory.{is_ram_size}
 use Rattle.rv_memory.specs.declared.ram_fault.RamFault.TheVariants.{BadSize, NoMemory as NoRamMemory}
-use Rattle.rv_monitor.specs.State.{at_start}
+use Rattle.rv_monitor.specs.State.{at_start, seen_from}
+use Rattle.rv_monitor.specs.declared.harts.Harts.{Harts as MonitorHarts}
+use Rattle.rv_monitor.specs.declared.harts.Harts.TheVariants as monitor
 use Rattle.rv_debug.specs.BenchState.{BenchState, bare, monitored as monitored_bench}
 use Rattle.rv_elf.specs.Fields.{magic}
 use Rattle.rv_elf.specs.Loaded.{loaded_memory}
 use Rattle.rv_elf.specs.Plans.{LoadPlan, file_plan, raw_plan}
 use Rattle.rv_elf.specs.declared.elf_fault.ElfFault.{ElfFault}
+use Rattle.rv_command_line.specs.declared.harts.Harts.{Harts}
+use Rattle.rv_command_line.specs.declared.harts.Harts.TheVariants.{One, Two}
 use Rattle.rv_command_line.specs.declared.image_kind.ImageKind.{ImageKind}
 use Rattle.rv_command_line.specs.declared.image_kind.ImageKind.TheVariants.{Auto, Raw, Elf}
 use Rattle.rv_command_line.specs.declared.setup.Setup.{Setup}
@@ -33,16 +37,22 @@ planned image setup =
 abbrev pub memory_loaded : List ℕ → Setup → LoadPlan → List ℕ
 memory_loaded image setup plan = loaded_memory image plan.segments (replicate setup.ram 0)
 
--- the bench at reset over a memory: the image alone in mode M, or the host above the monitor
-abbrev pub reset_over : Bool → List ℕ → ℕ → BenchState
-reset_over monitored memory entry =
-    if monitored then monitored_bench (at_start memory entry) else bare (record { hart = at_reset entry M; memory = memory })
+-- the harts that the monitor is over
+abbrev pub harts_of : Harts → MonitorHarts
+harts_of One = monitor.One
+harts_of Two = monitor.Two
+
+-- the bench at reset over a memory: the image alone on one hart in mode M, or the host on each hart above the monitor, with hart 0 chosen
+abbrev pub reset_over : Setup → List ℕ → ℕ → BenchState
+reset_over setup memory entry =
+    if setup.monitored then monitored_bench (seen_from 0 (at_start memory entry (harts_of setup.harts)))
+    else bare (record { hart = at_reset entry M; memory = memory })
 
 -- the bench at reset, or the first fault: of the RAM's size, then of the image
 unfoldable pub started : List ℕ → Setup → Result BenchState BenchFault
 started image setup =
     if is_ram_size setup.ram
-    then result_case (planned image setup) (λ plan. Ok (reset_over setup.monitored (memory_loaded image setup plan) plan.entry)) (λ fault. Err (Image fault))
+    then result_case (planned image setup) (λ plan. Ok (reset_over setup (memory_loaded image setup plan) plan.entry)) (λ fault. Err (Image fault))
     else Err (Ram BadSize)
 
 -- what each result of starting a bench means: the size of the RAM is asked before the image

@@ -44,7 +44,7 @@ pub use line::Line;
 pub use lines::Lines;
 pub use memory::{MemorySink, MemorySource};
 pub use run::{run_bench, run_stream};
-pub use rv_command_line::{ImageKind, Job, Setup, WordsFault, read_words};
+pub use rv_command_line::{Harts, ImageKind, Job, Setup, WordsFault, read_words};
 pub use rv_elf::ElfFault;
 pub use stdio::{StandardSink, StandardSource};
 pub use twin::run_twin;

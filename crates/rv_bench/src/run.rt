@@ -45,9 +45,9 @@ pub(crate) fn run_lines<T: Answers, S: Source, W: Sink>(
     }
 }
 
-/// Loads an image into the RAM of a new machine, and writes the reply to each line, until the source answers its end. Once
-/// the RAM is made, no memory is taken. Under the monitor every part of a script spares each enclave that rests through it
-/// (`integrity`).
+/// Loads an image into the RAM of a new machine, and writes the reply to each line, until the source answers its end. A monitored
+/// bench has as many harts as the setup says, any other has one. Once the RAM is made, no memory is taken. Under the monitor every
+/// part of a script spares each enclave that rests through it (`integrity`).
 ///
 /// # Errors
 ///

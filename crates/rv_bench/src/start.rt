@@ -1,11 +1,11 @@
 //! The bench that an image starts.
 
 ghost use Rattle.std.specs.Prelude.{◌≡◌, ◌%◌, length, IfOk};
-ghost use Rattle.rv_bench.specs.Loaded.{is_read_as_elf as is_read_as_elf_of, planned as planned_of, reset_over, Starts};
+ghost use Rattle.rv_bench.specs.Loaded.{harts_of, is_read_as_elf as is_read_as_elf_of, planned as planned_of, reset_over, Starts};
 ghost use Rattle.rv_bench.specs.MonitorRange.{ReservesMonitorRange};
 
 use crate::fault::BenchFault;
-use rv_command_line::{ImageKind, Setup};
+use rv_command_line::{Harts, ImageKind, Setup};
 use rv_debug::Bench;
 use rv_elf::{ElfFault, Plan, is_elf, load, plan, plan_raw};
 use rv_hart::Machine;
@@ -42,13 +42,23 @@ fn planned(image: &[u8], setup: &Setup) -> Result<Plan, ElfFault>
     }
 }
 
-/// The bench at reset over a RAM: its image alone in mode M, or the host above the monitor.
-fn reset(ram: Ram, entry: u32, monitored: bool) -> Bench
-    requires { entry % 4 ≡ 0 }
-    ensures { result ≡ reset_over monitored ram entry }
+/// The harts that the monitor is over.
+fn monitor_harts(harts: Harts) -> rv_monitor::Harts
+    ensures { result ≡ harts_of harts }
 {
-    if monitored {
-        Bench::monitored(Monitored::new(ram, entry))
+    match harts {
+        Harts::One => rv_monitor::Harts::One,
+        Harts::Two => rv_monitor::Harts::Two,
+    }
+}
+
+/// The bench at reset over a RAM: its image alone on one hart in mode M, or the host on each hart above the monitor.
+fn reset(ram: Ram, entry: u32, setup: &Setup) -> Bench
+    requires { entry % 4 ≡ 0 }
+    ensures { result ≡ reset_over setup.now ram entry }
+{
+    if setup.monitored {
+        Bench::monitored(Monitored::new(ram, entry, monitor_harts(setup.harts)))
     } else {
         Bench::bare(Machine::new(ram, entry, Mode::M))
     }
@@ -65,7 +75,7 @@ pub(crate) fn start(alloc: Global, image: &[u8], setup: &Setup) -> Result<Bench,
     match planned(image, setup) {
         Ok(plan) => {
             load(&plan, image, &mut ram);
-            Ok(reset(ram, plan.entry(), setup.monitored))
+            Ok(reset(ram, plan.entry(), setup))
         }
         Err(fault) => Err(BenchFault::Image(fault)),
     }

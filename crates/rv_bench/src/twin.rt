@@ -31,6 +31,7 @@ fn start_two(alloc: Global, image: &[u8], setup: &Setup) -> Result<EqualBenches,
         kind: setup.kind,
         ram: setup.ram,
         monitored: true,
+        harts: setup.harts,
     };
     let first = start(alloc, image, &setup)?;
     let second = start(alloc, image, &setup)?;
@@ -107,12 +108,12 @@ fn run_second<S: Source, W: Sink>(
     run_apart(&mut apart, slot, lines, sink)
 }
 
-/// Reads an image, gives the lines up to the next `--` to two equal monitored benches, whatever the setup says, and writes the replies of
-/// the first. Then it scrambles the slot in the second bench; where no live enclave is there, or it runs, it writes `twin no slot` and is
-/// done. It gives each further line to both, by `both_command`: the lines of the first bench's reply are written after `a: `, and then
-/// those of the second's after `b: `. A command that is not blind is skipped and told as `error blind`; a faulty line is told its fault
-/// once. The run ends with `twin entered N` once a command enters the slot, or with `twin end N` at the end of the input, where N counts
-/// the commands that were run (it stays at 2^64 - 1).
+/// Reads an image, gives the lines up to the next `--` to two equal benches of the setup, which are monitored whatever it says, and writes
+/// the replies of the first. Then it scrambles the slot in the second bench; where no live enclave is there, or it runs on a hart, it
+/// writes `twin no slot` and is done. It gives each further line to both, by `both_command`: the lines of the first bench's reply are
+/// written after `a: `, and then those of the second's after `b: `. A command that is not blind is skipped and told as `error blind`; a
+/// faulty line is told its fault once. The run ends with `twin entered N` once a command enters the slot, or with `twin end N` at the end
+/// of the input, where N counts the commands that were run (it stays at 2^64 - 1).
 ///
 /// # Errors
 ///

@@ -2,7 +2,7 @@
 use crate::expecting::{expect_beginning, expect_bytes, expect_number, expect_outcome};
 use crate::faulty::{AtSetCall, FaultySink, FaultySource};
 use rv_bench::{BenchFault, MemorySink, MemorySource, run_job};
-use rv_command_line::{ImageKind, Job, Setup};
+use rv_command_line::{Harts, ImageKind, Job, Setup};
 use std::alloc::Global;
 use std::process::Abort;
 
@@ -20,6 +20,7 @@ const BARE: Example = Example {
         kind: ImageKind::Auto,
         ram: 65536,
         monitored: false,
+        harts: Harts::One,
     }),
     input: b"9300f0ff\n--\nstep 1\nreg 1\n",
     output: b"ran 1 pc=80000004 mode=M world=bare why=done trap=-\nx1=ffffffff\n",
@@ -32,6 +33,7 @@ const MONITORED: Example = Example {
         kind: ImageKind::Auto,
         ram: 196_608,
         monitored: true,
+        harts: Harts::One,
     }),
     input: b"7300000083220300\n--\nsetreg 17 0a454e43\nsetreg 16 1\nsetreg 10 80020000\n\
         setreg 11 1000\nsetreg 14 80020000\nstep 1\naccess S r 8001fffe 4\nsetreg 6 8001fffe\n\
@@ -51,6 +53,7 @@ const TWIN: Example = Example {
             kind: ImageKind::Auto,
             ram: 196_608,
             monitored: true,
+            harts: Harts::One,
         },
         0,
     ),
@@ -64,6 +67,30 @@ const TWIN: Example = Example {
         b: ran 1 pc=80010008 mode=S world=host why=done trap=00000009:00000000\n\
         a: 80020000: 00 00 00 00\nb: 80020000: 00 00 00 00\ntwin end 4\n",
     told: &[0, 0, 1, 1, 1, 1, 1, 1, 0, 1, 2, 2, 2, 2],
+};
+
+/// Two benches of two harts, and a destroy by the one that did not create. The first hart's call before that fails.
+const TWIN_OF_TWO_HARTS: Example = Example {
+    job: Job::Twin(
+        Setup {
+            kind: ImageKind::Auto,
+            ram: 196_608,
+            monitored: true,
+            harts: Harts::Two,
+        },
+        0,
+    ),
+    input: b"7300000073000000\n--\nsetreg 17 0a454e43\nsetreg 16 1\nsetreg 10 80020000\n\
+        setreg 11 1000\nsetreg 14 80020000\nstep 1\n--\nhart 1\nsetreg 17 0a454e43\n\
+        setreg 16 2\nsetreg 10 0\nsched 01\n",
+    output: b"ok\nok\nok\nok\nok\n\
+        ran 1 pc=80010004 mode=S world=host why=done trap=00000009:00000000\n\
+        a: ok\nb: ok\na: ok\nb: ok\na: ok\nb: ok\na: ok\nb: ok\n\
+        a: hart 0 1 pc=80010008 mode=S world=host trap=00000009:00000000\n\
+        a: hart 1 1 pc=80010004 mode=S world=host trap=00000009:00000000\n\
+        b: hart 0 1 pc=80010008 mode=S world=host trap=00000009:00000000\n\
+        b: hart 1 1 pc=80010004 mode=S world=host trap=00000009:00000000\ntwin end 5\n",
+    told: &[0, 0, 1, 1, 1, 1, 1, 1, 0, 2, 2, 2, 2, 4],
 };
 
 /// How many bytes a device moves at most in a call.
@@ -192,4 +219,9 @@ fn a_monitored_bench(rt: HostRuntime) {
 #[test]
 fn two_benches(rt: HostRuntime) {
     fails_at_each_call(&rt, rt.alloc(), &TWIN);
+}
+
+#[test]
+fn two_benches_of_two_harts(rt: HostRuntime) {
+    fails_at_each_call(&rt, rt.alloc(), &TWIN_OF_TWO_HARTS);
 }

@@ -2,7 +2,7 @@
 use crate::expecting::{expect_bytes, expect_number, expect_outcome};
 use crate::faulty::{AtSetCall, FaultySink, FaultySource};
 use rv_bench::{BenchFault, Lines, MemorySink, MemorySource, run_bench, run_stream};
-use rv_command_line::Setup;
+use rv_command_line::{Harts, ImageKind, Setup};
 use rv_elf::ElfFault;
 use rv_memory::{Ram, RamFault};
 use std::alloc::Global;
@@ -24,11 +24,18 @@ fn replies_within(read: usize) -> &'static [u8] {
 }
 
 /// Runs a script over an image: it ends well, and these are its replies.
-fn expect_replies(rt: &impl Abort, alloc: Global, image: &[u8], script: &[u8], want: &[u8]) {
+fn expect_replies(
+    rt: &impl Abort,
+    alloc: Global,
+    setup: &Setup,
+    image: &[u8],
+    script: &[u8],
+    want: &[u8],
+) {
     let mut buffer = [0u8; 1024];
     let mut lines = Lines::new(MemorySource::new(script));
     let mut sink = MemorySink::new(&mut buffer);
-    let outcome = run_bench(alloc, image, &Setup::default(), &mut lines, &mut sink);
+    let outcome = run_bench(alloc, image, setup, &mut lines, &mut sink);
     expect_outcome(rt, outcome, Ok(()), 0);
     expect_bytes(rt, sink.bytes(), want, 0);
 }
@@ -61,7 +68,8 @@ fn answers_a_stream(rt: HostRuntime) {
 #[test]
 fn answers_a_script(rt: HostRuntime) {
     let image = b"\x93\x00\xf0\xff";
-    expect_replies(&rt, rt.alloc(), image, b"step 1\nreg 1", OUTPUT);
+    let script = b"step 1\nreg 1";
+    expect_replies(&rt, rt.alloc(), &Setup::default(), image, script, OUTPUT);
 }
 
 /// The image is the host above the monitor: it begins in mode S at 80010000, and its load of the monitor's range is passed on to it.
@@ -82,7 +90,7 @@ fn answers_csr_and_timer(rt: HostRuntime) {
     let script = b"csr 344\ntimer on\ncsr 344\ntimer off\ncsr 344\ncsr 301\ncsr 7a0";
     let want = b"csr 344=00000000\nok\ncsr 344=00000080\nok\ncsr 344=00000000\n\
           csr 301=40141100\nerror csr\n";
-    expect_replies(&rt, rt.alloc(), b"", script, want);
+    expect_replies(&rt, rt.alloc(), &Setup::default(), b"", script, want);
 }
 
 #[test]
@@ -117,7 +125,94 @@ fn answers_pmp_and_access(rt: HostRuntime) {
           pmp 13 cfg=00 addr=00000000\n\
           pmp 14 cfg=00 addr=00000000\n\
           pmp 15 cfg=00 addr=00000000\n";
-    expect_replies(&rt, rt.alloc(), image, script, want);
+    expect_replies(&rt, rt.alloc(), &Setup::default(), image, script, want);
+}
+
+/// The host makes two calls and loads from the address in x6.
+const HOST: &[u8] = b"\x73\x00\x00\x00\x73\x00\x00\x00\x83\x22\x03\x00";
+
+/// A monitor over so many harts.
+const fn over(harts: Harts) -> Setup {
+    Setup {
+        kind: ImageKind::Raw,
+        ram: 196_608,
+        monitored: true,
+        harts,
+    }
+}
+
+/// Hart 1 begins with its number in x10. It can neither end nor read an enclave that runs on hart 0, and the entries of each hart are
+/// those of its own world.
+#[test]
+fn keeps_an_enclave_from_the_other_hart(rt: HostRuntime) {
+    let script = b"setreg 17 0a454e43\nsetreg 16 1\nsetreg 10 80020000\nsetreg 11 1000\n\
+        setreg 14 80020000\nstep 1\npoke 80020000 13\nsetreg 16 3\nsetreg 10 0\nstep 1\n\
+        csr f14\nhart 1\ncsr f14\nreg 10\nsetreg 17 0a454e43\nsetreg 16 2\nsetreg 10 0\n\
+        step 1\nreg 10\nsetreg 10 0\nsetreg 6 80020000\nsched 011\ncsr 3a0\ncsr 3a3\n\
+        hart 0\ncsr 3a0\ncsr 3a3\n";
+    let want = b"ok\nok\nok\nok\nok\n\
+        ran 1 pc=80010004 mode=S world=host why=done trap=00000009:00000000\n\
+        ok\nok\nok\n\
+        ran 1 pc=80020000 mode=S world=e0 why=done trap=00000009:00000000\n\
+        csr f14=00000000\nok\ncsr f14=00000001\nx10=00000001\nok\nok\nok\n\
+        ran 1 pc=80010004 mode=S world=host why=done trap=00000009:00000000\n\
+        x10=fffffff8\nok\nok\n\
+        hart 0 1 pc=80020004 mode=S world=e0 trap=-\n\
+        hart 1 2 pc=00000000 mode=S world=host trap=00000005:80020000\n\
+        csr 3a0=00001818\ncsr 3a3=1f000000\nok\ncsr 3a0=00001f18\ncsr 3a3=00000000\n";
+    expect_replies(&rt, rt.alloc(), &over(Harts::Two), HOST, script, want);
+}
+
+/// Hart 0 creates an enclave and would enter it, and hart 1 would destroy it: who comes first does.
+#[test]
+fn steps_harts_in_order(rt: HostRuntime) {
+    let first_hart_1 = b"setreg 17 0a454e43\nsetreg 16 1\nsetreg 10 80020000\nsetreg 11 1000\n\
+        setreg 14 80020000\nstep 1\nsetreg 16 3\nsetreg 10 0\nhart 1\nsetreg 17 0a454e43\n\
+        setreg 16 2\nsetreg 10 0\nsched 10\nreg 10\nhart 0\nreg 10\n";
+    let destroyed = b"ok\nok\nok\nok\nok\n\
+        ran 1 pc=80010004 mode=S world=host why=done trap=00000009:00000000\n\
+        ok\nok\nok\nok\nok\nok\n\
+        hart 0 1 pc=80010008 mode=S world=host trap=00000009:00000000\n\
+        hart 1 1 pc=80010004 mode=S world=host trap=00000009:00000000\n\
+        x10=00000000\nok\nx10=fffffff9\n";
+    expect_replies(
+        &rt,
+        rt.alloc(),
+        &over(Harts::Two),
+        HOST,
+        first_hart_1,
+        destroyed,
+    );
+    let first_hart_0 = b"setreg 17 0a454e43\nsetreg 16 1\nsetreg 10 80020000\nsetreg 11 1000\n\
+        setreg 14 80020000\nstep 1\nsetreg 16 3\nsetreg 10 0\nhart 1\nsetreg 17 0a454e43\n\
+        setreg 16 2\nsetreg 10 0\nsched 01\nreg 10\n";
+    let entered = b"ok\nok\nok\nok\nok\n\
+        ran 1 pc=80010004 mode=S world=host why=done trap=00000009:00000000\n\
+        ok\nok\nok\nok\nok\nok\n\
+        hart 0 1 pc=80020000 mode=S world=e0 trap=00000009:00000000\n\
+        hart 1 1 pc=80010004 mode=S world=host trap=00000009:00000000\n\
+        x10=fffffff8\n";
+    expect_replies(
+        &rt,
+        rt.alloc(),
+        &over(Harts::Two),
+        HOST,
+        first_hart_0,
+        entered,
+    );
+}
+
+/// There is a hart 1 only where the monitor is over two: a bench without it has one hart, whatever the setup says.
+#[test]
+fn has_no_hart_more(rt: HostRuntime) {
+    let script = b"hart 1\nsched 01\nreg 10\nhart 0\ncsr f14\n";
+    let want = b"error hart\nerror hart\nx10=00000000\nok\ncsr f14=00000000\n";
+    let bare = Setup {
+        monitored: false,
+        ..over(Harts::Two)
+    };
+    expect_replies(&rt, rt.alloc(), &over(Harts::One), HOST, script, want);
+    expect_replies(&rt, rt.alloc(), &bare, HOST, script, want);
 }
 
 #[test]

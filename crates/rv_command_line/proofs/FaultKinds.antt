@@ -1,7 +1,7 @@
 -- Kinds of error among those that words may have.
 use Rattle.std.proofs.Common.{◌≡◌, ◌∙◌, ◌||◌, Bool, true, false, not, [], ◌∷◌, refl, inl, inr, ap, sym}
 use Rattle.std.specs.List.{list_any}
-use Rattle.clap.specs.Kinds.{HasKind, IsAmong, Kinds}
+use Rattle.clap.specs.Kinds.{HasKind, IsAmong, Kinds, or_else}
 use Rattle.clap.specs.Values.{kind_of}
 use Rattle.clap.specs.declared.error.Error.{Error}
 use Rattle.clap.specs.declared.error.kind.ErrorKind.{ErrorKind}
@@ -27,3 +27,9 @@ kind_any test faults error holds had (inr h) = among_any test (kind_of error) fa
 pub no_help : (k : ErrorKind) → (k ≡ kind.DisplayHelp → ⊥) → not (is_help k) ≡ true
 no_help kind.DisplayHelp other = absurd (other refl)
 no_help _ other = refl
+
+-- a kind among the first faults is among those with further ones behind
+pub has_kind_first : (faults more : Kinds) (error : Error) → HasKind faults error → HasKind (or_else faults more) error
+has_kind_first [] more error (inl e) = inl e
+has_kind_first [] more error (inr h) = absurd h
+has_kind_first (k ∷ ks) more error had = had

@@ -1,6 +1,7 @@
 mod FaultKinds
 mod Given
 mod Numbers
+mod Options
 mod Places
 mod Taken
 mod Truths

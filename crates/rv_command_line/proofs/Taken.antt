@@ -1,11 +1,11 @@
--- Where the words are taken, each option of `run` that is given has a value that is read.
+-- Where the words are taken, each option of `run` and of `twin` that is given has a value that is read.
 use Rattle.std.proofs.Common.{Option, refl, Some, subst, true}
-use Rattle.std.proofs.Common.{◌||◌, ◌∙◌, ◌∷◌, ◌≡◌, [], ap, arith, Bool, codes, cond, false, List, None}
+use Rattle.std.proofs.Common.{◌||◌, ◌∙◌, ◌∷◌, ◌≡◌, ◌≤◌, suc, zero, [], ap, arith, Bool, codes, cond, false, List, None}
 use Rattle.std.proofs.lemmas.Slice.Eq.{bytes_eq-Decides}
 use Rattle.std.specs.List.{list_any}
 use Rattle.std.specs.Option.{option_map_or}
 use Rattle.std.proofs.lemmas.Bool.{lt-ltb}
-use Rattle.std.specs.Prelude.{find, is_some, map, nat_lt, option_and_then, option_map, pos, slice_get, unwrap_or, ℕ}
+use Rattle.std.specs.Prelude.{find, is_some, Err, Ok, OnOk, Result, map, nat_lt, option_and_then, option_map, pos, slice_get, unwrap_or, ℕ}
 use Rattle.std.specs.Str.Parse.{ParsesUnsigned}
 use Rattle.std.specs.Str.{bytes_eq}
 use Rattle.clap.proofs.CallerReads.{signed_reads}
@@ -24,9 +24,10 @@ use Rattle.clap.specs.declared.builder.value_parser.ValueParser.TheVariants as p
 use Rattle.rv_command_line.proofs.Given.{AllGood, EntersGood, entered_good, parts, rules_named}
 use Rattle.rv_command_line.proofs.Numbers.{both, number_reads}
 use Rattle.rv_command_line.proofs.Truths.{truth_spelled}
-use Rattle.rv_command_line.specs.CommandLine.{faults_of, kind, kind_names, kinds, lent, monitor, Names, ram, rvbench, slot}
-use Rattle.rv_command_line.specs.Job.{are_options_read, are_run_read, are_twin_read, is_image_read, is_lawful, is_monitor_read, is_slot, is_slot_read}
-use Rattle.rv_command_line.specs.Job.{job_of, kind_of, named_job, number_in_text, options_of, run_of, truth_in_text, twin_of}
+use Rattle.rv_command_line.specs.CommandLine.{faults_of, harts, kind, kind_names, kinds, lent, monitor, Names, ram, rvbench, slot}
+use Rattle.rv_command_line.specs.Job.{are_harts_read, are_options_read, are_run_read, are_twin_read, harts_in_text, harts_of, is_image_read, is_lawful}
+use Rattle.rv_command_line.specs.Job.{is_monitor_read, is_setup_read, is_slot, is_slot_read, job_of, kind_of, named_job, number_in_text, options_of}
+use Rattle.rv_command_line.specs.Job.{run_of, truth_in_text, twin_of}
 use Rattle.rv_command_line.specs.declared.job.Job.TheVariants as job
 use Rattle.rv_command_line.specs.declared.image_kind.ImageKind.{ImageKind}
 
@@ -74,6 +75,18 @@ slot_accepted v e =
     (accepts-Accepts false (parser.Signed (pos 0) (pos 12)) v e) in
     ap (λ o. option_map_or (λ n. nat_lt n 13) o false) got.1 ∙ lt-ltb got.0 13 (omega arith)
 
+harts_counted : (n : ℕ) → 1 ≤ n → n ≤ 2 → is_some (harts_of n) ≡ true
+harts_counted zero least most = absurd (omega arith)
+harts_counted (suc zero) least most = refl
+harts_counted (suc (suc zero)) least most = refl
+harts_counted (suc (suc (suc n))) least most = absurd (omega arith)
+
+harts_read : (v : Text) → accepts false (parser.Signed (pos 1) (pos 2)) v ≡ true → is_some (harts_in_text (without_minus v)) ≡ true
+harts_read v e =
+    let got = signed_reads Bool (λ u x. ParsesUnsigned 8 10 u x) 8 1 2 v (number_in_text 8 (without_minus v)) (number_reads 8 (without_minus v)) (λ u x given. given) (omega arith)
+    (accepts-Accepts false (parser.Signed (pos 1) (pos 2)) v e) in
+    ap (λ o. is_some (option_and_then harts_of o)) got.1 ∙ harts_counted got.0 got.2 got.3
+
 truth_read : (v : Text) → accepts false parser.Bool v ≡ true → is_some (truth_in_text v) ≡ true
 truth_read v e = truth_spelled (bytes_eq v (codes "true")) (bytes_eq v (codes "false")) e
 
@@ -85,6 +98,11 @@ first_ram : (how : Reading) (vs : List Text) → how ≡ reading.WithoutMinus �
     → option_map_or (λ text. is_some (number_in_text 32 text)) (option_map (read_as how) (slice_get vs 0)) true ≡ true
 first_ram how [] is e = refl
 first_ram how (v ∷ vs) is e = rw is (ram_read v (passed (filled ram) v vs e))
+
+first_harts : (how : Reading) (vs : List Text) → how ≡ reading.WithoutMinus → values_fault (filled harts) vs ≡ []
+    → option_map_or (λ text. is_some (harts_in_text text)) (option_map (read_as how) (slice_get vs 0)) true ≡ true
+first_harts how [] is e = refl
+first_harts how (v ∷ vs) is e = rw is (harts_read v (passed (filled harts) v vs e))
 
 first_slot : (how : Reading) (vs : List Text) → how ≡ reading.WithoutMinus → values_fault (filled slot) vs ≡ []
     → option_map_or is_slot (option_map (read_as how) (slice_get vs 0)) true ≡ true
@@ -123,6 +141,11 @@ module _ (c : List Rule) (rows : List Row) (good : AllGood c rows) where
       (λ r how e. first_ram r.reading r.values how e) rows good in
       rw (kind_is, ram_is) refl
 
+  harts_are_read : arg_by_id c (codes "harts") ≡ Some (filled harts) → are_harts_read rows ≡ true
+  harts_are_read own =
+      row_found c (filled harts) (λ o. option_map_or (λ text. is_some (harts_in_text text)) (option_and_then row_text o) true ≡ true) own refl
+      (λ r how e. first_harts r.reading r.values how e) rows good
+
   monitor_read : arg_by_id c (codes "monitor") ≡ Some (filled monitor) → is_monitor_read rows ≡ true
   monitor_read own =
       row_found c (filled monitor) (λ o. option_map_or (λ text. is_some (truth_in_text text)) (option_and_then row_text o) true ≡ true) own refl
@@ -136,12 +159,12 @@ module _ (c : List Rule) (rows : List Row) (good : AllGood c rows) where
 run_read : (rows : List Row) → AllGood (rules_named (built rvbench) (codes "run")) rows → are_run_read rows ≡ true
 run_read rows good =
     let rules = rules_named (built rvbench) (codes "run") in
-    rw (image_read rules rows good refl refl, monitor_read rules rows good refl) refl
+    rw (image_read rules rows good refl refl, harts_are_read rules rows good refl, monitor_read rules rows good refl) refl
 
 twin_read : (rows : List Row) → AllGood (rules_named (built rvbench) (codes "twin")) rows → are_twin_read rows ≡ true
 twin_read rows good =
     let rules = rules_named (built rvbench) (codes "twin") in
-    rw (image_read rules rows good refl refl, slot_read rules rows good refl) refl
+    rw (image_read rules rows good refl refl, harts_are_read rules rows good refl, slot_read rules rows good refl) refl
 
 -- ---- the program
 
@@ -181,8 +204,15 @@ named_lawful (Some met) e = go (bytes_eq met.0 (codes "asm")) (bytes_eq met.0 (c
         → is_lawful (cond is_asm job.Asm (cond is_dis job.Dis (cond is_twin (twin_of met.1) (run_of met.1)))) ≡ true
     go true d t e = refl
     go false true t e = refl
-    go false false true e = slot_below (one_of (codes "slot") met.1) (both (is_image_read met.1) (is_slot_read met.1) e).1
+    go false false true e = slot_below (one_of (codes "slot") met.1) (both (is_setup_read met.1) (is_slot_read met.1) e).1
     go false false false e = refl
 
 pub taken_lawful : (words : List Text) → faults_of words ≡ [] → is_lawful (job_of words) ≡ true
 taken_lawful words e = named_lawful (subcommand_of rvbench words) (both (are_run_read (options_of (codes "run") words)) (are_twin_read (options_of (codes "twin") words)) (taken_read words e)).1
+
+-- ---- what a call answers
+
+-- what is so whatever the answer is
+pub on_ok : {T E : Type 0} (r : Result T E) (P : Type 0) → P → OnOk r P
+on_ok (Ok x) P is = is
+on_ok (Err e) P is = tt

@@ -42,6 +42,14 @@ monitor = record (new_rule (codes "monitor")) {
   action = Some action.SetTrue;
 }
 
+-- `--harts HARTS`: one number, 1 or 2
+abbrev pub harts : Rule
+harts = record (new_rule (codes "harts")) {
+  long = Some (codes "harts");
+  value_names = 1;
+  parser = Some (parser.Signed (pos 1) (pos 2));
+}
+
 -- `--slot K`: one number from 0 to 12
 abbrev pub slot : Rule
 slot = record (new_rule (codes "slot")) {
@@ -50,11 +58,15 @@ slot = record (new_rule (codes "slot")) {
   parser = Some (parser.Signed (pos 0) (pos 12));
 }
 
+-- with the options that say what image is loaded into which RAM
+abbrev pub with_image : Names → App → App
+with_image names app = with_rule (with_rule app (kind names)) ram
+
 abbrev pub run : Names → App
-run names = with_rule (with_rule (with_rule (new_app (codes "run")) (kind names)) ram) monitor
+run names = with_rule (with_rule (with_image names (new_app (codes "run"))) monitor) harts
 
 abbrev pub twin : Names → App
-twin names = with_rule (with_rule (with_rule (new_app (codes "twin")) slot) (kind names)) ram
+twin names = with_rule (with_image names (with_rule (new_app (codes "twin")) slot)) harts
 
 abbrev pub asm : App
 asm = new_app (codes "asm")

@@ -1,5 +1,5 @@
 -- The job that the words of a command line name. (This project's own command line.)
-use Rattle.std.specs.Prelude.{◌&&◌, ◌^◌, ℕ, Bool, true, false, List, [], codes, find, is_some, nat_lt}
+use Rattle.std.specs.Prelude.{◌&&◌, ◌||◌, ◌==◌, ◌^◌, ℕ, Bool, true, false, List, [], codes, find, is_some, nat_lt}
 use Rattle.std.specs.Prelude.{Option, Some, None, if◌then◌else◌, option_and_then, option_map, unwrap_or}
 use Rattle.std.specs.Option.{option_map_or}
 use Rattle.std.specs.Str.{bytes_eq}
@@ -7,6 +7,8 @@ use Rattle.std.specs.Str.Parse.{digits_value, without_leading_plus}
 use Rattle.clap.specs.ValueTests.{is_numeral}
 use Rattle.clap.specs.Words.{Row, Text, first_of, one_of, subcommand_of}
 use Rattle.rv_command_line.specs.CommandLine.{kinds, rvbench}
+use Rattle.rv_command_line.specs.declared.harts.Harts.{Harts}
+use Rattle.rv_command_line.specs.declared.harts.Harts.TheVariants as harts
 use Rattle.rv_command_line.specs.declared.image_kind.ImageKind.{ImageKind}
 use Rattle.rv_command_line.specs.declared.image_kind.ImageKind.TheVariants as image
 use Rattle.rv_command_line.specs.declared.job.Job.{Job}
@@ -23,18 +25,26 @@ number_in_text bits text =
     let digits = without_leading_plus text in
     if is_numeral digits && nat_lt (digits_value 10 digits) (2 ^ bits) then Some (digits_value 10 digits) else None
 
+-- so many harts, where a bench may have so many
+abbrev pub harts_of : ℕ → Option Harts
+harts_of count = if count == 1 then Some harts.One else (if count == 2 then Some harts.Two else None)
+
+abbrev pub harts_in_text : Text → Option Harts
+harts_in_text text = option_and_then harts_of (number_in_text 8 text)
+
 -- the truth that a text spells
 abbrev pub truth_in_text : Text → Option Bool
 truth_in_text text =
     if bytes_eq text (codes "true") then Some true
     else (if bytes_eq text (codes "false") then Some false else None)
 
--- the setup that `--kind` and `--ram` give, with the monitor or without it
+-- the setup that `--kind`, `--ram` and `--harts` give, with the monitor or without it
 abbrev pub setup_of : Bool → List Row → Setup
 setup_of monitored options = record {
   kind = unwrap_or (option_and_then kind_of (first_of (codes "kind") options)) image.Auto;
   ram = unwrap_or (option_and_then (number_in_text 32) (one_of (codes "ram") options)) 1048576;
   monitored = monitored;
+  harts = unwrap_or (option_and_then harts_in_text (one_of (codes "harts") options)) harts.One;
 }
 
 -- what `run` asks for with its options: without the monitor unless they say so
@@ -61,11 +71,17 @@ job_of words = named_job (subcommand_of rvbench words)
 abbrev pub options_of : Text → List Text → List Row
 options_of name words = option_map_or (λ met. if bytes_eq met.0 name then met.1 else []) (subcommand_of rvbench words) []
 
--- the values of `--kind` and `--ram`, of `--monitor` and of `--slot`, each where it is given, are values that are read, so that
--- a default stands only for an option that is not given
+-- the values of `--kind` and `--ram`, of `--harts`, of `--monitor` and of `--slot`, each where it is given, are values that are
+-- read, so that a default stands only for an option that is not given
 abbrev pub is_image_read : List Row → Bool
 is_image_read options = option_map_or (λ text. is_some (kind_of text)) (first_of (codes "kind") options) true
     && option_map_or (λ text. is_some (number_in_text 32 text)) (one_of (codes "ram") options) true
+
+abbrev pub are_harts_read : List Row → Bool
+are_harts_read options = option_map_or (λ text. is_some (harts_in_text text)) (one_of (codes "harts") options) true
+
+abbrev pub is_setup_read : List Row → Bool
+is_setup_read options = is_image_read options && are_harts_read options
 
 abbrev pub is_monitor_read : List Row → Bool
 is_monitor_read options = option_map_or (λ text. is_some (truth_in_text text)) (one_of (codes "monitor") options) true
@@ -78,10 +94,10 @@ abbrev pub is_slot_read : List Row → Bool
 is_slot_read options = option_map_or is_slot (one_of (codes "slot") options) true
 
 abbrev pub are_run_read : List Row → Bool
-are_run_read options = is_image_read options && is_monitor_read options
+are_run_read options = is_setup_read options && is_monitor_read options
 
 abbrev pub are_twin_read : List Row → Bool
-are_twin_read options = is_image_read options && is_slot_read options
+are_twin_read options = is_setup_read options && is_slot_read options
 
 -- this is so of all options that the words give
 abbrev pub are_options_read : List Text → Bool
@@ -91,3 +107,17 @@ are_options_read words = are_run_read (options_of (codes "run") words) && are_tw
 abbrev pub is_lawful : Job → Bool
 is_lawful (job.Twin setup slot) = setup.monitored && nat_lt slot 13
 is_lawful _ = true
+
+abbrev pub is_one : Harts → Bool
+is_one harts.One = true
+is_one harts.Two = false
+
+-- a bench of two harts has the monitor
+abbrev pub has_lawful_harts : Setup → Bool
+has_lawful_harts setup = setup.monitored || is_one setup.harts
+
+-- and so it is in a job
+abbrev pub has_its_monitor : Job → Bool
+has_its_monitor (job.Run setup) = has_lawful_harts setup
+has_its_monitor (job.Twin setup slot) = has_lawful_harts setup
+has_its_monitor _ = true

@@ -3,7 +3,7 @@
 ghost use Rattle.std.specs.Prelude.{◌≡◌, false, IfOk, List, true};
 ghost use Rattle.clap.specs.Words.{Text, app_of, fault_of, is_simple, is_simple_and_free, rule_of, subcommand_of};
 ghost use Rattle.clap.specs.declared.builder.command.Command.TheViews.{out-Command as fields_of};
-ghost use Rattle.rv_command_line.specs.CommandLine.{asm, benches, dis, faults_of, kind, monitor, program, ram, run, rvbench, slot, twin};
+ghost use Rattle.rv_command_line.specs.CommandLine.{asm, benches, dis, faults_of, harts, kind, monitor, program, ram, run, rvbench, slot, twin, with_image};
 
 use crate::image_kind::KIND_NAMES;
 use clap::{Arg, ArgAction, Command, value_parser};
@@ -28,7 +28,8 @@ const FIRST_SCRIPT: &str =
     mem A N, poke A V        show bytes of memory, write one\n  \
     dis A                    show the word at an address and its instruction\n  \
     pmp, access M K A L      show the PMP entries, judge an access by them\n  \
-    enclaves                 show the live enclaves";
+    enclaves                 show the live enclaves\n  \
+    hart H, sched W          choose the hart that is meant, step the harts in a given order";
 
 /// What the help of `twin` ends with: what is read and written, and a first input.
 const FIRST_TWIN: &str =
@@ -37,6 +38,11 @@ const FIRST_TWIN: &str =
     Example: a host creates an enclave, both hosts destroy theirs, and both find its region cleared:\n  \
     printf '7300000073000000\\n--\\nsetreg 17 0a454e43\\nsetreg 16 1\\nsetreg 10 80020000\\nsetreg 11 1000\\n\
     setreg 14 80020000\\nstep 1\\n--\\nsetreg 16 2\\nsetreg 10 0\\nstep 1\\nmem 80020000 4\\n' | rvbench twin";
+
+/// What the help of `run` and that of `twin` say of `--harts`.
+const HARTS_OF_RUN: &str = "The number of harts, 1 or 2; 2 harts need --monitor [default: 1]";
+
+const HARTS_OF_TWIN: &str = "The number of harts of each bench, 1 or 2 [default: 1]";
 
 /// `--kind NAME` with these names, by default what `Setup::default` has.
 fn kind_option<'a>(alloc: Global, names: &'a [&'a str]) -> Arg<'a>
@@ -75,6 +81,18 @@ fn monitor_flag<'a>(alloc: Global) -> Arg<'a>
         .help("Run the image as the host above the monitor, from 80010000 on and in mode S")
 }
 
+/// `--harts HARTS` with this help, by default what `Setup::default` has.
+fn harts_option<'a>(alloc: Global, help: &'a str) -> Arg<'a>
+    ensures rule { rule_of result ≡ harts }
+    ensures local { result.global ≡ false }
+{
+    Arg::new(alloc, "harts")
+        .long("harts")
+        .value_name("HARTS")
+        .value_parser(value_parser!(u8).range(1..=2))
+        .help(help)
+}
+
 /// `--slot K`, by default slot 0.
 fn slot_option<'a>(alloc: Global) -> Arg<'a>
     ensures rule { rule_of result ≡ slot }
@@ -87,6 +105,21 @@ fn slot_option<'a>(alloc: Global) -> Arg<'a>
         .help("The slot of the enclave in which the two benches differ, from 0 to 12 [default: 0]")
 }
 
+/// A command with the options that say what image is loaded into which RAM.
+fn with_image_options<'a>(
+    command: Command<'a>,
+    alloc: Global,
+    names: &'a [&'a str],
+) -> Result<Command<'a>, AllocError>
+    requires { (fields_of command).has_globals ≡ false }
+    ensures app { IfOk result (λ made. app_of made ≡ with_image names.entry (app_of command.entry)) }
+    ensures local { IfOk result (λ made. (fields_of made).has_globals ≡ false) }
+{
+    command
+        .arg(kind_option(alloc, names))?
+        .arg(ram_option(alloc))
+}
+
 /// `run`: the bench itself.
 fn run_command<'a>(alloc: Global, kind_names: &'a [&'a str]) -> Result<Command<'a>, AllocError>
     ensures app { IfOk result (λ command. app_of command ≡ run kind_names.entry) }
@@ -97,10 +130,9 @@ fn run_command<'a>(alloc: Global, kind_names: &'a [&'a str]) -> Result<Command<'
             "Read an image in hexadecimal, a line -- and a script, and write the replies (the default)",
         )
         .after_help(FIRST_SCRIPT);
-    command
-        .arg(kind_option(alloc, kind_names))?
-        .arg(ram_option(alloc))?
-        .arg(monitor_flag(alloc))
+    with_image_options(command, alloc, kind_names)?
+        .arg(monitor_flag(alloc))?
+        .arg(harts_option(alloc, HARTS_OF_RUN))
 }
 
 /// `twin`: two benches that differ in one enclave.
@@ -113,10 +145,8 @@ fn twin_command<'a>(alloc: Global, names: &'a [&'a str]) -> Result<Command<'a>, 
             "Give a script to two monitored benches that differ in one enclave alone, and write the replies of both",
         )
         .after_help(FIRST_TWIN);
-    command
-        .arg(slot_option(alloc))?
-        .arg(kind_option(alloc, names))?
-        .arg(ram_option(alloc))
+    let command = command.arg(slot_option(alloc))?;
+    with_image_options(command, alloc, names)?.arg(harts_option(alloc, HARTS_OF_TWIN))
 }
 
 /// `asm`: the assembler.
@@ -142,7 +172,9 @@ fn benches_command<'a>(alloc: Global, kind_names: &'a [&'a str]) -> Result<Comma
     ensures { IfOk result (λ command. app_of command ≡ benches kind_names.entry) }
 {
     let command = Command::new(alloc, "rvbench")
-        .about("An instruction-exact bench for one RISC-V hart, driven by a script of commands")
+        .about(
+            "An instruction-exact bench for a RISC-V hart, or for two under its monitor, driven by a script of commands",
+        )
         .after_help(FIRST_EXAMPLE);
     let command = command.subcommand(run_command(alloc, kind_names)?)?;
     command.subcommand(twin_command(alloc, kind_names)?)

@@ -1,5 +1,8 @@
 //! What a command line asks of the program.
 
+ghost use Rattle.std.specs.Prelude.{◌≡◌};
+ghost use Rattle.rv_command_line.specs.Job.{has_its_monitor};
+
 use crate::setup::Setup;
 
 /// What the program's words ask for.
@@ -13,4 +16,16 @@ pub enum Job {
     Asm,
     /// `dis`: disassemble.
     Dis,
+}
+
+impl Job {
+    /// Whether its benches have the monitor where they are to have two harts.
+    pub(crate) fn has_its_monitor(&self) -> bool
+        ensures { result ≡ has_its_monitor self.now }
+    {
+        match self {
+            Job::Run(setup) | Job::Twin(setup, _) => setup.has_lawful_harts(),
+            Job::Asm | Job::Dis => true,
+        }
+    }
 }

@@ -1,14 +1,16 @@
 //! How words become a job.
 
-ghost use Rattle.std.specs.Prelude.{◌≡◌, IfErr, IfOk, OnOk, List, [], codes, option_and_then, true};
+ghost use Rattle.std.specs.Prelude.{◌≡◌, if◌then◌else◌, IfErr, IfOk, OnOk, Ok, Err, List, [], codes, option_and_then, true};
 ghost use Rattle.clap.specs.Kinds.{HasKind, Kinds};
 ghost use Rattle.clap.specs.Walk.{texts};
 ghost use Rattle.clap.specs.Words.{first_value, found_of, one_text, rows_of, subcommand_rows_of};
-ghost use Rattle.rv_command_line.specs.CommandLine.{faults_of};
 ghost use Rattle.rv_command_line.specs.Faults.{IsFaultOf};
-ghost use Rattle.rv_command_line.specs.Job.{are_options_read, is_lawful, job_of, kind_of, named_job, number_in_text, run_of, setup_of, truth_in_text, twin_of};
+ghost use Rattle.rv_command_line.specs.Job.{are_options_read, harts_in_text, has_its_monitor, is_lawful, job_of, kind_of, named_job};
+ghost use Rattle.rv_command_line.specs.Job.{number_in_text, run_of, setup_of, truth_in_text, twin_of};
+ghost use Rattle.rv_command_line.specs.Refusals.{refusals_of};
 
 use crate::command_line::rvbench_command;
+use crate::harts::Harts;
 use crate::image_kind::ImageKind;
 use crate::job::Job;
 use crate::setup::Setup;
@@ -31,11 +33,18 @@ fn matched_number(matches: &ArgMatches<'_>, id: &str) -> Option<u32>
     matches.get_one(id)
 }
 
-/// The slot that an option names, if it is given.
-fn matched_slot(matches: &ArgMatches<'_>, id: &str) -> Option<u8>
+/// The small number that an option names, if it is given.
+fn matched_byte(matches: &ArgMatches<'_>, id: &str) -> Option<u8>
     ensures { result ≡ option_and_then (number_in_text 8) (one_text (found_of matches.now) id.now) }
 {
     matches.get_one(id)
+}
+
+/// The number of harts that the options name, if they name one.
+fn matched_harts(matches: &ArgMatches<'_>) -> Option<Harts>
+    ensures { result ≡ option_and_then harts_in_text (one_text (found_of matches.now) (codes "harts")) }
+{
+    Harts::counted(matched_byte(matches, "harts")?)
 }
 
 /// Whether a flag is set, if the command line has it.
@@ -45,7 +54,7 @@ fn matched_flag(matches: &ArgMatches<'_>, id: &str) -> Option<bool>
     matches.get_one(id)
 }
 
-/// The setup that the options `--kind` and `--ram` give, with the monitor or without it.
+/// The setup that the options `--kind`, `--ram` and `--harts` give, with the monitor or without it.
 fn matched_setup(matches: &ArgMatches<'_>, monitored: bool) -> Setup
     ensures { result ≡ setup_of monitored (rows_of (found_of matches.now)) }
 {
@@ -54,6 +63,7 @@ fn matched_setup(matches: &ArgMatches<'_>, monitored: bool) -> Setup
         kind: matched_kind(matches).unwrap_or(default.kind),
         ram: matched_number(matches, "ram").unwrap_or(default.ram),
         monitored,
+        harts: matched_harts(matches).unwrap_or(default.harts),
     }
 }
 
@@ -71,7 +81,7 @@ fn matched_twin(matches: &ArgMatches<'_>) -> Job
 {
     Job::Twin(
         matched_setup(matches, true),
-        matched_slot(matches, "slot").unwrap_or(0),
+        matched_byte(matches, "slot").unwrap_or(0),
     )
 }
 
@@ -85,6 +95,17 @@ fn matched_job(matches: &ArgMatches<'_>) -> Job
         Some(("twin", options)) => matched_twin(options),
         Some((_, options)) => matched_run(options),
         None => Job::Run(Setup::default()),
+    }
+}
+
+/// The job, or `Refused` where it is of two harts without the monitor.
+fn with_its_monitor(job: Job) -> Result<Job, WordsFault>
+    ensures { result ≡ if has_its_monitor job then Ok job else Err WordsFault.Refused }
+{
+    if job.has_its_monitor() {
+        Ok(job)
+    } else {
+        Err(WordsFault::Refused)
     }
 }
 
@@ -106,21 +127,22 @@ fn fault(alloc: Global, error: &Error) -> WordsFault
 ///
 /// Words that the command line takes give their job, where a default stands only for an option that is not given; a job of two
 /// benches is of benches with the monitor and names one of the thirteen slots. Words that ask for help give its text, and any
-/// others are refused.
+/// others are refused, and so are those that ask for two harts without the monitor, which alone is over two.
 /// Memory may be refused at any words.
-#[tactic(auto, using(crate::proofs::Taken::taken_read, crate::proofs::Taken::taken_lawful))]
+#[tactic(auto, using(crate::proofs::Taken::taken_lawful))]
 pub fn read_words<'a>(alloc: Global, words: &'a [&'a str]) -> Result<Job, WordsFault>
-    ensures taken { OnOk result (faults_of (texts words.entry.now) ≡ []) }
+    ensures taken { OnOk result (refusals_of (texts words.entry.now) ≡ []) }
     ensures job { IfOk result (λ job. job ≡ job_of (texts words.entry.now)) }
     ensures read { OnOk result (are_options_read (texts words.entry.now) ≡ true) }
     ensures lawful { IfOk result (λ job. is_lawful job ≡ true) }
-    ensures fault { IfErr result (IsFaultOf (faults_of (texts words.entry.now))) }
+    ensures monitor { IfOk result (λ job. has_its_monitor job ≡ true) }
+    ensures fault { IfErr result (IsFaultOf (refusals_of (texts words.entry.now))) }
 {
     let Ok(command) = rvbench_command(alloc) else {
         return Err(WordsFault::NoMemory);
     };
     match command.try_get_matches_from(words) {
-        Ok(matches) => Ok(matched_job(&matches)),
+        Ok(matches) => with_its_monitor(matched_job(&matches)),
         Err(error) => Err(fault(alloc, &error)),
     }
 }

@@ -2,6 +2,7 @@
 
 ghost use Rattle.std.specs.Prelude.{◌≡◌, false};
 
+use crate::harts::Harts;
 use crate::image_kind::ImageKind;
 
 /// The setup of a bench.
@@ -13,19 +14,35 @@ pub struct Setup {
     pub ram: u32,
     /// Whether the image is the host above the monitor, and begins in mode S; else it runs alone, from mode M.
     pub monitored: bool,
+    /// How many harts the monitor is over. Without the monitor the bench has one hart, whatever stands here.
+    pub harts: Harts,
+}
+
+impl Setup {
+    ghost use Rattle.std.specs.Prelude.{◌≡◌};
+    ghost use Rattle.rv_command_line.specs.Job.{has_lawful_harts};
+
+    /// Whether the bench has the monitor where it is to have two harts.
+    pub(crate) fn has_lawful_harts(&self) -> bool
+        ensures { result ≡ has_lawful_harts self.now }
+    {
+        self.monitored || self.harts == Harts::One
+    }
 }
 
 impl Default for Setup {
-    /// The kind `Auto`, a RAM of 1048576 bytes, and no monitor.
+    /// The kind `Auto`, a RAM of 1048576 bytes, no monitor, and one hart.
     fn default() -> Self
         ensures kind { result.kind ≡ ImageKind.Auto }
         ensures ram { result.ram ≡ 1048576 }
         ensures monitored { result.monitored ≡ false }
+        ensures harts { result.harts ≡ Harts.One }
     {
         Setup {
             kind: ImageKind::default(),
             ram: 1_048_576,
             monitored: false,
+            harts: Harts::default(),
         }
     }
 }

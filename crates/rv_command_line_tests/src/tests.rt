@@ -1,5 +1,5 @@
 //! The command line, word by word.
-use rv_command_line::{ImageKind, Job, Setup, WordsFault, read_words};
+use rv_command_line::{Harts, ImageKind, Job, Setup, WordsFault, read_words};
 use std::alloc::Global;
 use std::process::Abort;
 
@@ -61,6 +61,7 @@ fn expect_runs(rt: &impl Abort, alloc: Global, rows: &[RunRow]) {
             kind: *kind,
             ram: *ram,
             monitored: *monitored,
+            harts: Harts::One,
         };
         expect_answer(rt, alloc, words, Answer::Named(Job::Run(setup)));
     }
@@ -390,6 +391,7 @@ fn names_twins(rt: HostRuntime) {
             kind: *kind,
             ram: *ram,
             monitored: true,
+            harts: Harts::One,
         };
         let twin = Answer::Named(Job::Twin(setup, *slot));
         expect_answer(&rt, rt.alloc(), words, twin);
@@ -433,6 +435,174 @@ const REFUSES_TWINS: &[&[&str]] = &[
 #[test]
 fn refuses_twins(rt: HostRuntime) {
     expect_refusals(&rt, rt.alloc(), REFUSES_TWINS);
+}
+
+/// Words that name a bench of so many harts, with the monitor or without it, and else as by default; of a twin run with its slot.
+type HartsRow = (&'static [&'static str], Harts, bool, Option<u8>);
+
+const NAMES_HARTS: &[HartsRow] = &[
+    (&["rvbench", "run", "--harts", "1"], Harts::One, false, None),
+    (&["rvbench", "run", "--harts=1"], Harts::One, false, None),
+    (
+        &["rvbench", "run", "--harts", "01"],
+        Harts::One,
+        false,
+        None,
+    ),
+    (
+        &["rvbench", "run", "--harts", "1", "--monitor"],
+        Harts::One,
+        true,
+        None,
+    ),
+    (
+        &["rvbench", "run", "--harts", "2", "--monitor"],
+        Harts::Two,
+        true,
+        None,
+    ),
+    (
+        &["rvbench", "run", "--monitor", "--harts", "2"],
+        Harts::Two,
+        true,
+        None,
+    ),
+    (
+        &["rvbench", "run", "--monitor", "--harts=2"],
+        Harts::Two,
+        true,
+        None,
+    ),
+    (
+        &["rvbench", "run", "--monitor", "--harts", "+2"],
+        Harts::Two,
+        true,
+        None,
+    ),
+    (
+        &["rvbench", "run", "--monitor", "--harts", "002"],
+        Harts::Two,
+        true,
+        None,
+    ),
+    (
+        &[
+            "rvbench",
+            "run",
+            "--harts",
+            "2",
+            "--kind",
+            "auto",
+            "--monitor",
+            "--ram",
+            "1048576",
+        ],
+        Harts::Two,
+        true,
+        None,
+    ),
+    (
+        &["rvbench", "twin", "--harts", "1"],
+        Harts::One,
+        true,
+        Some(0),
+    ),
+    (
+        &["rvbench", "twin", "--harts", "2"],
+        Harts::Two,
+        true,
+        Some(0),
+    ),
+    (
+        &["rvbench", "twin", "--harts=2", "--slot", "3"],
+        Harts::Two,
+        true,
+        Some(3),
+    ),
+    (
+        &["rvbench", "twin", "--slot=12", "--harts", "2"],
+        Harts::Two,
+        true,
+        Some(12),
+    ),
+];
+
+#[test]
+fn names_harts(rt: HostRuntime) {
+    for (words, harts, monitored, slot) in NAMES_HARTS {
+        let setup = Setup {
+            monitored: *monitored,
+            harts: *harts,
+            ..Setup::default()
+        };
+        let job = match *slot {
+            Some(slot) => Job::Twin(setup, slot),
+            None => Job::Run(setup),
+        };
+        expect_answer(&rt, rt.alloc(), words, Answer::Named(job));
+    }
+}
+
+const REFUSES_TWO_HARTS: &[&[&str]] = &[
+    &["rvbench", "run", "--harts", "2"],
+    &["rvbench", "run", "--harts=2"],
+    &["rvbench", "run", "--harts", "+2"],
+    &["rvbench", "run", "--harts", "02"],
+    &["rvbench", "run", "--harts", "2", "--ram", "65536"],
+    &["rvbench", "run", "--kind", "raw", "--harts", "2"],
+    &["./another/name", "run", "--harts", "2"],
+];
+
+/// Two harts are under the monitor alone.
+#[test]
+fn refuses_two_harts_without_the_monitor(rt: HostRuntime) {
+    expect_refusals(&rt, rt.alloc(), REFUSES_TWO_HARTS);
+}
+
+const REFUSES_HARTS: &[&[&str]] = &[
+    &["rvbench", "run", "--monitor", "--harts"],
+    &["rvbench", "run", "--harts", "--monitor"],
+    &["rvbench", "run", "--monitor", "--harts="],
+    &["rvbench", "run", "--monitor", "--harts", ""],
+    &["rvbench", "run", "--monitor", "--harts", "0"],
+    &["rvbench", "run", "--monitor", "--harts", "3"],
+    &["rvbench", "run", "--monitor", "--harts", "12"],
+    &["rvbench", "run", "--monitor", "--harts", "257"],
+    &["rvbench", "run", "--monitor", "--harts", "258"],
+    &["rvbench", "run", "--monitor", "--harts", "-1"],
+    &["rvbench", "run", "--monitor", "--harts=-2"],
+    &["rvbench", "run", "--monitor", "--harts", "two"],
+    &["rvbench", "run", "--monitor", "--harts", "0x2"],
+    &["rvbench", "run", "--monitor", "--harts", " 2"],
+    &["rvbench", "run", "--monitor", "--harts", "1", "2"],
+    &[
+        "rvbench",
+        "run",
+        "--monitor",
+        "--harts",
+        "2",
+        "--harts",
+        "2",
+    ],
+    &["rvbench", "run", "--harts=1", "--harts=1"],
+    &["rvbench", "run", "--monitor", "--hart", "2"],
+    &["rvbench", "run", "--monitor", "--Harts", "2"],
+    &["rvbench", "run", "--monitor", "--", "--harts", "2"],
+    &["rvbench", "--harts", "1"],
+    &["rvbench", "--harts", "2", "run", "--monitor"],
+    &["rvbench", "twin", "--harts", "0"],
+    &["rvbench", "twin", "--harts", "3"],
+    &["rvbench", "twin", "--harts", "1", "--harts", "2"],
+    &["rvbench", "twin", "--harts", "2", "--monitor"],
+    &["rvbench", "--harts", "2", "twin"],
+    &["rvbench", "asm", "--harts", "1"],
+    &["rvbench", "dis", "--harts", "1"],
+];
+
+/// The option stands once, behind `run` or `twin`, with 1 or 2.
+#[test]
+fn refuses_harts(rt: HostRuntime) {
+    expect_refusals(&rt, rt.alloc(), REFUSES_HARTS);
 }
 
 const REFUSES_KINDS: &[&[&str]] = &[
@@ -521,6 +691,7 @@ const GIVES_HELP: &[&[&str]] = &[
     &["rvbench", "run", "--ram", "65536", "--help"],
     &["rvbench", "run", "--kind", "raw", "--help"],
     &["rvbench", "run", "--monitor", "--help"],
+    &["rvbench", "run", "--harts", "2", "--help"],
     &["rvbench", "twin", "--help"],
     &["rvbench", "twin", "--slot", "3", "-h"],
     &["rvbench", "help", "twin"],
@@ -542,6 +713,7 @@ fn help_shows_a_first_input(rt: HostRuntime) {
         "twin",
         "asm",
         "dis",
+        "for a RISC-V hart, or for two under its monitor",
         "printf '9300f0ff\\n--\\nstep 1\\nreg 1\\n' | rvbench",
     ];
     expect_help(&rt, rt.alloc(), &["rvbench", "--help"], &program);
@@ -555,6 +727,9 @@ fn help_shows_a_first_input(rt: HostRuntime) {
         "[default: 1048576]",
         "--monitor",
         "80010000",
+        "--harts <HARTS>",
+        "2 harts need --monitor [default: 1]",
+        "hart H, sched W",
     ];
     expect_help(&rt, rt.alloc(), &["rvbench", "run", "--help"], &run);
     let twin = [
@@ -562,6 +737,8 @@ fn help_shows_a_first_input(rt: HostRuntime) {
         "from 0 to 12 [default: 0]",
         "--kind <KIND>",
         "--ram <BYTES>",
+        "--harts <HARTS>",
+        "1 or 2 [default: 1]",
         "rvbench twin",
     ];
     expect_help(&rt, rt.alloc(), &["rvbench", "twin", "--help"], &twin);

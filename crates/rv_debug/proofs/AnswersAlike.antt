@@ -10,9 +10,11 @@ use Rattle.rv_pmp.specs.Entries.{Entries}
 use Rattle.rv_pmp.specs.declared.access.Access.{Access as AccessKind}
 use Rattle.rv_pmp.specs.declared.mode.Mode.{Mode}
 use Rattle.rv_hart.specs.State.{State}
-use Rattle.rv_monitor.specs.AgreeBut.{AgreeBut, SharedButFor, is_private}
+use Rattle.rv_monitor.specs.AgreeBut.{SharedButFor, is_private}
 use Rattle.rv_monitor.specs.Blocks.{meets}
-use Rattle.rv_monitor.specs.State.{MonitoredState, IsKept}
+use Rattle.std.specs.List.{list_any}
+use Rattle.std.specs.Prelude.{nat_lt, ◌++◌, if◌then◌else◌}
+use Rattle.rv_monitor.specs.State.{MonitoredState, OnTurn, IsKept, count_of, worlds_beside}
 use Rattle.rv_monitor.specs.Table.{Slots, region, is_world_of}
 use Rattle.rv_monitor.specs.declared.block.Block.{Block}
 use Rattle.rv_monitor.specs.declared.seat.Seat.{Seat}
@@ -21,21 +23,26 @@ use Rattle.rv_monitor.proofs.Agreement.{same_read, read-none, write-none, write-
 use Rattle.rv_monitor.proofs.Alike.{seen_block}
 use Rattle.rv_monitor.proofs.MonitoredAlike.{gone_equal}
 use Rattle.rv_debug.specs.Addresses.{with_room_for, without_address}
-use Rattle.rv_debug.specs.Answer.{Answered, TargetAnswered, access_reply, answer, break_set, steps_answer, steps_of, watch_set}
+use Rattle.rv_debug.specs.Answer.{Answered, SchedAnswered, TargetAnswered, access_reply, answer, break_set, hart_told, harts_told, steps_answer, steps_of, watch_set}
 use Rattle.rv_debug.specs.BenchState.{BenchState}
 use Rattle.rv_debug.specs.Confidentiality.{AgreeAgain, AnswerAlike, ConfidentialityLaw}
 use Rattle.rv_debug.specs.EnclaveText.{table_text}
-use Rattle.rv_debug.specs.ReplyText.{ok_text, full_text, outside_text, memory_text, dis_text, ran_text}
+use Rattle.rv_debug.specs.ReplyText.{ok_text, full_text, outside_text, memory_text, dis_text, hart_text, no_hart_text, ran_text}
+use Rattle.rv_debug.specs.Schedules.{AfterTurns, harts_in, has_all, no_turns, turns}
 use Rattle.rv_debug.specs.Steps.{AfterRun, no_steps, run}
-use Rattle.rv_debug.specs.Targets.{IsBare, KeepsMonitor, monitored_stepped, over_memory, world_name}
-use Rattle.rv_debug.specs.TwoBenches.{BenchesAgreeBut, TargetsAgreeBut, is_blind, is_entered}
+use Rattle.rv_debug.specs.Targets.{chosen_at, IsBare, KeepsMonitor, harts_of, monitored_stepped, over_memory, turned_to, world_name}
+use Rattle.rv_debug.specs.TwoBenches.{BenchesAgreeBut, ChosenAgreeBut, TargetsAgreeBut, is_blind, is_entered}
 use Rattle.rv_debug.specs.declared.command.Command.{Command}
-use Rattle.rv_debug.specs.declared.command.Command.TheVariants.{Step, Run, Break, Clear, Watch, Unwatch, SetReg, Mem, Poke, Dis, Enclaves, Access, Timer}
+use Rattle.rv_debug.specs.declared.command.Command.TheVariants.{Step, Run, Break, Clear, Watch, Unwatch, SetReg, Mem, Poke, Dis, Enclaves, Access, Timer, Hart, Sched}
 use Rattle.rv_debug.specs.declared.steps.Ran.{Ran}
 use Rattle.rv_debug.specs.declared.target.Target.{Target}
 use Rattle.rv_debug.specs.declared.target.Target.TheVariants.{Bare, Monitored}
 use Rattle.rv_debug.proofs.StepsAlike.{RunAlike, run-alike}
+use Rattle.rv_debug.specs.declared.scheduled.HartRan.{HartRan}
+use Rattle.rv_debug.specs.declared.scheduled.Scheduled.{Scheduled}
+use Rattle.rv_debug.proofs.SchedAlike.{BothPast, turned_agree, turns_alike}
 use Rattle.rv_debug.proofs.TargetRuns.{monitored_pc, target_of, run_bare, run_monitored}
+use Rattle.rv_debug.proofs.Turns.{after_turns, stays_bare, turned_bare}
 
 -- ---- benches that agree
 
@@ -51,7 +58,7 @@ again e (Bare one) (Bare other) breaks watches agree = record {
 }
 again e (Monitored one) (Monitored other) breaks watches agree = record {
   but = record { target = agree; breaks = refl; watches = refl };
-  gone = λ none. ap (λ (machine : MonitoredState). over (Monitored machine) breaks watches) (gone_equal e one other agree none);
+  gone = λ none. ap₂ (λ (hart : ℕ) (machine : MonitoredState). over (chosen_at hart machine) breaks watches) agree.hart (gone_equal e one.state other.state agree.state none);
 }
 again e (Bare one) (Monitored other) breaks watches agree = absurd agree
 again e (Monitored one) (Bare other) breaks watches agree = absurd agree
@@ -71,14 +78,52 @@ passes : (e : ℕ) (one other : Target) (breaks watches reply reply' : List ℕ)
 passes e one other breaks watches reply reply' agree same =
     record { entered = refl; passed = λ none. record { reply = same; state = again e one other breaks watches agree } }
 
--- ---- machines under the monitor, with one seat
+-- ---- steps of named harts, of which the same is told of both
 
-module _ (e : ℕ) (seat : Seat) (rests : is_world_of e seat.world ≡ false) where
+same_line : (e hart : ℕ) (ran : HartRan) (one other : OnTurn) → ChosenAgreeBut e one other → hart_told (Monitored one) hart ran ≡ hart_told (Monitored other) hart ran
+same_line e hart ran one other agree =
+    let seen = turned_agree e hart one other agree in
+    ap (λ (seat : Seat). hart_text hart seat.hart.pc seat.hart.mode (world_name seat.world) ran) seen.state.seat
+
+same_lines : (e : ℕ) (did : Scheduled) (one other : OnTurn) → ChosenAgreeBut e one other
+    → harts_told (after_turns (Monitored one) did) ≡ harts_told (after_turns (Monitored other) did)
+same_lines e did one other agree =
+    let state = agree.state in
+    let count = ap (λ (beside : Option Seat). option_case {B = ℕ} beside 1 (λ seat. 2)) state.beside in
+    ap₂ (λ (line lines : List ℕ). line ++ lines) (same_line e 0 did.first one other agree)
+    (ap₂ (λ (n : ℕ) (line : List ℕ). if nat_lt 1 n then line else []) count (same_line e 1 did.second one other agree))
+
+-- the answer that is told after them
+abbrev told_turns : ℕ → List ℕ → List ℕ → AfterTurns → Answered
+told_turns hart breaks watches after = record { state = over (turned_to hart after.state) breaks watches; reply = harts_told after; entered = after.did.entered }
+
+past_alike : (e hart : ℕ) (breaks watches : List ℕ) (did did' : Scheduled) (one other : OnTurn) → did ≡ did' → ChosenAgreeBut e one other
+    → AnswerAlike e (told_turns hart breaks watches (after_turns (Monitored one) did)) (told_turns hart breaks watches (after_turns (Monitored other) did'))
+past_alike e hart breaks watches did did' one other same agree =
+    subst (λ (d : Scheduled). AnswerAlike e (told_turns hart breaks watches (after_turns (Monitored one) did)) (told_turns hart breaks watches (after_turns (Monitored other) d))) same
+    (record {
+      entered = refl;
+      passed = λ none. record {
+        reply = same_lines e did one other agree;
+        state = again e _ _ breaks watches (turned_agree e hart one other agree);
+      };
+    })
+
+both_past : (e hart : ℕ) (breaks watches : List ℕ) (one other : AfterTurns) → BothPast e one other
+    → AnswerAlike e (told_turns hart breaks watches one) (told_turns hart breaks watches other)
+both_past e hart breaks watches one other past =
+    subst (λ (target : Target). AnswerAlike e (told_turns hart breaks watches (after_turns target one.did)) (told_turns hart breaks watches other)) (sym past.here_is)
+    (subst (λ (target : Target). AnswerAlike e (told_turns hart breaks watches (after_turns (Monitored past.here) one.did)) (told_turns hart breaks watches (after_turns target other.did))) (sym past.there_is)
+    (past_alike e hart breaks watches one.did other.did past.here past.there past.did past.state))
+
+-- ---- machines under the monitor, with the same seats
+
+module _ (e hart : ℕ) (seat : Seat) (beside : Option Seat) (rests : is_world_of e seat.world ≡ false) (elsewhere : list_any (is_world_of e) (worlds_beside beside) ≡ false) where
   abbrev machine_of : Shared → MonitoredState
-  machine_of shared = record { seat = seat; shared = shared }
+  machine_of shared = record { seat = seat; other = beside; shared = shared }
 
   abbrev at : Shared → Target
-  at shared = Monitored (machine_of shared)
+  at shared = chosen_at hart (machine_of shared)
 
   module _ (one other : Shared) (agree : SharedButFor e one other) (breaks watches : List ℕ) where
     abbrev here : BenchState
@@ -88,7 +133,7 @@ module _ (e : ℕ) (seat : Seat) (rests : is_world_of e seat.world ≡ false) wh
     there = over (at other) breaks watches
 
     both : TargetsAgreeBut e (at one) (at other)
-    both = record { seat = refl; rests = rests; shared = agree }
+    both = record { hart = refl; state = record { seat = refl; beside = refl; rests = rests; rests_beside = elsewhere; shared = agree } }
 
     -- a command that leaves both as they are
     shown : (reply reply' : List ℕ) → reply ≡ reply' → AnswerAlike e (told (at one) breaks watches reply) (told (at other) breaks watches reply')
@@ -136,13 +181,18 @@ module _ (e : ℕ) (seat : Seat) (rests : is_world_of e seat.world ≡ false) wh
               let second = write-some other.memory address bytes (rw (← sizes) inside) in
               let memory = same_write (is_private one.table e) one.memory other.memory address bytes _ _ agree.memory first second in
               rw (first, second) (passes e _ _ breaks watches ok_text ok_text (record {
-                seat = refl;
-                rests = rests;
-                shared = record {
-                  table = agree.table;
-                  memory = memory;
-                  contexts = agree.contexts;
-                  gone = λ none. ap (λ (shared : Shared). record shared { memory = write_bytes shared.memory (address - ram_base) bytes }) (agree.gone none);
+                hart = refl;
+                state = record {
+                  seat = refl;
+                  beside = refl;
+                  rests = rests;
+                  rests_beside = elsewhere;
+                  shared = record {
+                    table = agree.table;
+                    memory = memory;
+                    contexts = agree.contexts;
+                    gone = λ none. ap (λ (shared : Shared). record shared { memory = write_bytes shared.memory (address - ram_base) bytes }) (agree.gone none);
+                  };
                 };
               }) refl)
           | inr outside ↦
@@ -164,7 +214,7 @@ module _ (e : ℕ) (seat : Seat) (rests : is_world_of e seat.world ≡ false) wh
     -- ---- steps
 
     steps-alike : (first second : AfterRun MonitoredState) → RunAlike e first second
-        → AnswerAlike e (steps_answer here (target_of Monitored first)) (steps_answer there (target_of Monitored second))
+        → AnswerAlike e (steps_answer here (target_of (chosen_at hart) first)) (steps_answer there (target_of (chosen_at hart) second))
     steps-alike first second (inl both_in) = record {
       entered = both_in.here ∙ sym both_in.there;
       passed = λ none. let never : true ≡ false = sym both_in.here ∙ none in cc;
@@ -173,7 +223,7 @@ module _ (e : ℕ) (seat : Seat) (rests : is_world_of e seat.world ≡ false) wh
       entered = ap (λ (ran : Ran). is_entered e ran.entered) past.ran;
       passed = λ none. record {
         reply = ap₂ (λ (seat : Seat) (ran : Ran). ran_text seat.hart.pc seat.hart.mode (world_name seat.world) ran) past.state.seat past.ran;
-        state = again e (Monitored first.state) (Monitored second.state) breaks watches past.state;
+        state = again e (chosen_at hart first.state) (chosen_at hart second.state) breaks watches (record { hart = refl; state = past.state });
       };
     }
 
@@ -181,10 +231,36 @@ module _ (e : ℕ) (seat : Seat) (rests : is_world_of e seat.world ≡ false) wh
         → AnswerAlike e (steps_answer here (steps_of (at one) at_breaks at_watches count)) (steps_answer there (steps_of (at other) at_breaks at_watches count))
     run-answers at_breaks at_watches count kept kept' =
         subst (λ (first : AfterRun Target). AnswerAlike e (steps_answer here first) (steps_answer there (steps_of (at other) at_breaks at_watches count)))
-        (sym (run_monitored at_breaks at_watches count (no_steps (machine_of one))))
-        (subst (λ (second : AfterRun Target). AnswerAlike e (steps_answer here (target_of Monitored (run monitored_stepped monitored_pc at_breaks at_watches count (no_steps (machine_of one))))) (steps_answer there second))
-        (sym (run_monitored at_breaks at_watches count (no_steps (machine_of other))))
-        (steps-alike _ _ (run-alike e at_breaks at_watches count (no_steps (machine_of one)) (machine_of other) kept kept' both)))
+        (sym (run_monitored hart at_breaks at_watches count (no_steps (machine_of one))))
+        (subst (λ (second : AfterRun Target). AnswerAlike e (steps_answer here (target_of (chosen_at hart) (run monitored_stepped monitored_pc at_breaks at_watches count (no_steps (machine_of one))))) (steps_answer there second))
+        (sym (run_monitored hart at_breaks at_watches count (no_steps (machine_of other))))
+        (steps-alike _ _ (run-alike e at_breaks at_watches count (no_steps (machine_of one)) (machine_of other) kept kept' (let agreed = both in agreed.state))))
+
+    -- ---- harts
+
+    hart-answers : (number : ℕ) (has : Bool)
+        → AnswerAlike e (let after : TargetAnswered = (if has then record { target = turned_to number (at one); reply = ok_text } else record { target = at one; reply = no_hart_text }) in told after.target breaks watches after.reply)
+        (let after : TargetAnswered = (if has then record { target = turned_to number (at other); reply = ok_text } else record { target = at other; reply = no_hart_text }) in told after.target breaks watches after.reply)
+    hart-answers number true = passes e _ _ breaks watches ok_text ok_text (turned_agree e number (record { hart = hart; state = machine_of one }) (record { hart = hart; state = machine_of other }) both) refl
+    hart-answers number false = shown no_hart_text no_hart_text refl
+
+    abbrev sched-told : Shared → List ℕ → Bool → Answered
+    sched-told shared harts has =
+        let all = turns harts (no_turns (at shared)) in
+        let after : SchedAnswered = (if has then record { target = turned_to hart all.state; reply = harts_told all; entered = all.did.entered } else record { target = at shared; reply = no_hart_text; entered = 0 }) in
+        record { state = over after.target breaks watches; reply = after.reply; entered = after.entered }
+
+    sched-answers : (harts : List ℕ) (has : Bool) → IsKept (machine_of one) → IsKept (machine_of other)
+        → AnswerAlike e (sched-told one harts has) (sched-told other harts has)
+    sched-answers harts true kept kept' =
+        elim (turns_alike e harts (record { hart = hart; state = machine_of one }) (record { hart = hart; state = machine_of other }) _ kept kept' both) [
+          | inl both_in ↦ record {
+            entered = both_in.here ∙ sym both_in.there;
+            passed = λ none. let never : true ≡ false = sym both_in.here ∙ none in cc;
+          }
+          | inr past ↦ both_past e hart breaks watches _ _ past
+        ]
+    sched-answers harts false kept kept' = shown no_hart_text no_hart_text refl
 
     -- ---- a command
 
@@ -201,8 +277,8 @@ module _ (e : ℕ) (seat : Seat) (rests : is_world_of e seat.world ≡ false) wh
     alike (Clear address) kept kept' blind = passes e (at one) (at other) (without_address address breaks) watches ok_text ok_text both refl
     alike (Watch address) kept kept' blind = watch-alike (with_room_for address watches)
     alike (Unwatch address) kept kept' blind = passes e (at one) (at other) breaks (without_address address watches) ok_text ok_text both refl
-    alike (SetReg number value) kept kept' blind = passes e _ _ breaks watches ok_text ok_text (record { seat = refl; rests = rests; shared = agree }) refl
-    alike (Timer raised) kept kept' blind = passes e _ _ breaks watches ok_text ok_text (record { seat = refl; rests = rests; shared = agree }) refl
+    alike (SetReg number value) kept kept' blind = passes e _ _ breaks watches ok_text ok_text (record { hart = refl; state = record { seat = refl; beside = refl; rests = rests; rests_beside = elsewhere; shared = agree } }) refl
+    alike (Timer raised) kept kept' blind = passes e _ _ breaks watches ok_text ok_text (record { hart = refl; state = record { seat = refl; beside = refl; rests = rests; rests_beside = elsewhere; shared = agree } }) refl
     alike (Mem address count) kept kept' blind =
         shown _ _ (ap (λ (bytes : Option (List ℕ)). option_case bytes outside_text (memory_text address))
         (seen-read (record { base = address; size = count }) (not-true _ blind)))
@@ -210,19 +286,34 @@ module _ (e : ℕ) (seat : Seat) (rests : is_world_of e seat.world ≡ false) wh
         shown _ _ (ap (λ (bytes : Option (List ℕ)). option_case bytes outside_text (λ bytes. dis_text address (number_of_bytes bytes)))
         (seen-read (record { base = address; size = 4 }) (not-true _ blind)))
     alike (Poke address byte) kept kept' blind = poke-alike address byte
+    alike (Hart number) kept kept' blind = hart-answers number (nat_lt number (count_of (machine_of one)))
+    alike (Sched schedule) kept kept' blind = sched-answers (harts_in schedule) (has_all (count_of (machine_of one)) (harts_in schedule)) kept kept'
     alike (Access mode access address width) kept kept' blind = shown _ _ (same-access seat.hart.csrs.pmp mode access address width)
     alike Enclaves kept kept' blind = shown _ _ (ap (λ (slots : Slots). table_text slots) agree.table)
     alike _ kept kept' blind = shown _ _ refl
 
 -- ---- any two benches
 
-monitored-alike : (e : ℕ) (one other : MonitoredState) (breaks watches : List ℕ) (command : Command) → IsKept one → IsKept other → AgreeBut e one other
+seats-alike : (e hart : ℕ) (seat : Seat) (beside : Option Seat) (one : MonitoredState) (shared : Shared) (breaks watches : List ℕ) (command : Command)
+    → one.seat ≡ seat → one.other ≡ beside → IsKept one → IsKept (record { seat = seat; other = beside; shared = shared }) → is_world_of e one.seat.world ≡ false
+    → list_any (is_world_of e) (worlds_beside one.other) ≡ false → SharedButFor e one.shared shared
+    → is_blind e (over (chosen_at hart one) breaks watches) command ≡ true
+    → AnswerAlike e (answer (over (chosen_at hart one) breaks watches) command) (answer (over (chosen_at hart (record { seat = seat; other = beside; shared = shared })) breaks watches) command)
+seats-alike e hart seat beside one shared breaks watches command seats besides kept kept' rests elsewhere agree blind =
+    let make : Seat → Option Seat → MonitoredState = λ s o. record { seat = s; other = o; shared = shared } in
+    let same : IsKept (make one.seat one.other) =
+    subst (λ (s : Seat). IsKept (make s one.other)) (sym seats) (subst (λ (o : Option Seat). IsKept (make seat o)) (sym besides) kept') in
+    let P : Seat → Option Seat → Type 0 = λ s o. AnswerAlike e (answer (over (chosen_at hart one) breaks watches) command) (answer (over (chosen_at hart (make s o)) breaks watches) command) in
+    subst (λ (o : Option Seat). P seat o) besides (subst (λ (s : Seat). P s one.other) seats
+    (alike e hart one.seat one.other rests elsewhere one.shared shared agree breaks watches command kept same blind))
+
+monitored-alike : (e : ℕ) (one other : OnTurn) (breaks watches : List ℕ) (command : Command) → IsKept one.state → IsKept other.state → ChosenAgreeBut e one other
     → is_blind e (over (Monitored one) breaks watches) command ≡ true
     → AnswerAlike e (answer (over (Monitored one) breaks watches) command) (answer (over (Monitored other) breaks watches) command)
 monitored-alike e one other breaks watches command kept kept' agree blind =
-    subst (λ (seat : Seat). IsKept (record { seat = seat; shared = other.shared })
-    → AnswerAlike e (answer (over (Monitored one) breaks watches) command) (answer (over (Monitored (record { seat = seat; shared = other.shared })) breaks watches) command))
-    agree.seat (λ same. alike e one.seat agree.rests one.shared other.shared agree.shared breaks watches command kept same blind) kept'
+    let state = agree.state in
+    subst (λ (hart : ℕ). AnswerAlike e (answer (over (Monitored one) breaks watches) command) (answer (over (chosen_at hart other.state) breaks watches) command)) agree.hart
+    (seats-alike e one.hart other.state.seat other.state.other one.state other.state.shared breaks watches command state.seat state.beside kept kept' state.rests state.rests_beside state.shared blind)
 
 -- a machine alone stays one
 bare-itself : (e : ℕ) (target : Target) → IsBare target → TargetsAgreeBut e target target
@@ -243,7 +334,18 @@ bare-watched : (machine : State) (breaks watches : List ℕ) (set : Option (List
 bare-watched machine breaks watches None = tt
 bare-watched machine breaks watches (Some more) = tt
 
-bare-stays : (machine : State) (breaks watches : List ℕ) (command : Command) → IsBare (answer (over (Bare machine) breaks watches) command).state.target
+bare-turned : (machine : State) (number : ℕ) (has : Bool)
+    → IsBare (let after : TargetAnswered = (if has then record { target = turned_to number (Bare machine); reply = ok_text } else record { target = Bare machine; reply = no_hart_text }) in after.target)
+bare-turned machine number true = tt
+bare-turned machine number false = tt
+
+bare-turns : (machine : State) (harts : List ℕ) (has : Bool)
+    → IsBare (let all = turns harts (no_turns (Bare machine)) in
+    let after : SchedAnswered = (if has then record { target = turned_to 0 all.state; reply = harts_told all; entered = all.did.entered } else record { target = Bare machine; reply = no_hart_text; entered = 0 }) in after.target)
+bare-turns machine harts true = turned_bare 0 _ (stays_bare harts (no_turns (Bare machine)) tt)
+bare-turns machine harts false = tt
+
+pub bare-stays : (machine : State) (breaks watches : List ℕ) (command : Command) → IsBare (answer (over (Bare machine) breaks watches) command).state.target
 unfolding answer
 bare-stays machine breaks watches (Step count) =
     subst (λ (after : AfterRun Target). IsBare after.state) (sym (run_bare [] [] count (no_steps machine))) tt
@@ -252,6 +354,8 @@ bare-stays machine breaks watches (Run count) =
 bare-stays machine breaks watches (Break address) = bare-set machine breaks watches (with_room_for address breaks)
 bare-stays machine breaks watches (Watch address) = bare-watched machine breaks watches (with_room_for address watches)
 bare-stays machine breaks watches (Poke address byte) = bare-poked machine (write machine.memory address (byte ∷ []))
+bare-stays machine breaks watches (Hart number) = bare-turned machine number (nat_lt number 1)
+bare-stays machine breaks watches (Sched schedule) = bare-turns machine (harts_in schedule) (has_all 1 (harts_in schedule))
 bare-stays machine breaks watches _ = tt
 
 -- what is said of itself

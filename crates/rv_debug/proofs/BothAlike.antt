@@ -39,7 +39,7 @@ module _ (e : ℕ) where
   ]
 
   same_region : (c : Command) (one other : Target) → TargetsAgreeBut e one other → meets (named c) (region_of e one) ≡ meets (named c) (region_of e other)
-  same_region c (Monitored one) (Monitored other) agree = ap (λ (slots : Slots). meets (named c) (region slots e)) agree.shared.table
+  same_region c (Monitored one) (Monitored other) agree = ap (λ (slots : Slots). meets (named c) (region slots e)) (let state = agree.state in state.shared.table)
   same_region c (Bare one) (Bare other) agree = refl
   same_region c (Bare one) (Monitored other) agree = absurd agree
   same_region c (Monitored one) (Bare other) agree = absurd agree

@@ -5,7 +5,7 @@ use Rattle.std.specs.List.{starts_with}
 use Rattle.rv_debug.specs.declared.command.Command.{Command}
 use Rattle.rv_debug.specs.declared.command.Command.TheVariants.{Blank}
 use Rattle.rv_debug.specs.declared.keyword.Keyword.{Keyword}
-use Rattle.rv_debug.specs.declared.keyword.Keyword.TheVariants.{Step, Run, Break, Clear, Watch, Unwatch, Reg, Regs, SetReg, Csr, Mem, Poke, Dis, Pmp, Enclaves, Access, Timer}
+use Rattle.rv_debug.specs.declared.keyword.Keyword.TheVariants.{Step, Run, Break, Clear, Watch, Unwatch, Reg, Regs, SetReg, Csr, Mem, Poke, Dis, Pmp, Enclaves, Access, Timer, Hart, Sched}
 use Rattle.rv_debug.specs.Command.{none, one, two, four, operands_of, keyword_of, named, meaning_of, parse_of}
 use Rattle.rv_text.specs.Words.{words_of}
 use Rattle.rv_debug.specs.declared.command.CommandFault.TheVariants.{BadLine}
@@ -52,6 +52,8 @@ operands_of-take Pmp operands = search none-take
 operands_of-take Enclaves operands = search none-take
 operands_of-take Access operands = search four-take
 operands_of-take Timer operands = search one-take
+operands_of-take Hart operands = search one-take
+operands_of-take Sched operands = search one-take
 
 named-take : (k : Option Keyword) (operands : List (List ℕ)) → named k (take 5 operands) ≡ named k operands
 named-take None operands = refl

@@ -4,7 +4,7 @@ use Rattle.std.specs.List.{find}
 use Rattle.std.specs.Option.{option_map}
 use Rattle.std.specs.Str.{bytes_eq}
 use Rattle.rv_debug.specs.declared.keyword.Keyword.{Keyword}
-use Rattle.rv_debug.specs.declared.keyword.Keyword.TheVariants.{Step, Run, Break, Clear, Watch, Unwatch, Reg, Regs, SetReg, Csr, Mem, Poke, Dis, Pmp, Enclaves, Access, Timer}
+use Rattle.rv_debug.specs.declared.keyword.Keyword.TheVariants.{Step, Run, Break, Clear, Watch, Unwatch, Reg, Regs, SetReg, Csr, Mem, Poke, Dis, Pmp, Enclaves, Access, Timer, Hart, Sched}
 use Rattle.rv_debug.specs.Command.{spelling_of, keywords, keyword_of}
 
 mapped_if : {A B : Type 0} (f : A → B) (b : Bool) (x : A) (o : Option A) (p : Option B) → option_map f o ≡ p → option_map f (cond b (Some x) o) ≡ cond b (Some (f x)) p
@@ -59,6 +59,8 @@ keyword_of-spelling_of Pmp = refl
 keyword_of-spelling_of Enclaves = refl
 keyword_of-spelling_of Access = refl
 keyword_of-spelling_of Timer = refl
+keyword_of-spelling_of Hart = refl
+keyword_of-spelling_of Sched = refl
 
 -- no two keywords are spelled alike
 pub spelling_of-injective : (j k : Keyword) → spelling_of j ≡ spelling_of k → j ≡ k

@@ -13,3 +13,7 @@ mod ReplyExamples
 mod StepsAlike
 mod Stepping
 mod TargetRuns
+mod SchedAlike
+mod Turns
+mod Beside
+mod ScheduleLoop

@@ -4,7 +4,7 @@ use Rattle.std.specs.Prelude.{codes, decimal, replicate, nat_lt, if◌then◌els
 use Rattle.std.specs.Fmt.{digits}
 use Rattle.std.proofs.lemmas.Bool.Decides.{nat_tests}
 use Rattle.std.proofs.lemmas.Fmt.{decimal_digit, decimal_step}
-use Rattle.rv_state.specs.CsrState.{at_reset}
+use Rattle.rv_state.specs.CsrState.{CsrState, at_reset}
 use Rattle.rv_state.specs.CsrTable.{csr_numbered, csr_listing, reading, read_result}
 use Rattle.rv_debug.specs.Answer.{csr_reply, dis_reply, access_reply}
 use Rattle.rv_memory.specs.Memory.{read}
@@ -22,6 +22,8 @@ use Rattle.rv_pmp.specs.declared.mode.Mode.TheVariants.{U, S, M}
 use Rattle.rv_state.specs.declared.cause.Cause.TheVariants.{Exception}
 use Rattle.rv_state.specs.declared.cause.Exception.TheVariants.{IllegalInstruction}
 use Rattle.rv_debug.specs.declared.steps.Stop.TheVariants.{Done, Break, Watch}
+use Rattle.rv_debug.specs.declared.target.Target.{Target}
+use Rattle.rv_debug.specs.declared.target.Target.TheVariants.{Bare}
 use Rattle.rv_debug.specs.ReplyText.{trap_text, stop_text, ran_text, register_text, registers_text, pc_text, ok_text, csr_text, memory_text, dis_text, entry_text, pmp_text, verdict_text, denied_outside_text, full_text, no_csr_text, outside_text}
 
 -- a number of one digit or two, written so that it computes
@@ -97,10 +99,15 @@ pub ok_text-example : ok_text ++ full_text ≡ codes "ok\nerror full\n"
 unfolding ok_text full_text
 ok_text-example = refl
 
--- what `csr` answers at reset: misa, mcycle, and a number of no register; and mip where the timer line is raised
+-- a machine alone with these registers
+abbrev alone : CsrState → Target
+alone csrs = Bare (record { hart = record { regs = []; pc = 0; mode = M; csrs = csrs }; memory = [] })
+
+-- what `csr` answers at reset: misa, mcycle, a number of no register, and mhartid; and mip where the timer line is raised
 pub csr_reply-examples :
-    csr_reply at_reset 0x301 ++ csr_reply at_reset 0xb00 ++ csr_reply at_reset 0x41 ++ csr_reply (record at_reset { timer = true }) 0x344 ≡
-    codes "csr 301=40141100\ncsr b00=00000000\nerror csr\ncsr 344=00000080\n"
+    csr_reply (alone at_reset) 0x301 ++ csr_reply (alone at_reset) 0xb00 ++ csr_reply (alone at_reset) 0x41 ++ csr_reply (alone at_reset) 0xf14
+    ++ csr_reply (alone (record at_reset { timer = true })) 0x344 ≡
+    codes "csr 301=40141100\ncsr b00=00000000\nerror csr\ncsr f14=00000000\ncsr 344=00000080\n"
 unfolding csr_text no_csr_text hex_digits read_result csr_numbered csr_listing reading
 csr_reply-examples = refl
 

@@ -123,3 +123,9 @@ unfolding run lowest_accessed steps_after
 run-free step pc zero before = refl
 run-free step pc (suc count) before =
     run-more step pc [] [] (suc count) count before (omega arith) refl (λ _. refl) ∙ run-free step pc count (with_step before (step before.state))
+
+-- one step
+pub run-once : {A : Type 0} (step : A → Stepped A) (pc : A → ℕ) (before : AfterSteps A)
+    → run step pc [] [] 1 before ≡ ended (with_step before (step before.state)) Done
+unfolding steps_after
+run-once step pc before = run-free step pc 1 before

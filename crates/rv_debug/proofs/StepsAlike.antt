@@ -31,11 +31,11 @@ enters-or : (e one other : ℕ) → is_entered e one ≡ true → is_entered e (
 enters-or e one other is =
     one-is _ (bit_at_or one other e ∙ (let low = is-one _ is in let small = bit_at-lt other e in omega (arith, low, small)))
 
-enters-with : (e slots : ℕ) (entered : Option ℕ) → is_entered e slots ≡ true → is_entered e (with_slot slots entered) ≡ true
+pub enters-with : (e slots : ℕ) (entered : Option ℕ) → is_entered e slots ≡ true → is_entered e (with_slot slots entered) ≡ true
 enters-with e slots None is = is
 enters-with e slots (Some k) is = enters-or e slots (2 ^ k) is
 
-enters-now : (e slots : ℕ) (entered : Option ℕ) → entered ≡ Some e → is_entered e (with_slot slots entered) ≡ true
+pub enters-now : (e slots : ℕ) (entered : Option ℕ) → entered ≡ Some e → is_entered e (with_slot slots entered) ≡ true
 enters-now e slots entered is =
     rw is (one-is _ (bit_at_or slots (2 ^ e) e ∙ (let set = bit_at-pow_same e in let small = bit_at-lt slots e in omega (arith, set, small))))
 

@@ -6,7 +6,8 @@ use Rattle.rv_monitor.specs.State.{MonitoredState}
 use Rattle.rv_debug.specs.Addresses.{is_among}
 use Rattle.rv_debug.specs.Stops.{lowest_accessed}
 use Rattle.rv_debug.specs.Steps.{Stepped, AfterSteps, AfterRun, with_step, no_steps, ended, run}
-use Rattle.rv_debug.specs.Targets.{machine_stepped, monitored_stepped, with_target, stepped, pc_of}
+use Rattle.rv_debug.specs.Targets.{machine_stepped, monitored_stepped, with_target, stepped, chosen_stepped, pc_of, chosen_at}
+use Rattle.rv_monitor.specs.State.{OnTurn}
 use Rattle.rv_debug.specs.declared.steps.Ran.{Ran}
 use Rattle.rv_debug.specs.declared.steps.Stop.TheVariants.{Done, Break, Watch}
 use Rattle.rv_debug.specs.declared.target.Target.{Target}
@@ -74,14 +75,14 @@ pub run_bare : (breaks watches : List ℕ) (count : ℕ) (before : AfterSteps St
     → run stepped pc_of breaks watches count (in_target Bare before) ≡ target_of Bare (run machine_stepped machine_pc breaks watches count before)
 run_bare breaks watches = run-in Bare machine_stepped machine_pc (λ machine. refl) (λ machine. refl) breaks watches
 
-pub run_monitored : (breaks watches : List ℕ) (count : ℕ) (before : AfterSteps MonitoredState)
-    → run stepped pc_of breaks watches count (in_target Monitored before) ≡ target_of Monitored (run monitored_stepped monitored_pc breaks watches count before)
-run_monitored breaks watches = run-in Monitored monitored_stepped monitored_pc (λ machine. refl) (λ machine. refl) breaks watches
+pub run_monitored : (hart : ℕ) (breaks watches : List ℕ) (count : ℕ) (before : AfterSteps MonitoredState)
+    → run stepped pc_of breaks watches count (in_target (chosen_at hart) before) ≡ target_of (chosen_at hart) (run monitored_stepped monitored_pc breaks watches count before)
+run_monitored hart breaks watches = run-in (chosen_at hart) monitored_stepped monitored_pc (λ machine. refl) (λ machine. refl) breaks watches
 
-pub runs_monitored : (breaks watches : List ℕ) (count : ℕ) (machine after : MonitoredState) (ran : Ran)
+pub runs_monitored : (hart : ℕ) (breaks watches : List ℕ) (count : ℕ) (machine after : MonitoredState) (ran : Ran)
     → run monitored_stepped monitored_pc breaks watches count (no_steps machine) ≡ record { state = after; ran = ran }
-    → run stepped pc_of breaks watches count (no_steps (Monitored machine)) ≡ record { state = Monitored after; ran = ran }
-runs_monitored breaks watches = runs-in Monitored monitored_stepped monitored_pc (λ machine. refl) (λ machine. refl) breaks watches
+    → run stepped pc_of breaks watches count (no_steps (chosen_at hart machine)) ≡ record { state = chosen_at hart after; ran = ran }
+runs_monitored hart breaks watches = runs-in (chosen_at hart) monitored_stepped monitored_pc (λ machine. refl) (λ machine. refl) breaks watches
 
 -- ---- a machine alone enters no enclave
 
@@ -106,3 +107,13 @@ pub enters_none : (breaks watches : List ℕ) (count : ℕ) (machine after : Sta
     → run machine_stepped machine_pc breaks watches count (no_steps machine) ≡ record { state = after; ran = ran } → ran.entered ≡ 0
 enters_none breaks watches count machine after ran is =
     ap (λ (a : AfterRun State). a.ran.entered) (sym is) ∙ entered-none breaks watches count (no_steps machine)
+
+-- ---- of a chosen hart
+
+abbrev pub chosen_pc : OnTurn → ℕ
+chosen_pc chosen = chosen.state.seat.hart.pc
+
+pub runs_chosen : (breaks watches : List ℕ) (count : ℕ) (machine after : OnTurn) (ran : Ran)
+    → run chosen_stepped chosen_pc breaks watches count (no_steps machine) ≡ record { state = after; ran = ran }
+    → run stepped pc_of breaks watches count (no_steps (Monitored machine)) ≡ record { state = Monitored after; ran = ran }
+runs_chosen breaks watches = runs-in Monitored chosen_stepped chosen_pc (λ machine. refl) (λ machine. refl) breaks watches

@@ -1,5 +1,5 @@
 -- The answers to commands: the state of the bench that one leaves, and the text of its reply. (This project's own commands.)
-use Rattle.std.specs.Prelude.{ℕ, List, [], Option, Result, Ok, Err}
+use Rattle.std.specs.Prelude.{ℕ, List, [], ◌++◌, ◌==◌, nat_lt, Option, Result, Ok, Err, if◌then◌else◌}
 use Rattle.rv_word.specs.Cases.{option_case, result_case}
 use Rattle.rv_word.specs.Widths.{bytes_in}
 use Rattle.rv_word.specs.declared.width.Width.{Width}
@@ -15,12 +15,15 @@ use Rattle.rv_state.specs.Registers.{register}
 use Rattle.rv_debug.specs.Addresses.{with_room_for, without_address}
 use Rattle.rv_debug.specs.BenchState.{BenchState}
 use Rattle.rv_debug.specs.Command.{parse_of}
-use Rattle.rv_debug.specs.ReplyText.{ran_text, register_text, registers_text, ok_text, csr_text, memory_text, dis_text, pmp_text, verdict_text, denied_outside_text, full_text, fault_text, no_csr_text, outside_text}
+use Rattle.rv_debug.specs.ReplyText.{ran_text, register_text, registers_text, ok_text, csr_text, memory_text, dis_text, pmp_text, verdict_text, denied_outside_text, full_text, fault_text, hart_text, no_csr_text, no_hart_text, outside_text}
+use Rattle.rv_debug.specs.Schedules.{AfterTurns, harts_in, has_all, no_turns, turns}
 use Rattle.rv_debug.specs.Steps.{AfterRun, no_steps, run}
-use Rattle.rv_debug.specs.Targets.{hart_of, memory_of, world_text, enclaves_text, pc_of, stepped, register_set, timer_set, poked}
+use Rattle.rv_debug.specs.Targets.{chosen_of, hart_of, harts_of, memory_of, world_text, enclaves_text, pc_of, stepped, register_set, timer_set, poked, turned_to}
 use Rattle.rv_debug.specs.declared.command.Command.{Command}
-use Rattle.rv_debug.specs.declared.command.Command.TheVariants.{Blank, Step, Run, Break, Clear, Watch, Unwatch, Reg, Regs, SetReg, Csr, Mem, Poke, Dis, Pmp, Enclaves, Access, Timer}
+use Rattle.rv_debug.specs.declared.command.Command.TheVariants.{Blank, Step, Run, Break, Clear, Watch, Unwatch, Reg, Regs, SetReg, Csr, Mem, Poke, Dis, Pmp, Enclaves, Access, Timer, Hart, Sched}
 use Rattle.rv_debug.specs.declared.command.CommandFault.{CommandFault}
+use Rattle.rv_debug.specs.declared.schedule.Schedule.{Schedule}
+use Rattle.rv_debug.specs.declared.scheduled.HartRan.{HartRan}
 use Rattle.rv_debug.specs.declared.target.Target.{Target}
 
 -- a state, the text of a reply, and the slots of the enclaves that were entered: bit k is set for slot k
@@ -66,9 +69,44 @@ poke_reply target address byte =
     option_case (poked target address byte) (record { target = target; reply = outside_text })
     (λ after. record { target = after; reply = ok_text })
 
--- a control and status register is shown as mode M reads it, where there is one of the number
-abbrev pub csr_reply : CsrState → ℕ → List ℕ
-csr_reply csrs number = result_case (read_result csrs number M) (csr_text number) (λ _. no_csr_text)
+-- mhartid is shown as the number of the chosen hart, and every other control and status register as mode M reads it, where there is one
+abbrev pub csr_reply : Target → ℕ → List ℕ
+csr_reply target number =
+    if number == 3860 then csr_text number (chosen_of target)
+    else result_case (read_result (hart_of target).csrs number M) (csr_text number) (λ _. no_csr_text)
+
+-- a hart that there is becomes the chosen one
+abbrev pub hart_reply : Target → ℕ → TargetAnswered
+hart_reply target hart =
+    if nat_lt hart (harts_of target) then record { target = turned_to hart target; reply = ok_text }
+    else record { target = target; reply = no_hart_text }
+
+-- what the steps of a hart did, and where, in which mode and world it is then
+abbrev pub hart_told : Target → ℕ → HartRan → List ℕ
+hart_told target hart ran =
+    let seen = turned_to hart target in hart_text hart (pc_of seen) (hart_of seen).mode (world_text seen) ran
+
+-- of each hart that there is
+abbrev pub harts_told : AfterTurns → List ℕ
+harts_told after =
+    hart_told after.state 0 after.did.first ++ (if nat_lt 1 (harts_of after.state) then hart_told after.state 1 after.did.second else [])
+
+-- a target, the text of a reply, and the slots of the enclaves that were entered
+pub record SchedAnswered : Type 0 where
+  pub target : Target
+  pub reply : List ℕ
+  pub entered : ℕ
+
+-- steps in turn leave the chosen hart as it was; where one names a hart that there is not, none is done
+abbrev pub sched_answered : Target → List ℕ → SchedAnswered
+sched_answered target harts =
+    if has_all (harts_of target) harts then (
+    let after = turns harts (no_turns target) in
+    record { target = turned_to (chosen_of target) after.state; reply = harts_told after; entered = after.did.entered }
+    ) else record { target = target; reply = no_hart_text; entered = 0 }
+
+abbrev pub sched_answer : BenchState → SchedAnswered → Answered
+sched_answer bench after = record { state = record bench { target = after.target }; reply = after.reply; entered = after.entered }
 
 -- bytes of memory are shown where all of them are in it
 abbrev pub memory_reply : List ℕ → ℕ → ℕ → List ℕ
@@ -96,7 +134,7 @@ answer bench (Unwatch address) = shows (record bench { watches = without_address
 answer bench (Reg number) = shows bench (register_text number (register (hart_of bench.target).regs number))
 answer bench Regs = shows bench (registers_text (hart_of bench.target).regs (pc_of bench.target))
 answer bench (SetReg number value) = leaves bench (register_set bench.target number value) ok_text
-answer bench (Csr number) = shows bench (csr_reply (hart_of bench.target).csrs number)
+answer bench (Csr number) = shows bench (csr_reply bench.target number)
 answer bench (Mem address count) = shows bench (memory_reply (memory_of bench.target) address count)
 answer bench (Poke address byte) = let after = poke_reply bench.target address byte in leaves bench after.target after.reply
 answer bench (Dis address) = shows bench (dis_reply (memory_of bench.target) address)
@@ -105,6 +143,8 @@ answer bench Enclaves = shows bench (enclaves_text bench.target)
 answer bench (Access mode access address width) =
     shows bench (access_reply (memory_of bench.target) (hart_of bench.target).csrs.pmp mode access address width)
 answer bench (Timer raised) = leaves bench (timer_set bench.target raised) ok_text
+answer bench (Hart hart) = let after = hart_reply bench.target hart in leaves bench after.target after.reply
+answer bench (Sched schedule) = sched_answer bench (sched_answered bench.target (harts_in schedule))
 
 -- one line: a faulty one is told its fault, and changes nothing
 abbrev pub answer_or_fault : BenchState → Result Command CommandFault → Answered

@@ -7,6 +7,7 @@ use Rattle.rv_text.specs.GoodLines.{is_good_line}
 use Rattle.rv_text.specs.Words.{words_of}
 use Rattle.rv_debug.specs.Numbers.{hexadecimal_of, csr_number_of, byte_of_text, decimal_of}
 use Rattle.rv_debug.specs.Within.{within}
+use Rattle.rv_debug.specs.Schedules.{hart_named, schedule_of}
 use Rattle.rv_pmp.specs.declared.access.Access.{Access}
 use Rattle.rv_pmp.specs.declared.access.Access.TheVariants.{Fetch, Read, Write}
 use Rattle.rv_pmp.specs.declared.mode.Mode.{Mode}
@@ -96,11 +97,14 @@ command_row keyword.Pmp = record { spelling = codes "pmp"; operands = none comma
 command_row keyword.Enclaves = record { spelling = codes "enclaves"; operands = none command.Enclaves }
 command_row keyword.Access = record { spelling = codes "access"; operands = four mode_of access_of hexadecimal_of width_of command.Access }
 command_row keyword.Timer = record { spelling = codes "timer"; operands = one switch_of command.Timer }
+command_row keyword.Hart = record { spelling = codes "hart"; operands = one hart_named command.Hart }
+command_row keyword.Sched = record { spelling = codes "sched"; operands = one schedule_of command.Sched }
 
 abbrev pub keywords : List Keyword
 keywords =
     keyword.Step ∷ keyword.Run ∷ keyword.Break ∷ keyword.Clear ∷ keyword.Watch ∷ keyword.Unwatch ∷ keyword.Reg ∷ keyword.Regs ∷ keyword.SetReg
-    ∷ keyword.Csr ∷ keyword.Mem ∷ keyword.Poke ∷ keyword.Dis ∷ keyword.Pmp ∷ keyword.Enclaves ∷ keyword.Access ∷ keyword.Timer ∷ []
+    ∷ keyword.Csr ∷ keyword.Mem ∷ keyword.Poke ∷ keyword.Dis ∷ keyword.Pmp ∷ keyword.Enclaves ∷ keyword.Access ∷ keyword.Timer ∷ keyword.Hart
+    ∷ keyword.Sched ∷ []
 
 abbrev pub spelling_of : Keyword → List ℕ
 spelling_of k = (command_row k).spelling

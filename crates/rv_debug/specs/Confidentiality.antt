@@ -16,7 +16,7 @@ use Rattle.rv_debug.specs.declared.target.Target.TheVariants.{Bare, Monitored}
 -- the enclave of slot e is live
 abbrev pub is_live_in : ℕ → Target → Bool
 is_live_in e (Bare machine) = false
-is_live_in e (Monitored machine) = is_live machine.shared.table e
+is_live_in e (Monitored chosen) = is_live chosen.state.shared.table e
 
 -- they agree again; and once the enclave is gone they are equal
 pub record AgreeAgain (e : ℕ) (first second : BenchState) : Type 0 where

@@ -12,3 +12,4 @@ pub mod Stops
 pub mod Targets
 pub mod TwoBenches
 pub mod Within
+pub mod Schedules

@@ -12,6 +12,7 @@ use Rattle.rv_state.specs.Registers.{register}
 use Rattle.rv_hart.specs.declared.trap.Trap.{Trap}
 use Rattle.rv_text.specs.Digits.{hex2, hex3, hex8}
 use Rattle.rv_asm.specs.Spelling.{spelling}
+use Rattle.rv_debug.specs.declared.scheduled.HartRan.{HartRan}
 use Rattle.rv_debug.specs.declared.steps.Ran.{Ran}
 use Rattle.rv_debug.specs.declared.steps.Stop.{Stop}
 use Rattle.rv_debug.specs.declared.steps.Stop.TheVariants.{Done, Break, Watch}
@@ -40,6 +41,12 @@ unfoldable pub ran_text : ℕ → Mode → List ℕ → Ran → List ℕ
 ran_text pc mode world ran =
     codes "ran " ++ decimal ran.steps ++ codes " pc=" ++ hex8 pc ++ codes " mode=" ++ mode_text mode
     ++ codes " world=" ++ world ++ codes " why=" ++ stop_text ran.stop ++ codes " trap=" ++ trap_text ran.trap ++ codes "\n"
+
+-- `hart H S pc=hhhhhhhh mode=m world=w trap=t`
+unfoldable pub hart_text : ℕ → ℕ → Mode → List ℕ → HartRan → List ℕ
+hart_text hart pc mode world ran =
+    codes "hart " ++ decimal hart ++ codes " " ++ decimal ran.steps ++ codes " pc=" ++ hex8 pc ++ codes " mode=" ++ mode_text mode
+    ++ codes " world=" ++ world ++ codes " trap=" ++ trap_text ran.trap ++ codes "\n"
 
 -- `xN=hhhhhhhh`
 unfoldable pub register_text : ℕ → ℕ → List ℕ
@@ -104,6 +111,10 @@ fault_text BadOperand = codes "error operand\n"
 -- there is no control and status register of the number
 unfoldable pub no_csr_text : List ℕ
 no_csr_text = codes "error csr\n"
+
+-- there is no hart of the number
+unfoldable pub no_hart_text : List ℕ
+no_hart_text = codes "error hart\n"
 
 -- a byte that was asked for is outside RAM
 unfoldable pub outside_text : List ℕ

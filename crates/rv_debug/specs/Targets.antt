@@ -7,7 +7,7 @@ use Rattle.rv_hart.specs.HartState.{Hart}
 use Rattle.rv_hart.specs.State.{State}
 use Rattle.rv_hart.specs.Step.{step}
 use Rattle.rv_monitor.specs.Debugger.{with_reg, with_timer, with_memory}
-use Rattle.rv_monitor.specs.State.{MonitoredState, IsKept}
+use Rattle.rv_monitor.specs.State.{MonitoredState, OnTurn, IsKept, count_of, machine_of, seen_from}
 use Rattle.rv_monitor.specs.Step.{monitored_step}
 use Rattle.rv_monitor.specs.declared.world.World.{World}
 use Rattle.rv_monitor.specs.declared.world.World.TheVariants.{Host, Enclave}
@@ -16,15 +16,15 @@ use Rattle.rv_debug.specs.Steps.{Stepped}
 use Rattle.rv_debug.specs.declared.target.Target.{Target}
 use Rattle.rv_debug.specs.declared.target.Target.TheVariants.{Bare, Monitored}
 
--- its hart
+-- its hart; of two, the chosen one
 abbrev pub hart_of : Target → Hart
 hart_of (Bare machine) = machine.hart
-hart_of (Monitored machine) = machine.seat.hart
+hart_of (Monitored chosen) = chosen.state.seat.hart
 
 -- its memory
 abbrev pub memory_of : Target → List ℕ
 memory_of (Bare machine) = machine.memory
-memory_of (Monitored machine) = machine.shared.memory
+memory_of (Monitored chosen) = chosen.state.shared.memory
 
 -- the name of a world: `host`, or `e` and the slot
 abbrev pub world_name : World → List ℕ
@@ -34,12 +34,12 @@ world_name (Enclave slot) = codes "e" ++ decimal slot
 -- the name of its world
 abbrev pub world_text : Target → List ℕ
 world_text (Bare machine) = codes "bare"
-world_text (Monitored machine) = world_name machine.seat.world
+world_text (Monitored chosen) = world_name chosen.state.seat.world
 
 -- a line for each of its live enclaves; a machine alone has none
 abbrev pub enclaves_text : Target → List ℕ
 enclaves_text (Bare machine) = []
-enclaves_text (Monitored machine) = table_text machine.shared.table
+enclaves_text (Monitored chosen) = table_text chosen.state.shared.table
 
 -- the address of its next instruction
 abbrev pub pc_of : Target → ℕ
@@ -55,31 +55,56 @@ monitored_stepped machine =
     let after = monitored_step machine in
     record { state = after.state; outcome = after.outcome.step; entered = after.outcome.entered }
 
+-- of the chosen hart
+abbrev pub chosen_stepped : OnTurn → Stepped OnTurn
+chosen_stepped chosen =
+    let after = monitored_step chosen.state in
+    record { state = record { hart = chosen.hart; state = after.state }; outcome = after.outcome.step; entered = after.outcome.entered }
+
 -- the same of a target
 abbrev pub with_target : {A : Type 0} → (A → Target) → Stepped A → Stepped Target
 with_target target after = record { state = target after.state; outcome = after.outcome; entered = after.entered }
 
--- a target after one step
+-- a machine under the monitor, as the chosen hart sees it
+abbrev pub chosen_at : ℕ → MonitoredState → Target
+chosen_at hart state = Monitored (record { hart = hart; state = state })
+
+-- a target after one step, of the chosen hart
 abbrev pub stepped : Target → Stepped Target
 stepped (Bare machine) = with_target Bare (machine_stepped machine)
-stepped (Monitored machine) = with_target Monitored (monitored_stepped machine)
+stepped (Monitored chosen) = with_target Monitored (chosen_stepped chosen)
+
+-- how many harts it has
+abbrev pub harts_of : Target → ℕ
+harts_of (Bare machine) = 1
+harts_of (Monitored chosen) = count_of chosen.state
+
+-- the number of the chosen hart
+abbrev pub chosen_of : Target → ℕ
+chosen_of (Bare machine) = 0
+chosen_of (Monitored chosen) = chosen.hart
+
+-- another hart chosen, which it has
+abbrev pub turned_to : ℕ → Target → Target
+turned_to hart (Bare machine) = Bare machine
+turned_to hart (Monitored chosen) = Monitored (seen_from hart (machine_of chosen))
 
 -- a word put into a register; x0 stays 0
 abbrev pub register_set : Target → ℕ → ℕ → Target
 register_set (Bare machine) number value =
     Bare (record machine { hart = record machine.hart { regs = with_register machine.hart.regs number value } })
-register_set (Monitored machine) number value = Monitored (with_reg machine number value)
+register_set (Monitored chosen) number value = chosen_at chosen.hart (with_reg chosen.state number value)
 
 -- the timer line raised or lowered
 abbrev pub timer_set : Target → Bool → Target
 timer_set (Bare machine) raised =
     Bare (record machine { hart = record machine.hart { csrs = record machine.hart.csrs { timer = raised } } })
-timer_set (Monitored machine) raised = Monitored (with_timer machine raised)
+timer_set (Monitored chosen) raised = chosen_at chosen.hart (with_timer chosen.state raised)
 
 -- a memory in place of its own
 abbrev pub over_memory : Target → List ℕ → Target
 over_memory (Bare machine) memory = Bare (record machine { memory = memory })
-over_memory (Monitored machine) memory = Monitored (with_memory machine memory)
+over_memory (Monitored chosen) memory = chosen_at chosen.hart (with_memory chosen.state memory)
 
 -- a byte put into memory, where its address is in it
 abbrev pub poked : Target → ℕ → ℕ → Option Target
@@ -88,10 +113,10 @@ poked target address byte = option_map (over_memory target) (write (memory_of ta
 -- the target is a machine alone
 abbrev pub IsBare : Target → Type 0
 IsBare (Bare machine) = Unit {0}
-IsBare (Monitored machine) = ⊥
+IsBare (Monitored chosen) = ⊥
 
 -- where the target is monitored: its table is valid, the entries and mie are those of the table and the world, the mode is S or U, and
 -- MIE, MPRV, TVM, TW and TSR are 0
 abbrev pub KeepsMonitor : Target → Type 0
 KeepsMonitor (Bare machine) = Unit {0}
-KeepsMonitor (Monitored machine) = IsKept machine
+KeepsMonitor (Monitored chosen) = IsKept chosen.state

@@ -9,6 +9,8 @@ use Rattle.rv_monitor.specs.Table.{region}
 use Rattle.rv_monitor.specs.declared.block.Block.{Block}
 use Rattle.rv_debug.specs.Answer.{Answered, answer}
 use Rattle.rv_debug.specs.BenchState.{BenchState}
+use Rattle.rv_monitor.specs.State.{OnTurn}
+use Rattle.rv_debug.specs.Targets.{chosen_at}
 use Rattle.rv_debug.specs.declared.both.BothWhy.{BothWhy}
 use Rattle.rv_debug.specs.declared.both.BothWhy.TheVariants.{All, Entered, NotBlind}
 use Rattle.rv_debug.specs.declared.command.Command.{Command}
@@ -20,9 +22,13 @@ use Rattle.rv_debug.specs.declared.target.Target.TheVariants.{Bare, Monitored}
 
 -- the enclave of slot e runs in neither, and they are equal but for the bytes of its region and its context, and altogether where it is
 -- not live; a machine alone has no enclave
+pub record ChosenAgreeBut (e : ℕ) (one other : OnTurn) : Type 0 where
+  pub hart : one.hart ≡ other.hart
+  pub state : AgreeBut e one.state other.state
+
 abbrev pub TargetsAgreeBut : ℕ → Target → Target → Type 0
 TargetsAgreeBut e (Bare one) (Bare other) = one ≡ other
-TargetsAgreeBut e (Monitored one) (Monitored other) = AgreeBut e one other
+TargetsAgreeBut e (Monitored one) (Monitored other) = ChosenAgreeBut e one other
 TargetsAgreeBut e _ _ = ⊥
 
 pub record BenchesAgreeBut (e : ℕ) (one other : BenchState) : Type 0 where
@@ -42,7 +48,7 @@ named _ = no_block
 -- the region of slot e, without bytes where its enclave is not live
 abbrev pub region_of : ℕ → Target → Block
 region_of e (Bare machine) = no_block
-region_of e (Monitored machine) = region machine.shared.table e
+region_of e (Monitored chosen) = region chosen.state.shared.table e
 
 -- the command is not a mem, dis or poke with a byte in the region of slot e
 unfoldable pub is_blind : ℕ → BenchState → Command → Bool
@@ -83,7 +89,7 @@ both_answer e first second command =
 -- an enclave is live in the slot, and does not run
 abbrev pub can_scramble_in : ℕ → Target → Bool
 can_scramble_in e (Bare machine) = false
-can_scramble_in e (Monitored machine) = can_scramble_of machine.shared.table e
+can_scramble_in e (Monitored chosen) = can_scramble_of chosen.state.shared.table e
 
 abbrev pub can_scramble : ℕ → BenchState → Bool
 can_scramble e bench = can_scramble_in e bench.target
@@ -91,7 +97,7 @@ can_scramble e bench = can_scramble_in e bench.target
 -- the bench with each byte of the region and each kept register of the slot complemented; a machine alone is as it was
 abbrev pub scrambled_in : ℕ → Target → Target
 scrambled_in e (Bare machine) = Bare machine
-scrambled_in e (Monitored machine) = Monitored (scrambled_of machine e)
+scrambled_in e (Monitored chosen) = chosen_at chosen.hart (scrambled_of chosen.state e)
 
 abbrev pub scrambled : ℕ → BenchState → BenchState
 scrambled e bench = record bench { target = scrambled_in e bench.target }

@@ -2,7 +2,8 @@
 
 ghost use Rattle.std.specs.Prelude.{◌≡◌};
 ghost use Rattle.arrayvec.specs.ArrayVec.{array_vec_len};
-ghost use Rattle.rv_debug.specs.Answer.{told, steps_of, csr_reply, memory_reply, poke_reply, dis_reply, access_reply};
+ghost use Rattle.rv_debug.specs.Answer.{told, steps_of, csr_reply, memory_reply, poke_reply, dis_reply, access_reply, hart_reply, harts_told, sched_answered};
+ghost use Rattle.rv_debug.specs.Schedules.{harts_in};
 ghost use Rattle.rv_debug.specs.Addresses.{without_address};
 ghost use Rattle.rv_debug.specs.ReplyText.{ok_text};
 ghost use Rattle.rv_debug.specs.Targets.{hart_of, memory_of, register_set, timer_set, IsBare, KeepsMonitor};
@@ -10,9 +11,11 @@ ghost use Rattle.rv_debug.specs.Targets.{hart_of, memory_of, register_set, timer
 use crate::addresses::Addresses;
 use crate::command::{ByteCount, StepCount};
 use crate::reply::{
-    push_csr, push_denied_outside, push_dis, push_memory, push_no_csr, push_ok, push_outside,
-    push_ran, push_verdict,
+    push_csr, push_denied_outside, push_dis, push_hart, push_memory, push_no_csr, push_no_hart,
+    push_ok, push_outside, push_ran, push_verdict,
 };
+use crate::schedule::Schedule;
+use crate::scheduled::{Scheduled, run_schedule};
 use crate::target::Target;
 use rv_encoding::CsrNumber;
 use rv_pmp::{Access, Mode};
@@ -35,7 +38,7 @@ pub(crate) fn answer_run(
     ensures bare { IsBare target.old → result ≡ 0 }
     ensures monitor { KeepsMonitor target.old → KeepsMonitor target.new }
 {
-    let ran = target.run(count, breaks, watches);
+    let ran = target.run(count.get(), breaks, watches);
     push_ran(reply, target, ran);
     ran.entered
 }
@@ -85,15 +88,68 @@ pub(crate) fn answer_poke(target: &mut Target, address: u32, byte: u8, reply: &m
     }
 }
 
-/// Shows a control and status register as mode M reads it, where there is one of the number.
+/// The number of mhartid, the control and status register that tells the hart.
+const MHARTID: u16 = 0xf14;
+
+/// Shows the number of the chosen hart as mhartid, and any other control and status register as mode M reads it, where there is one of
+/// the number.
 pub(crate) fn answer_csr(target: &Target, csr: CsrNumber, reply: &mut Reply)
     requires { array_vec_len reply.old ≡ 0 }
-    ensures { reply.new.items ≡ csr_reply (hart_of target.now).csrs csr }
+    ensures { reply.new.items ≡ csr_reply target.now csr }
 {
+    if csr.number() == MHARTID {
+        return push_csr(reply, csr, u32::from(target.chosen()));
+    }
     match target.csrs().read(csr.number(), Mode::M) {
         Ok(word) => push_csr(reply, csr, word),
         Err(_) => push_no_csr(reply),
     }
+}
+
+/// Chooses a hart, where there is one of the number.
+pub(crate) fn answer_hart(target: &mut Target, hart: u8, reply: &mut Reply)
+    requires { array_vec_len reply.old ≡ 0 }
+    ensures answer { hart_reply target.old hart ≡ record { target = target.new; reply = reply.new.items } }
+    ensures monitor { KeepsMonitor target.old → KeepsMonitor target.new }
+{
+    if hart < target.harts() {
+        target.turn_to(hart);
+        push_ok(reply);
+    } else {
+        push_no_hart(reply);
+    }
+}
+
+/// Tells what the steps of each hart did.
+fn push_harts(reply: &mut Reply, target: &Target, did: &Scheduled)
+    requires { array_vec_len reply.old ≡ 0 }
+    ensures { reply.new.items ≡ harts_told (record { state = target.now; did = did.now }) }
+{
+    push_hart(reply, target, 0, did.first);
+    if target.harts() > 1 {
+        push_hart(reply, target, 1, did.second);
+    }
+}
+
+/// Does a step of the named hart for each of a schedule, and tells what the steps of each hart did; where there is no hart that it
+/// names, does nothing and tells that. The chosen hart stays. Returns the slots of the enclaves that the steps entered.
+pub(crate) fn answer_sched(target: &mut Target, schedule: &Schedule, reply: &mut Reply) -> u16
+    requires { array_vec_len reply.old ≡ 0 }
+    ensures target { (sched_answered target.old (harts_in schedule.now)).target ≡ target.new }
+    ensures reply { (sched_answered target.old (harts_in schedule.now)).reply ≡ reply.new.items }
+    ensures entered { (sched_answered target.old (harts_in schedule.now)).entered ≡ result }
+    ensures bare { IsBare target.old → result ≡ 0 }
+    ensures monitor { KeepsMonitor target.old → KeepsMonitor target.new }
+{
+    if !schedule.names_only(target.harts()) {
+        push_no_hart(reply);
+        return 0;
+    }
+    let chosen = target.chosen();
+    let did = run_schedule(target, schedule);
+    push_harts(reply, target, &did);
+    target.turn_to(chosen);
+    did.entered
 }
 
 /// Shows so many bytes of memory, where all of them are in it.

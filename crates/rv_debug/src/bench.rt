@@ -2,8 +2,8 @@
 
 use crate::addresses::Addresses;
 use crate::answer::{
-    answer_access, answer_csr, answer_dis, answer_mem, answer_poke, answer_removal, answer_run,
-    answer_setreg, answer_timer,
+    answer_access, answer_csr, answer_dis, answer_hart, answer_mem, answer_poke, answer_removal,
+    answer_run, answer_sched, answer_setreg, answer_timer,
 };
 use crate::command::{Command, parse};
 use crate::enclaves::push_enclaves;
@@ -38,7 +38,7 @@ impl Bench {
     ghost use Rattle.std.specs.Prelude.{◌≡◌, ℕ, true, false, List, [], take};
     ghost use Rattle.rv_debug.specs.Answer.{answer, line_answer};
     ghost use Rattle.rv_debug.specs.BenchState.{bare, monitored};
-    ghost use Rattle.rv_debug.specs.Isolation.{TellsReach, ChangesMemory, SparesResting};
+    ghost use Rattle.rv_debug.specs.Isolation.{TellsReach, ChangesMemory, SparesResting, SparesOther};
     ghost use Rattle.rv_debug.specs.Targets.{IsBare, KeepsMonitor};
     ghost use Rattle.rv_debug.specs.TwoBenches.{BenchesAgreeBut, can_scramble, is_blind, scrambled};
 
@@ -90,11 +90,13 @@ impl Bench {
     /// Returns a number with bit k set where the enclave of slot k was entered: 0 where the bench is bare.
     ///
     /// `answer` is all of it. Of what follows, `monitor` is what holds in every state of a monitored bench: the table of enclaves is
-    /// valid, the PMP entries and mie are those of the table and the world, the mode is S or U, and MIE, MPRV, TVM, TW and TSR are 0.
-    /// `reach` is that `access`, in S and U, is told to be permitted exactly where it is in the reach of the world that runs. `changes`
-    /// is that a byte of memory changes only where it is poked, or where a step changes it in its world's reach, by a destroy or by a
-    /// measure. `spares` is that the command changes neither record nor region nor context of a live enclave that does not run, that it
-    /// does not enter or end, and of whose region it pokes no byte.
+    /// valid, and of each hart the PMP entries and mie are those of the table and its world, the mode is S or U, and MIE, MPRV, TVM, TW
+    /// and TSR are 0. `reach` is that `access`, in S and U, is told to be permitted exactly where it is in the reach of the world that
+    /// runs on the chosen hart. `changes` is that a byte of memory changes only where it is poked, or where a step changes it in its
+    /// world's reach, by a destroy or by a measure. `spares` is that the command changes neither record nor region nor context of a live
+    /// enclave that is not the world of a hart that steps, that it does not enter or end, and of whose region it pokes no byte: it may run
+    /// on the other hart. `beside` is that a hart of which the command makes no step, and sets no register and no timer line, keeps its
+    /// world, registers, pc and mode, and all but the entries and mie.
     pub fn command(&mut self, command: &Command, out: &mut Reply) -> u16
         ensures answer { answer self.old command.now ≡ record { state = self.new; reply = out.new.items; entered = result } }
         ensures bare { IsBare self.old.target → result ≡ 0 }
@@ -102,6 +104,7 @@ impl Bench {
         ensures reach { TellsReach self.old.target command.now }
         ensures changes { ChangesMemory self.old command.now self.new }
         ensures spares { SparesResting self.old command.now self.new }
+        ensures beside { SparesOther self.old command.now self.new }
     {
         self.invariant();
         self.answer(command, out)
@@ -144,6 +147,8 @@ impl Bench {
                 width,
             } => answer_access(&self.target, mode, access, address, width, out),
             Command::Timer(raised) => answer_timer(&mut self.target, raised, out),
+            Command::Hart(hart) => answer_hart(&mut self.target, hart, out),
+            Command::Sched(schedule) => return answer_sched(&mut self.target, &schedule, out),
         }
         0
     }

@@ -6,6 +6,7 @@ ghost use Rattle.rv_debug.specs.Command.{decimal_within, register_of, switch_of,
 
 use crate::keyword::Keyword;
 use crate::numbers::{byte, csr_number, decimal, hexadecimal};
+use crate::schedule::{Schedule, hart_operand};
 use crate::target::NO_BLOCK;
 use crate::within::Within;
 use rv_encoding::CsrNumber;
@@ -69,6 +70,10 @@ pub enum Command {
     },
     /// `timer on`, `timer off`: raise the timer line, or lower it.
     Timer(bool),
+    /// `hart H`: choose the hart of this number, which then steps and is shown.
+    Hart(u8),
+    /// `sched W`: one step of hart 0 or hart 1 for each digit, whatever is a break or watched; the chosen hart stays.
+    Sched(Schedule),
 }
 
 impl Command {
@@ -211,6 +216,8 @@ fn with_one(keyword: Keyword, operand: &[u8]) -> Option<Command>
         Keyword::Csr => csr_number(operand).map(Command::Csr),
         Keyword::Dis => hexadecimal(operand).map(Command::Dis),
         Keyword::Timer => switch(operand).map(Command::Timer),
+        Keyword::Hart => hart_operand(operand).map(Command::Hart),
+        Keyword::Sched => Schedule::new(operand).map(Command::Sched),
         _ => None,
     }
 }

@@ -25,10 +25,12 @@ pub(crate) enum Keyword {
     Enclaves,
     Access,
     Timer,
+    Hart,
+    Sched,
 }
 
 /// How the keywords are spelled.
-const SPELLINGS: [(&str, Keyword); 17] = [
+const SPELLINGS: [(&str, Keyword); 19] = [
     ("step", Keyword::Step),
     ("run", Keyword::Run),
     ("break", Keyword::Break),
@@ -46,6 +48,8 @@ const SPELLINGS: [(&str, Keyword); 17] = [
     ("enclaves", Keyword::Enclaves),
     ("access", Keyword::Access),
     ("timer", Keyword::Timer),
+    ("hart", Keyword::Hart),
+    ("sched", Keyword::Sched),
 ];
 
 impl Keyword {

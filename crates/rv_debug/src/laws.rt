@@ -4,8 +4,8 @@
 ghost use Rattle.rv_debug.specs.Confidentiality.{ConfidentialityLaw};
 ghost use Rattle.rv_debug.specs.Isolation.{IntegrityLaw};
 
-/// Integrity: every list of commands leaves the record, the region and the context of each live enclave that does not run through
-/// it, that it neither enters nor ends, and of whose region it pokes no byte.
+/// Integrity: every list of commands leaves the record, the region and the context of each live enclave that no hart runs in a step of
+/// its own, that it neither enters nor ends, and of whose region it pokes no byte. The enclave may run on the hart that does not step.
 pub const fn integrity()
     ensures { IntegrityLaw }
 {}

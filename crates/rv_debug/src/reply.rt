@@ -1,11 +1,13 @@
 //! The lines that answer commands.
 
-ghost use Rattle.std.specs.Prelude.{◌≡◌, ℕ, ◌+◌, ◌*◌, ◌≤◌, ◌++◌, length, codes, decimal, if◌then◌else◌};
+ghost use Rattle.std.specs.Prelude.{◌≡◌, ℕ, ◌+◌, ◌*◌, ◌<◌, ◌≤◌, ◌++◌, length, codes, decimal, if◌then◌else◌};
 ghost use Rattle.arrayvec.specs.ArrayVec.{array_vec_len};
-ghost use Rattle.rv_debug.specs.ReplyText.{mode_text, stop_text, ran_text, trap_text, register_text, registers_text, pc_text, ok_text, csr_text, memory_text, dis_text, entry_text, pmp_text, verdict_text, denied_outside_text, full_text, fault_text, no_csr_text, outside_text};
-ghost use Rattle.rv_debug.specs.Targets.{hart_of, pc_of, world_name, world_text};
+ghost use Rattle.rv_debug.specs.Answer.{hart_told};
+ghost use Rattle.rv_debug.specs.ReplyText.{mode_text, stop_text, ran_text, hart_text, no_hart_text, trap_text, register_text, registers_text, pc_text, ok_text, csr_text, memory_text, dis_text, entry_text, pmp_text, verdict_text, denied_outside_text, full_text, fault_text, no_csr_text, outside_text};
+ghost use Rattle.rv_debug.specs.Targets.{hart_of, harts_of, pc_of, turned_to, world_name, world_text};
 
 use crate::command::CommandFault;
+use crate::scheduled::HartRan;
 use crate::steps::{Ran, Stop};
 use crate::target::Target;
 use arrayvec::ArrayString;
@@ -80,7 +82,7 @@ fn push_world_name(out: &mut Reply, world: World)
     }
 }
 
-/// Writes the name of a target's world.
+/// Writes the name of the world of a target's chosen hart.
 fn push_world(out: &mut Reply, target: &Target)
     requires room { array_vec_len out.old + 11 ≤ 2048 }
     ensures items { out.new.items ≡ out.old.items ++ world_text target.now }
@@ -88,8 +90,44 @@ fn push_world(out: &mut Reply, target: &Target)
 {
     match target {
         Target::Bare(_) => push_text(out, "bare"),
-        Target::Monitored(machine) => push_world_name(out, machine.world()),
+        Target::Monitored(machine) => push_world_name(out, machine.world_on_turn()),
     }
+}
+
+/// Writes the name of the world of a hart that a target has.
+fn push_world_at(out: &mut Reply, target: &Target, hart: u8)
+    requires has { hart < harts_of target.now }
+    requires room { array_vec_len out.old + 11 ≤ 2048 }
+    ensures items { out.new.items ≡ out.old.items ++ world_text (turned_to hart target.now) }
+    ensures len { array_vec_len out.new ≤ array_vec_len out.old + 11 }
+{
+    match target {
+        Target::Bare(_) => push_text(out, "bare"),
+        Target::Monitored(machine) => push_world_name(out, machine.world(hart)),
+    }
+}
+
+/// Writes what the steps of a hart that a target has did, and the pc, the mode and the world of the hart.
+#[tactic(auto, unfolding(crate::specs::ReplyText::hart_text))]
+pub(crate) fn push_hart(out: &mut Reply, target: &Target, hart: u8, ran: HartRan)
+    requires has { hart < harts_of target.now }
+    requires room { array_vec_len out.old + 87 ≤ 2048 }
+    ensures items { out.new.items ≡ out.old.items ++ hart_told target.now hart ran }
+    ensures len { array_vec_len out.new ≤ array_vec_len out.old + 87 }
+{
+    push_text(out, "hart ");
+    push_decimal(out, u32::from(hart));
+    push_text(out, " ");
+    push_decimal(out, ran.steps);
+    push_text(out, " pc=");
+    push_hex(out, target.pc_at(hart), 8);
+    push_text(out, " mode=");
+    push_mode(out, target.mode_at(hart));
+    push_text(out, " world=");
+    push_world_at(out, target, hart);
+    push_text(out, " trap=");
+    push_trap(out, ran.trap);
+    push_text(out, "\n");
 }
 
 /// Writes what steps did: how many they were, the pc, the mode and the world of the target after them, why they ended, and the
@@ -313,6 +351,16 @@ pub(crate) fn push_no_csr(out: &mut Reply)
     ensures len { array_vec_len out.new ≡ array_vec_len out.old + 10 }
 {
     push_text(out, "error csr\n");
+}
+
+/// Writes that there is no hart of the number that was asked for.
+#[tactic(auto, unfolding(crate::specs::ReplyText::no_hart_text))]
+pub(crate) fn push_no_hart(out: &mut Reply)
+    requires room { array_vec_len out.old + 11 ≤ 2048 }
+    ensures items { out.new.items ≡ out.old.items ++ no_hart_text }
+    ensures len { array_vec_len out.new ≡ array_vec_len out.old + 11 }
+{
+    push_text(out, "error hart\n");
 }
 
 /// Writes that a byte that was asked for is outside RAM.

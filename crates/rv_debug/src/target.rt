@@ -1,14 +1,13 @@
 //! What commands work on.
 
-ghost use Rattle.std.specs.Prelude.{◌≡◌, Some, None};
+ghost use Rattle.std.specs.Prelude.{◌≡◌, ◌<◌, Some, None};
 ghost use Rattle.std.specs.Bool.{OnTrue, OnFalse};
 ghost use Rattle.rv_monitor.specs.State.{IsKept};
 ghost use Rattle.rv_debug.specs.Steps.{no_steps, run};
 ghost use Rattle.rv_debug.specs.TwoBenches.{TargetsAgreeBut, can_scramble_in, region_of, scrambled_in};
-ghost use Rattle.rv_debug.specs.Targets.{hart_of, memory_of, pc_of, stepped, register_set, timer_set, poked, IsBare, KeepsMonitor};
+ghost use Rattle.rv_debug.specs.Targets.{chosen_of, hart_of, harts_of, memory_of, pc_of, stepped, turned_to, register_set, timer_set, poked, IsBare, KeepsMonitor};
 
 use crate::addresses::Addresses;
-use crate::command::StepCount;
 use crate::steps::{Ran, run_steps};
 use rv_hart::Machine;
 use rv_memory::Ram;
@@ -36,7 +35,7 @@ impl Target {
     {
         match self {
             Target::Bare(machine) => machine.regs(),
-            Target::Monitored(machine) => machine.regs(),
+            Target::Monitored(machine) => machine.hart_on_turn().regs(),
         }
     }
 
@@ -46,7 +45,7 @@ impl Target {
     {
         match self {
             Target::Bare(machine) => machine.csrs(),
-            Target::Monitored(machine) => machine.csrs(),
+            Target::Monitored(machine) => machine.hart_on_turn().csrs(),
         }
     }
 
@@ -79,7 +78,7 @@ impl Target {
     {
         match self {
             Target::Bare(machine) => machine.pc(),
-            Target::Monitored(machine) => machine.pc(),
+            Target::Monitored(machine) => machine.hart_on_turn().pc(),
         }
     }
 
@@ -89,7 +88,63 @@ impl Target {
     {
         match self {
             Target::Bare(machine) => machine.mode(),
-            Target::Monitored(machine) => machine.mode(),
+            Target::Monitored(machine) => machine.hart_on_turn().mode(),
+        }
+    }
+
+    /// How many harts it has: 1 or 2.
+    pub(crate) fn harts(&self) -> u8
+        ensures { result ≡ harts_of self.now }
+    {
+        match self {
+            Target::Bare(_) => 1,
+            Target::Monitored(machine) => machine.harts(),
+        }
+    }
+
+    /// The number of the chosen hart, which it has.
+    pub(crate) fn chosen(&self) -> u8
+        ensures chosen { result ≡ chosen_of self.now }
+        ensures has { result < harts_of self.now }
+    {
+        match self {
+            Target::Bare(_) => 0,
+            Target::Monitored(machine) => machine.turn(),
+        }
+    }
+
+    /// Chooses a hart.
+    pub(crate) fn turn_to(&mut self, hart: u8)
+        requires { hart < harts_of self.old }
+        ensures turned { self.new ≡ turned_to hart self.old }
+        ensures harts { harts_of self.new ≡ harts_of self.old }
+        ensures monitor { KeepsMonitor self.old → KeepsMonitor self.new }
+    {
+        match self {
+            Target::Bare(_) => {}
+            Target::Monitored(machine) => machine.turn_to(hart),
+        }
+    }
+
+    /// The address of the next instruction of a hart.
+    pub(crate) fn pc_at(&self, hart: u8) -> u32
+        requires { hart < harts_of self.now }
+        ensures { result ≡ pc_of (turned_to hart self.now) }
+    {
+        match self {
+            Target::Bare(machine) => machine.pc(),
+            Target::Monitored(machine) => machine.pc(hart),
+        }
+    }
+
+    /// The mode of a hart.
+    pub(crate) fn mode_at(&self, hart: u8) -> Mode
+        requires { hart < harts_of self.now }
+        ensures { result ≡ (hart_of (turned_to hart self.now)).mode }
+    {
+        match self {
+            Target::Bare(machine) => machine.mode(),
+            Target::Monitored(machine) => machine.mode(hart),
         }
     }
 
@@ -100,7 +155,7 @@ impl Target {
     {
         match self {
             Target::Bare(machine) => machine.regs_mut().set(reg, value),
-            Target::Monitored(machine) => machine.set_reg(reg, value),
+            Target::Monitored(machine) => machine.set_reg_on_turn(reg, value),
         }
     }
 
@@ -111,7 +166,7 @@ impl Target {
     {
         match self {
             Target::Bare(machine) => machine.csrs_mut().set_timer(raised),
-            Target::Monitored(machine) => machine.set_timer(raised),
+            Target::Monitored(machine) => machine.set_timer_on_turn(raised),
         }
     }
 
@@ -144,7 +199,7 @@ impl Target {
     }
 
     /// Does steps until one accesses a watched byte, or else so many are done, or else the next instruction is at a break.
-    pub(crate) fn run(&mut self, count: StepCount, breaks: &Addresses, watches: &Addresses) -> Ran
+    pub(crate) fn run(&mut self, count: u32, breaks: &Addresses, watches: &Addresses) -> Ran
         ensures run { run stepped pc_of breaks.now watches.now count (no_steps self.old) ≡ record { state = self.new; ran = result } }
         ensures bare { IsBare self.old → result.entered ≡ 0 }
         ensures monitor { KeepsMonitor self.old → KeepsMonitor self.new }
@@ -157,24 +212,24 @@ impl Target {
 }
 
 /// The steps of a machine alone, which enter no enclave.
-fn run_bare(machine: &mut Machine, count: StepCount, breaks: &Addresses, watches: &Addresses) -> Ran
+fn run_bare(machine: &mut Machine, count: u32, breaks: &Addresses, watches: &Addresses) -> Ran
     ensures run { run stepped pc_of breaks.now watches.now count (no_steps (Target.Bare machine.old)) ≡ record { state = Target.Bare machine.new; ran = result } }
     ensures none { result.entered ≡ 0 }
 {
-    run_steps(machine, count.get(), breaks, watches)
+    run_steps(machine, count, breaks, watches)
 }
 
 /// The steps of a machine under the monitor.
 fn run_monitored(
     machine: &mut Monitored,
-    count: StepCount,
+    count: u32,
     breaks: &Addresses,
     watches: &Addresses,
 ) -> Ran
     ensures run { run stepped pc_of breaks.now watches.now count (no_steps (Target.Monitored machine.old)) ≡ record { state = Target.Monitored machine.new; ran = result } }
-    ensures kept { IsKept machine.new }
+    ensures kept { IsKept machine.new.state }
 {
-    let ran = run_steps(machine, count.get(), breaks, watches);
+    let ran = run_steps(machine, count, breaks, watches);
     machine.invariant();
     ran
 }

@@ -168,6 +168,38 @@ fn shows_and_changes_the_machine(rt: HostRuntime) {
     expect_len(&rt, &mut bench, &Command::Pmp, 438);
 }
 
+const HAS_HART_0_ALONE: &[Line] = &[
+    (b"hart 0", b"ok\n", 0),
+    (b"hart 1", b"error hart\n", 0),
+    (b"csr f14", b"csr f14=00000000\n", 0),
+    (b"break 80000004", b"ok\n", 0),
+    (b"watch 80000104", b"ok\n", 0),
+    (b"setreg 2 80000100", b"ok\n", 0),
+    (
+        b"sched 00",
+        b"hart 0 2 pc=80000008 mode=M world=bare trap=-\n",
+        0,
+    ),
+    (b"sched 01", b"error hart\n", 0),
+    (
+        b"sched 0",
+        b"hart 0 1 pc=00000000 mode=M world=bare trap=00000002:00000000\n",
+        0,
+    ),
+    (
+        b"sched 0000",
+        b"hart 0 4 pc=00000000 mode=M world=bare trap=00000001:00000000\n",
+        0,
+    ),
+];
+
+/// A hart that there is not is refused, and nothing is done; a schedule stops at no watch and no break. lw x1, 4(x2); addi x1, x0, -1
+#[test]
+fn has_hart_0_alone(rt: HostRuntime) {
+    let words = &[0x0041_2083, 0xfff0_0093];
+    expect_lines(&rt, rt.alloc(), words, HAS_HART_0_ALONE);
+}
+
 const TELLS_THE_FAULTS_OF_LINES: &[Line] = &[
     (b"fly", b"error command\n", 0),
     (b"break", b"error operand\n", 0),

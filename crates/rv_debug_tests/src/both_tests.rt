@@ -4,7 +4,7 @@
 use crate::benches::{expect_text, poke_words, with_words};
 use rv_debug::{Bench, Both, BothWhy, Command, both_command, parse, run_both};
 use rv_memory::Ram;
-use rv_monitor::Monitored;
+use rv_monitor::{Harts, Monitored};
 use rv_text::Reply;
 use std::alloc::Global;
 use std::process::Abort;
@@ -23,6 +23,8 @@ enum Made {
     Live,
     /// The same, with the enclave's secret complemented.
     Other,
+    /// With two harts, and an enclave in slot 0.
+    Two,
 }
 
 /// Two benches that differ in nothing but the enclave's secret.
@@ -56,15 +58,15 @@ fn give(bench: &mut Bench, lines: &[&[u8]]) {
 }
 
 /// A bench of 196608 bytes under the monitor, whose host begins with four ecalls.
-fn bench_of_calls(rt: &impl Abort, alloc: Global) -> Bench {
+fn bench_of_calls(rt: &impl Abort, alloc: Global, harts: Harts) -> Bench {
     let mut ram = Ram::new(alloc, 196_608).expect(rt, "a RAM");
     poke_words(&mut ram, FIRST, &[0x73; 4]);
-    Bench::monitored(Monitored::new(ram, FIRST))
+    Bench::monitored(Monitored::new(ram, FIRST, harts))
 }
 
 /// A bench with an enclave in slot 0.
-fn bench_with_enclave(rt: &impl Abort, alloc: Global) -> Bench {
-    let mut bench = bench_of_calls(rt, alloc);
+fn bench_with_enclave(rt: &impl Abort, alloc: Global, harts: Harts) -> Bench {
+    let mut bench = bench_of_calls(rt, alloc, harts);
     give(&mut bench, CREATE);
     bench
 }
@@ -73,8 +75,9 @@ fn bench_with_enclave(rt: &impl Abort, alloc: Global) -> Bench {
 fn bench_of(rt: &impl Abort, alloc: Global, made: Made, lines: &[&[u8]]) -> Bench {
     let mut bench = match made {
         Made::Bare => with_words(rt, alloc, &[0xfff0_0093]),
-        Made::Free => bench_of_calls(rt, alloc),
-        Made::Live | Made::Other => bench_with_enclave(rt, alloc),
+        Made::Free => bench_of_calls(rt, alloc, Harts::One),
+        Made::Live | Made::Other => bench_with_enclave(rt, alloc, Harts::One),
+        Made::Two => bench_with_enclave(rt, alloc, Harts::Two),
     };
     if let Made::Other = made {
         assert!(rt; bench.scramble(0));
@@ -346,6 +349,41 @@ fn an_entry_within_a_command_is_told(rt: HostRuntime) {
     expect_both(&rt, rt.alloc(), PAIR, RUN, 0, ENTERS_AND_LEAVES, &[]);
 }
 
+/// The same registers of hart 0, and hart 1 chosen.
+const RUN_BESIDE: &[&[u8]] = &[
+    b"setreg 17 0a454e43",
+    b"setreg 16 3",
+    b"setreg 10 0",
+    b"hart 1",
+];
+
+const ENTERED_BESIDE: &[u8] = b"hart 0 1 pc=80020000 mode=S world=e0 trap=00000009:00000000\n\
+    hart 1 1 pc=80010004 mode=S world=host trap=00000009:00000000\n";
+
+const ENTERS_BESIDE: &[Row] = &[(
+    b"sched 01",
+    BothWhy::Entered,
+    ENTERED_BESIDE,
+    ENTERED_BESIDE,
+)];
+
+const ON_HART_1: &[After] = &[(b"csr f14", b"csr f14=00000001\n", b"csr f14=00000001\n")];
+
+/// A step of the hart that is not chosen enters the slot, and the next step does not.
+#[test]
+fn an_entry_on_the_other_hart_is_told(rt: HostRuntime) {
+    let made = (Made::Two, Made::Two);
+    expect_both(
+        &rt,
+        rt.alloc(),
+        made,
+        RUN_BESIDE,
+        0,
+        ENTERS_BESIDE,
+        ON_HART_1,
+    );
+}
+
 const ENTERS_ANOTHER: &[Row] = &[(b"step 1", BothWhy::All, ENTERED, ENTERED)];
 
 /// Only the slot that is named counts.
@@ -513,4 +551,19 @@ const RUNNING: &[After] = &[
 #[test]
 fn scramble_refuses_the_slot_that_runs(rt: HostRuntime) {
     expect_scrambled(&rt, rt.alloc(), (Made::Live, ENTER), 0, (1, false), RUNNING);
+}
+
+const ENTER_BESIDE: &[&[u8]] = &[b"setreg 16 3", b"setreg 10 0", b"step 1", b"hart 1"];
+
+const RUNNING_BESIDE: &[After] = &[
+    (b"mem 80020000 1", b"80020000: 00\n", b""),
+    (b"hart 0", b"ok\n", b""),
+    (b"reg 10", b"x10=80020000\n", b""),
+];
+
+/// The enclave that runs on the hart that is not chosen.
+#[test]
+fn scramble_refuses_the_slot_that_runs_on_the_other_hart(rt: HostRuntime) {
+    let made = (Made::Two, ENTER_BESIDE);
+    expect_scrambled(&rt, rt.alloc(), made, 0, (1, false), RUNNING_BESIDE);
 }

@@ -1,6 +1,6 @@
 //! How lines are read as commands, and the first fault of those that are none.
 
-use rv_debug::{ByteCount, Command, CommandFault, StepCount, parse};
+use rv_debug::{ByteCount, Command, CommandFault, Schedule, StepCount, parse};
 use rv_encoding::CsrNumber;
 use rv_pmp::{Access, Mode};
 use rv_word::{Reg, Width};
@@ -54,6 +54,53 @@ fn reads_commands_of_ranged_operands(rt: HostRuntime) {
     expect_command(&rt, b"reg 1", Command::Reg(Reg::new(1)));
     expect_command(&rt, b"setreg 5 0x1F", Command::SetReg(Reg::new(5), 0x1f));
     expect_command(&rt, b"csr 341", Command::Csr(CsrNumber::new(0x341)));
+}
+
+/// 64 digits, the most that a schedule has.
+const MOST: &[u8] = b"0110100110010110100101100110100110010110011010010110100110010110";
+
+/// A line that is read as the command of this schedule.
+fn expect_schedule(rt: &impl Abort, line: &[u8], digits: &[u8]) {
+    let schedule = Schedule::new(digits).expect(rt, "a schedule");
+    expect_command(rt, line, Command::Sched(schedule));
+}
+
+#[test]
+fn reads_harts_and_schedules(rt: HostRuntime) {
+    expect_command(&rt, b"hart 0", Command::Hart(0));
+    expect_command(&rt, b"hart\t1", Command::Hart(1));
+    expect_schedule(&rt, b"sched 0", b"0");
+    expect_schedule(&rt, b"sched 1", b"1");
+    expect_schedule(&rt, b"sched 011 ", b"011");
+    expect_schedule(
+        &rt,
+        b"sched 0110100110010110100101100110100110010110011010010110100110010110",
+        MOST,
+    );
+}
+
+const BAD_OPERANDS_OF_HARTS: &[&[u8]] = &[
+    b"hart",
+    b"hart 2",
+    b"hart 00",
+    b"hart 01",
+    b"hart 10",
+    b"hart x",
+    b"hart 0 1",
+    b"sched",
+    b"sched 2",
+    b"sched 012",
+    b"sched 0x1",
+    b"sched 0 1",
+    b"sched 01101001100101101001011001101001100101100110100101101001100101100",
+];
+
+#[test]
+fn refuses_operands_of_hart_and_sched(rt: HostRuntime) {
+    expect_bad_operands(&rt, BAD_OPERANDS_OF_HARTS);
+    expect_fault(&rt, b"Hart 0", CommandFault::UnknownCommand);
+    expect_fault(&rt, b"SCHED 0", CommandFault::UnknownCommand);
+    assert!(rt; Schedule::new(b"").is_none());
 }
 
 const ACCESSES: &[(&[u8], Mode, Access, Width)] = &[

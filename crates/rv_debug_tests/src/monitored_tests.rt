@@ -3,19 +3,31 @@
 use crate::benches::{Line, expect, poke_words};
 use rv_debug::Bench;
 use rv_memory::Ram;
-use rv_monitor::Monitored;
+use rv_monitor::{Harts, Monitored};
 use std::alloc::Global;
 use std::process::Abort;
 
 /// Where the host begins.
 const FIRST: u32 = 0x8001_0000;
 
+/// A bench over a monitored machine whose hosts begin with the words of a program.
+fn bench_of(rt: &impl Abort, alloc: Global, words: &[u32], harts: Harts) -> Bench {
+    let mut ram = Ram::new(alloc, 1_048_576).expect(rt, "a RAM");
+    poke_words(&mut ram, FIRST, words);
+    Bench::monitored(Monitored::new(ram, FIRST, harts))
+}
+
 /// Gives lines to a bench over a monitored machine whose host begins with four ecalls, of which the first creates an enclave.
 fn expect_created(rt: &impl Abort, alloc: Global, lines: &[Line]) {
-    let mut ram = Ram::new(alloc, 1_048_576).expect(rt, "a RAM");
-    poke_words(&mut ram, FIRST, &[0x73; 4]);
-    let mut bench = Bench::monitored(Monitored::new(ram, FIRST));
+    let mut bench = bench_of(rt, alloc, &[0x73; 4], Harts::One);
     expect(rt, &mut bench, &[(b"enclaves", b"", 0)]);
+    expect(rt, &mut bench, CREATE);
+    expect(rt, &mut bench, lines);
+}
+
+/// Gives lines to a bench of two harts, whose hosts begin with two ecalls and lw x5, 0(x6); the first ecall of hart 0 creates an enclave.
+fn expect_two_harts(rt: &impl Abort, alloc: Global, lines: &[Line]) {
+    let mut bench = bench_of(rt, alloc, &[0x73, 0x73, 0x0003_2283], Harts::Two);
     expect(rt, &mut bench, CREATE);
     expect(rt, &mut bench, lines);
 }
@@ -160,4 +172,114 @@ const TELLS_WHAT_IS_IN_REACH: &[Line] = &[
 #[test]
 fn tells_what_is_in_reach(rt: HostRuntime) {
     expect_created(&rt, rt.alloc(), TELLS_WHAT_IS_IN_REACH);
+}
+
+const HAS_ONE_HART: &[Line] = &[
+    (b"hart 1", b"error hart\n", 0),
+    (b"sched 010", b"error hart\n", 0),
+    (b"hart 0", b"ok\n", 0),
+    (b"csr f14", b"csr f14=00000000\n", 0),
+    (
+        b"sched 00",
+        b"hart 0 2 pc=8001000c mode=S world=host trap=00000009:00000000\n",
+        0,
+    ),
+];
+
+/// Example 40, with one hart: a hart that there is not is refused, and nothing is done.
+#[test]
+fn has_one_hart(rt: HostRuntime) {
+    expect_created(&rt, rt.alloc(), HAS_ONE_HART);
+}
+
+const HAS_TWO_HARTS: &[Line] = &[
+    (b"poke 80020000 13", b"ok\n", 0),
+    (b"setreg 16 3", b"ok\n", 0),
+    (b"setreg 10 0", b"ok\n", 0),
+    (
+        b"step 1",
+        b"ran 1 pc=80020000 mode=S world=e0 why=done trap=00000009:00000000\n",
+        1,
+    ),
+    (b"csr f14", b"csr f14=00000000\n", 0),
+    (b"hart 1", b"ok\n", 0),
+    (b"csr f14", b"csr f14=00000001\n", 0),
+    (b"reg 10", b"x10=00000001\n", 0),
+    (b"setreg 17 0a454e43", b"ok\n", 0),
+    (b"setreg 16 2", b"ok\n", 0),
+    (b"setreg 10 0", b"ok\n", 0),
+    (
+        b"step 1",
+        b"ran 1 pc=80010004 mode=S world=host why=done trap=00000009:00000000\n",
+        0,
+    ),
+    (b"reg 10", b"x10=fffffff8\n", 0),
+    (b"setreg 10 0", b"ok\n", 0),
+    (b"setreg 6 80020000", b"ok\n", 0),
+    (
+        b"sched 011",
+        b"hart 0 1 pc=80020004 mode=S world=e0 trap=-\n\
+        hart 1 2 pc=00000000 mode=S world=host trap=00000005:80020000\n",
+        0,
+    ),
+    (b"csr 3a0", b"csr 3a0=00001818\n", 0),
+    (b"csr 3a3", b"csr 3a3=1f000000\n", 0),
+    (b"hart 0", b"ok\n", 0),
+    (b"csr 3a0", b"csr 3a0=00001f18\n", 0),
+    (b"csr 3a3", b"csr 3a3=00000000\n", 0),
+];
+
+/// Example 40: two harts, one memory and one table, and entries of each.
+#[test]
+fn has_two_harts(rt: HostRuntime) {
+    expect_two_harts(&rt, rt.alloc(), HAS_TWO_HARTS);
+}
+
+/// The registers of a call of hart 0 to run the enclave, and of a call of hart 1 to end it.
+const BOTH_CALL: &[Line] = &[
+    (b"setreg 16 3", b"ok\n", 0),
+    (b"setreg 10 0", b"ok\n", 0),
+    (b"hart 1", b"ok\n", 0),
+    (b"setreg 17 0a454e43", b"ok\n", 0),
+    (b"setreg 16 2", b"ok\n", 0),
+    (b"setreg 10 0", b"ok\n", 0),
+    (b"hart 0", b"ok\n", 0),
+];
+
+const ENDS_AND_RUNS: &[Line] = &[
+    (
+        b"sched 10",
+        b"hart 0 1 pc=80010008 mode=S world=host trap=00000009:00000000\n\
+        hart 1 1 pc=80010004 mode=S world=host trap=00000009:00000000\n",
+        0,
+    ),
+    (b"reg 10", b"x10=fffffff9\n", 0),
+    (b"hart 1", b"ok\n", 0),
+    (b"reg 10", b"x10=00000000\n", 0),
+];
+
+const RUNS_AND_ENDS: &[Line] = &[
+    (
+        b"sched 01",
+        b"hart 0 1 pc=80020000 mode=S world=e0 trap=00000009:00000000\n\
+        hart 1 1 pc=80010004 mode=S world=host trap=00000009:00000000\n",
+        1,
+    ),
+    (b"hart 1", b"ok\n", 0),
+    (b"reg 10", b"x10=fffffff8\n", 0),
+];
+
+/// Gives lines to a bench of two harts, of which hart 0 is to run the enclave and hart 1 is to end it.
+fn expect_both_call(rt: &impl Abort, alloc: Global, lines: &[Line]) {
+    let mut bench = bench_of(rt, alloc, &[0x73; 2], Harts::Two);
+    expect(rt, &mut bench, CREATE);
+    expect(rt, &mut bench, BOTH_CALL);
+    expect(rt, &mut bench, lines);
+}
+
+/// Example 40: the steps are made in the order of their digits.
+#[test]
+fn steps_harts_in_their_order(rt: HostRuntime) {
+    expect_both_call(&rt, rt.alloc(), ENDS_AND_RUNS);
+    expect_both_call(&rt, rt.alloc(), RUNS_AND_ENDS);
 }

@@ -22,7 +22,7 @@ use Rattle.rv_monitor.specs.Create.{bytes_of_block, create_refusals, created, me
 use Rattle.rv_monitor.specs.Destroy.{destroyed}
 use Rattle.rv_monitor.specs.Measure.{measure_refusals, measured, measured_slot, measurement_at}
 use Rattle.rv_monitor.specs.Refusals.{Called, first_refusal, refused, state_refusals}
-use Rattle.rv_monitor.specs.State.{MonitoredState, seated}
+use Rattle.rv_monitor.specs.State.{MonitoredState, seated, seated_beside}
 use Rattle.rv_monitor.specs.Step.{MonitoredStepped, a0, a1, answer_of, answered, call_handled, entry_of, forwarded, handled, handled_cause, handled_exception, monitored_step, past_call, performed, returned, returned_to, stopped_context, timer_stopped, trapped_mode, trapped_pc, with_line_down}
 use Rattle.rv_monitor.specs.Switches.{Handled, entered, goes_on, left, left_slot, slot_of}
 use Rattle.rv_monitor.specs.Table.{Slots, region, with_slot, with_state}
@@ -240,19 +240,19 @@ asked_after cause seat trap one other same = record {
   entered = same.entered;
 }
 
-returned_same : (one other : MonitoredState) (x y : StepOutcome) (a b : Handled) → SameWork one.shared other.shared a b
-    → SameStep one other (returned x a) (returned y b)
-returned_same one other x y a b same =
+returned_same : (one other : MonitoredState) (x y : StepOutcome) (a b : Handled) → one.other ≡ other.other → SameWork one.shared other.shared a b
+    → SameStep one other (returned one.other x a) (returned other.other y b)
+returned_same one other x y a b beside same =
     let back : Seat → Next → Seat = λ seat next. record seat { hart = returned_to seat.hart next.pc next.mode } in
-    record { seat = ap₂ back same.seat same.next; entered = ap (λ (next : Next). next.entered) same.next; shared = same.shared }
+    record { seat = ap₂ back same.seat same.next; beside = ap₂ seated_beside same.shared.table beside; entered = ap (λ (next : Next). next.entered) same.next; shared = same.shared }
 
 pub asked_step_law : AskedStepLaw
-asked_step_law state other trap seats trapped trapped_too same =
+asked_step_law state other trap seats besides trapped trapped_too same =
     let left : Seat → Handled = λ seat. handled (seat_after seat trap) other.shared trap in
     let work = asked_law (seat_after state.seat trap) trap state.shared other.shared (asked_after trap.cause state.seat trap state.shared other.shared same) in
     let works : SameWork state.shared other.shared (handled (seat_after state.seat trap) state.shared trap) (left other.seat) =
     subst (λ (seat : Seat). SameWork state.shared other.shared (handled (seat_after state.seat trap) state.shared trap) (left seat)) seats work in
-    let stepped : SameStep state other (returned (step (bare state)).outcome (handled (seat_after state.seat trap) state.shared trap))
-    (returned (step (bare other)).outcome (left other.seat)) = returned_same state other _ _ _ _ works in
+    let stepped : SameStep state other (returned state.other (step (bare state)).outcome (handled (seat_after state.seat trap) state.shared trap))
+    (returned other.other (step (bare other)).outcome (left other.seat)) = returned_same state other _ _ _ _ besides works in
     subst (λ (after : MonitoredStepped). SameStep state other after (monitored_step other)) (sym (trapped_step state trap trapped))
-    (subst (SameStep state other (returned (step (bare state)).outcome (handled (seat_after state.seat trap) state.shared trap))) (sym (trapped_step other trap trapped_too)) stepped)
+    (subst (SameStep state other (returned state.other (step (bare state)).outcome (handled (seat_after state.seat trap) state.shared trap))) (sym (trapped_step other trap trapped_too)) stepped)

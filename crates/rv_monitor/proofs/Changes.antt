@@ -37,7 +37,7 @@ use Rattle.rv_monitor.specs.Destroy.{destroyed}
 use Rattle.rv_monitor.specs.Layout.{layout}
 use Rattle.rv_monitor.specs.Measure.{measured, measured_slot, measure_refusals, may_store, may_store_all, with_bytes}
 use Rattle.rv_monitor.specs.Refusals.{Called, first_refusal, refused, state_refusals}
-use Rattle.rv_monitor.specs.State.{MonitoredState, IsKept}
+use Rattle.rv_monitor.specs.State.{MonitoredState, IsKept, worlds_beside}
 use Rattle.rv_monitor.specs.Step.{MonitoredStepped, answered, answer_of, entry_of, performed, call_handled, timer_stopped, handled, handled_cause, handled_exception, past_call, stopped_context, with_line_down, trapped_pc, trapped_mode, a0, a1, monitored_step, returned, unhandled}
 use Rattle.rv_monitor.specs.Switches.{Handled, goes_on, entered, left, left_slot, slot_of}
 use Rattle.rv_monitor.specs.Table.{slot_at, with_slot, region, IsValid, IsLawfulSlot}
@@ -159,7 +159,7 @@ entry_same seat shared call = go (first_refusal (state_refusals shared.table cal
   go None = refl
   go (Some refusal) = refl
 
-module _ (seat : Seat) (shared : Shared) (trapped : IsTrapped seat shared) (byte : ℕ) where
+module _ (beside : List World) (seat : Seat) (shared : Shared) (trapped : IsTrapped beside seat shared) (byte : ℕ) where
   abbrev Left : Handled → Type 0
   Left h = Changes seat.world seat.hart.regs shared byte h.shared
 
@@ -272,8 +272,8 @@ module _ (state : MonitoredState) (kept : IsKept state) (byte : ℕ) where
 
   abbrev ended : Stepped → Option Trap → MonitoredStepped
   ended after o =
-      option_case o (unhandled after.outcome (seat_after after) (shared_after after))
-      (λ trap. returned after.outcome (handled (seat_after after) (shared_after after) trap))
+      option_case o (unhandled state.other after.outcome (seat_after after) (shared_after after))
+      (λ trap. returned state.other after.outcome (handled (seat_after after) (shared_after after) trap))
 
   abbrev Changed : Stepped → Option Trap → Type 0
   Changed after o =
@@ -292,7 +292,7 @@ module _ (state : MonitoredState) (kept : IsKept state) (byte : ℕ) where
   by_trap after (Some trap) is confined_by may keeps =
       let trapped = after_trap state after trap is kept keeps confined_by in
       let as_before = same_if after.outcome.trap trap after.state is keeps in
-      let work = handled_changes (seat_after after) (shared_after after) trapped byte trap in
+      let work = handled_changes (worlds_beside state.other) (seat_after after) (shared_after after) trapped byte trap in
       let end = (handled (seat_after after) (shared_after after) trap).shared in
       elim work [
         | inl same ↦ inl (same ∙ ap (λ (memory : List ℕ). byte_at memory byte) as_before.1)

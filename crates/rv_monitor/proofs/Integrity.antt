@@ -37,7 +37,7 @@ use Rattle.rv_monitor.specs.Integrity.{enters, IsSpared, IntegrityLaw}
 use Rattle.rv_monitor.specs.Layout.{layout}
 use Rattle.rv_monitor.specs.Measure.{measured, measure_refusals, measured_slot, may_store, may_store_all, with_bytes}
 use Rattle.rv_monitor.specs.Refusals.{Called, refused, first_refusal, state_refusals}
-use Rattle.rv_monitor.specs.State.{MonitoredState, IsKept}
+use Rattle.rv_monitor.specs.State.{MonitoredState, IsKept, worlds_beside}
 use Rattle.rv_monitor.specs.Step.{answered, answer_of, entry_of, performed, call_handled, timer_stopped, handled, handled_cause, handled_exception, past_call, stopped_context, with_line_down, trapped_pc, trapped_mode, a0, a1, monitored_step, MonitoredStepped, returned, unhandled}
 use Rattle.rv_monitor.specs.Switches.{Handled, goes_on, entered, left, left_slot, slot_of}
 use Rattle.rv_monitor.specs.Table.{Slots, slot_at, with_slot, with_state, region, is_live, is_world_of, IsValid, IsLawfulSlot}
@@ -253,7 +253,7 @@ entry_spares k seat shared call =
 
 -- ---- all that the monitor does after a trap
 
-module _ (k : ℕ) (seat : Seat) (shared : Shared) (trapped : IsTrapped seat shared)
+module _ (beside : List World) (k : ℕ) (seat : Seat) (shared : Shared) (trapped : IsTrapped beside seat shared)
     (rests : is_world_of k seat.world ≡ false) (live : is_live shared.table k ≡ true) where
   abbrev MeasureSpares : Entries → Type 0
   MeasureSpares entries =
@@ -347,8 +347,8 @@ module _ (state : MonitoredState) (k : ℕ) (kept : IsKept state) (rests : is_wo
 
   abbrev ended : Stepped → Option Trap → MonitoredStepped
   ended after o =
-      option_case o (unhandled after.outcome (seat_after after) (shared_after after))
-      (λ trap. returned after.outcome (handled (seat_after after) (shared_after after) trap))
+      option_case o (unhandled state.other after.outcome (seat_after after) (shared_after after))
+      (λ trap. returned state.other after.outcome (handled (seat_after after) (shared_after after) trap))
 
   by_trap : (after : Stepped) (o : Option Trap) → after.outcome.trap ≡ o → IsConfined (bare_of state) after → TrapKeeps (bare_of state) after
       → is_live state.shared.table k ≡ true → enters k (ended after o).outcome.entered ≡ false → is_live (ended after o).state.shared.table k ≡ true
@@ -356,7 +356,7 @@ module _ (state : MonitoredState) (k : ℕ) (kept : IsKept state) (rests : is_wo
   by_trap after None is confined_by keeps live passes stays = itself k (shared_after after)
   by_trap after (Some trap) is confined_by keeps live passes stays =
       let trapped = after_trap state after trap is kept keeps confined_by in
-      handled_spares k (seat_after after) (shared_after after) trapped rests live trap passes stays
+      handled_spares (worlds_beside state.other) k (seat_after after) (shared_after after) trapped rests live trap passes stays
 
   pub spared_from : (after : Stepped) → IsConfined (bare_of state) after → TouchesPermitted (bare_of state) after → TrapKeeps (bare_of state) after
       → is_live state.shared.table k ≡ true → enters k (ended after after.outcome.trap).outcome.entered ≡ false

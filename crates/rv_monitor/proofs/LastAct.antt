@@ -1,5 +1,5 @@
 -- The last act after a trap, which sets the entries and mie: where it changes nothing, and that nothing before it writes an entry.
-use Rattle.std.proofs.Common.{◌≡◌, ℕ, Option, Some, None, Result, Ok, Err, refl, ap}
+use Rattle.std.proofs.Common.{◌≡◌, ℕ, Option, Some, None, IfSome, Result, Ok, Err, refl, ap}
 use Rattle.rv_word.specs.Cases.{option_case}
 use Rattle.rv_pmp.specs.Entries.{Entries}
 use Rattle.rv_state.specs.Registers.{register}
@@ -10,7 +10,7 @@ use Rattle.rv_monitor.specs.Create.{created, proposed}
 use Rattle.rv_monitor.specs.Destroy.{destroyed}
 use Rattle.rv_monitor.specs.Measure.{measured, measured_slot}
 use Rattle.rv_monitor.specs.Refusals.{first_refusal, state_refusals}
-use Rattle.rv_monitor.specs.State.{seated}
+use Rattle.rv_monitor.specs.State.{seated, seated_beside, IsSeated}
 use Rattle.rv_monitor.specs.Step.{answered, answer_of, entry_of, performed, call_handled, timer_stopped, forwarded, forwarded_csrs, with_layout, past_call, stopped_context, with_line_down, trapped_pc, trapped_mode, a0, a1}
 use Rattle.rv_monitor.specs.Switches.{Handled, goes_on, entered, left, left_slot, slot_of}
 use Rattle.rv_monitor.specs.Table.{Slots}
@@ -34,6 +34,12 @@ laid_out_as_is slots seat laid =
     let entries = laid.entries in
     let mie = laid.mie in
     rw (← entries, ← mie) refl
+
+pub beside_as_is : (slots : Slots) (other : Option Seat) → IfSome other (IsSeated slots) → seated_beside slots other ≡ other
+beside_as_is slots None is = refl
+beside_as_is slots (Some other) is =
+    let layout = is.layout in
+    ap Some (laid_out_as_is slots other (record { entries = layout.entries; mie = layout.mie }))
 
 pub forwarded_laid_out : (seat : Seat) (shared : Shared) (trap : Trap) → seated shared.table seat ≡ seat
     → with_layout (forwarded seat shared trap) ≡ forwarded seat shared trap

@@ -21,6 +21,9 @@ pub mod Reaches
 pub mod KeptReaches
 pub mod BlindSteps
 pub mod RunsAlike
+pub mod Turned
+pub mod HartsAlike
+pub mod HartsSpare
 pub mod Asked
 pub mod Switched
 pub mod Returned

@@ -28,6 +28,7 @@ use Rattle.rv_monitor.specs.declared.refusal.Refusal.TheVariants.{NotSupported}
 use Rattle.rv_monitor.specs.declared.seat.Seat.{Seat}
 use Rattle.rv_monitor.specs.declared.shared.Shared.{Shared}
 use Rattle.rv_monitor.specs.Switches.{Handled}
+use Rattle.rv_monitor.proofs.LastAct.{beside_as_is}
 use Rattle.rv_monitor.proofs.TrapSteps.{seat_after, trapped_step}
 
 -- ---- the call
@@ -78,19 +79,20 @@ again_aligned pc = omega arith
 
 module _ (state : MonitoredState) (kept : IsKept state) (trap : Trap) (refusal : Refusal) where
   returned_refused : (outcome : StepOutcome)
-      → (returned outcome (with_layout (answered (seat_after state.seat trap) state.shared (status_of refusal) 0))).state ≡ refused_state state trap refusal
+      → (returned state.other outcome (with_layout (answered (seat_after state.seat trap) state.shared (status_of refusal) 0))).state ≡ refused_state state trap refusal
   returned_refused outcome =
       let hart = state.seat.hart in
       let mprv = kept.layout.mprv in
       let entries = kept.layout.entries in
       let mie = kept.layout.mie in
-      rw (again_aligned hart.pc, or_none (is_set hart.csrs.mcountinhibit 0), mprv, ← entries, ← mie) refl
+      let beside = beside_as_is state.shared.table state.other kept.other in
+      rw (again_aligned hart.pc, or_none (is_set hart.csrs.mcountinhibit 0), mprv, ← entries, ← mie, beside) refl
 
   abbrev Refused : MonitoredStepped → Type 0
   Refused after = (after.state ≡ refused_state state trap refusal) × (after.outcome.entered ≡ None)
 
   refused_at : (outcome : StepOutcome) → trap.cause ≡ causes.Exception EnvironmentCallFromS → refusal_of state.seat state.shared ≡ Some refusal
-      → Refused (returned outcome (handled (seat_after state.seat trap) state.shared trap))
+      → Refused (returned state.other outcome (handled (seat_after state.seat trap) state.shared trap))
   unfolding handled refusal_of
   refused_at outcome by_ecall is =
       let told = refused_handled (seat_after state.seat trap) state.shared refusal trap trap.cause by_ecall is in

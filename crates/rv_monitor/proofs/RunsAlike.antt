@@ -8,7 +8,7 @@ use Rattle.rv_hart.specs.Step.{step}
 use Rattle.rv_hart.specs.declared.trap.Trap.{Trap}
 use Rattle.rv_monitor.specs.Confidentiality.{bare}
 use Rattle.rv_monitor.specs.Runs.{Ran, run, after_one, BothRunIn, BothRunPast, RunLaw, KeptLaw}
-use Rattle.rv_monitor.specs.State.{MonitoredState, IsKept}
+use Rattle.rv_monitor.specs.State.{MonitoredState, IsKept, worlds_beside}
 use Rattle.rv_monitor.specs.Step.{handled, monitored_step, returned, unhandled}
 use Rattle.rv_monitor.specs.declared.outcome.Outcome.{Outcome}
 use Rattle.rv_monitor.specs.declared.seat.Seat.{Seat}
@@ -30,11 +30,13 @@ module _ (state : MonitoredState) (kept : IsKept state) where
   shared = record state.shared { memory = after.state.memory }
 
   kept_by_trap : (o : Option Trap) → after.outcome.trap ≡ o
-      → IsKept (option_case o (unhandled after.outcome seat shared) (λ trap. returned after.outcome (handled seat shared trap))).state
+      → IsKept (option_case o (unhandled state.other after.outcome seat shared) (λ trap. returned state.other after.outcome (handled seat shared trap))).state
   kept_by_trap None is = after_none state after is kept (keeps_machine_parts (bare state)) (keeps_mprv_clear (bare state)) (confined (bare state))
   kept_by_trap (Some trap) is =
-      returned_kept (handled seat shared trap)
-      (handled_done seat shared trap (after_trap state after trap is kept (trap_keeps (bare state)) (confined (bare state)))) (handled_laid_out seat shared trap)
+      let beside = worlds_beside state.other in
+      returned_kept state.shared.table state.other (handled seat shared trap)
+      (handled_done beside seat shared trap (after_trap state after trap is kept (trap_keeps (bare state)) (confined (bare state))))
+      (handled_laid_out beside seat shared trap) kept.other
 
 pub kept_law : KeptLaw
 unfolding monitored_step

@@ -1,5 +1,5 @@
 -- A scrambled state agrees with the one before but for its slot, and keeps what is true in every state.
-use Rattle.std.proofs.Common.{◌≡◌, ℕ, ◌+◌, ◌-◌, ◌<◌, Bool, true, false, List, [], ◌∷◌, length, Option, Some, None, IfSome, refl, sym, ap, ◌∙◌, inl, inr, arith, subst, length-set}
+use Rattle.std.proofs.Common.{◌≡◌, ℕ, ◌+◌, ◌-◌, ◌<◌, Bool, true, false, List, length, Option, Some, None, IfSome, refl, sym, ap, ◌∙◌, inl, inr, arith, subst, length-set}
 use Rattle.std.specs.Prelude.{is_some, nat_le, nat_lt, not, if◌then◌else◌}
 use Rattle.std.specs.Option.{option_map}
 use Rattle.std.proofs.lemmas.Bool.{cases_lt, cases_eq, cases_Bool, and_from, le-leb, lt-ltb}
@@ -10,7 +10,8 @@ use Rattle.rv_monitor.specs.AgreeBut.{AgreeBut, AgreeOutside, SharedButFor}
 use Rattle.rv_monitor.specs.Blocks.{has}
 use Rattle.rv_monitor.specs.Contexts.{Contexts, context_at, with_context, can_go_on}
 use Rattle.rv_monitor.specs.Scramble.{can_scramble, complemented_context, complemented_block, scrambled_shared, scrambled}
-use Rattle.rv_monitor.specs.State.{MonitoredState, IsSound, IsKept, is_held}
+use Rattle.std.specs.List.{list_any}
+use Rattle.rv_monitor.specs.State.{MonitoredState, IsSound, IsKept, is_held, worlds, worlds_beside}
 use Rattle.rv_monitor.specs.Table.{slot_at, region, is_live, is_running, runs, is_world_of}
 use Rattle.rv_monitor.specs.declared.block.Block.{Block}
 use Rattle.rv_monitor.specs.declared.context.Context.{Context}
@@ -19,7 +20,7 @@ use Rattle.rv_monitor.specs.declared.slot_info.SlotInfo.{SlotInfo}
 use Rattle.rv_monitor.specs.declared.world.World.{World}
 use Rattle.rv_monitor.proofs.Agreement.{inside-is, read-none}
 use Rattle.rv_monitor.proofs.Alike.{itself}
-use Rattle.rv_monitor.proofs.Slots.{at_same, at_other, or-first}
+use Rattle.rv_monitor.proofs.Slots.{at_same, at_other, or-first, or-second}
 use Rattle.rv_monitor.proofs.Sound.{live_in_range}
 use Rattle.rv_monitor.proofs.Valid.{valid_by_size}
 
@@ -115,6 +116,7 @@ module _ (shared : Shared) (worlds : List World) (k : ℕ) (sound : IsSound shar
           ];
     };
     running = sound.running;
+    apart = sound.apart;
   }
 
   pub scrambled_agrees : SharedButFor k shared (scrambled_shared shared k)
@@ -134,24 +136,36 @@ module _ (shared : Shared) (worlds : List World) (k : ℕ) (sound : IsSound shar
 pub scramble_kept : (state : MonitoredState) (k : ℕ) → IsKept state → can_scramble state.shared.table k ≡ true → IsKept (scrambled state k)
 unfolding scrambled_shared
 scramble_kept state k kept may = record {
-  shared = scrambled_sound state.shared (state.seat.world ∷ []) k kept.shared may;
+  shared = scrambled_sound state.shared (worlds state) k kept.shared may;
   host = kept.host;
   layout = kept.layout;
+  other = kept.other;
 }
 
 not_its_world : (state : MonitoredState) (k : ℕ) → IsKept state → runs state.shared.table k ≡ false → is_world_of k state.seat.world ≡ false
 not_its_world state k kept rests = or-first _ _ (sym (kept.shared.running k) ∙ rests)
 
+not_beside : (state : MonitoredState) (k : ℕ) → IsKept state → runs state.shared.table k ≡ false → list_any (is_world_of k) (worlds_beside state.other) ≡ false
+not_beside state k kept rests = or-second _ _ (sym (kept.shared.running k) ∙ rests)
+
 pub scramble_agrees : (state : MonitoredState) (k : ℕ) → IsKept state → can_scramble state.shared.table k ≡ true → AgreeBut k state (scrambled state k)
 scramble_agrees state k kept may = record {
   seat = refl;
+  beside = refl;
   rests = not_its_world state k kept (slot_rests (slot_at state.shared.table k) may).1;
-  shared = scrambled_agrees state.shared (state.seat.world ∷ []) k kept.shared may;
+  rests_beside = not_beside state k kept (slot_rests (slot_at state.shared.table k) may).1;
+  shared = scrambled_agrees state.shared (worlds state) k kept.shared may;
 }
 
 -- what is not scrambled agrees with itself
 pub itself_agrees : (state : MonitoredState) (k : ℕ) → IsKept state → runs state.shared.table k ≡ false → AgreeBut k state state
-itself_agrees state k kept rests = record { seat = refl; rests = not_its_world state k kept rests; shared = itself k state.shared }
+itself_agrees state k kept rests = record {
+  seat = refl;
+  beside = refl;
+  rests = not_its_world state k kept rests;
+  rests_beside = not_beside state k kept rests;
+  shared = itself k state.shared;
+}
 
 -- ---- the call: done where it may be, and else nothing
 

@@ -1,9 +1,9 @@
 -- What the harts share stays sound over each call.
-use Rattle.std.proofs.Common.{◌≡◌, ◌≢◌, ℕ, zero, suc, ◌+◌, ◌<◌, Bool, true, false, List, [], ◌∷◌, Option, Some, None, IfSome, length, refl, sym, ap, ◌∙◌, subst, inl, inr, arith, length-set, replicate}
+use Rattle.std.proofs.Common.{◌≡◌, ◌≢◌, ℕ, zero, suc, ◌+◌, ◌<◌, Bool, true, false, List, ◌∷◌, Option, Some, None, IfSome, length, refl, sym, ap, ◌∙◌, subst, inl, inr, arith, length-set, replicate}
 use Rattle.std.specs.Prelude.{◌==◌, ◌%◌, is_some}
 use Rattle.std.specs.List.{list_any, find, range_with_len}
 use Rattle.std.specs.Option.{is_none}
-use Rattle.std.proofs.lemmas.Bool.{cases_eq, cases_Bool, cases_lt, cond-true, cond-false, and_parts, ne_eqb, eq-eqb}
+use Rattle.std.proofs.lemmas.Bool.{cases_eq, cases_Bool, cases_lt, cond-true, cond-false, and_parts, ne_eqb, eq-eqb, eqb-true}
 use Rattle.std.proofs.lemmas.Bool.Decides.{nat_tests}
 use Rattle.std.proofs.lemmas.List.{get_or_past}
 use Rattle.rv_word.specs.Cases.{option_case}
@@ -17,7 +17,7 @@ use Rattle.sha2.proofs.Facts256.{length-sha256}
 use Rattle.rv_monitor.specs.Destroy.{destroyed, without, zeroed}
 use Rattle.rv_monitor.specs.Measure.{measured, measure_refusals, measurement_at, with_bytes}
 use Rattle.rv_monitor.specs.Refusals.{Called, refused, first_refusal, state_refusals}
-use Rattle.rv_monitor.specs.State.{IsSound, is_held}
+use Rattle.rv_monitor.specs.State.{IsSound, AreApart, is_held}
 use Rattle.rv_monitor.specs.Table.{Slots, slot_at, with_slot, with_state, free_slot, runs, is_running, is_window, is_world_of, region, window}
 use Rattle.rv_monitor.specs.declared.block.Block.{Block}
 use Rattle.rv_monitor.specs.declared.call.Call.TheVariants as calls
@@ -43,7 +43,8 @@ module _ (shared : Shared) (worlds after_worlds : List World) (k : ℕ) (o : Opt
     (sound : IsSound shared worlds) (inside : k < 13) (size : length shared.memory ≡ length memory)
     (fits : Fits shared.memory shared.table k o) (kept : is_some c ≡ is_held o) (held : IfSome c (λ context. can_go_on context ≡ true))
     (here_runs : running_in o ≡ list_any (is_world_of k) after_worlds)
-    (others_run : (j : ℕ) → j ≢ k → list_any (is_world_of j) worlds ≡ list_any (is_world_of j) after_worlds) where
+    (others_run : (j : ℕ) → j ≢ k → list_any (is_world_of j) worlds ≡ list_any (is_world_of j) after_worlds)
+    (apart : AreApart after_worlds) where
   table_here : slot_at (with_slot shared.table k o) k ≡ o
   table_here = at_same shared.table k o (omega (arith, sound.valid.count))
 
@@ -81,6 +82,7 @@ module _ (shared : Shared) (worlds after_worlds : List World) (k : ℕ) (o : Opt
     valid = valid_by_size shared.memory memory (with_slot shared.table k o) size (valid_with shared.memory shared.table k o sound.valid inside fits);
     contexts = record { count = length-set shared.contexts k c ∙ sound.contexts.count; kept = kept_after; held = held_after };
     running = running_after;
+    apart = apart;
   }
 
 -- only memory changes, and keeps its size
@@ -90,6 +92,7 @@ sound_by_size shared worlds memory sound size = record {
   valid = valid_by_size shared.memory memory shared.table size sound.valid;
   contexts = record { count = sound.contexts.count; kept = sound.contexts.kept; held = sound.contexts.held };
   running = sound.running;
+  apart = sound.apart;
 }
 
 -- ---- create
@@ -155,7 +158,7 @@ created_done shared worlds new k sound lawful window apart entry is =
     let info = recorded shared.memory new in
     let before : false ≡ list_any (is_world_of k) worlds = sym (ap running_in slot.free) ∙ sound.running k in
     sound_with shared worlds worlds k (Some info) (Some (first_context info)) shared.memory sound slot.in_range refl
-    (new_fits shared new k lawful window (free_from shared.table new apart)) refl (first_goes_on info (entry_aligned new entry)) before (λ j other. refl)
+    (new_fits shared new k lawful window (free_from shared.table new apart)) refl (first_goes_on info (entry_aligned new entry)) before (λ j other. refl) sound.apart
 
 -- where no row holds, the call is to be judged by what it does
 unless_sound : (shared : Shared) (worlds : List World) (o : Option Refusal) (done : Called) → IsSound shared worlds → (o ≡ None → IsSound done.shared worlds)
@@ -199,7 +202,7 @@ gone shared worlds k info sound is rests =
     let block = region shared.table k in
     sound_with shared worlds worlds k None None (zeroed shared.memory block) sound (live_in_range shared.table k info sound.valid.count is)
     (size_zeroed shared.memory block (write shared.memory block.base (replicate block.size 0)) refl)
-    (nothing_fits shared.memory shared.table k) refl tt before (λ j other. refl)
+    (nothing_fits shared.memory shared.table k) refl tt before (λ j other. refl) sound.apart
 
 pub destroyed_sound : (shared : Shared) (worlds : List World) (k : ℕ) → IsSound shared worlds → IsSound (destroyed shared k).shared worlds
 unfolding destroyed
@@ -224,23 +227,33 @@ with_state_is : (slots : Slots) (k : ℕ) (info : SlotInfo) (state : EnclaveStat
     → with_state slots k state ≡ with_slot slots k (Some (record info { state = state }))
 with_state_is slots k info state is = ap (λ o. option_case o slots (λ i. with_slot slots k (Some (record i { state = state })))) is
 
-alone : (j k : ℕ) → j ≢ k → list_any (is_world_of j) (Host ∷ []) ≡ list_any (is_world_of j) (Enclave k ∷ [])
-alone j k other = let apart : (k == j) ≡ false = ne_eqb k j (λ same. other (sym same)) in rw apart refl
+-- worlds beside a world that changes from the host to slot k, or back
+module _ (beside : List World) where
+  alone : (j k : ℕ) → j ≢ k → list_any (is_world_of j) (Host ∷ beside) ≡ list_any (is_world_of j) (Enclave k ∷ beside)
+  alone j k other = let apart : (k == j) ≡ false = ne_eqb k j (λ same. other (sym same)) in rw apart refl
 
-pub entered_sound : (shared : Shared) (k : ℕ) (info : SlotInfo) → IsSound shared (Host ∷ []) → slot_at shared.table k ≡ Some info
-    → IsSound (record shared { table = with_state shared.table k Running; contexts = with_context shared.contexts k None }) (Enclave k ∷ [])
-entered_sound shared k info sound is =
-    let own : (k == k) ≡ true = eq-eqb k k refl in
-    let here : true ≡ list_any (is_world_of k) (Enclave k ∷ []) = rw own refl in
-    rw (with_state_is shared.table k info Running is)
-    (sound_with shared (Host ∷ []) (Enclave k ∷ []) k (Some (record info { state = Running })) None shared.memory sound
-    (live_in_range shared.table k info sound.valid.count is) refl (own_fits shared.memory shared.table k info Running sound.valid is) refl tt here (λ j other. alone j k other))
+  apart_from : (k j : ℕ) → list_any (is_world_of k) beside ≡ false → is_world_of j (Enclave k) ≡ true → list_any (is_world_of j) beside ≡ false
+  apart_from k j rests own = let same : k ≡ j = eqb-true k j own in rw (← same) rests
 
-pub left_sound : (shared : Shared) (k : ℕ) (info : SlotInfo) (state : EnclaveState) (kept : Context) → IsSound shared (Enclave k ∷ []) → slot_at shared.table k ≡ Some info
-    → is_running state ≡ false → can_go_on kept ≡ true
-    → IsSound (record shared { table = with_state shared.table k state; contexts = with_context shared.contexts k (Some kept) }) (Host ∷ [])
-left_sound shared k info state kept sound is rests held =
-    let kept_is : true ≡ is_held (Some (record info { state = state })) = rw rests refl in
-    rw (with_state_is shared.table k info state is)
-    (sound_with shared (Enclave k ∷ []) (Host ∷ []) k (Some (record info { state = state })) (Some kept) shared.memory sound
-    (live_in_range shared.table k info sound.valid.count is) refl (own_fits shared.memory shared.table k info state sound.valid is) kept_is held rests (λ j other. sym (alone j k other)))
+  pub entered_sound : (shared : Shared) (k : ℕ) (info : SlotInfo) → IsSound shared (Host ∷ beside) → slot_at shared.table k ≡ Some info → is_running info.state ≡ false
+      → IsSound (record shared { table = with_state shared.table k Running; contexts = with_context shared.contexts k None }) (Enclave k ∷ beside)
+  entered_sound shared k info sound is rests =
+      let own : (k == k) ≡ true = eq-eqb k k refl in
+      let here : true ≡ list_any (is_world_of k) (Enclave k ∷ beside) = rw own refl in
+      let none : list_any (is_world_of k) beside ≡ false = sym (sound.running k) ∙ ap running_in is ∙ rests in
+      rw (with_state_is shared.table k info Running is)
+      (sound_with shared (Host ∷ beside) (Enclave k ∷ beside) k (Some (record info { state = Running })) None shared.memory sound
+      (live_in_range shared.table k info sound.valid.count is) refl (own_fits shared.memory shared.table k info Running sound.valid is) refl tt here (λ j other. alone j k other)
+      (λ j own. apart_from k j none own, sound.apart.1))
+
+  pub left_sound : (shared : Shared) (k : ℕ) (info : SlotInfo) (state : EnclaveState) (kept : Context) → IsSound shared (Enclave k ∷ beside) → slot_at shared.table k ≡ Some info
+      → is_running state ≡ false → can_go_on kept ≡ true
+      → IsSound (record shared { table = with_state shared.table k state; contexts = with_context shared.contexts k (Some kept) }) (Host ∷ beside)
+  left_sound shared k info state kept sound is rests held =
+      let own : (k == k) ≡ true = eq-eqb k k refl in
+      let kept_is : true ≡ is_held (Some (record info { state = state })) = rw rests refl in
+      let none : list_any (is_world_of k) beside ≡ false = sound.apart.0 k own in
+      rw (with_state_is shared.table k info state is)
+      (sound_with shared (Enclave k ∷ beside) (Host ∷ beside) k (Some (record info { state = state })) (Some kept) shared.memory sound
+      (live_in_range shared.table k info sound.valid.count is) refl (own_fits shared.memory shared.table k info state sound.valid is) kept_is held (rests ∙ sym none) (λ j other. sym (alone j k other))
+      (λ j own. let never : false ≡ true = own in cc, sound.apart.1))

@@ -1,5 +1,5 @@
 -- Every step of the monitored machine keeps what is true in every state.
-use Rattle.std.proofs.Common.{◌≡◌, ℕ, false, List, [], ◌∷◌, Option, Some, None, IfSome, length, refl, sym, ap, ◌∙◌, subst, inl, inr, arith}
+use Rattle.std.proofs.Common.{◌≡◌, ℕ, false, List, ◌∷◌, Option, Some, None, IfSome, length, refl, sym, ap, ◌∙◌, subst, inl, inr, arith}
 use Rattle.std.specs.Prelude.{◌%◌, IfNone}
 use Rattle.std.proofs.lemmas.Bool.{cases_lt}
 use Rattle.std.proofs.lemmas.List.{get_or_past}
@@ -17,7 +17,7 @@ use Rattle.rv_hart.specs.State.{State, Stepped}
 use Rattle.rv_hart.specs.StepLaws.{TrapKeeps, KeepsMprvClear, KeepsMachineParts, StaysBelow}
 use Rattle.rv_hart.specs.declared.trap.Trap.{Trap}
 use Rattle.rv_monitor.specs.Layout.{layout, entry_at}
-use Rattle.rv_monitor.specs.State.{MonitoredState, IsKept}
+use Rattle.rv_monitor.specs.State.{MonitoredState, IsKept, IsSeated, IsSound, HostIsStored, seated, seated_beside, worlds, worlds_beside}
 use Rattle.rv_monitor.specs.Step.{returned_to}
 use Rattle.rv_monitor.specs.Switches.{Handled}
 use Rattle.rv_monitor.specs.Table.{Slots}
@@ -72,10 +72,10 @@ abbrev shared_after : MonitoredState → List ℕ → Shared
 shared_after state memory = record state.shared { memory = memory }
 
 trapped_at : (state : MonitoredState) (trap : Trap) (memory : List ℕ) → IsKept state → length state.shared.memory ≡ length memory
-    → IsTrapped (seat_after state (step_counted (trapped state.seat.hart trap) false state.seat.hart.csrs.mcountinhibit None)) (shared_after state memory)
+    → IsTrapped (worlds_beside state.other) (seat_after state (step_counted (trapped state.seat.hart trap) false state.seat.hart.csrs.mcountinhibit None)) (shared_after state memory)
 trapped_at state trap memory kept size = record {
   ready = record {
-    sound = sound_by_size state.shared (state.seat.world ∷ []) memory kept.shared size;
+    sound = sound_by_size state.shared (worlds state) memory kept.shared size;
     host = record { kept = kept.host.kept; held = kept.host.held };
     quiet = record { mpie = kept.layout.mstatus_mie; mprv = kept.layout.mprv; tvm = kept.layout.tvm; tw = kept.layout.tw; tsr = kept.layout.tsr };
   };
@@ -86,14 +86,14 @@ trapped_at state trap memory kept size = record {
 
 trapped_if : (state : MonitoredState) (o : Option Trap) (trap : Trap) (hart : Hart) (memory : List ℕ) → o ≡ Some trap → IsKept state → length state.shared.memory ≡ length memory
     → IfSome o (λ t. (hart ≡ step_counted (trapped state.seat.hart t) false state.seat.hart.csrs.mcountinhibit None) × (memory ≡ state.shared.memory))
-    → IsTrapped (seat_after state hart) (shared_after state memory)
+    → IsTrapped (worlds_beside state.other) (seat_after state hart) (shared_after state memory)
 trapped_if state None trap hart memory is kept size keeps = cc
 trapped_if state (Some t) trap hart memory is kept size keeps =
-    subst (λ (h : Hart). IsTrapped (seat_after state h) (shared_after state memory)) (sym keeps.0) (trapped_at state t memory kept size)
+    subst (λ (h : Hart). IsTrapped (worlds_beside state.other) (seat_after state h) (shared_after state memory)) (sym keeps.0) (trapped_at state t memory kept size)
 
 pub after_trap : (state : MonitoredState) (after : Stepped) (trap : Trap) → after.outcome.trap ≡ Some trap → IsKept state
     → TrapKeeps (record { hart = state.seat.hart; memory = state.shared.memory }) after → IsConfined (record { hart = state.seat.hart; memory = state.shared.memory }) after
-    → IsTrapped (seat_after state after.state.hart) (shared_after state after.state.memory)
+    → IsTrapped (worlds_beside state.other) (seat_after state after.state.hart) (shared_after state after.state.memory)
 after_trap state after trap is kept keeps confined =
     trapped_if state after.outcome.trap trap after.state.hart after.state.memory is kept
     (step_size (record { hart = state.seat.hart; memory = state.shared.memory }) after confined) keeps
@@ -112,11 +112,12 @@ same_status a b is =
     (ap (λ (c : CsrState). c.mstatus.mie) is, ap (λ (c : CsrState). c.mstatus.tvm) is, ap (λ (c : CsrState). c.mstatus.tw) is, ap (λ (c : CsrState). c.mstatus.tsr) is)
 
 kept_at : (state : MonitoredState) (hart : Hart) (memory : List ℕ) → IsKept state → StaysBelow state.seat.hart hart → hart.csrs.mstatus.mprv ≡ false
-    → length state.shared.memory ≡ length memory → IsKept (record { seat = seat_after state hart; shared = shared_after state memory })
+    → length state.shared.memory ≡ length memory → IsKept (record { seat = seat_after state hart; other = state.other; shared = shared_after state memory })
 kept_at state hart memory kept below mprv size =
     let status = same_status hart.csrs state.seat.hart.csrs below.0 in
     record {
-      shared = sound_by_size state.shared (state.seat.world ∷ []) memory kept.shared size;
+      shared = sound_by_size state.shared (worlds state) memory kept.shared size;
+      other = kept.other;
       host = record { kept = kept.host.kept; held = kept.host.held };
       layout = record {
         entries = same_pmp hart.csrs state.seat.hart.csrs below.0 ∙ kept.layout.entries;
@@ -138,7 +139,7 @@ pub after_none : (state : MonitoredState) (after : Stepped) → after.outcome.tr
     → KeepsMachineParts (record { hart = state.seat.hart; memory = state.shared.memory }) after
     → KeepsMprvClear (record { hart = state.seat.hart; memory = state.shared.memory }) after
     → IsConfined (record { hart = state.seat.hart; memory = state.shared.memory }) after
-    → IsKept (record { seat = seat_after state after.state.hart; shared = shared_after state after.state.memory })
+    → IsKept (record { seat = seat_after state after.state.hart; other = state.other; shared = shared_after state after.state.memory })
 after_none state after is kept parts mprv confined =
     let below = stays_if after.outcome.trap (StaysBelow state.seat.hart after.state.hart) is (parts kept.layout.mode kept.layout.mprv) in
     kept_at state after.state.hart after.state.memory kept below (mprv (λ b. kept.layout.mprv) below.1)
@@ -146,12 +147,40 @@ after_none state after is kept parts mprv confined =
 
 -- ---- the return
 
-pub returned_kept : (h : Handled) → IsDone h → IsLaidOut h.shared.table h.seat
-    → IsKept (record { seat = record h.seat { hart = returned_to h.seat.hart h.next.pc h.next.mode }; shared = h.shared })
-returned_kept h done laid =
+-- the other hart's seat stays as every seat is, laid out by another table
+other_seated : (before after : Slots) (other : Seat) → IsSeated before other → IsSeated after (seated after other)
+other_seated before after other is =
+    let host = is.host in
+    let layout = is.layout in
+    record {
+      host = record { kept = host.kept; held = host.held };
+      layout = record {
+        entries = refl;
+        mie = refl;
+        mode = layout.mode;
+        mstatus_mie = layout.mstatus_mie;
+        mprv = layout.mprv;
+        tvm = layout.tvm;
+        tw = layout.tw;
+        tsr = layout.tsr;
+      };
+    }
+
+pub beside_seated : (before after : Slots) (other : Option Seat) → IfSome other (IsSeated before) → IfSome (seated_beside after other) (IsSeated after)
+beside_seated before after None is = tt
+beside_seated before after (Some other) is = other_seated before after other is
+
+pub worlds_stay : (slots : Slots) (other : Option Seat) → worlds_beside (seated_beside slots other) ≡ worlds_beside other
+worlds_stay slots None = refl
+worlds_stay slots (Some other) = refl
+
+pub returned_kept : (before : Slots) (other : Option Seat) (h : Handled) → IsDone (worlds_beside other) h → IsLaidOut h.shared.table h.seat → IfSome other (IsSeated before)
+    → IsKept (record { seat = record h.seat { hart = returned_to h.seat.hart h.next.pc h.next.mode }; other = seated_beside h.shared.table other; shared = h.shared })
+returned_kept before other h done laid seated =
     let ready = done.ready in
     record {
-      shared = ready.sound;
+      shared = subst (λ (ws : List World). IsSound h.shared (h.seat.world ∷ ws)) (sym (worlds_stay h.shared.table other)) ready.sound;
+      other = beside_seated before h.shared.table other seated;
       host = record { kept = ready.host.kept; held = ready.host.held };
       layout = record {
         entries = laid.entries;
@@ -166,15 +195,26 @@ returned_kept h done laid =
     }
 
 -- after a trap no entry is locked
-pub trapped_unlocked : (seat : Seat) (shared : Shared) → IsTrapped seat shared → HasNoLock seat.hart.csrs.pmp
-trapped_unlocked seat shared trapped = subst HasNoLock (sym trapped.layout.entries) (layout_unlocked shared.table seat.world)
+pub trapped_unlocked : (beside : List World) (seat : Seat) (shared : Shared) → IsTrapped beside seat shared → HasNoLock seat.hart.csrs.pmp
+trapped_unlocked beside seat shared trapped = subst HasNoLock (sym trapped.layout.entries) (layout_unlocked shared.table seat.world)
 
 -- ---- a debugger's write of memory
 
 pub kept_by_size : (state : MonitoredState) (memory : List ℕ) → IsKept state → length state.shared.memory ≡ length memory
-    → IsKept (record { seat = state.seat; shared = record state.shared { memory = memory } })
+    → IsKept (record { seat = state.seat; other = state.other; shared = record state.shared { memory = memory } })
 kept_by_size state memory kept size = record {
-  shared = sound_by_size state.shared (state.seat.world ∷ []) memory kept.shared size;
+  shared = sound_by_size state.shared (worlds state) memory kept.shared size;
+  other = kept.other;
   host = kept.host;
   layout = kept.layout;
 }
+
+-- no entry of the other hart is locked
+pub beside_unlocked : (slots : Slots) (other : Option Seat) → IfSome other (IsSeated slots) → IfSome other (λ seat. HasNoLock seat.hart.csrs.pmp)
+beside_unlocked slots None is = tt
+beside_unlocked slots (Some other) is = let layout = is.layout in subst HasNoLock (sym layout.entries) (layout_unlocked slots other.world)
+
+-- what it keeps of its host is as it was
+pub beside_stored : (slots : Slots) (other : Option Seat) → IfSome other HostIsStored → IfSome (seated_beside slots other) HostIsStored
+beside_stored slots None stored = tt
+beside_stored slots (Some other) stored = stored

@@ -272,7 +272,7 @@ same_context host regs pc mode supervisor told_regs regs_is pc_is mode_is superv
 
 module _ (state : MonitoredState) (kept : IsKept state) (stored : HostIsStored state.seat) (trap : Trap) where
   returned_turns : (outcome : StepOutcome) (h : Handled) → outcome.trap ≡ Some trap
-      → Turns (seat_after state.seat trap) (reason trap.cause state.seat.hart.regs) (value trap.cause state.seat.hart.regs) h → StaysOrSwitches state (returned outcome h)
+      → Turns (seat_after state.seat trap) (reason trap.cause state.seat.hart.regs) (value trap.cause state.seat.hart.regs) h → StaysOrSwitches state (returned state.other outcome h)
   returned_turns outcome h trapped_is (inl stays) = inl (record { world = stays.world; host = stays.host; entered = stays.entered })
   returned_turns outcome h trapped_is (inr (inl enters)) =
       inr (inl (record { slot = enters.slot; from_host = enters.from_host; world = enters.world; host = enters.host; entered = enters.entered }))
@@ -298,8 +298,8 @@ module _ (state : MonitoredState) (kept : IsKept state) (stored : HostIsStored s
 
 switched_by : (state : MonitoredState) (o : Option Trap) (outcome : StepOutcome) (hart : Hart) (memory : List ℕ) → IsKept state → HostIsStored state.seat → outcome.trap ≡ o
     → IfSome o (λ t. (hart ≡ hart_after state.seat.hart t) × (memory ≡ state.shared.memory))
-    → StaysOrSwitches state (option_case o (unhandled outcome (record state.seat { hart = hart }) (record state.shared { memory = memory }))
-    (λ t. returned outcome (handled (record state.seat { hart = hart }) (record state.shared { memory = memory }) t)))
+    → StaysOrSwitches state (option_case o (unhandled state.other outcome (record state.seat { hart = hart }) (record state.shared { memory = memory }))
+    (λ t. returned state.other outcome (handled (record state.seat { hart = hart }) (record state.shared { memory = memory }) t)))
 switched_by state None outcome hart memory kept stored is keeps = inl (record { world = refl; host = refl; entered = refl })
 switched_by state (Some trap) outcome hart memory kept stored is keeps =
     let hart_is = keeps.0 in

@@ -21,22 +21,22 @@ abbrev pub seat_after : Seat → Trap → Seat
 seat_after seat trap = record seat { hart = hart_after seat.hart trap }
 
 -- what the step shows of the hart's own
-shows_step : (o : Option Trap) (outcome : StepOutcome) (seat : Seat) (shared : Shared)
-    → (option_case o (unhandled outcome seat shared) (λ trap. returned outcome (handled seat shared trap))).outcome.step ≡ outcome
-shows_step None outcome seat shared = refl
-shows_step (Some trap) outcome seat shared = refl
+shows_step : (o : Option Trap) (beside : Option Seat) (outcome : StepOutcome) (seat : Seat) (shared : Shared)
+    → (option_case o (unhandled beside outcome seat shared) (λ trap. returned beside outcome (handled seat shared trap))).outcome.step ≡ outcome
+shows_step None beside outcome seat shared = refl
+shows_step (Some trap) beside outcome seat shared = refl
 
 same_outcome : (state : MonitoredState) → (monitored_step state).outcome.step ≡ (step (bare state)).outcome
 unfolding monitored_step
 same_outcome state =
     let after = step (bare state) in
-    shows_step after.outcome.trap after.outcome (record state.seat { hart = after.state.hart }) (record state.shared { memory = after.state.memory })
+    shows_step after.outcome.trap state.other after.outcome (record state.seat { hart = after.state.hart }) (record state.shared { memory = after.state.memory })
 
 trapped_by : (state : MonitoredState) (trap : Trap) (o : Option Trap) (outcome : StepOutcome) (hart : Hart) (memory : List ℕ) → o ≡ Some trap
     → IfSome o (λ t. (hart ≡ hart_after state.seat.hart t) × (memory ≡ state.shared.memory))
-    → option_case o (unhandled outcome (record state.seat { hart = hart }) (record state.shared { memory = memory }))
-    (λ t. returned outcome (handled (record state.seat { hart = hart }) (record state.shared { memory = memory }) t))
-    ≡ returned outcome (handled (seat_after state.seat trap) state.shared trap)
+    → option_case o (unhandled state.other outcome (record state.seat { hart = hart }) (record state.shared { memory = memory }))
+    (λ t. returned state.other outcome (handled (record state.seat { hart = hart }) (record state.shared { memory = memory }) t))
+    ≡ returned state.other outcome (handled (seat_after state.seat trap) state.shared trap)
 trapped_by state trap None outcome hart memory is keeps = cc
 trapped_by state trap (Some t) outcome hart memory is keeps =
     let same : t ≡ trap = cc in
@@ -45,7 +45,7 @@ trapped_by state trap (Some t) outcome hart memory is keeps =
     rw (hart_is, memory_is, same) refl
 
 pub trapped_step : (state : MonitoredState) (trap : Trap) → (monitored_step state).outcome.step.trap ≡ Some trap
-    → monitored_step state ≡ returned (step (bare state)).outcome (handled (seat_after state.seat trap) state.shared trap)
+    → monitored_step state ≡ returned state.other (step (bare state)).outcome (handled (seat_after state.seat trap) state.shared trap)
 unfolding monitored_step
 trapped_step state trap is =
     let after = step (bare state) in

@@ -1,10 +1,11 @@
 -- Two states of the monitored machine that agree but for what is private to one enclave: the bytes of its region and its context.
 -- (No rule of a standard: what the laws of confidentiality speak of.)
 use Rattle.std.specs.Prelude.{◌≡◌, ◌≢◌, ℕ, ◌+◌, Bool, false, List, length, slice_index}
+use Rattle.std.specs.List.{list_any}
 use Rattle.rv_memory.specs.Memory.{ram_base}
 use Rattle.rv_monitor.specs.Blocks.{has}
 use Rattle.rv_monitor.specs.Contexts.{Contexts, context_at}
-use Rattle.rv_monitor.specs.State.{MonitoredState}
+use Rattle.rv_monitor.specs.State.{MonitoredState, worlds_beside}
 use Rattle.rv_monitor.specs.Table.{Slots, region, is_live, is_world_of}
 use Rattle.rv_monitor.specs.declared.shared.Shared.{Shared}
 
@@ -29,8 +30,10 @@ pub record SharedButFor (e : ℕ) (one other : Shared) : Type 0 where
   pub contexts : SameContexts e one.contexts other.contexts
   pub gone : is_live one.table e ≡ false → one ≡ other
 
--- the enclave of slot e runs in neither
+-- the enclave of slot e runs in neither, on no hart
 pub record AgreeBut (e : ℕ) (one other : MonitoredState) : Type 0 where
   pub seat : one.seat ≡ other.seat
+  pub beside : one.other ≡ other.other
   pub rests : is_world_of e one.seat.world ≡ false
+  pub rests_beside : list_any (is_world_of e) (worlds_beside one.other) ≡ false
   pub shared : SharedButFor e one.shared other.shared

@@ -62,13 +62,14 @@ AskedLaw =
 
 pub record SameStep (one other : MonitoredState) (one_after other_after : MonitoredStepped) : Type 0 where
   pub seat : one_after.state.seat ≡ other_after.state.seat
+  pub beside : one_after.state.other ≡ other_after.state.other
   pub entered : one_after.outcome.entered ≡ other_after.outcome.entered
   pub shared : SameWhereSame one.shared other.shared one_after.state.shared other_after.state.shared
 
 -- every state with the same seat that traps alike, and is the same in what the work asks, steps alike
 abbrev pub AsksOnly : MonitoredState → MonitoredStepped → Type 0
 AsksOnly before after =
-    (other : MonitoredState) (trap : Trap) → before.seat ≡ other.seat → after.outcome.step.trap ≡ Some trap
+    (other : MonitoredState) (trap : Trap) → before.seat ≡ other.seat → before.other ≡ other.other → after.outcome.step.trap ≡ Some trap
     → (monitored_step other).outcome.step.trap ≡ Some trap → SameAsked before.seat trap.cause before.shared other.shared
     → SameStep before other after (monitored_step other)
 

@@ -10,6 +10,8 @@ pub mod Reach
 pub mod Refusals
 pub mod Refused
 pub mod State
+pub mod Turns
+pub mod HartLaws
 pub mod Step
 pub mod Switches
 pub mod SwitchLaws

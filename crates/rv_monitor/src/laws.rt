@@ -5,6 +5,7 @@ ghost use Rattle.rv_monitor.specs.Access.{ApartLaw, KeptReachLaw};
 ghost use Rattle.rv_monitor.specs.Asked.{AskedLaw, AskedStepLaw};
 ghost use Rattle.rv_monitor.specs.Changes.{ChangeLaw, RunsChangeLaw};
 ghost use Rattle.rv_monitor.specs.Confidentiality.{BareLaw, ConfidentialityLaw, HandlerLaw};
+ghost use Rattle.rv_monitor.specs.HartLaws.{BesideLaw, SchedChangeLaw, SchedKeptLaw, SchedLaw, SchedSparesLaw};
 ghost use Rattle.rv_monitor.specs.Integrity.{IntegrityLaw, RunsSpareLaw};
 ghost use Rattle.rv_monitor.specs.Reach.{ReachLaw};
 ghost use Rattle.rv_monitor.specs.Refused.{RefusalLaw};
@@ -106,4 +107,32 @@ pub const fn trapping_step_asks()
 /// What is private to an enclave, scrambled twice, is as it was.
 pub const fn scrambled_twice()
     ensures { ScrambleLaw }
+{}
+
+/// What is true in every state is true after steps of two harts in any order.
+pub const fn any_order_keeps()
+    ensures { SchedKeptLaw }
+{}
+
+/// Integrity of an enclave that runs on one hart: no step of the other hart changes its record, its region or its context, enters it or
+/// ends it.
+pub const fn runs_beside()
+    ensures { BesideLaw }
+{}
+
+/// Integrity in any order: steps of two harts spare each enclave that they leave alone, also while it runs on the hart that does not
+/// step.
+pub const fn any_order_spares()
+    ensures { SchedSparesLaw }
+{}
+
+/// Confidentiality in any order: two machines that agree but for an enclave that runs on no hart show and leave the same, up to the
+/// step of either hart that enters it.
+pub const fn any_order_is_blind()
+    ensures { SchedLaw }
+{}
+
+/// Steps of two harts in any order change no byte but those that one of them changes, as a step of its hart may.
+pub const fn any_order_changes()
+    ensures { SchedChangeLaw }
 {}

@@ -12,6 +12,7 @@ mod context;
 mod create;
 mod destroy;
 mod handler;
+mod harts;
 pub mod laws;
 mod layout;
 mod measure;
@@ -28,6 +29,7 @@ mod table;
 mod world;
 
 pub use block::Block;
+pub use harts::Harts;
 pub use monitored::Monitored;
 pub use outcome::Outcome;
 pub use slot_info::{EnclaveState, SlotInfo};

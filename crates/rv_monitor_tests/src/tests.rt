@@ -2,7 +2,7 @@
 
 mod machine;
 
-use machine::{A0, A1, A2, A3, A6, A7, KEY, Line, RA, Shown, T0, T1, T6, X0, run};
+use machine::{A0, A1, A2, A3, A6, A7, KEY, Line, RA, Shown, T0, T1, T6, X0, run, run_two};
 use rv_monitor::{Block, EnclaveState, SlotInfo};
 use std::test::Fail;
 
@@ -390,4 +390,184 @@ const SCRAMBLED: [Line; 37] = [
 #[test]
 fn what_is_private_is_scrambled(rt: HostRuntime) -> Result<(), Fail> {
     run(rt, &[0x73; 4], &SCRAMBLED)
+}
+
+const TWO_HARTS: [Line; 53] = [
+    Line::See(Shown::Harts, Some(2)),
+    // hart 1 begins as hart 0 does, but with a0 = 1
+    Line::See(Shown::X(A0), Some(0)),
+    Line::On(1),
+    Line::See(Shown::X(A0), Some(1)),
+    Line::See(Shown::X(A1), Some(0)),
+    Line::See(Shown::Pc, Some(0x8001_0000)),
+    Line::See(Shown::Mode, Some(1)),
+    Line::See(Shown::World, None),
+    Line::See(Shown::Csr(0x3a3), Some(0x1f00_0000)),
+    // create and run on hart 0; the entries of hart 1 are those of the host
+    Line::On(0),
+    Line::Ask(1, ALONE),
+    Line::Step,
+    Line::See(Shown::Pc, Some(0x8001_0004)),
+    Line::On(1),
+    Line::See(Shown::Csr(0x3a0), Some(0x1818)),
+    Line::See(Shown::PmpAddr(1), Some(0x2000_81ff)),
+    Line::On(0),
+    Line::Poke(0x8002_0000, 0x13),
+    Line::Set(A6, 3),
+    Line::Set(A0, 0),
+    Line::Step,
+    Line::See(Shown::Entered, Some(0)),
+    Line::See(Shown::World, Some(0)),
+    Line::See(Shown::Pc, Some(0x8002_0000)),
+    // hart 1 cannot end what runs
+    Line::On(1),
+    Line::See(Shown::World, None),
+    Line::Ask(2, [0; 5]),
+    Line::Step,
+    Line::See(Shown::Pc, Some(0x8001_0004)),
+    Line::See(Shown::X(A0), Some(0xffff_fff8)),
+    Line::Scramble(0, false),
+    // a step of hart 0, and two of hart 1, of which the second loads from the region
+    Line::Set(A0, 0),
+    Line::Set(T1, 0x8002_0000),
+    Line::On(0),
+    Line::Step,
+    Line::See(Shown::Trapped, Some(0)),
+    Line::See(Shown::Turn, Some(0)),
+    Line::On(1),
+    Line::Step,
+    Line::See(Shown::X(A0), Some(0xffff_fff8)),
+    Line::Step,
+    Line::See(Shown::Trapped, Some(1)),
+    Line::See(Shown::Turn, Some(1)),
+    Line::See(Shown::Pc, Some(0)),
+    Line::See(Shown::Csr(0x142), Some(5)),
+    Line::See(Shown::Csr(0x143), Some(0x8002_0000)),
+    Line::See(Shown::Csr(0x3a0), Some(0x1818)),
+    Line::See(Shown::Csr(0x3a3), Some(0x1f00_0000)),
+    Line::On(0),
+    Line::See(Shown::World, Some(0)),
+    Line::See(Shown::Pc, Some(0x8002_0004)),
+    Line::See(Shown::Csr(0x3a0), Some(0x1f18)),
+    Line::See(Shown::Csr(0x3a3), Some(0)),
+];
+
+/// Example 40: two harts, one memory and one table, and entries of each.
+#[test]
+fn two_harts(rt: HostRuntime) -> Result<(), Fail> {
+    run_two(rt, &[0x73, 0x73, 0x0003_2283], &TWO_HARTS)
+}
+
+const DESTROY_FIRST: [Line; 14] = [
+    Line::Ask(1, ALONE),
+    Line::Step,
+    Line::Ask(3, [0; 5]),
+    Line::On(1),
+    Line::Ask(2, [0; 5]),
+    Line::Step,
+    Line::See(Shown::Pc, Some(0x8001_0004)),
+    Line::See(Shown::X(A0), Some(0)),
+    Line::On(0),
+    Line::See(Shown::Csr(0x3a0), Some(0x18)),
+    Line::Step,
+    Line::See(Shown::World, None),
+    Line::See(Shown::Pc, Some(0x8001_0008)),
+    Line::See(Shown::X(A0), Some(0xffff_fff9)),
+];
+
+const RUN_FIRST: [Line; 15] = [
+    Line::Ask(1, ALONE),
+    Line::Step,
+    Line::Ask(3, [0; 5]),
+    Line::On(1),
+    Line::Ask(2, [0; 5]),
+    Line::On(0),
+    Line::Step,
+    Line::See(Shown::World, Some(0)),
+    Line::See(Shown::Pc, Some(0x8002_0000)),
+    Line::On(1),
+    Line::Step,
+    Line::See(Shown::World, None),
+    Line::See(Shown::Pc, Some(0x8001_0004)),
+    Line::See(Shown::X(A0), Some(0xffff_fff8)),
+    Line::See(Shown::Region(0), Some(0x8002_0000)),
+];
+
+/// Example 40: hart 0 runs an enclave and hart 1 ends it; the second of them comes too late.
+#[test]
+fn the_first_of_two_harts_has_its_way(rt: HostRuntime) -> Result<(), Fail> {
+    run_two(rt, &[0x73; 2], &DESTROY_FIRST)?;
+    run_two(rt, &[0x73; 2], &RUN_FIRST)
+}
+
+const ON_THE_OTHER: [Line; 35] = [
+    Line::Ask(1, ALONE),
+    Line::Step,
+    Line::Ask(3, [0; 5]),
+    Line::Step,
+    // hart 1 neither runs nor resumes what runs on hart 0, but measures it
+    Line::On(1),
+    Line::Ask(3, [0; 5]),
+    Line::Step,
+    Line::See(Shown::X(A0), Some(0xffff_fff8)),
+    Line::Ask(4, [0; 5]),
+    Line::Step,
+    Line::See(Shown::X(A0), Some(0xffff_fff8)),
+    Line::Ask(5, [0, 0x8001_ffe0, 0, 0, 0]),
+    Line::Step,
+    Line::See(Shown::X(A0), Some(0)),
+    // its own line stops nothing on hart 0, whose line does
+    Line::Timer(true),
+    Line::On(0),
+    Line::See(Shown::Csr(0x344), Some(0)),
+    Line::See(Shown::World, Some(0)),
+    Line::Timer(true),
+    Line::Step,
+    Line::See(Shown::World, None),
+    Line::See(Shown::X(A0), Some(2)),
+    Line::See(Shown::Csr(0x3a0), Some(0x1818)),
+    Line::On(1),
+    Line::See(Shown::Csr(0x344), Some(0x80)),
+    Line::Timer(false),
+    Line::Ask(4, [0; 5]),
+    Line::Step,
+    Line::See(Shown::Entered, Some(0)),
+    Line::See(Shown::World, Some(0)),
+    Line::See(Shown::X(A0), Some(0x8002_0000)),
+    Line::See(Shown::Csr(0x3a0), Some(0x1f18)),
+    Line::On(0),
+    Line::See(Shown::World, None),
+    Line::See(Shown::Csr(0x3a0), Some(0x1818)),
+];
+
+/// A slot runs on one hart at a time, and may go on on the other.
+#[test]
+fn an_enclave_goes_on_on_the_other_hart(rt: HostRuntime) -> Result<(), Fail> {
+    run_two(rt, &[0x73; 5], &ON_THE_OTHER)
+}
+
+const LEAVES: [Line; 17] = [
+    Line::Set(T0, 7),
+    Line::On(1),
+    Line::Set(T0, 9),
+    Line::On(0),
+    Line::Step,
+    Line::See(Shown::Pc, Some(0x8001_0004)),
+    Line::See(Shown::X(T0), Some(8)),
+    Line::On(1),
+    Line::See(Shown::Pc, Some(0x8001_0000)),
+    Line::See(Shown::X(T0), Some(9)),
+    Line::Step,
+    Line::Step,
+    Line::See(Shown::Pc, Some(0x8001_0008)),
+    Line::See(Shown::X(T0), Some(11)),
+    Line::On(0),
+    Line::See(Shown::Pc, Some(0x8001_0004)),
+    Line::See(Shown::X(T0), Some(8)),
+];
+
+/// Each hart has registers and a pc of its own. addi x5, x5, 1
+#[test]
+fn a_step_leaves_the_other_hart(rt: HostRuntime) -> Result<(), Fail> {
+    run_two(rt, &[0x0012_8293; 2], &LEAVES)
 }

@@ -1,7 +1,10 @@
 //! The machine of the tests, and what a test does with it.
 
+ghost use Rattle.std.specs.Prelude.{◌<◌};
+ghost use Rattle.rv_monitor.specs.State.{count_of};
+
 use rv_memory::Ram;
-use rv_monitor::{EnclaveState, Monitored, SlotInfo, World};
+use rv_monitor::{EnclaveState, Harts, Monitored, SlotInfo, World};
 use rv_pmp::{Mode, PmpIndex};
 use rv_word::{Reg, le_bytes};
 use std::test::Fail;
@@ -36,7 +39,7 @@ pub const A7: u8 = 17;
 
 pub const T6: u8 = 31;
 
-/// What a machine shows.
+/// What a machine shows; of two harts, the one that the lines name.
 #[derive(Clone, Copy)]
 pub enum Shown {
     /// The slot whose enclave runs; none where the host does.
@@ -59,6 +62,9 @@ pub enum Shown {
     Region(u8),
     /// Whether a slot's enclave has ended, 1 or 0, if it is live.
     Exited(u8),
+    /// How many harts there are, and which is on turn.
+    Harts,
+    Turn,
     /// The slot that the last step entered.
     Entered,
     /// Whether the last step trapped, 1 or 0.
@@ -68,6 +74,8 @@ pub enum Shown {
 /// A line of a test: what is done, or what is to be seen then.
 #[derive(Clone, Copy)]
 pub enum Line {
+    /// Names the hart of the lines behind it; before the first they name hart 0.
+    On(u8),
     /// Sets a register by its number.
     Set(u8, u32),
     /// Sets the registers of a call: a7, a6, and a0 to a4.
@@ -93,22 +101,29 @@ pub enum Line {
 /// Follows lines with a new machine over the words of a program. It fails at the first line where something else is seen, and tells
 /// its place, from 0, and what is seen there.
 pub fn run(rt: HostRuntime, words: &[u32], lines: &[Line]) -> Result<(), Fail> {
-    let mut machine = Machine::new(rt, words)?;
+    let mut machine = Machine::new(rt, words, Harts::One)?;
     machine.follow(lines)
 }
 
-/// A monitored machine, and what its last step showed. Its methods promise nothing: a run shows what they do, and the proof of a
-/// test is small as long as it need not carry what each call ensures.
+/// The same with a machine of two harts.
+pub fn run_two(rt: HostRuntime, words: &[u32], lines: &[Line]) -> Result<(), Fail> {
+    let mut machine = Machine::new(rt, words, Harts::Two)?;
+    machine.follow(lines)
+}
+
+/// A monitored machine, the hart that the lines name, and what the last step showed. Its methods promise nothing but that there is such
+/// a hart: a run shows what they do, and the proof of a test is small as long as it need not carry what each call ensures.
 #[derive(Drop)]
 struct Machine {
     monitored: Monitored,
+    named: u8,
     entered: Option<u8>,
     trapped: bool,
 }
 
 impl Machine {
     /// A machine over the words of a program at 80010000.
-    fn new(rt: HostRuntime, words: &[u32]) -> Result<Self, Fail> {
+    fn new(rt: HostRuntime, words: &[u32], harts: Harts) -> Result<Self, Fail> {
         let mut ram = Ram::new(rt.alloc(), 1_048_576).ok().ok_or("a RAM")?;
         let mut address = FIRST;
         for word in words {
@@ -118,7 +133,8 @@ impl Machine {
             }
         }
         Ok(Machine {
-            monitored: Monitored::new(ram, FIRST),
+            monitored: Monitored::new(ram, FIRST, harts),
+            named: 0,
             entered: None,
             trapped: false,
         })
@@ -137,6 +153,7 @@ impl Machine {
     /// What is seen at a line, if it is not what the line says.
     fn other(&mut self, line: Line) -> Option<Option<u32>> {
         match line {
+            Line::On(hart) => self.named = hart,
             Line::Set(register, value) => self.set(register, value),
             Line::Ask(function, arguments) => self.ask(function, arguments),
             Line::Step => self.step(),
@@ -198,14 +215,27 @@ impl Machine {
         (held != word).then_some(Some(held))
     }
 
+    /// The hart that the lines name, where there is such a hart.
+    fn hart(&self) -> u8
+        ensures { result < count_of self.now.monitored.state }
+    {
+        if self.named < self.monitored.harts() {
+            self.named
+        } else {
+            self.monitored.turn()
+        }
+    }
+
     fn step(&mut self) {
-        let outcome = self.monitored.step();
+        let hart = self.hart();
+        let outcome = self.monitored.step(hart);
         self.entered = outcome.entered;
         self.trapped = outcome.step.trap.is_some();
     }
 
     fn set(&mut self, register: u8, value: u32) {
-        self.monitored.set_reg(Reg::new(register % 32), value);
+        let hart = self.hart();
+        self.monitored.set_reg(hart, Reg::new(register % 32), value);
     }
 
     fn ask(&mut self, function: u32, arguments: [u32; 5]) {
@@ -224,7 +254,8 @@ impl Machine {
     }
 
     fn set_timer(&mut self, raised: bool) {
-        self.monitored.set_timer(raised);
+        let hart = self.hart();
+        self.monitored.set_timer(hart, raised);
     }
 
     fn scramble(&mut self, slot: u8) -> bool {
@@ -235,7 +266,7 @@ impl Machine {
     fn show(&self, what: Shown) -> Option<u32> {
         match what {
             Shown::World => self.slot().map(u32::from),
-            Shown::Pc => Some(self.monitored.pc()),
+            Shown::Pc => Some(self.monitored.pc(self.hart())),
             Shown::Mode => Some(self.mode()),
             Shown::X(register) => Some(self.x(register)),
             Shown::Csr(number) => self.csr(number),
@@ -245,20 +276,22 @@ impl Machine {
             Shown::Ends => self.ends(),
             Shown::Region(slot) => self.record(slot).map(|info| info.region.base),
             Shown::Exited(slot) => self.exited(slot),
+            Shown::Harts => Some(u32::from(self.monitored.harts())),
+            Shown::Turn => Some(u32::from(self.monitored.turn())),
             Shown::Entered => self.entered.map(u32::from),
             Shown::Trapped => Some(u32::from(self.trapped)),
         }
     }
 
     fn slot(&self) -> Option<u8> {
-        match self.monitored.world() {
+        match self.monitored.world(self.hart()) {
             World::Host => None,
             World::Enclave(slot) => Some(slot),
         }
     }
 
     fn mode(&self) -> u32 {
-        match self.monitored.mode() {
+        match self.monitored.mode(self.hart()) {
             Mode::U => 0,
             Mode::S => 1,
             Mode::M => 3,
@@ -266,20 +299,25 @@ impl Machine {
     }
 
     fn x(&self, register: u8) -> u32 {
-        self.monitored.regs().get(Reg::new(register % 32))
+        self.monitored
+            .regs(self.hart())
+            .get(Reg::new(register % 32))
     }
 
     fn csr(&self, number: u16) -> Option<u32> {
-        self.monitored.csrs().read(number, Mode::M).ok()
+        self.monitored.csrs(self.hart()).read(number, Mode::M).ok()
     }
 
     fn pmp_cfg(&self, entry: u8) -> u32 {
         let index = PmpIndex::new(entry % 16);
-        u32::from(self.monitored.csrs().pmp().cfg(index))
+        u32::from(self.monitored.csrs(self.hart()).pmp().cfg(index))
     }
 
     fn pmp_addr(&self, entry: u8) -> u32 {
-        self.monitored.csrs().pmp().addr(PmpIndex::new(entry % 16))
+        self.monitored
+            .csrs(self.hart())
+            .pmp()
+            .addr(PmpIndex::new(entry % 16))
     }
 
     fn peek(&self, address: u32) -> Option<u8> {

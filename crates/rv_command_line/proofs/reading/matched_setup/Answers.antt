@@ -9,8 +9,12 @@ returns c = rw (
   c.matched_kind.ensures,
   c.unwrap_or-2.ensures,
   c.matched_number.ensures,
+  c.unwrap_or-3.ensures,
+  c.matched_harts.ensures,
   c.default-default.ensures.kind,
   c.default-default.ensures.ram,
+  c.default-default.ensures.harts,
   first_value-rows (found_of c.args.matches.now) (codes "kind"),
   one_text-rows (found_of c.args.matches.now) (codes "ram"),
+  one_text-rows (found_of c.args.matches.now) (codes "harts"),
 ) refl

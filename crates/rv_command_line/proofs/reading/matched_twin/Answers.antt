@@ -7,6 +7,6 @@ pub returns : goal.returns
 returns c = rw (
   c.matched_setup.ensures,
   c.unwrap_or.ensures,
-  c.matched_slot.ensures,
+  c.matched_byte.ensures,
   one_text-rows (found_of c.args.matches.now) (codes "slot"),
 ) refl

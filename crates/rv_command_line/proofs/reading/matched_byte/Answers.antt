@@ -4,7 +4,7 @@ use Rattle.std.specs.Str.Parse.{ParsesUnsigned, ExplainsUnsignedError, HasUnsign
 use Rattle.clap.specs.Words.{found_of, one_text}
 use Rattle.rv_command_line.specs.Job.{number_in_text}
 use Rattle.rv_command_line.proofs.Numbers.{reads_number}
-use Rattle.rv_command_line.proofs.reading.matched_slot.Goals as goal
+use Rattle.rv_command_line.proofs.reading.matched_byte.Goals as goal
 
 pub returns : goal.returns
 returns c = read _ refl

@@ -1,0 +1,17 @@
+use Rattle.std.proofs.Common.{◌≡◌, ◌∙◌, ◌-◌, ℕ, true, List, ◌++◌, drop, length, replicate, Option, Some, sym, ap, ap₂}
+use Rattle.std.proofs.lemmas.List.{drop-replicate}
+use Rattle.std.specs.Prelude.{if◌then◌else◌}
+use Rattle.rv_debug.specs.Schedules.{is_schedule, schedule_of}
+use Rattle.rv_debug.specs.declared.schedule.Schedule.{Schedule}
+use Rattle.rv_debug.proofs.schedule.Schedule.new.Goals as goal
+
+-- zeros stay behind what is copied over the first
+copied : (most : ℕ) (word front : List ℕ) → front ≡ word → front ++ drop (length word) (replicate most 0) ≡ word ++ replicate (most - length word) 0
+copied most word front is = ap₂ (λ (a b : List ℕ). a ++ b) is (drop-replicate (length word) most 0)
+
+pub returns : goal.returns
+unfolding schedule_of
+returns c =
+    let word = c.args.word.now in
+    let is = sym c.is_schedule.ensures ∙ c.if-not-is_schedule.false in
+    rw is (ap (λ (digits : List ℕ). Some (let made : Schedule = record { digits = digits; steps = length word } in made)) (copied 64 word c.copy_from_slice.new.self c.copy_from_slice.ensures.after))

@@ -1,0 +1,98 @@
+//! Which hart makes which step.
+
+ghost use Rattle.std.specs.Prelude.{◌≡◌, ◌<◌, nat_lt, map};
+ghost use Rattle.std.specs.List.{list_all};
+ghost use Rattle.rv_debug.specs.Schedules.{is_hart_digit as is_hart_digit_of, is_schedule as is_schedule_of, hart_of_digit, harts_in, schedule_of, hart_named, has_all};
+
+/// The most steps that one schedule has.
+const MOST: usize = 64;
+
+/// Whether a byte is the digit of a hart.
+#[tactic(auto, unfolding(crate::specs::Schedules::is_hart_digit))]
+fn is_hart_digit(byte: u8) -> bool
+    ensures { result ≡ is_hart_digit_of byte }
+{
+    byte == b'0' || byte == b'1'
+}
+
+/// Whether each byte is the digit of a hart.
+fn are_hart_digits(word: &[u8]) -> bool
+    ensures { result ≡ list_all is_hart_digit_of word.now }
+{
+    word.iter().all(|byte| is_hart_digit(*byte))
+}
+
+/// Whether a word is 1 to 64 digits, each that of a hart.
+fn is_schedule(word: &[u8]) -> bool
+    ensures { result ≡ is_schedule_of word.now }
+{
+    1 <= word.len() && word.len() <= MOST && are_hart_digits(word)
+}
+
+/// The hart that a digit names: 1 is that of hart 1.
+#[tactic(auto, unfolding(crate::specs::Schedules::hart_of_digit))]
+pub(crate) fn hart(digit: u8) -> u8
+    ensures which { result ≡ hart_of_digit digit }
+    ensures few { result < 2 }
+{
+    u8::from(digit == b'1')
+}
+
+/// The hart that an operand names: the word `0` or `1`.
+pub(crate) fn hart_operand(operand: &[u8]) -> Option<u8>
+    ensures { result ≡ hart_named operand.now }
+{
+    match operand {
+        b"0" => Some(0),
+        b"1" => Some(1),
+        _ => None,
+    }
+}
+
+/// Whether each of these digits names a hart below this number.
+fn name_only(digits: &[u8], harts: u8) -> bool
+    ensures { result ≡ list_all (λ digit. nat_lt (hart_of_digit digit) harts) digits.now }
+{
+    digits.iter().all(|digit| hart(*digit) < harts)
+}
+
+/// The harts whose steps follow one another: of 1 to 64 steps, whether each is made by hart 0 or by hart 1.
+#[derive(Clone, Copy, Debug, PartialEq, Eq)]
+pub struct Schedule {
+    /// The harts' digits in their order, in ASCII, and zeros behind them.
+    digits: [u8; MOST],
+    /// How many they are.
+    steps: u8,
+}
+
+impl Schedule {
+    /// The schedule that a word names: 1 to 64 digits, 0 for a step of hart 0 and 1 for one of hart 1. No other word names one.
+    #[tactic(auto, unfolding(crate::specs::Schedules::schedule_of))]
+    pub fn new(word: &[u8]) -> Option<Self>
+        ensures { result ≡ schedule_of word.now }
+    {
+        if !is_schedule(word) {
+            return None;
+        }
+        let mut digits = [0; MOST];
+        digits[..word.len()].copy_from_slice(word);
+        Some(Schedule {
+            digits,
+            steps: word.len() as u8,
+        })
+    }
+
+    /// The harts' digits, in the order of their steps.
+    pub(crate) fn digits(&self) -> &[u8]
+        ensures { map hart_of_digit result.now ≡ harts_in self.now }
+    {
+        &self.digits[..usize::from(self.steps).min(MOST)]
+    }
+
+    /// Whether each step is made by a hart below this number.
+    pub(crate) fn names_only(&self, harts: u8) -> bool
+        ensures { result ≡ has_all harts (harts_in self.now) }
+    {
+        name_only(self.digits(), harts)
+    }
+}

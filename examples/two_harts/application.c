@@ -1,0 +1,10 @@
+// The application, in mode U: it tells that it runs, and waits for a number from the other hart.
+#include "meeting.h"
+
+unsigned application(volatile unsigned *window)
+{
+    window[IS_RUNNING] = 1;
+    while (!window[ANSWER])
+        ;
+    return window[ANSWER] + 1;
+}

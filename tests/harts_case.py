@@ -1,0 +1,29 @@
+"""A case of two harts: as those of one bench or of two benches, under --harts."""
+from monitor_case import Case
+from monitor_model import HOST_ENTRY
+from twin_case import TwinCase
+
+CODE_OF = (HOST_ENTRY + 4, HOST_ENTRY + 0x400)  # where each hart's host goes on, once they are divided
+
+
+def divided(case):
+    """From their common first instruction each hart goes to code of its own."""
+    case.place(HOST_ENTRY, "jalr", 0, 0, 31)
+    for hart, start in enumerate(CODE_OF):
+        case.on(hart)
+        case.set(31, start)
+    case.say("sched 01")
+    case.on(0)
+    return case
+
+
+class HartsCase(Case):
+    def __init__(self, topic, name, harts=2):
+        super().__init__(topic, name, harts=harts)
+        self.topic = "harts_" + topic
+
+
+class HartsTwinCase(TwinCase):
+    def __init__(self, name, slot=0, harts=2):
+        super().__init__("", name, slot, harts=harts)
+        self.topic = "harts_twin"
