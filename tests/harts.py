@@ -1,6 +1,6 @@
 #!/usr/bin/env python3
 """Writes the cases of two harts, tests/cases/harts_*.cases: races of every two calls, one on each hart; hart and sched at their
-borders, of two harts, of one, and of two benches; what each hart has of its own and what both share.
+borders, of two harts, of one, and of two benches; what each hart has of its own and what both share; a host beside an enclave that runs.
 
     tests/harts.py                      writes the files anew
     tests/harts.py --check              tells whether they are what this script writes
@@ -13,6 +13,7 @@ import sys
 
 sys.dont_write_bytecode = True
 import case_files
+import harts_beside_cases
 import harts_command_cases
 import harts_race_cases
 import harts_twin_cases
@@ -20,7 +21,7 @@ from monitor_case import Case
 
 
 def main(arguments):
-    for topic in (harts_race_cases, harts_command_cases, harts_twin_cases):
+    for topic in (harts_race_cases, harts_command_cases, harts_twin_cases, harts_beside_cases):
         topic.parts()
     return case_files.main(arguments, Case.all, Case.words, __doc__)
 

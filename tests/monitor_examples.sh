@@ -10,10 +10,11 @@ for example in "$here"/../examples/*/words "$here"/../examples/attacks/*/words; 
   expect "$name/stdin" 0 $? "$example/image" "$scratch/out"
 done
 
-# The attacks and the race: their sources assemble to their images.
+# The attacks and the race: their sources assemble to their images, those of an enclave that runs with runner.s.
 for example in "$here"/../examples/attacks/*/attack.s; do
   example=$(dirname "$example")
-  cat "$example/../victim.s" "$example/attack.s" | "$program" asm > "$scratch/out"
+  if grep -q '^twin' "$example/words"; then start=victim.s; else start=runner.s; fi
+  cat "$example/../$start" "$example/attack.s" | "$program" asm > "$scratch/out"
   expect "examples/attacks/$(basename "$example")/attack.s" 0 $? "$example/image" "$scratch/out"
 done
 "$program" asm < "$here/../examples/race/program.s" > "$scratch/out"

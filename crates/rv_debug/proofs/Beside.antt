@@ -93,7 +93,7 @@ seen_from_own : (hart chosen : ℕ) (before after : MonitoredState) (slots : Slo
 seen_from_own hart chosen before after slots is keeps =
     let at : MonitoredState → Option Seat = λ state. state.other in
     let own : (state : MonitoredState) → (seen_by hart (seen_by chosen state)).other ≡ state.other = λ state.
-        ap (λ (h : ℕ). (seen_by h (seen_by chosen state)).other) is ∙ ap at (seen_twice chosen state) in
+    ap (λ (h : ℕ). (seen_by h (seen_by chosen state)).other) is ∙ ap at (seen_twice chosen state) in
     own after ∙ keeps ∙ ap (seated_beside slots) (sym (own before))
 
 run_leaves : (hart chosen : ℕ) (breaks watches : List ℕ) (count : ℕ) (machine : MonitoredState) → IsKept machine → hart ≡ chosen
@@ -148,6 +148,7 @@ poke_leaves hart machine (Some memory) kept = poked hart machine.hart machine.st
   by_own seat (Some other) shared memory zero (suc g) = refl
   by_own seat (Some other) shared memory (suc h) zero = refl
   by_own seat (Some other) shared memory (suc h) (suc g) = refl
+
   poked : (h g : ℕ) (seat : Seat) (other : Option Seat) (shared : Shared) (memory : List ℕ)
       → (let before : MonitoredState = record { seat = seat; other = other; shared = shared } in
       let after : MonitoredState = record { seat = seat; other = other; shared = record shared { memory = memory } } in

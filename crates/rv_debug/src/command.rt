@@ -44,7 +44,7 @@ pub enum Command {
     Regs,
     /// `setreg N V`: put the word into the register; x0 stays 0.
     SetReg(Reg, u32),
-    /// `csr C`: show the control and status register, as mode M reads it.
+    /// `csr C`: show the control and status register, as mode M reads it; mhartid, f14, as the number of the chosen hart.
     Csr(CsrNumber),
     /// `mem A N`: show so many bytes of memory from an address on.
     Mem(u32, ByteCount),

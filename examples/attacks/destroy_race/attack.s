@@ -21,7 +21,7 @@ second: li    a6, 2                     # destroy
         li    a0, 0
         ecall
         lw    t4, 0(t5)
-        lw    t3, 0(t5)
+        lw    t4, 0(t5)
         li    a6, 5                     # what the new one's measurement tells of the bytes that it found
         li    a0, 0
         li    a1, 0x80040000
