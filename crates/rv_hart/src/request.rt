@@ -3,7 +3,7 @@
 use rv_word::Width;
 
 /// The one access that an instruction asks for.
-#[derive(Clone, Copy, Debug, PartialEq, Eq)]
+#[derive(Clone, Copy)]
 pub(crate) enum Request {
     /// It reads and writes no memory.
     Nothing,

@@ -24,7 +24,7 @@ use Rattle.rv_monitor.specs.declared.shared.Shared.{Shared}
 use Rattle.rv_monitor.specs.declared.slot_info.EnclaveState.{EnclaveState}
 use Rattle.rv_monitor.specs.declared.slot_info.SlotInfo.{SlotInfo}
 use Rattle.rv_monitor.proofs.Agreement.{IsSeen, inside-is, same_read, read-none, write-alike, zeros-alike}
-use Rattle.rv_monitor.proofs.BlockLaws.{meets_law}
+use Rattle.rv_monitor.proofs.BlockLaws.{meets_at}
 use Rattle.rv_monitor.proofs.SavedLists.{same_at_set, same_after_set, length_after}
 use Rattle.rv_monitor.proofs.Refusals.{MayCreate, may_create, may_take, same_create_refusals, same_measure_refusals}
 use Rattle.rv_monitor.proofs.Slots.{at_other, free_from}
@@ -64,7 +64,7 @@ seen_block p q apart b low high = elim (cases_Bool (has q b)) [
   | inr shown ↦ shown
   | inl hidden ↦
       let in_p : has p b ≡ true = and_from (nat_le p.base b) (nat_lt b (p.base + p.size)) (le-leb p.base b low) (lt-ltb b (p.base + p.size) high) in
-      absurd (both_ways _ apart (meets_law p q b in_p hidden))
+      absurd (both_ways _ apart (meets_at p q b in_p hidden))
 ]
 
 read_alike : (hidden : ℕ → Bool) (m n : List ℕ) (address count : ℕ) → AgreeOutside hidden m n → IsSeen hidden address count

@@ -17,6 +17,7 @@ pub mod MonitoredAlike
 pub mod Napots
 pub mod Scans
 pub mod Owners
+pub mod Places
 pub mod Reaches
 pub mod KeptReaches
 pub mod BlindSteps
@@ -29,8 +30,10 @@ pub mod Switched
 pub mod Returned
 pub mod TrapSteps
 pub mod Refused
+pub mod Leaving
 pub mod Integrity
 pub mod RunsSpare
 pub mod Changes
 pub mod Scrambled
 pub mod ScrambledTwice
+pub mod Touched

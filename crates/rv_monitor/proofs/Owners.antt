@@ -18,7 +18,7 @@ use Rattle.rv_monitor.specs.declared.block.Block.{Block}
 use Rattle.rv_monitor.specs.declared.slot_info.SlotInfo.{SlotInfo}
 use Rattle.rv_monitor.specs.declared.world.World.{World}
 use Rattle.rv_monitor.specs.declared.world.World.TheVariants.{Host, Enclave}
-use Rattle.rv_monitor.proofs.BlockLaws.{meets_law}
+use Rattle.rv_monitor.proofs.BlockLaws.{meets_at}
 use Rattle.rv_monitor.proofs.Napots.{napot_addr, napot_matches}
 
 -- ---- blocks
@@ -32,10 +32,10 @@ has_nothing b = empty_has 0 0 b refl
 
 -- blocks that do not meet share no byte
 pub apart_at : (x y : Block) (b : ℕ) → meets x y ≡ false → has x b ≡ true → has y b ≡ false
-apart_at x y b none in_x = false_from_ne_true _ (λ in_y. both_ways _ none (meets_law x y b in_x in_y))
+apart_at x y b none in_x = false_from_ne_true _ (λ in_y. both_ways _ none (meets_at x y b in_x in_y))
 
 pub apart_from : (x y : Block) (b : ℕ) → meets x y ≡ false → has y b ≡ true → has x b ≡ false
-apart_from x y b none in_y = false_from_ne_true _ (λ in_x. both_ways _ none (meets_law x y b in_x in_y))
+apart_from x y b none in_y = false_from_ne_true _ (λ in_x. both_ways _ none (meets_at x y b in_x in_y))
 
 -- what a valid table keeps apart, byte by byte
 pub record IsApart (slots : Slots) : Type 0 where

@@ -70,7 +70,7 @@ module _ (seat : Seat) (shared : Shared) (refusal : Refusal) where
 
 -- ---- the step
 
-or_none : (b : Bool) → (b || false) ≡ b
+pub or_none : (b : Bool) → (b || false) ≡ b
 or_none true = refl
 or_none false = refl
 

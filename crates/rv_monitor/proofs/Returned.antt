@@ -12,7 +12,7 @@ use Rattle.rv_monitor.specs.Step.{MonitoredStepped, monitored_step}
 use Rattle.rv_monitor.specs.SwitchLaws.{StaysOrSwitches, reason, value}
 use Rattle.rv_monitor.specs.declared.context.Context.{Context}
 use Rattle.rv_monitor.proofs.RunsAlike.{kept_law}
-use Rattle.rv_monitor.proofs.Switched.{switch_law, own_stored}
+use Rattle.rv_monitor.proofs.Switched.{kept_between, switch_law}
 
 abbrev KeptStored : Option Context → Type 0
 KeptStored o = IfSome o (λ context. IsStored context.supervisor)
@@ -22,25 +22,18 @@ nothing_kept : (o : Option Context) → is_some o ≡ false → KeptStored o
 nothing_kept None is = tt
 nothing_kept (Some context) is = cc
 
-host_stored : (state : MonitoredState) → IsKept state → is_host state.seat.world ≡ true → HostIsStored state.seat
+pub host_stored : (state : MonitoredState) → IsKept state → is_host state.seat.world ≡ true → HostIsStored state.seat
 host_stored state kept host = nothing_kept state.seat.host_context (kept.host.kept ∙ ap not host)
 
 -- the step that enters keeps the host as it was
-entered_from : (state : MonitoredState) (after : MonitoredStepped) → StaysOrSwitches state after → is_host state.seat.world ≡ true → is_host after.state.seat.world ≡ false
+pub entered_from : (state : MonitoredState) (after : MonitoredStepped) → StaysOrSwitches state after → is_host state.seat.world ≡ true → is_host after.state.seat.world ≡ false
     → after.state.seat.host_context ≡ Some (saved state.seat.hart (past_ecall state.seat.hart) S)
 entered_from state after (inl stays) host other = absurd (both_ways _ other (ap is_host stays.world ∙ host))
 entered_from state after (inr (inl enters)) host other = enters.host
 entered_from state after (inr (inr leaves)) host other = absurd (both_ways _ other (ap is_host leaves.world))
 
--- a step between leaves it
-kept_between : (state : MonitoredState) (after : MonitoredStepped) → StaysOrSwitches state after → is_host state.seat.world ≡ false → is_host after.state.seat.world ≡ false
-    → after.state.seat.host_context ≡ state.seat.host_context
-kept_between state after (inl stays) other still = stays.host
-kept_between state after (inr (inl enters)) other still = absurd (both_ways _ other (ap is_host enters.from_host))
-kept_between state after (inr (inr leaves)) other still = absurd (both_ways _ still (ap is_host leaves.world))
-
--- and the step that leaves puts it back
-back_from : (before state : MonitoredState) (after : MonitoredStepped) → StaysOrSwitches state after
+-- the step that leaves puts it back
+pub back_from : (before state : MonitoredState) (after : MonitoredStepped) → StaysOrSwitches state after
     → state.seat.host_context ≡ Some (saved before.seat.hart (past_ecall before.seat.hart) S)
     → is_host state.seat.world ≡ false → is_host after.state.seat.world ≡ true → ComesBack before state after
 back_from before state after (inl stays) kept other host = absurd (both_ways _ other (sym (ap is_host stays.world) ∙ host))
@@ -67,11 +60,11 @@ comes_back : (before : MonitoredState) (n : ℕ) (state : MonitoredState) → Is
 comes_back before zero state kept stored saved_is runs host = back_from before state (monitored_step state) (switch_law state kept stored) saved_is runs host
 comes_back before (suc n) state kept stored saved_is runs host =
     let after = monitored_step state in
-    let same = kept_between state after (switch_law state kept stored) runs.0 (first_runs n after.state runs.1) in
+    let same = kept_between state runs.0 (first_runs n after.state runs.1) in
     comes_back before n after.state (kept_law state kept) (subst KeptStored (sym same) stored) (same ∙ saved_is) runs.1 host
 
 pub return_law : ReturnLaw
-return_law n state kept own host runs again =
+return_law n state kept stored host runs again =
     let after = monitored_step state in
     let saved_is = entered_from state after (switch_law state kept (host_stored state kept host)) host (first_runs n after.state runs) in
-    comes_back state n after.state (kept_law state kept) (subst KeptStored (sym saved_is) (own_stored state.seat.hart.csrs own)) saved_is runs again
+    comes_back state n after.state (kept_law state kept) stored saved_is runs again

@@ -129,10 +129,24 @@ length_measurement : (memory : List ℕ) (new : Proposal) → length (measuremen
 unfolding measurement_of
 length_measurement memory new = length-sha256 (measured_bytes memory new)
 
+entry_aligned : (new : Proposal) → is_entry new ≡ true → new.entry % 4 ≡ 0
+unfolding is_entry
+entry_aligned new is = let test : (new.entry % 4 == 0) ≡ true = (and_parts (new.entry % 4 == 0) (has new.region new.entry) is).0 in grind (arith, nat_tests)
+
+entry_inside : (new : Proposal) → is_entry new ≡ true → has new.region new.entry ≡ true
+unfolding is_entry
+entry_inside new is = (and_parts (new.entry % 4 == 0) (has new.region new.entry) is).1
+
 new_fits : (shared : Shared) (new : Proposal) (k : ℕ) → is_lawful shared.memory new.region ≡ true → is_window shared.memory new.window ≡ true
-    → IsFree shared.table new → Fits shared.memory shared.table k (Some (recorded shared.memory new))
-new_fits shared new k lawful window free = record {
-  lawful = record { region = lawful; window = window; measured = length_measurement shared.memory new };
+    → is_entry new ≡ true → IsFree shared.table new → Fits shared.memory shared.table k (Some (recorded shared.memory new))
+new_fits shared new k lawful window entry free = record {
+  lawful = record {
+    region = lawful;
+    window = window;
+    aligned = entry_aligned new entry;
+    entry = entry_inside new entry;
+    measured = length_measurement shared.memory new;
+  };
   regions = λ j other. (free.others j).regions;
   windows = λ j other. (free.others j).window;
   window = λ j other. (free.others j).own;
@@ -145,10 +159,6 @@ first_goes_on : (info : SlotInfo) → info.entry % 4 ≡ 0 → can_go_on (first_
 unfolding first_context
 first_goes_on info aligned = rw aligned refl
 
-entry_aligned : (new : Proposal) → is_entry new ≡ true → new.entry % 4 ≡ 0
-unfolding is_entry
-entry_aligned new is = let test : (new.entry % 4 == 0) ≡ true = (and_parts (new.entry % 4 == 0) (has new.region new.entry) is).0 in grind (arith, nat_tests)
-
 created_done : (shared : Shared) (worlds : List World) (new : Proposal) (k : ℕ) → IsSound shared worlds
     → is_lawful shared.memory new.region ≡ true → is_window shared.memory new.window ≡ true → overlaps shared.table new ≡ false
     → is_entry new ≡ true → free_slot shared.table ≡ Some k
@@ -158,7 +168,7 @@ created_done shared worlds new k sound lawful window apart entry is =
     let info = recorded shared.memory new in
     let before : false ≡ list_any (is_world_of k) worlds = sym (ap running_in slot.free) ∙ sound.running k in
     sound_with shared worlds worlds k (Some info) (Some (first_context info)) shared.memory sound slot.in_range refl
-    (new_fits shared new k lawful window (free_from shared.table new apart)) refl (first_goes_on info (entry_aligned new entry)) before (λ j other. refl) sound.apart
+    (new_fits shared new k lawful window entry (free_from shared.table new apart)) refl (first_goes_on info (entry_aligned new entry)) before (λ j other. refl) sound.apart
 
 -- where no row holds, the call is to be judged by what it does
 unless_sound : (shared : Shared) (worlds : List World) (o : Option Refusal) (done : Called) → IsSound shared worlds → (o ≡ None → IsSound done.shared worlds)

@@ -18,7 +18,8 @@ use Rattle.rv_hart.specs.StepLaws.{TrapKeeps, KeepsMprvClear, KeepsMachineParts,
 use Rattle.rv_hart.specs.declared.trap.Trap.{Trap}
 use Rattle.rv_monitor.specs.Layout.{layout, entry_at}
 use Rattle.rv_monitor.specs.State.{MonitoredState, IsKept, IsSeated, IsSound, HostIsStored, seated, seated_beside, worlds, worlds_beside}
-use Rattle.rv_monitor.specs.Step.{returned_to}
+use Rattle.rv_hart.specs.Step.{step}
+use Rattle.rv_monitor.specs.Step.{handled, monitored_step, returned_to}
 use Rattle.rv_monitor.specs.Switches.{Handled}
 use Rattle.rv_monitor.specs.Table.{Slots}
 use Rattle.rv_monitor.specs.Unlocked.{HasNoLock}
@@ -218,3 +219,16 @@ beside_unlocked slots (Some other) is = let layout = is.layout in subst HasNoLoc
 pub beside_stored : (slots : Slots) (other : Option Seat) → IfSome other HostIsStored → IfSome (seated_beside slots other) HostIsStored
 beside_stored slots None stored = tt
 beside_stored slots (Some other) stored = stored
+
+-- ---- the parts of a step that traps, put together
+
+pub trapping_is : (before : MonitoredState) (after : Stepped) (trap : Trap) (work : Handled) (hart : Hart)
+    → step (record { hart = before.seat.hart; memory = before.shared.memory }) ≡ after → after.outcome.trap ≡ Some trap
+    → handled (record before.seat { hart = after.state.hart }) (record before.shared { memory = after.state.memory }) trap ≡ work
+    → hart ≡ returned_to work.seat.hart work.next.pc work.next.mode
+    → monitored_step before ≡ record {
+      state = record { seat = record work.seat { hart = hart }; other = seated_beside work.shared.table before.other; shared = work.shared };
+      outcome = record { step = after.outcome; entered = work.next.entered };
+    }
+unfolding monitored_step
+trapping_is before after trap work hart steps traps works returns = rw (steps, traps, works, returns) refl

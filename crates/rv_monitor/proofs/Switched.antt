@@ -1,7 +1,7 @@
 -- What a step does to the world and to what is kept of the host.
-use Rattle.std.proofs.Common.{◌≡◌, ℕ, ◌==◌, ◌⊎◌, true, List, Option, Some, None, Result, Ok, Err, IfSome, refl, sym, ap, ◌∙◌, subst, inl, inr, arith}
+use Rattle.std.proofs.Common.{◌≡◌, ℕ, ◌==◌, ◌⊎◌, true, false, List, Option, Some, None, Result, Ok, Err, IfSome, refl, sym, ap, ◌∙◌, subst, inl, inr, arith}
 use Rattle.std.specs.Prelude.{◌%◌, ◌&&◌, not, if◌then◌else◌}
-use Rattle.std.proofs.lemmas.Bool.{and_parts}
+use Rattle.std.proofs.lemmas.Bool.{and_parts, both_ways}
 use Rattle.std.proofs.lemmas.Bool.Decides.{nat_tests}
 use Rattle.rv_word.specs.Cases.{option_case}
 use Rattle.rv_pmp.specs.declared.mode.Mode.{Mode}
@@ -28,7 +28,7 @@ use Rattle.rv_monitor.specs.Create.{created, proposed}
 use Rattle.rv_monitor.specs.Destroy.{destroyed}
 use Rattle.rv_monitor.specs.Measure.{measured, measured_slot}
 use Rattle.rv_monitor.specs.Refusals.{Called, first_refusal, state_refusals}
-use Rattle.rv_monitor.specs.State.{MonitoredState, IsKept, HostIsStored}
+use Rattle.rv_monitor.specs.State.{MonitoredState, IsKept, HostIsStored, is_host}
 use Rattle.rv_monitor.specs.Step.{a0, a1, answer_of, answered, call_handled, entry_of, forwarded, handled, handled_cause, handled_exception, monitored_step, past_call, performed, returned, stopped_context, timer_stopped, trapped_mode, trapped_pc, unhandled, with_line_down, with_layout}
 use Rattle.rv_monitor.specs.SwitchLaws.{StaysOrSwitches, SwitchLaw, reason, value}
 use Rattle.rv_monitor.specs.Switches.{Handled, entered, goes_on, left, left_slot, slot_of}
@@ -254,12 +254,35 @@ pub handled_stored : (seat : Seat) (shared : Shared) (trap : Trap) → HostIsSto
 handled_stored seat shared trap stored own =
     stored_by seat (reason trap.cause seat.hart.regs) (value trap.cause seat.hart.regs) (handled seat shared trap) (handled_turns seat shared trap) stored own
 
+-- ---- an enclave that runs before and after leaves it
+
+runs_on : (seat : Seat) (x y : ℕ) (h : Handled) → Turns seat x y h → is_host seat.world ≡ false → is_host h.seat.world ≡ false
+    → h.seat.host_context ≡ seat.host_context
+runs_on seat x y h (inl stays) before after = stays.host
+runs_on seat x y h (inr (inl enters)) before after = absurd (both_ways _ before (ap is_host enters.from_host))
+runs_on seat x y h (inr (inr leaves)) before after = absurd (both_ways _ after (ap is_host leaves.world))
+
+runs_on_by : (other : Option Seat) (outcome : StepOutcome) (seat : Seat) (shared : Shared) (o : Option Trap) → is_host seat.world ≡ false
+    → (let after = option_case o (unhandled other outcome seat shared) (λ t. returned other outcome (handled seat shared t)) in
+    is_host after.state.seat.world ≡ false → after.state.seat.host_context ≡ seat.host_context)
+runs_on_by other outcome seat shared None before after = refl
+runs_on_by other outcome seat shared (Some trap) before after =
+    runs_on seat (reason trap.cause seat.hart.regs) (value trap.cause seat.hart.regs) (handled seat shared trap) (handled_turns seat shared trap) before after
+
+pub kept_between : (state : MonitoredState) → is_host state.seat.world ≡ false → is_host (monitored_step state).state.seat.world ≡ false
+    → (monitored_step state).state.seat.host_context ≡ state.seat.host_context
+unfolding monitored_step
+kept_between state before after =
+    let bare_after = step (bare state) in
+    runs_on_by state.other bare_after.outcome (record state.seat { hart = bare_after.state.hart }) (record state.shared { memory = bare_after.state.memory })
+    bare_after.outcome.trap before after
+
 -- ---- the step
 
 stored_again : (c : CsrState) (s : SContext) → IsStored s → s_context (with_s_context c s) ≡ s
 stored_again c s stored = let stvec = stored.stvec in let sepc = stored.sepc in rw (stvec, sepc) refl
 
-aligned_again : (mode : Mode) (pc : ℕ) → (not (is_machine mode) && pc % 4 == 0) ≡ true → aligned_to_4 pc ≡ pc
+pub aligned_again : (mode : Mode) (pc : ℕ) → (not (is_machine mode) && pc % 4 == 0) ≡ true → aligned_to_4 pc ≡ pc
 aligned_again mode pc held =
     let test : (pc % 4 == 0) ≡ true = (and_parts (not (is_machine mode)) (pc % 4 == 0) held).1 in
     let multiple : pc % 4 ≡ 0 = grind (arith, nat_tests) in

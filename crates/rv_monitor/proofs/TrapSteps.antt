@@ -26,7 +26,7 @@ shows_step : (o : Option Trap) (beside : Option Seat) (outcome : StepOutcome) (s
 shows_step None beside outcome seat shared = refl
 shows_step (Some trap) beside outcome seat shared = refl
 
-same_outcome : (state : MonitoredState) → (monitored_step state).outcome.step ≡ (step (bare state)).outcome
+pub same_outcome : (state : MonitoredState) → (monitored_step state).outcome.step ≡ (step (bare state)).outcome
 unfolding monitored_step
 same_outcome state =
     let after = step (bare state) in

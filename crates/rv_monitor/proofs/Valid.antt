@@ -116,7 +116,7 @@ own_fits memory slots k info state valid is =
     let P : Option SlotInfo → Type 0 = λ x. IfSome x (IsLawfulSlot memory) in
     let law = subst P is (valid.lawful k) in
     record {
-      lawful = record { region = law.region; window = law.window; measured = law.measured };
+      lawful = record { region = law.region; window = law.window; aligned = law.aligned; entry = law.entry; measured = law.measured };
       regions = λ j other. ap (λ b. meets b (region slots j)) (sym region_is) ∙ valid.regions_apart k j (λ same. other (sym same));
       windows = λ j other. ap (λ b. meets b (window slots j)) (sym region_is) ∙ valid.windows_apart k j;
       window = λ j other. ap (λ b. meets b (region slots j)) (sym window_is) ∙ meets_symmetric (window slots k) (region slots j) ∙ valid.windows_apart j k;
@@ -141,6 +141,8 @@ slot_by_size m n None size law = tt
 slot_by_size m n (Some info) size law = record {
   region = sym (lawful_by_size m n info.region size) ∙ law.region;
   window = sym (window_by_size m n info.window size) ∙ law.window;
+  aligned = law.aligned;
+  entry = law.entry;
   measured = law.measured;
 }
 

@@ -15,6 +15,7 @@ pub mod HartLaws
 pub mod Step
 pub mod Switches
 pub mod SwitchLaws
+pub mod Leaving
 pub mod Returns
 pub mod Table
 pub mod Unlocked
@@ -28,3 +29,4 @@ pub mod Access
 pub mod Integrity
 pub mod Changes
 pub mod Scramble
+pub mod Touches

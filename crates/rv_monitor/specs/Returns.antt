@@ -2,12 +2,11 @@
 -- first, past its ecall, but for a0 and a1. (A law of the monitor's definitions; Keystone, EuroSys 2020, in this project's profile.)
 use Rattle.std.specs.Prelude.{◌≡◌, ℕ, zero, suc, true, false, Some}
 use Rattle.rv_pmp.specs.declared.mode.Mode.TheVariants.{S}
-use Rattle.rv_state.specs.SContexts.{KeepsOwn}
 use Rattle.rv_hart.specs.declared.trap.Trap.{Trap}
 use Rattle.rv_monitor.specs.Contexts.{saved, with_answer}
 use Rattle.rv_monitor.specs.Refused.{past_ecall}
 use Rattle.rv_monitor.specs.Runs.{run}
-use Rattle.rv_monitor.specs.State.{MonitoredState, IsKept, is_host}
+use Rattle.rv_monitor.specs.State.{MonitoredState, IsKept, HostIsStored, is_host}
 use Rattle.rv_monitor.specs.Step.{MonitoredStepped, monitored_step}
 use Rattle.rv_monitor.specs.SwitchLaws.{going_on, reason, value}
 
@@ -24,10 +23,11 @@ pub record ComesBack (before last : MonitoredState) (after : MonitoredStepped) :
     regs = with_answer before.seat.hart.regs (reason trap.cause last.seat.hart.regs) (value trap.cause last.seat.hart.regs);
   }
 
--- the host runs, a step enters an enclave, which runs through n more, and the next one leaves it
+-- the host runs, a step enters an enclave, which runs through n more, and the next one leaves it; what the first kept of the host is as a
+-- hart stores it
 abbrev pub ReturnLaw : Type 0
 ReturnLaw =
-    (n : ℕ) (state : MonitoredState) → IsKept state → KeepsOwn state.seat.hart.csrs → is_host state.seat.world ≡ true
+    (n : ℕ) (state : MonitoredState) → IsKept state → HostIsStored (monitored_step state).state.seat → is_host state.seat.world ≡ true
     → RunsThrough n (monitored_step state).state
     → (let last = (run n (monitored_step state).state).state in
     is_host (monitored_step last).state.seat.world ≡ true → ComesBack state last (monitored_step last))

@@ -1,6 +1,6 @@
 -- The table of enclaves: thirteen slots, each free or with the record of a live enclave; and what is true of it in every state.
 -- (Keystone, EuroSys 2020, in this project's profile.)
-use Rattle.std.specs.Prelude.{◌≡◌, ◌≢◌, ℕ, ◌==◌, Bool, true, false, ◌&&◌, ◌||◌, List, length, replicate, Option, Some, None, IfSome, slice_set}
+use Rattle.std.specs.Prelude.{◌≡◌, ◌≢◌, ℕ, ◌%◌, ◌==◌, Bool, true, false, ◌&&◌, ◌||◌, List, length, replicate, Option, Some, None, IfSome, slice_set}
 use Rattle.std.specs.Prelude.{slice_index_or, is_some}
 use Rattle.std.specs.Option.{is_none}
 use Rattle.std.specs.List.{range_with_len, find, list_any}
@@ -79,10 +79,13 @@ is_world_of k (Enclave j) = j == k
 unfoldable pub is_window : List ℕ → Block → Bool
 is_window memory block = block.base == 0 && block.size == 0 || is_lawful memory block
 
--- a live enclave has a lawful region, a window or none, and the 32 bytes of a SHA-256 digest
+-- a live enclave has a lawful region, a window or none, an entry in its region that is a multiple of 4, and the 32 bytes of a SHA-256
+-- digest
 pub record IsLawfulSlot (memory : List ℕ) (info : SlotInfo) : Type 0 where
   pub region : is_lawful memory info.region ≡ true
   pub window : is_window memory info.window ≡ true
+  pub aligned : info.entry % 4 ≡ 0
+  pub entry : has info.region info.entry ≡ true
   pub measured : length info.measurement ≡ 32
 
 -- regions share no byte with each other, with any window or with the monitor's range, and windows none with the monitor's range

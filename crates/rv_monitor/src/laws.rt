@@ -3,16 +3,24 @@
 
 ghost use Rattle.rv_monitor.specs.Access.{ApartLaw, KeptReachLaw};
 ghost use Rattle.rv_monitor.specs.Asked.{AskedLaw, AskedStepLaw};
+ghost use Rattle.rv_monitor.specs.BlockLaws.{MeetsLaw};
 ghost use Rattle.rv_monitor.specs.Changes.{ChangeLaw, RunsChangeLaw};
 ghost use Rattle.rv_monitor.specs.Confidentiality.{BareLaw, ConfidentialityLaw, HandlerLaw};
 ghost use Rattle.rv_monitor.specs.HartLaws.{BesideLaw, SchedChangeLaw, SchedKeptLaw, SchedLaw, SchedSparesLaw};
 ghost use Rattle.rv_monitor.specs.Integrity.{IntegrityLaw, RunsSpareLaw};
+ghost use Rattle.rv_monitor.specs.Leaving.{LeaveLaw};
 ghost use Rattle.rv_monitor.specs.Reach.{ReachLaw};
 ghost use Rattle.rv_monitor.specs.Refused.{RefusalLaw};
 ghost use Rattle.rv_monitor.specs.Returns.{ReturnLaw};
 ghost use Rattle.rv_monitor.specs.Runs.{KeptLaw, RunLaw};
 ghost use Rattle.rv_monitor.specs.Scramble.{ScrambleLaw};
 ghost use Rattle.rv_monitor.specs.SwitchLaws.{SwitchLaw};
+ghost use Rattle.rv_monitor.specs.Touches.{TouchLaw};
+
+/// Two blocks meet exactly where there is a byte that both have.
+pub const fn blocks_meet()
+    ensures { MeetsLaw }
+{}
 
 /// Reach: under the entries of a valid table and a world, S and U do an access to bytes in RAM exactly where it is in reach.
 pub const fn reach()
@@ -27,6 +35,11 @@ pub const fn reach_kept()
 /// No access that S or U does has a byte in the region of another enclave than the one that runs.
 pub const fn apart()
     ensures { ApartLaw }
+{}
+
+/// What the instruction of a step touches lies in its world's reach: the word at pc, which it fetches, and what it loads or stores.
+pub const fn touches()
+    ensures { TouchLaw }
 {}
 
 /// What is true in every state is true after a step.
@@ -85,6 +98,12 @@ pub const fn refusal()
 /// was kept, but for a0 and a1.
 pub const fn switches()
     ensures { SwitchLaw }
+{}
+
+/// The step with which an enclave leaves: its registers go into its context, and of all else only the state in its record, the timer's
+/// line after the timer, and what every trap and its return change are different.
+pub const fn leaves()
+    ensures { LeaveLaw }
 {}
 
 /// From the step with which the host enters an enclave to the one with which the enclave leaves: the host goes on as it was before the

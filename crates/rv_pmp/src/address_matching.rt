@@ -3,7 +3,7 @@
 ghost use Rattle.std.specs.Prelude.{◌≡◌};
 
 /// The field A of a cfg byte (Privileged Architecture, section 3.7.1, Address Matching).
-#[derive(Clone, Copy, Debug, PartialEq, Eq)]
+#[derive(Clone, Copy)]
 pub(crate) enum AddressMatching {
     /// No address.
     Off,

@@ -12,7 +12,7 @@ use crate::pmp_index::PmpIndex;
 const ENTRIES: u8 = 16;
 
 /// The ranges of the entries: of each the first byte that it covers and the first past them, both 0 where it covers none.
-#[derive(Clone, Copy, Debug)]
+#[derive(Clone, Copy)]
 pub(crate) struct EntryRanges {
     pub(crate) from: [u64; 16],
     pub(crate) to: [u64; 16],

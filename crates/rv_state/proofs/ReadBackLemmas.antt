@@ -51,7 +51,7 @@ bit_list-from zero k word = refl
 bit_list-from (suc count) k word =
     rw (halved word k) (ap (λ bits. is_set word k ∷ bits) (bit_list-from count (suc k) word))
 
-by_places : (word mask : ℕ) → and_by_bits word mask ≡ word_of_bits (masked (bit_list 32 mask) (bits_from 32 0 word))
+pub by_places : (word mask : ℕ) → and_by_bits word mask ≡ word_of_bits (masked (bit_list 32 mask) (bits_from 32 0 word))
 unfolding by_bits
 by_places word mask =
     ap word_of_bits (bitwise-masked (bit_list 32 word) (bit_list 32 mask)

@@ -5,6 +5,7 @@ pub mod CsrFaults
 pub mod Mstatus
 pub mod CsrState
 pub mod Counters
+pub mod Kept
 pub mod Interrupts
 pub mod Traps
 pub mod CsrTable

@@ -1,5 +1,5 @@
--- What of the registers no software below mode M changes, but for traps and the counting of steps: RISC-V Privileged Architecture
--- 20211203, sections 2.1 (the mode that a number asks for) and 3.1.6 (mstatus).
+-- What of the registers no software below mode M changes, where MPRV is 0, but for traps and the counting of steps: RISC-V Privileged
+-- Architecture 20211203, sections 2.1 (the mode that a number asks for), 3.1.6 (mstatus) and 3.1.6.3 (MPRV, which sret clears).
 use Rattle.std.specs.Prelude.{false}
 use Rattle.rv_state.specs.CsrState.{CsrState}
 

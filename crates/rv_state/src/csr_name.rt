@@ -7,7 +7,7 @@ use rv_pmp::{PmpIndex, PmpRegister};
 
 /// A control and status register that keeps or shows something, or one of those that are kept as zero
 /// (Privileged Architecture, section 2.2).
-#[derive(Clone, Copy, Debug, PartialEq, Eq)]
+#[derive(Clone, Copy)]
 pub(crate) enum CsrName {
     /// A view of mstatus.
     Sstatus,

@@ -18,6 +18,7 @@ mod csr_fault;
 mod csr_name;
 mod csrs;
 mod mstatus;
+mod raised;
 mod regs;
 mod s_context;
 mod traps;

@@ -3,3 +3,4 @@ pub mod BitFieldLemmas
 pub mod ProductLemmas
 pub mod DivisionLemmas
 pub mod LogicLemmas
+mod DivisionExamples

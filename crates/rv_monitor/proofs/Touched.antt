@@ -1,0 +1,73 @@
+-- What a step's instruction touches is in the reach of the world that runs.
+use Rattle.std.proofs.Common.{◌≡◌, ◌≢◌, ◌⊎◌, ℕ, false, Option, Some, None, Result, Ok, Err, refl, sym, ◌∙◌, subst, inl, inr}
+use Rattle.rv_word.specs.declared.width.Width.TheVariants.{Word}
+use Rattle.rv_pmp.specs.declared.access.Access.{Access}
+use Rattle.rv_pmp.specs.declared.access.Access.TheVariants.{Fetch, Read, Write}
+use Rattle.rv_pmp.specs.declared.mode.Mode.{Mode}
+use Rattle.rv_pmp.specs.declared.mode.Mode.TheVariants.{M}
+use Rattle.rv_memory.specs.declared.touched.Span.{Span}
+use Rattle.rv_memory.specs.declared.touched.Touched.{Touched}
+use Rattle.rv_hart.specs.HartState.{Hart}
+use Rattle.rv_hart.specs.Permitted.{MayTouch}
+use Rattle.rv_hart.specs.State.{State, Stepped}
+use Rattle.rv_hart.specs.Step.{data_mode, retired_or_trapped, span, step}
+use Rattle.rv_hart.specs.declared.trap.Trap.{Trap}
+use Rattle.rv_hart.proofs.StepCases.{by_ways}
+use Rattle.rv_hart.proofs.StepLaws.{touches_permitted}
+use Rattle.rv_monitor.specs.Confidentiality.{bare}
+use Rattle.rv_monitor.specs.State.{MonitoredState, IsKept}
+use Rattle.rv_monitor.specs.Touches.{executes, IsReached, IsTouchedInReach, TouchLaw}
+use Rattle.rv_monitor.proofs.KeptReaches.{kept_reach, below_M, clear_mode}
+use Rattle.rv_monitor.proofs.TrapSteps.{same_outcome}
+
+-- ---- what is fetched
+
+-- an instruction that retires, or ends in its exception, was fetched
+fetched_still : (hart : Hart) (touched : Touched) (written : Option ℕ) (o : Option Span) (finish : Result Hart Trap) → touched.fetched ≡ o
+    → (retired_or_trapped hart touched written finish).outcome.touched.fetched ≡ o
+unfolding retired_or_trapped
+fetched_still hart touched written o (Ok after) is = is
+fetched_still hart touched written o (Err trap) is = is
+
+abbrev FetchesAtPc : ℕ → Stepped → Type 0
+FetchesAtPc pc after =
+    (after.outcome.touched.fetched ≡ span pc Word) ⊎ ((after.outcome.touched.fetched ≡ None) × (executes after.outcome.trap ≡ false))
+
+fetches_at_pc : (state : State) → FetchesAtPc state.hart.pc (step state)
+fetches_at_pc state = by_ways state (FetchesAtPc state.hart.pc) (record {
+  interrupt = λ interrupt is. inr (refl, refl);
+  fetch_refused = λ fault here. inr (refl, refl);
+  illegal = λ word here. inl refl;
+  no_access = λ word instr here. inl (fetched_still state.hart _ _ _ _ refl);
+  load = λ word instr address width number here done. inl (fetched_still state.hart _ _ _ _ refl);
+  load_refused = λ word instr address width fault here is. inl refl;
+  store = λ word instr address width value memory here done. inl (fetched_still state.hart _ _ _ _ refl);
+  store_refused = λ word instr address width value fault here is. inl refl;
+})
+
+-- ---- what is touched
+
+module _ (state : MonitoredState) (kept : IsKept state) where
+  reached : (mode : Mode) (access : Access) (o : Option Span) → mode ≢ M → MayTouch (bare state) mode access o → IsReached state access o
+  reached mode access None below may = tt
+  reached mode access (Some span) below may = sym (kept_reach state mode access span.addr span.len kept below may.0) ∙ may.1
+
+  own_below : state.seat.hart.mode ≢ M
+  own_below = below_M state.seat.hart.mode kept.layout.mode
+
+  data_below : data_mode state.seat.hart ≢ M
+  data_below = below_M (data_mode state.seat.hart) (rw (clear_mode state.seat.hart kept.layout.mprv) kept.layout.mode)
+
+  touched_in_reach : IsTouchedInReach state (step (bare state)).outcome
+  touched_in_reach =
+      let may = touches_permitted (bare state) in
+      let touched = (step (bare state)).outcome.touched in
+      record {
+        at_pc = fetches_at_pc (bare state);
+        fetched = reached state.seat.hart.mode Fetch touched.fetched own_below may.fetched;
+        loaded = reached (data_mode state.seat.hart) Read touched.loaded data_below may.loaded;
+        stored = reached (data_mode state.seat.hart) Write touched.stored data_below may.stored;
+      }
+
+pub touch_law : TouchLaw
+touch_law state kept = subst (IsTouchedInReach state) (sym (same_outcome state)) (touched_in_reach state kept)

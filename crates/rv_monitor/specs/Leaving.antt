@@ -1,0 +1,95 @@
+-- What an enclave leaves behind when it leaves, by exit, by stop or by the timer: its registers go into its kept context, the host's come
+-- back, and of all else only its record's state, the timer's line after the timer, and what every trap and its return change are
+-- different. (A law of the monitor's definitions; Keystone, EuroSys 2020, in this project's profile.)
+use Rattle.std.specs.Prelude.{◌≡◌, ℕ, ◌==◌, Bool, false, List, Some, None, if◌then◌else◌}
+use Rattle.rv_pmp.specs.declared.mode.Mode.TheVariants.{S}
+use Rattle.rv_state.specs.Bits.{aligned_to_4}
+use Rattle.rv_state.specs.CsrState.{CsrState}
+use Rattle.rv_state.specs.Registers.{register}
+use Rattle.rv_state.specs.SContexts.{with_s_context}
+use Rattle.rv_state.specs.declared.cause.Cause.{Cause}
+use Rattle.rv_state.specs.declared.cause.Cause.TheVariants as causes
+use Rattle.rv_hart.specs.HartState.{Hart}
+use Rattle.rv_hart.specs.declared.trap.Trap.{Trap}
+use Rattle.rv_monitor.specs.Calls.{call_number}
+use Rattle.rv_monitor.specs.Contexts.{exited_context, saved, with_answer, with_context}
+use Rattle.rv_monitor.specs.Layout.{layout, mie_of}
+use Rattle.rv_monitor.specs.Refused.{passed_csrs, past_ecall}
+use Rattle.rv_monitor.specs.State.{MonitoredState, IsKept, seated_beside}
+use Rattle.rv_monitor.specs.Step.{MonitoredStepped, monitored_step}
+use Rattle.rv_monitor.specs.SwitchLaws.{reason, value}
+use Rattle.rv_monitor.specs.Table.{Slots, with_state}
+use Rattle.rv_monitor.specs.declared.call.Call.TheVariants.{Exit}
+use Rattle.rv_monitor.specs.declared.context.Context.{Context}
+use Rattle.rv_monitor.specs.declared.shared.Shared.{Shared}
+use Rattle.rv_monitor.specs.declared.slot_info.EnclaveState.{EnclaveState}
+use Rattle.rv_monitor.specs.declared.slot_info.EnclaveState.TheVariants.{Stopped, Exited}
+use Rattle.rv_monitor.specs.declared.world.World.TheVariants.{Host, Enclave}
+
+-- ---- what is kept of the enclave
+
+-- how far it is then, which a6 tells of a call
+abbrev pub state_after : Cause → List ℕ → EnclaveState
+state_after (causes.Interrupt interrupt) regs = Stopped
+state_after (causes.Exception exception) regs = if register regs 16 == call_number Exit then Exited else Stopped
+
+-- after stop it goes on past its ecall with a0 and a1 0
+abbrev pub stopped_at : Hart → Context
+stopped_at hart = record (saved hart (past_ecall hart) S) { regs = with_answer hart.regs 0 0 }
+
+-- after the timer it goes on where it was, and after exit nothing is kept
+abbrev pub kept_after : Cause → Hart → Context
+kept_after (causes.Interrupt interrupt) hart = saved hart (aligned_to_4 hart.pc) hart.mode
+kept_after (causes.Exception exception) hart = if register hart.regs 16 == call_number Exit then exited_context else stopped_at hart
+
+abbrev pub left_shared : Shared → ℕ → Cause → Hart → Shared
+left_shared shared k cause hart = record shared {
+  table = with_state shared.table k (state_after cause hart.regs);
+  contexts = with_context shared.contexts k (Some (kept_after cause hart));
+}
+
+-- ---- the host's hart
+
+-- the timer's stop lowers the line
+abbrev pub line_after : Cause → Bool → Bool
+line_after (causes.Interrupt interrupt) raised = false
+line_after (causes.Exception exception) raised = raised
+
+-- the registers of mode S are the host's, the entries and mie those of the table and the host, and the rest is as after a trap and its
+-- return
+abbrev pub left_csrs : CsrState → Slots → Trap → Context → CsrState
+left_csrs csrs slots trap host = record (with_s_context (passed_csrs csrs trap host.pc) host.supervisor) {
+  timer = line_after trap.cause csrs.timer;
+  pmp = layout slots Host;
+  mie = mie_of Host;
+}
+
+abbrev pub left_hart : Hart → Slots → Trap → Context → Hart
+left_hart hart slots trap host = record {
+  regs = with_answer host.regs (reason trap.cause hart.regs) (value trap.cause hart.regs);
+  csrs = left_csrs hart.csrs slots trap host;
+  pc = host.pc;
+  mode = host.mode;
+}
+
+-- ---- the state
+
+-- no byte changes, and of the other hart the entries and mie alone
+abbrev pub left_state : MonitoredState → ℕ → Trap → Context → MonitoredState
+left_state before k trap host =
+    let shared = left_shared before.shared k trap.cause before.seat.hart in
+    record {
+      seat = record { hart = left_hart before.seat.hart shared.table trap host; host_context = None; world = Host };
+      other = seated_beside shared.table before.other;
+      shared = shared;
+    }
+
+-- where an enclave runs and the host is kept, and the step traps and leads to the host
+abbrev pub LeavesOnly : MonitoredState → MonitoredStepped → Type 0
+LeavesOnly before after =
+    (k : ℕ) (host : Context) (trap : Trap) → before.seat.world ≡ Enclave k → before.seat.host_context ≡ Some host
+    → after.outcome.step.trap ≡ Some trap → after.state.seat.world ≡ Host
+    → (after.state ≡ left_state before k trap host) × (after.outcome.entered ≡ None)
+
+abbrev pub LeaveLaw : Type 0
+LeaveLaw = (state : MonitoredState) → IsKept state → LeavesOnly state (monitored_step state)

@@ -1,0 +1,25 @@
+-- How the counters and the raised interrupts are kept: both counters over one count of steps, and mip as one word. (No standard's: what is
+-- kept of the registers. No contract of a public call names it.)
+use Rattle.std.specs.Prelude.{ℕ, ◌+◌, ◌%◌, ◌^◌, Bool, if◌then◌else◌}
+use Rattle.rv_word.specs.BitFields.{is_set, flag}
+
+-- both counters, and what holds them
+pub record CountersState : Type 0 where
+  pub mcycle : ℕ
+  pub minstret : ℕ
+  pub inhibit : ℕ
+
+-- a counter that is held is what is kept of it, and else the count beside that
+abbrev pub running : Bool → ℕ → ℕ → ℕ
+running is_held kept count = if is_held then kept else (kept + count) % 2 ^ 64
+
+-- what software has raised, and the timer line
+pub record RaisedState : Type 0 where
+  pub software : ℕ
+  pub timer : Bool
+
+-- the word that mip reads of them
+abbrev pub mip_of : RaisedState → ℕ
+mip_of raised =
+    flag 1 (is_set raised.software 1) + flag 5 (is_set raised.software 5) + flag 7 raised.timer
+    + flag 9 (is_set raised.software 9)

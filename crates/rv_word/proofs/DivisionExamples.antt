@@ -1,0 +1,38 @@
+-- The rows of table 7.1: RISC-V Unprivileged ISA 20191213, section 7.2. Division by zero, and the one signed division whose quotient fits
+-- no word: -2^31 by -1.
+use Rattle.std.proofs.Common.{◌≡◌, ℕ, refl}
+use Rattle.rv_word.specs.Division.{quotient, remainder, unsigned_quotient, unsigned_remainder}
+
+-- the dividend -2^31 and the divisor -1, as words
+abbrev least : ℕ
+least = 0x80000000
+
+abbrev minus_one : ℕ
+minus_one = 0xFFFFFFFF
+
+-- signed overflow: the quotient is the dividend, and the remainder 0
+div-overflow : quotient least minus_one ≡ least
+div-overflow = refl
+
+rem-overflow : remainder least minus_one ≡ 0
+rem-overflow = refl
+
+-- the same words without a sign are 2^31 and 2^32 - 1
+divu-of_these : unsigned_quotient least minus_one ≡ 0
+divu-of_these = refl
+
+remu-of_these : unsigned_remainder least minus_one ≡ least
+remu-of_these = refl
+
+-- by zero: all ones, and the dividend
+div-by_zero : (dividend : ℕ) → quotient dividend 0 ≡ 0xFFFFFFFF
+div-by_zero dividend = refl
+
+rem-by_zero : (dividend : ℕ) → remainder dividend 0 ≡ dividend
+rem-by_zero dividend = refl
+
+divu-by_zero : (dividend : ℕ) → unsigned_quotient dividend 0 ≡ 0xFFFFFFFF
+divu-by_zero dividend = refl
+
+remu-by_zero : (dividend : ℕ) → unsigned_remainder dividend 0 ≡ dividend
+remu-by_zero dividend = refl
