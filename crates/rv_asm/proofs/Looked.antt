@@ -1,6 +1,6 @@
 -- What both looks at a text have found.
-use Rattle.std.proofs.Common.{◌≡◌, ◌∙◌, sym, ap, ℕ, ◌+◌, ◌≤◌, List, [], ◌∷◌, ◌++◌, length, length-append, Option, Some, None, Result, Ok, Err, IfOk, Vec, option_map, arith, refl}
-use Rattle.std.proofs.lemmas.List.{length-map}
+use Rattle.std.proofs.Common.{◌≡◌, ◌∙◌, sym, ap, ℕ, ◌+◌, ◌≤◌, List, [], ◌∷◌, ◌++◌, length, length-append, Option, Some, None, Result, Ok, Err, IfOk, IfErr, Vec, option_map, arith, refl, take, drop, ◌-◌}
+use Rattle.std.proofs.lemmas.List.{length-map, take-append-drop}
 use Rattle.rv_word.specs.Cases.{option_case}
 use Rattle.rv_asm.specs.LabelMap.{places_of}
 use Rattle.rv_asm.specs.LineReading.{line_at}
@@ -33,6 +33,25 @@ fault_line fault before [] found is = cc
 fault_line fault before (line ∷ lines) found is =
     let bounds = later_or_here (length before) (length lines) (length (before ++ line ∷ [])) (fault before line) (first_fault fault (before ++ line ∷ []) lines) found (length-append before (line ∷ [])) (fault_line fault (before ++ line ∷ []) lines found) is in
     (bounds.0, omega (arith, bounds.1))
+
+-- where no line has a fault, none of the first has
+none_within : (o : Option AsmFaultKind) (f : AsmFaultKind → AsmFault) (rest : Option AsmFault) → option_case o rest (λ kind. Some (f kind)) ≡ None → (o ≡ None) × (rest ≡ None)
+none_within None f rest is = (refl, is)
+none_within (Some kind) f rest is = cc
+
+none_in_front : (fault : List Reading → Reading → Option AsmFaultKind) (before lines others : List Reading) → first_fault fault before (lines ++ others) ≡ None → first_fault fault before lines ≡ None
+none_in_front fault before [] others is = refl
+none_in_front fault before (line ∷ lines) others is =
+    let none = none_within (fault before line) (fault_after (length before)) (first_fault fault (before ++ line ∷ []) (lines ++ others)) is in
+    rw none.0 (none_in_front fault (before ++ line ∷ []) lines others none.1)
+
+pub none_of_first : (text : List ℕ) (count : ℕ) → first_fault own_fault [] (readings text) ≡ None → first_fault own_fault [] (take count (readings text)) ≡ None
+none_of_first text count is =
+    none_in_front own_fault [] (take count (readings text)) (drop count (readings text)) (ap (first_fault own_fault []) (take-append-drop count (readings text)) ∙ is)
+
+pub none_of_first_if : {A : Type 0} (text : List ℕ) (r : Result A AsmFault) → first_fault own_fault [] (readings text) ≡ None → IfErr r (λ fault. first_fault own_fault [] (take (fault.line - 1) (readings text)) ≡ None)
+none_of_first_if text (Ok words) is = tt
+none_of_first_if text (Err fault) is = none_of_first text (fault.line - 1) is
 
 -- a fault of its own
 pub own_decides : (text : List ℕ) (fault : AsmFault) → first_fault own_fault [] (readings text) ≡ Some fault → assembled text ≡ Err fault

@@ -1,9 +1,9 @@
 //! The words that an assembler text stands for.
 
-ghost use Rattle.std.specs.Prelude.{◌≡◌, ◌≢◌, ◌≤◌, ℕ, List, None, IfOk, IfErr, Ok, Err, length};
+ghost use Rattle.std.specs.Prelude.{◌≡◌, ◌≢◌, ◌≤◌, ◌-◌, ℕ, List, [], None, IfOk, IfErr, Ok, Err, length, take};
 ghost use Rattle.rv_asm.specs.Denotes.{Denotes};
 ghost use Rattle.rv_text.specs.Lines.{lines_of};
-ghost use Rattle.rv_asm.specs.Program.{assembled, fault_in, readings};
+ghost use Rattle.rv_asm.specs.Program.{assembled, fault_in, first_fault, own_fault, readings};
 
 use crate::fault::{AsmFault, AsmFaultKind};
 use crate::first_look::FirstLook;
@@ -23,6 +23,8 @@ pub fn assemble(alloc: Global, text: &[u8]) -> Result<Vec<u32>, AsmFault>
     ensures ok { IfOk result (λ words. assembled text.now ≡ Ok words.items) }
     ensures few { IfOk result (λ words. length words.items ≤ 65536) }
     ensures fault { IfErr result (λ fault. fault.kind ≢ AsmFaultKind.NoMemory → assembled text.now ≡ Err fault) }
+    // No line before that of the fault has a fault of its own, where memory was refused too.
+    ensures order { IfErr result (λ fault. first_fault own_fault [] (take (fault.line - 1) (readings text.now)) ≡ None) }
     // The fault's line is one of the text.
     ensures line { IfErr result (λ fault. (1 ≤ fault.line) × (fault.line ≤ length (lines_of text.now))) }
     // The words are those that the text denotes, ..

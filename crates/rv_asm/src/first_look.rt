@@ -1,6 +1,6 @@
 //! The first look at the lines of a text: their own faults, and where their labels stand.
 
-ghost use Rattle.std.specs.Prelude.{◌≡◌, ◌≢◌, ◌≤◌, ◌<◌, ◌+◌, ◌^◌, ◌-◌, ◌∷◌, [], ◌++◌, IfOk, IfErr, OnOk, Some, None, length, List};
+ghost use Rattle.std.specs.Prelude.{◌≡◌, ◌≢◌, ◌≤◌, ◌<◌, ◌+◌, ◌^◌, ◌-◌, ◌∷◌, [], ◌++◌, IfOk, IfErr, OnOk, Some, None, length, take, List};
 ghost use Rattle.rv_word.specs.Cases.{option_case};
 ghost use Rattle.rv_asm.specs.Looks.{HasRead, AddsLabel};
 ghost use Rattle.rv_asm.specs.LineReading.{line_at};
@@ -18,7 +18,7 @@ use std::alloc::{AllocError, Global};
 const MAX_WORDS: u32 = 65536;
 
 /// What is known of the lines that were read.
-#[derive(Debug, Drop)]
+#[derive(Drop)]
 pub(crate) struct FirstLook {
     /// Where their labels stand.
     pub(crate) labels: Labels,
@@ -134,6 +134,7 @@ impl FirstLook {
     pub(crate) fn over(alloc: Global, text: &[u8]) -> Result<FirstLook, AsmFault>
         ensures ok { IfOk result (λ look. HasRead look (readings text.now) × (first_fault own_fault [] (readings text.now) ≡ None)) }
         ensures fault { IfErr result (λ fault. fault.kind ≢ AsmFaultKind.NoMemory → first_fault own_fault [] (readings text.now) ≡ Some fault) }
+        ensures order { IfErr result (λ fault. first_fault own_fault [] (take (fault.line - 1) (readings text.now)) ≡ None) }
         ensures line { IfErr result (λ fault. (1 ≤ fault.line) × (fault.line ≤ length (readings text.now))) }
     {
         let mut look = FirstLook::new(alloc);

@@ -11,7 +11,7 @@ use crate::statement::Statement;
 use rv_text::is_good_line;
 
 /// What a line says.
-#[derive(Debug, Drop)]
+#[derive(Drop)]
 pub(crate) struct Line {
     /// The name before `:`.
     pub(crate) label: Option<Name>,

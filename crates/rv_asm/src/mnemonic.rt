@@ -7,7 +7,7 @@ use crate::tables::looked_up;
 use rv_encoding::{BranchKind, CsrKind, LoadKind, OpImmKind, OpKind, ShiftKind, StoreKind};
 
 /// The first word of a statement. Those of one format are one variant, which has a kind.
-#[derive(Clone, Copy, Debug, PartialEq, Eq)]
+#[derive(Clone, Copy)]
 pub(crate) enum Mnemonic {
     Lui,
     Auipc,

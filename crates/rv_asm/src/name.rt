@@ -8,7 +8,7 @@ use arrayvec::ArrayVec;
 use std::marker::Model;
 
 /// The name of a label: at most 32 letters, digits, `_` and `.`, of which the first is no digit.
-#[derive(Debug, Drop)]
+#[derive(Drop)]
 pub(crate) struct Name {
     bytes: ArrayVec<u8, 32>,
 }

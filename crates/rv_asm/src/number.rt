@@ -6,7 +6,7 @@ ghost use Rattle.rv_asm.specs.Numbers.{plus, minus, decimal_digits as decimal_di
 use rv_text::digits;
 
 /// A number with its sign.
-#[derive(Clone, Copy, Debug, PartialEq, Eq)]
+#[derive(Clone, Copy)]
 pub(crate) struct Number {
     /// Whether a `-` stands before it.
     pub(crate) is_negative: bool,

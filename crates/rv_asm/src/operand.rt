@@ -14,7 +14,7 @@ use rv_text::position_of;
 use rv_word::Reg;
 
 /// Where a jump or a branch goes.
-#[derive(Debug, Drop)]
+#[derive(Drop)]
 pub(crate) enum Target {
     /// To the statement that follows the label.
     Label(Name),

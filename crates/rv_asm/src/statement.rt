@@ -5,7 +5,7 @@ use rv_encoding::{BranchKind, Instr};
 use rv_word::Reg;
 
 /// A statement of an assembler text, its operands read and in their ranges.
-#[derive(Debug, Drop)]
+#[derive(Drop)]
 pub(crate) enum Statement {
     /// An instruction with all its fields.
     Instruction(Instr),

@@ -14,7 +14,6 @@ use Rattle.rv_bench.specs.LineText.{ReadsLines}
 use Rattle.rv_bench.specs.Script.{FindsEnd, IsAtEnd}
 use Rattle.rv_bench.specs.Replies.{replies, state_after}
 use Rattle.rv_bench.specs.Transfer.{WritesFront}
-use Rattle.rv_bench.specs.Twin.{EntersSlot}
 use Rattle.rv_bench.proofs.RepliesLemmas.{replies-append, state_after-append}
 
 -- one more byte of a text is written after its mark, if it begins a line
@@ -78,16 +77,7 @@ ended_script slot start now lines unread is going all =
     ∙ ap (λ t. replies (apart_line slot) start lines ++ t)
     (ap last_text (sym is) ∙ ap (λ b. cond b [] (end_text now.ran)) going)
 
--- lines that were read, with the last of which the slot was entered
-pub entered_at : (slot : ℕ) (start now : Apart) (unread left : List ℕ) (is_at_end : Bool) (lines : List (List ℕ)) → (reads : ReadsLines unread left is_at_end lines)
-    → now ≡ state_after (apart_line slot) start lines → now.entered ≡ true → EntersSlot slot start unread left
-entered_at slot start now unread left is_at_end lines reads is over = record {
-  text = reads.text;
-  split = reads.split;
-  entered = ap (λ (lines : List (List ℕ)). (state_after (apart_line slot) start lines).entered) reads.are_lines ∙ (ap (λ (apart : Apart). apart.entered) (sym is) ∙ over);
-}
-
--- what is written then is the whole text
+-- what is written once a line entered the slot is the whole text
 pub entered_all : (slot : ℕ) (start now : Apart) (unread left : List ℕ) (is_at_end : Bool) (lines : List (List ℕ)) (old new : List ℕ)
     → ReadsLines unread left is_at_end lines → now ≡ state_after (apart_line slot) start lines → now.entered ≡ true
     → new ≡ old ++ replies (apart_line slot) start lines → new ≡ old ++ script_text slot start (lines_of unread)

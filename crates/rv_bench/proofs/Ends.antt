@@ -1,10 +1,13 @@
 -- How lines come to their end.
-use Rattle.std.proofs.Common.{◌≡◌, ℕ, Bool, true, false, inl, inr, Result, Ok, refl, ap, ◌∙◌, arith}
+use Rattle.std.proofs.Common.{◌≡◌, ℕ, Bool, true, false, inl, inr, Result, Ok, refl, sym, ap, ◌∙◌, arith, IsTrue}
+use Rattle.std.proofs.lemmas.Bool.{false≢true}
 use Rattle.std.specs.Result.{is_err}
 use Rattle.rv_bench.specs.declared.device.Source.{Ghosts}
 use Rattle.rv_bench.specs.declared.lines.Lines.{Lines}
 use Rattle.rv_bench.specs.Device.{counted, one_more, HasRisen}
-use Rattle.rv_bench.specs.Unread.{HasEnded, TellsEnd}
+use Rattle.rv_bench.specs.Script.{ReadsThroughSeparator}
+use Rattle.rv_bench.specs.Separator.{has_separator}
+use Rattle.rv_bench.specs.Unread.{unread, HasEnded, TellsEnd}
 
 -- nothing has changed
 pub TellsEnd-none : {S : Type 0} {g : Ghosts S} (lines : Lines S g) → TellsEnd lines lines
@@ -47,3 +50,10 @@ TellsEnd-more {S} {g} old mid new first next = record {
     | inl at_end ↦ cc
     | inr risen ↦ let same = first.going was in let r : HasRisen (g.ends old.source) (g.ends new.source) = omega (arith, risen, same) in inr r
   ]
+
+-- what was read through a separator, and not to the end of the input, has one
+pub separator_read : {S : Type 0} {g : Ghosts S} (old mid new : Lines S g) → ReadsThroughSeparator old mid → TellsEnd mid new → new.is_at_end ≡ false → IsTrue g.tells → IsTrue (has_separator (unread old))
+separator_read old mid new reads end going tells = elim reads.ended [
+  | inl at_end ↦ absurd (false≢true (sym going ∙ (end.stays at_end).0))
+  | inr has ↦ has tells
+]

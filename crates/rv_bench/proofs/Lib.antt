@@ -1,7 +1,10 @@
 mod ApartLemmas
 mod Assembling
+mod Concealed
 mod Ends
+mod Entering
 mod Examples
+mod FrontLines
 mod ImageLemmas
 mod LineTextLemmas
 mod Mapped
@@ -12,6 +15,7 @@ mod Spared
 mod Starts
 mod Streams
 mod TakeWhileLemmas
+mod TwinAlike
 mod Twins
 mod WordLengths
 mod Writing

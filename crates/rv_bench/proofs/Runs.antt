@@ -53,6 +53,14 @@ module _ {A : Type 0} (answer : A → List ℕ → Replied A) where
   next-answer end start tells unread old now left mid rest ends shown answered so_far takes fronts is =
       ap (λ s. answer s takes.line) (sym so_far.state) ∙ shown-answer now shown takes.line answered fronts takes.front is
 
+  -- the state after one more line
+  pub AnswersLines-next : (end : ScriptEnd) (start : A) (tells : Bool) (unread old : List ℕ) (now : A) (left mid : List ℕ) (after : A) (rest : List ℕ) (ends : Bool) (shown reply : List ℕ)
+      → (so_far : AnswersLines end start tells unread old now left false mid) → (takes : TakesLine left rest ends shown)
+      → AnswersFronts now shown → answer now shown ≡ record { state = after; reply = reply } → after ≡ state_after answer start (so_far.lines ++ takes.line ∷ [])
+  AnswersLines-next end start tells unread old now left mid after rest ends shown reply so_far takes fronts is =
+      sym (state_after-append answer start so_far.lines (takes.line ∷ [])
+      ∙ ap (λ (a : Replied A). a.state) (next-answer end start tells unread old now left mid rest ends shown _ so_far takes fronts is))
+
   -- one more line is answered
   pub AnswersLines-more : (end : ScriptEnd) (start : A) (tells : Bool) (unread old : List ℕ) (now : A) (left mid : List ℕ) (after : A) (rest : List ℕ) (ends : Bool) (new shown reply : List ℕ)
       → AnswersLines end start tells unread old now left false mid → TakesLine left rest ends shown → ends_script end shown ≡ false
@@ -66,7 +74,7 @@ module _ {A : Type 0} (answer : A → List ℕ → Replied A) where
           reads = ReadsLines-more unread left rest ends shown lines so_far.taken.reads takes;
           inside = list_all-push (within end) lines line so_far.taken.inside (ap not (ends_script-shown end left rest ends shown takes ∙ other));
         };
-        state = sym (state_after-append answer start lines (line ∷ []) ∙ ap (λ (a : Replied A). a.state) here);
+        state = AnswersLines-next end start tells unread old now left mid after rest ends shown reply so_far takes fronts is;
         written = λ told.
             wrote told
             ∙ (ap (λ t. t ++ reply) (so_far.written told)
@@ -87,6 +95,13 @@ module _ {A : Type 0} (answer : A → List ℕ → Replied A) where
     inside = ap (script_lines end) reads.are_lines ∙ (script_lines-all end so_far.lines so_far.taken.inside ∙ sym reads.are_lines);
     written = λ told. so_far.written told ∙ ap (λ lines. old ++ replies answer start lines) (sym reads.are_lines);
   }
+
+  -- which leaves the state after the lines that were answered
+  pub AnswersLines-kept : (end : ScriptEnd) (start : A) (tells : Bool) (unread old : List ℕ) (now : A) (left new rest kept : List ℕ)
+      → (so_far : AnswersLines end start tells unread old now left false new) → (begun : ReadsText left rest kept)
+      → now ≡ state_after answer start (lines_of (AnswersLines-read end start tells unread old now left new rest kept so_far begun).text)
+  unfolding AnswersLines-read
+  AnswersLines-kept end start tells unread old now left new rest kept so_far begun = so_far.state ∙ ap (state_after answer start) (sym so_far.taken.reads.are_lines)
 
   -- the sink fails once the lines of the script have their replies
   pub AnswersLines-written : (end : ScriptEnd) (start : A) (tells : Bool) (unread old : List ℕ) (now : A) (left mid : List ℕ) (is_at_end : Bool) (rest new : List ℕ)
@@ -123,6 +138,33 @@ module _ {A : Type 0} (answer : A → List ℕ → Replied A) where
             let (more, (front, wrote, split)) = stops told in
             (more, (front, wrote ∙ ap (λ t. t ++ front) (so_far.written told), said ∙ split));
       }
+
+  -- which leaves the state after the lines before it
+  pub AnswersLines-before : (end : ScriptEnd) (start : A) (tells : Bool) (unread old : List ℕ) (now : A) (left mid : List ℕ) (after : A) (rest : List ℕ) (ends : Bool) (new shown reply : List ℕ)
+      → (so_far : AnswersLines end start tells unread old now left false mid) → (takes : TakesLine left rest ends shown) → (other : ends_script end shown ≡ false)
+      → (fronts : AnswersFronts now shown) → (is : answer now shown ≡ record { state = after; reply = reply }) → (stops : IsTrue tells → WritesFront mid new reply)
+      → now ≡ state_after answer start (AnswersLines-stopped end start tells unread old now left mid after rest ends new shown reply so_far takes other fronts is stops).answered
+  unfolding AnswersLines-stopped
+  AnswersLines-before end start tells unread old now left mid after rest ends new shown reply so_far takes other fronts is stops = so_far.state
+
+  -- the same of what was written before by another name
+  pub StopsAtWrite-after : (end : ScriptEnd) (start : A) (tells : Bool) (unread left old other new : List ℕ) → (IsTrue tells → old ≡ other) → StopsAtWrite answer end start tells unread left old new
+      → StopsAtWrite answer end start tells unread left other new
+  StopsAtWrite-after end start tells unread left old other new same stops = record {
+    text = stops.text;
+    answered = stops.answered;
+    next = stops.next;
+    one = stops.one;
+    split = stops.split;
+    are_lines = stops.are_lines;
+    all = stops.all;
+    written = λ told. subst (λ t. WritesFront (t ++ replies answer start stops.answered) new (replies answer (state_after answer start stops.answered) stops.next)) (same told) (stops.written told);
+  }
+
+  pub StopsAtWrite-answered : (end : ScriptEnd) (start : A) (tells : Bool) (unread left old other new : List ℕ) → (same : IsTrue tells → old ≡ other) → (stops : StopsAtWrite answer end start tells unread left old new)
+      → (StopsAtWrite-after end start tells unread left old other new same stops).answered ≡ stops.answered
+  unfolding StopsAtWrite-after
+  StopsAtWrite-answered end start tells unread left old other new same stops = refl
 
   -- at the end every line of the script has its reply
   pub AnswersLines-all : (end : ScriptEnd) (start : A) (tells : Bool) (unread old : List ℕ) (now : A) (left : List ℕ) (is_at_end : Bool) (rest new : List ℕ)

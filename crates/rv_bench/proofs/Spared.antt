@@ -30,14 +30,14 @@ after_lines bench (line ∷ lines) = go (λ next. after_lines next lines) (parse
   go later (Ok command) = later (answer bench command).state
   go later (Err fault) = later bench
 
-keeps_line : (bench : BenchState) (line : List ℕ) → KeepsMonitor bench.target → KeepsMonitor (line_answer bench line).state.target
+pub keeps_line : (bench : BenchState) (line : List ℕ) → KeepsMonitor bench.target → KeepsMonitor (line_answer bench line).state.target
 unfolding line_answer
 keeps_line bench line kept = go (parse_of line) where
   go : (parsed : Result Command CommandFault) → KeepsMonitor (answer_or_fault bench parsed).state.target
   go (Ok command) = keeps_monitor bench command kept
   go (Err fault) = kept
 
-keeps_lines : (bench : BenchState) (lines : List (List ℕ)) → KeepsMonitor bench.target → KeepsMonitor (state_after bench_line bench lines).target
+pub keeps_lines : (bench : BenchState) (lines : List (List ℕ)) → KeepsMonitor bench.target → KeepsMonitor (state_after bench_line bench lines).target
 keeps_lines bench [] kept = kept
 keeps_lines bench (line ∷ lines) kept = keeps_lines (line_answer bench line).state lines (keeps_line bench line kept)
 

@@ -22,6 +22,7 @@ use Rattle.rv_bench.specs.Separator.{after_separator}
 use Rattle.rv_bench.specs.Stream.{RunsStream}
 use Rattle.rv_bench.specs.Transfer.{WritesFront}
 use Rattle.rv_bench.specs.Unread.{held, unread, TellsEnd}
+use Rattle.rv_bench.proofs.Ends.{TellsEnd-more, separator_read}
 use Rattle.rv_bench.proofs.Starts.{no_ram, has_ram, fault_has_ram}
 
 ok_and : {A E : Type 0} (r : Result A E) (P : A → Type 0) → IsOkAnd r P → (x : A) × (r ≡ Ok x) × P x
@@ -29,7 +30,7 @@ ok_and (Ok x) P h = (x, refl, h)
 ok_and (Err e) P h = absurd h
 
 module _ {S W : Type 0} {g : SourceGhosts S} (h : SinkGhosts W) (setup : Setup) (image : List ℕ) (old mid new : Lines S g) (before after : W)
-    (reads : ReadsThroughSeparator old mid) (is : IsTrue g.tells → image_in (unread old) ≡ Ok image) (end : TellsEnd old new) where
+    (reads : ReadsThroughSeparator old mid) (is : IsTrue g.tells → image_in (unread old) ≡ Ok image) (image_end : TellsEnd old mid) (script_end : TellsEnd mid new) where
   -- the bench of the input is that of the image
   bench_is : (r : Result BenchState BenchFault) → started image setup ≡ r → IsTrue g.tells → bench_in setup (unread old) ≡ r
   bench_is r starts tells = rw (is tells) starts
@@ -52,7 +53,7 @@ module _ {S W : Type 0} {g : SourceGhosts S} (h : SinkGhosts W) (setup : Setup) 
         has_ram image setup state starts,
         record {
           at_end = run.at_end;
-          ended = end.ended run.at_end;
+          ended = (TellsEnd-more old mid new image_end script_end).ended run.at_end;
           emptied = run.emptied;
           source = run.source ∙ reads.source;
           sink = run.sink;
@@ -64,9 +65,10 @@ module _ {S W : Type 0} {g : SourceGhosts S} (h : SinkGhosts W) (setup : Setup) 
       let (state, starts, run) = ok_and (started image setup) _ runs in (
         record { source = failed run.0.source; sink = run.0.sink; going = run.0.going },
         λ tells. inr (
-            subst (λ m. IsOkAnd m (λ state. StopsAtRead bench_line Input state h.tells (after_separator (unread old)) (g.remaining new.source) (held new) (h.taken before) (h.taken after))) (sym (bench_is (Ok state) starts tells))
-            (subst (λ t. StopsAtRead bench_line Input state h.tells t (g.remaining new.source) (held new) (h.taken before) (h.taken after)) (reads.rest tells) (run.1 tells))
-            ),
+          separator_read old mid new reads script_end run.0.going tells,
+          subst (λ m. IsOkAnd m (λ state. StopsAtRead bench_line Input state h.tells (after_separator (unread old)) (g.remaining new.source) (held new) (h.taken before) (h.taken after))) (sym (bench_is (Ok state) starts tells))
+              (subst (λ t. StopsAtRead bench_line Input state h.tells t (g.remaining new.source) (held new) (h.taken before) (h.taken after)) (reads.rest tells) (run.1 tells)),
+        ),
       )
   streamed (Err Write) runs =
       let (state, starts, run) = ok_and (started image setup) _ runs in (

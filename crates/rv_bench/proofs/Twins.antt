@@ -2,7 +2,6 @@
 use Rattle.std.proofs.Common.{◌≡◌, ℕ, true, false, List, ◌++◌, inl, inr, IsTrue, Option, Some, None, Result, Ok, Err, refl, sym, ◌∙◌, ap, subst, arith, append_assoc}
 use Rattle.std.specs.Option.{IsSomeAnd}
 use Rattle.std.specs.Result.{IsOkAnd}
-use Rattle.rv_text.specs.Lines.{lines_of}
 use Rattle.rv_debug.specs.BenchState.{BenchState}
 use Rattle.rv_debug.specs.TwoBenches.{can_scramble, scrambled}
 use Rattle.rv_word.specs.Cases.{result_case}
@@ -15,20 +14,22 @@ use Rattle.rv_bench.specs.declared.device.Source.{Ghosts as SourceGhosts}
 use Rattle.rv_bench.specs.declared.fault.BenchFault.{BenchFault}
 use Rattle.rv_bench.specs.declared.fault.BenchFault.TheVariants.{Image, Ram, Read, Write}
 use Rattle.rv_bench.specs.declared.lines.Lines.{Lines}
-use Rattle.rv_bench.specs.declared.separator.ScriptEnd.TheVariants.{Input, Separator}
-use Rattle.rv_bench.specs.Apart.{apart_line, set_apart}
+use Rattle.rv_bench.specs.declared.separator.ScriptEnd.TheVariants.{Separator}
+use Rattle.rv_bench.specs.Apart.{set_apart}
 use Rattle.rv_bench.specs.Calls.{SinkFailed, SourceFailed}
 use Rattle.rv_bench.specs.Image.{image_in}
 use Rattle.rv_bench.specs.Loaded.{Starts, started}
 use Rattle.rv_bench.specs.Output.{bench_in}
-use Rattle.rv_bench.specs.Replies.{bench_line, replies}
-use Rattle.rv_bench.specs.Run.{Outcome, RunsLines, StopsAtRead}
+use Rattle.rv_bench.specs.Replies.{bench_line}
+use Rattle.rv_bench.specs.Run.{Outcome, RunsLines, StopsAtRead, StopsAtWrite}
 use Rattle.rv_bench.specs.Script.{ReadsThroughSeparator}
 use Rattle.rv_bench.specs.Separator.{after_separator}
 use Rattle.rv_bench.specs.Transfer.{WritesFront}
-use Rattle.rv_bench.specs.Twin.{IsOver, RunsSecond, RunsTwin, StopsInScripts, after_first, first_text, monitored, scripts_text, second_text, twin_output}
+use Rattle.rv_bench.specs.Twin.{IsNeverEntered, IsOver, RunsSecond, RunsTwin, StopsInScripts, StopsInScriptsAtWrite, StopsSecondAtWrite, StopsUnentered, after_first, first_text, monitored, scripts_text, second_text, twin_output}
 use Rattle.rv_bench.specs.Unread.{held, unread, TellsEnd}
 use Rattle.rv_bench.proofs.ApartLemmas.{front_after, front_more}
+use Rattle.rv_bench.proofs.Ends.{TellsEnd-more, separator_read}
+use Rattle.rv_bench.proofs.Entering.{second_after, unentered_after}
 use Rattle.rv_bench.proofs.Starts.{no_ram, has_ram, fault_has_ram}
 
 -- no enclave can be scrambled, or that of the slot is
@@ -65,7 +66,7 @@ module _ {S W : Type 0} {g : SourceGhosts S} (h : SinkGhosts W) (setup : Setup) 
     has_size : is_ram_size setup.ram ≡ true
     has_size = has_ram image (monitored setup) bench starts
 
-    module _ (new : Lines S g) (after : W) where
+    module _ (new : Lines S g) (after : W) (script_end : TellsEnd mid new) where
       -- the source failed in the first script
       first_read : RunsLines h Separator bench mid new before after (Err Read) → RunsTwin h setup slot old new before after (Err Read)
       first_read run =
@@ -74,9 +75,10 @@ module _ {S W : Type 0} {g : SourceGhosts S} (h : SinkGhosts W) (setup : Setup) 
           let failed : SourceFailed g old.source new.source = omega (arith, risen, same) in (
             record { source = failed; sink = run.0.sink; going = run.0.going },
             λ tells. inr (
-                subst (λ (m : Result BenchState BenchFault). IsOkAnd m (StopsInScripts h setup slot old new before after (after_separator (unread old)))) (sym (bench_is (Ok bench) starts tells))
-                (inl (subst (λ (t : List ℕ). StopsAtRead bench_line Separator bench h.tells t (g.remaining new.source) (held new) (h.taken before) (h.taken after)) (reads.rest tells) (run.1 tells)))
-                ),
+              separator_read old mid new reads script_end run.0.going tells,
+              subst (λ (m : Result BenchState BenchFault). IsOkAnd m (StopsInScripts h setup slot old new before after (after_separator (unread old)))) (sym (bench_is (Ok bench) starts tells))
+                  (inl (subst (λ (t : List ℕ). StopsAtRead bench_line Separator bench h.tells t (g.remaining new.source) (held new) (h.taken before) (h.taken after)) (reads.rest tells) (run.1 tells))),
+            ),
           )
 
       -- the sink failed in it
@@ -90,6 +92,9 @@ module _ {S W : Type 0} {g : SourceGhosts S} (h : SinkGhosts W) (setup : Setup) 
           front = λ tells. subst (λ o. IsOkAnd o (λ text. IsTrue h.tells → WritesFront (h.taken before) (h.taken after) text)) (sym (output_is bench starts tells))
               (λ told. front_more (h.taken before) (h.taken after) (first_text bench (unread mid)) _ (run.0.front tells told));
         },
+        λ tells.
+            subst (λ (m : Result BenchState BenchFault). IsOkAnd m (StopsInScriptsAtWrite h setup slot old new before after (after_separator (unread old)))) (sym (bench_is (Ok bench) starts tells))
+            (inl (subst (λ (t : List ℕ). StopsAtWrite bench_line Separator bench h.tells t (unread new) (h.taken before) (h.taken after)) (reads.rest tells) (run.1 tells))),
       )
 
       pub first_fails : (fault : BenchFault) → RunsLines h Separator bench mid new before after (Err fault) → RunsTwin h setup slot old new before after (Err fault)
@@ -99,7 +104,8 @@ module _ {S W : Type 0} {g : SourceGhosts S} (h : SinkGhosts W) (setup : Setup) 
 
     -- the first script was run, and the benches are set apart
     module _ (next : Lines S g) (between : W) (first : RunsLines h Separator bench mid next before between (Ok tt)) (then : BenchState)
-        (state : IsTrue g.tells → then ≡ after_first bench (unread mid)) (new : Lines S g) (after : W) (end : TellsEnd old new) where
+        (state : IsTrue g.tells → then ≡ after_first bench (unread mid)) (new : Lines S g) (after : W)
+        (image_end : TellsEnd old mid) (first_end : TellsEnd mid next) (second_end : TellsEnd next new) where
       abbrev apart_at : List ℕ → Option Apart
       apart_at scripts = set_apart slot (after_first bench scripts)
 
@@ -113,6 +119,21 @@ module _ {S W : Type 0} {g : SourceGhosts S} (h : SinkGhosts W) (setup : Setup) 
           (sym same ∙ (ap (λ (apart : Option Apart). second_text slot apart (unread next)) (apart_is tells)
           ∙ ap (second_text slot (apart_at (unread mid))) (first.reads.rest tells)))
 
+      rest_end : TellsEnd mid new
+      rest_end = TellsEnd-more mid next new first_end second_end
+
+      -- what holds of the second script and the benches that are set apart, of both scripts,
+      of_rest : IsTrue g.tells → (P : Option Apart → List ℕ → Type 0) → P (set_apart slot then) (unread next) → P (apart_at (unread mid)) (after_separator (unread mid))
+      of_rest tells P holds =
+          subst (P (apart_at (unread mid))) (first.reads.rest tells) (subst (λ (apart : Option Apart). P apart (unread next)) (apart_is tells) holds)
+
+      -- and of the whole input
+      of_scripts : IsTrue g.tells → (P : Option Apart → List ℕ → Type 0) → P (set_apart slot then) (unread next)
+          → IsOkAnd (bench_in (monitored setup) (unread old)) (λ bench. P (set_apart slot (after_first bench (after_separator (unread old)))) (after_separator (after_separator (unread old))))
+      of_scripts tells P holds =
+          subst (λ (m : Result BenchState BenchFault). IsOkAnd m (λ bench. P (set_apart slot (after_first bench (after_separator (unread old)))) (after_separator (after_separator (unread old))))) (sym (bench_is (Ok bench) starts tells))
+          (subst (λ (t : List ℕ). P (apart_at t) (after_separator t)) (reads.rest tells) (of_rest tells P holds))
+
       pub second_part : (outcome : Outcome) → RunsSecond h slot (set_apart slot then) next new between after outcome → RunsTwin h setup slot old new before after outcome
       second_part (Ok done) run = (
         has_size,
@@ -121,12 +142,14 @@ module _ {S W : Type 0} {g : SourceGhosts S} (h : SinkGhosts W) (setup : Setup) 
           sink = (run.sink.0 ∙ first.sink.0, run.sink.1 ∙ first.sink.1);
           emptied = run.emptied;
           read = elim run.read [
-            | inl ended ↦ inl (ended.0, end.ended ended.0, ended.2)
-            | inr over ↦ inr (λ tells.
-                subst (λ (m : Result BenchState BenchFault). IsOkAnd m (λ bench. IsOver slot (set_apart slot (after_first bench (after_separator (unread old)))) (after_separator (after_separator (unread old))) (unread new))) (sym (bench_is (Ok bench) starts tells))
-                (subst (λ (t : List ℕ). IsOver slot (apart_at t) (after_separator t) (unread new)) (reads.rest tells)
-                (subst (λ (t : List ℕ). IsOver slot (apart_at (unread mid)) t (unread new)) (first.reads.rest tells)
-                (subst (λ (apart : Option Apart). IsOver slot apart (unread next) (unread new)) (apart_is tells) (over tells)))))
+            | inl ended ↦ inl (record {
+              at_end = ended.at_end;
+              ended = (TellsEnd-more old mid new image_end rest_end).ended ended.at_end;
+              used_up = ended.used_up;
+              going = λ tells. of_scripts tells (IsNeverEntered slot) (ended.going tells);
+              told = ended.told;
+            })
+            | inr (over, told) ↦ inr (λ tells. of_scripts tells (λ apart script. IsOver slot apart script (unread new) new.is_at_end) (over tells), told)
           ];
           written = λ tells. subst (λ o. IsOkAnd o (λ text. IsTrue h.tells → h.taken after ≡ h.taken before ++ text)) (sym (output_is bench starts tells))
               (λ told. run.written tells told
@@ -141,41 +164,32 @@ module _ {S W : Type 0} {g : SourceGhosts S} (h : SinkGhosts W) (setup : Setup) 
           let failed : SourceFailed g old.source new.source = omega (arith, risen, same) in (
             record { source = failed; sink = (run.0.sink.0 ∙ first.sink.0, run.0.sink.1 ∙ first.sink.1); going = run.0.going },
             λ tells. inr (
-                subst (λ (m : Result BenchState BenchFault). IsOkAnd m (StopsInScripts h setup slot old new before after (after_separator (unread old)))) (sym (bench_is (Ok bench) starts tells))
-                (subst (StopsIn tells) (reads.rest tells) (inr (stopped tells (apart_at (unread mid)) (apart_is tells) (run.1 tells))))
-                ),
+              separator_read old mid new reads rest_end run.0.going tells,
+              subst (λ (m : Result BenchState BenchFault). IsOkAnd m (StopsInScripts h setup slot old new before after (after_separator (unread old)))) (sym (bench_is (Ok bench) starts tells))
+                  (subst (λ (scripts : List ℕ). StopsInScripts h setup slot old new before after scripts bench) (reads.rest tells)
+                  (inr (separator_read mid next new first.reads second_end run.0.going tells, of_rest tells Stops (unentered_after slot (set_apart slot then) h.tells _ _ _ _ _ _ (first.written tells) (run.1 tells))))),
+            ),
           ) where
-            StopsIn : IsTrue g.tells → List ℕ → Type 0
-            StopsIn tells scripts = StopsInScripts h setup slot old new before after scripts bench
-
-            stopped : (tells : IsTrue g.tells) (apart : Option Apart) → set_apart slot then ≡ apart
-                → IsSomeAnd (set_apart slot then) (λ apart. StopsAtRead (apart_line slot) Input apart h.tells (unread next) (g.remaining new.source) (held new) (h.taken between) (h.taken after))
-                → IsSomeAnd apart (λ apart. StopsAtRead (apart_line slot) Input apart h.tells (after_separator (unread mid)) (g.remaining new.source) (held new) (h.taken before ++ first_text bench (unread mid)) (h.taken after))
-            stopped tells apart is stop = go apart (subst (λ (a : Option Apart). IsSomeAnd a (λ apart. StopsAtRead (apart_line slot) Input apart h.tells (unread next) (g.remaining new.source) (held new) (h.taken between) (h.taken after))) is stop) where
-              go : (apart : Option Apart) → IsSomeAnd apart (λ apart. StopsAtRead (apart_line slot) Input apart h.tells (unread next) (g.remaining new.source) (held new) (h.taken between) (h.taken after))
-                  → IsSomeAnd apart (λ apart. StopsAtRead (apart_line slot) Input apart h.tells (after_separator (unread mid)) (g.remaining new.source) (held new) (h.taken before ++ first_text bench (unread mid)) (h.taken after))
-              go None stop = stop
-              go (Some apart) stop = record {
-                text = stop.text;
-                begun = stop.begun;
-                split = sym (first.reads.rest tells) ∙ stop.split;
-                whole = stop.whole;
-                unfinished = stop.unfinished;
-                front = stop.front;
-                inside = stop.inside;
-                written = λ told. stop.written told ∙ ap (λ (t : List ℕ). t ++ replies (apart_line slot) apart (lines_of stop.text)) (first.written tells told);
-              }
+            Stops : Option Apart → List ℕ → Type 0
+            Stops apart script = IsSomeAnd apart (λ apart. StopsUnentered slot apart h.tells script (g.remaining new.source) (held new) (h.taken before ++ first_text bench (unread mid)) (h.taken after))
       second_part (Err Write) run = (
         has_size,
         record {
-          source = run.source ∙ (first.reads.source ∙ reads.source);
-          sink = sink_failed run.sink;
-          emptied = run.emptied;
+          source = run.0.source ∙ (first.reads.source ∙ reads.source);
+          sink = sink_failed run.0.sink;
+          emptied = run.0.emptied;
           front = λ tells. subst (λ o. IsOkAnd o (λ text. IsTrue h.tells → WritesFront (h.taken before) (h.taken after) text)) (sym (output_is bench starts tells))
               (λ told. subst (WritesFront (h.taken before) (h.taken after)) (text_is _ tells refl)
-              (front_after (h.taken before) (h.taken between) (h.taken after) (first_text bench (unread mid)) _ (first.written tells told) (run.front tells told)));
+              (front_after (h.taken before) (h.taken between) (h.taken after) (first_text bench (unread mid)) _ (first.written tells told) (run.0.front tells told)));
         },
+        λ tells.
+            subst (λ (m : Result BenchState BenchFault). IsOkAnd m (StopsInScriptsAtWrite h setup slot old new before after (after_separator (unread old)))) (sym (bench_is (Ok bench) starts tells))
+            (subst (λ (scripts : List ℕ). StopsInScriptsAtWrite h setup slot old new before after scripts bench) (reads.rest tells)
+            (inr (of_rest tells Stops (second_after slot (set_apart slot then) h.tells _ _ _ _ _ (first.written tells) (run.1 tells))))),
       ) where
+        Stops : Option Apart → List ℕ → Type 0
+        Stops apart script = StopsSecondAtWrite slot apart h.tells script (unread new) (h.taken before ++ first_text bench (unread mid)) (h.taken after)
+
         sink_failed : SinkFailed h between after → SinkFailed h before after
         sink_failed (inl risen) = let same = first.sink.0 in inl (omega (arith, risen, same))
         sink_failed (inr risen) = let same = first.sink.1 in inr (omega (arith, risen, same))

@@ -1,6 +1,7 @@
 -- What assembling a source does, result by result. (This project's own streams.)
-use Rattle.std.specs.Prelude.{◌≡◌, ◌≢◌, ℕ, ◌+◌, ◌<◌, ◌≤◌, List, [], ◌++◌, length, IsTrue, IsOkAnd, Result, Ok, Err, Vec}
+use Rattle.std.specs.Prelude.{◌≡◌, ◌≢◌, ℕ, ◌+◌, ◌-◌, ◌<◌, ◌≤◌, List, [], ◌++◌, length, take, None, IsTrue, IsOkAnd, Result, Ok, Err, Vec}
 use Rattle.rv_text.specs.Lines.{lines_of}
+use Rattle.rv_asm.specs.Program.{first_fault, own_fault, readings}
 use Rattle.rv_asm.specs.declared.fault.AsmFaultKind.TheVariants as asm
 use Rattle.rv_bench.specs.declared.device.Sink.{Ghosts as SinkGhosts}
 use Rattle.rv_bench.specs.declared.device.Source.{Ghosts as SourceGhosts}
@@ -53,8 +54,13 @@ module _ {S : Type 0} (g : SourceGhosts S) where
   ReadsText old new (Err NoMemory) = LacksMemoryForText old new
   ReadsText old new (Err _) = ⊥
 
+-- no line before this one has a fault of its own
+abbrev pub IsFaultlessBefore : ℕ → List ℕ → Type 0
+IsFaultlessBefore line text = first_fault own_fault [] (take (line - 1) (readings text)) ≡ None
+
 module _ {S W : Type 0} (g : SourceGhosts S) (h : SinkGhosts W) (old new : S) (before after : W) where
-  -- what each result of `run_asm` means: nothing is written before the whole text was read and assembled
+  -- What each result of `run_asm` means: nothing is written before the whole text was read and assembled. Where memory is refused at a line of
+  -- it, those before have no fault of their own.
   abbrev pub RunsAsm : Outcome → Type 0
   RunsAsm (Ok _) =
       ReadsWholeText g old new × SinkWorked h before after
@@ -65,6 +71,7 @@ module _ {S W : Type 0} (g : SourceGhosts S) (h : SinkGhosts W) (old new : S) (b
   RunsAsm (Err (Asm fault)) =
       ReadsWholeText g old new
       × (IsTrue g.tells → (1 ≤ fault.line) × (fault.line ≤ length (lines_of (g.remaining old))))
+      × (IsTrue g.tells → IsFaultlessBefore fault.line (g.remaining old))
       × (IsTrue g.tells → fault.kind ≢ asm.NoMemory → asm_output (g.remaining old) ≡ Err (Asm fault))
       × (after ≡ before)
   RunsAsm (Err Write) =

@@ -6,12 +6,14 @@ use Rattle.rv_bench.specs.declared.device.Sink.{Ghosts as SinkGhosts}
 use Rattle.rv_bench.specs.declared.device.Source.{Ghosts as SourceGhosts}
 use Rattle.rv_bench.specs.declared.lines.Lines.{Lines}
 use Rattle.rv_bench.specs.Assemble.{RunsAsm}
+use Rattle.rv_bench.specs.Confidentiality.{ConcealsSecret, ConcealsThrough}
 use Rattle.rv_bench.specs.Disassemble.{RunsDis}
 use Rattle.rv_bench.specs.Integrity.{SparesThrough}
 use Rattle.rv_bench.specs.Output.{bench_in}
 use Rattle.rv_bench.specs.Run.{Outcome}
 use Rattle.rv_bench.specs.Stream.{RunsStream}
 use Rattle.rv_bench.specs.Twin.{RunsTwin}
+use Rattle.rv_bench.specs.TwinLaws.{TwinConceals, TwinSpares}
 use Rattle.rv_bench.specs.Unread.{held, unread, TellsEnd}
 
 module _ {S : Type 0} (g : SourceGhosts S) where
@@ -28,9 +30,10 @@ module _ {S W : Type 0} (g : SourceGhosts S) (h : SinkGhosts W) (source left : S
   abbrev pub DoesJob : Job → Outcome → Type 0
   DoesJob (Run setup) outcome =
       (old : Lines S g) × (new : Lines S g) × ReadsByLines g source left old new × RunsStream h setup old new before after outcome
-      × IfOk (bench_in setup (unread old)) SparesThrough
+      × IfOk (bench_in setup (unread old)) SparesThrough × IfOk (bench_in setup (unread old)) ConcealsThrough × ConcealsSecret setup (unread old)
   DoesJob (Twin setup slot) outcome =
       (old : Lines S g) × (new : Lines S g) × ReadsByLines g source left old new × RunsTwin h setup slot old new before after outcome
+      × TwinConceals setup slot (unread old) × TwinSpares setup slot (unread old)
   DoesJob Asm outcome = RunsAsm g h source left before after outcome
   DoesJob Dis outcome =
       (old : Lines S g) × (new : Lines S g) × ReadsByLines g source left old new × RunsDis h old new before after outcome

@@ -2,6 +2,7 @@ pub mod Apart
 pub mod Assemble
 pub mod AssemblyText
 pub mod Calls
+pub mod Confidentiality
 pub mod Device
 pub mod Disassemble
 pub mod DisassemblyText
@@ -21,5 +22,6 @@ pub mod Separator
 pub mod Stream
 pub mod Transfer
 pub mod Twin
+pub mod TwinLaws
 pub mod Unread
 pub mod MonitorRange

@@ -15,7 +15,7 @@ use Rattle.rv_bench.specs.ReadImage.{FindsFault, LacksMemory}
 use Rattle.rv_bench.specs.Replies.{bench_line}
 use Rattle.rv_bench.specs.Run.{Outcome, RunsToEnd, FailsToRead, FailsToWrite, StopsAtRead, StopsAtWrite}
 use Rattle.rv_bench.specs.Script.{ReadsThroughSeparator}
-use Rattle.rv_bench.specs.Separator.{after_separator}
+use Rattle.rv_bench.specs.Separator.{after_separator, has_separator}
 use Rattle.rv_bench.specs.Unread.{held, unread}
 
 module _ {S W : Type 0} {g : SourceGhosts S} (h : SinkGhosts W) (setup : Setup) (old new : Lines S g) (before after : W) where
@@ -23,12 +23,12 @@ module _ {S W : Type 0} {g : SourceGhosts S} (h : SinkGhosts W) (setup : Setup) 
   abbrev pub IsFault : BenchFault → Type 0
   IsFault fault = IsTrue g.tells → output setup (unread old) ≡ Err fault
 
-  -- The source failed: in the image, when nothing is written, or else in the script.
+  -- The source failed: in the image, when nothing is written, or else in the script, which follows a separator.
   abbrev pub StopsStreamAtRead : Type 0
   StopsStreamAtRead =
       (ReadsInImage (unread old) (g.remaining new.source) (held new) × (after ≡ before))
-      ⊎ IsOkAnd (bench_in setup (unread old)) (λ state.
-      StopsAtRead bench_line Input state h.tells (after_separator (unread old)) (g.remaining new.source) (held new) (h.taken before) (h.taken after))
+      ⊎ (IsTrue (has_separator (unread old)) × IsOkAnd (bench_in setup (unread old)) (λ state.
+      StopsAtRead bench_line Input state h.tells (after_separator (unread old)) (g.remaining new.source) (held new) (h.taken before) (h.taken after)))
 
   -- The sink failed in the script.
   abbrev pub StopsStreamAtWrite : Type 0

@@ -1,5 +1,5 @@
 -- What reading a byte and writing a text do to a source and a sink. (This project's own streams.)
-use Rattle.std.specs.Prelude.{◌≡◌, ◌<◌, ◌≤◌, ℕ, ◌+◌, Bool, true, false, List, [], length, ◌++◌, Result, Ok, Err, Option, Some, None}
+use Rattle.std.specs.Prelude.{◌≡◌, ◌<◌, ◌≤◌, ℕ, Bool, true, false, List, [], length, ◌++◌, Result, Ok, Err, Option, Some, None}
 use Rattle.std.specs.Option.{option_to_list}
 
 -- the byte that a call gave, if it gave one
@@ -25,6 +25,6 @@ WritesFront old new text = (rest : List ℕ) × WritesUpTo old new text rest
 abbrev pub ReadsAtMost : ℕ → List ℕ → List ℕ → Type 0
 ReadsAtMost most unread left = (front : List ℕ) × (unread ≡ front ++ left) × (length front ≤ most)
 
--- a front of the unread bytes was read, of more than so many bytes, and at most 4096 more
+-- a front of the unread bytes was read, of more than so many bytes
 abbrev pub ReadsMoreThan : ℕ → List ℕ → List ℕ → Type 0
-ReadsMoreThan most unread left = (front : List ℕ) × (unread ≡ front ++ left) × (most < length front) × (length front ≤ most + 4096)
+ReadsMoreThan most unread left = (front : List ℕ) × (unread ≡ front ++ left) × (most < length front)

@@ -1,6 +1,6 @@
 -- What a twin run over an input does, result by result: an image, a first script for two equal benches, and a second one for both once the
 -- enclave of a slot is scrambled in the second bench. (This project's own streams.)
-use Rattle.std.specs.Prelude.{◌≡◌, ◌⊎◌, ℕ, true, false, List, [], ◌++◌, IsTrue, IsOk, IsOkAnd, IsSomeAnd, Option, Some, None, Result, Ok, Err}
+use Rattle.std.specs.Prelude.{◌≡◌, ◌⊎◌, ℕ, Bool, true, false, List, [], ◌∷◌, ◌++◌, IsTrue, IsOk, IsOkAnd, IsSomeAnd, Option, Some, None, Result, Ok, Err}
 use Rattle.rv_word.specs.Cases.{result_case}
 use Rattle.rv_memory.specs.Memory.{is_ram_size}
 use Rattle.rv_memory.specs.declared.ram_fault.RamFault.TheVariants.{BadSize, NoMemory as NoRamMemory}
@@ -14,15 +14,17 @@ use Rattle.rv_bench.specs.declared.fault.BenchFault.{BenchFault}
 use Rattle.rv_bench.specs.declared.fault.BenchFault.TheVariants.{Image, Ram, Read, Write, Hex, TooLong, NoMemory}
 use Rattle.rv_bench.specs.declared.lines.Lines.{Lines}
 use Rattle.rv_bench.specs.declared.separator.ScriptEnd.TheVariants.{Input, Separator}
-use Rattle.rv_bench.specs.Apart.{apart_line, no_slot_text, script_text, set_apart}
+use Rattle.rv_bench.specs.Apart.{apart_line, end_text, entered_text, no_slot_text, script_text, set_apart}
 use Rattle.rv_bench.specs.Calls.{SourceWorked, SinkWorked}
 use Rattle.rv_bench.specs.Image.{image_in, ReadsInImage}
+use Rattle.rv_bench.specs.LineText.{ReadsLines}
 use Rattle.rv_bench.specs.Output.{bench_in}
 use Rattle.rv_bench.specs.ReadImage.{FindsFault, LacksMemory}
 use Rattle.rv_bench.specs.Replies.{bench_line, replies, state_after}
-use Rattle.rv_bench.specs.Run.{Outcome, FailsToRead, FailsToWrite, StopsAtRead}
+use Rattle.rv_bench.specs.Run.{Outcome, FailsToRead, FailsToWrite, StopsAtRead, StopsAtWrite}
 use Rattle.rv_bench.specs.Script.{ReadsThroughSeparator}
-use Rattle.rv_bench.specs.Separator.{before_separator, after_separator}
+use Rattle.rv_bench.specs.Separator.{before_separator, has_separator, after_separator}
+use Rattle.rv_bench.specs.Transfer.{WritesFront}
 use Rattle.rv_bench.specs.Unread.{held, unread, HasEnded}
 
 -- the setup of a twin run is monitored, whatever it says
@@ -54,36 +56,83 @@ twin_output setup slot input =
 
 -- ---- what was read
 
--- a text of whole lines was read, with the last of which the slot was entered
-pub record EntersSlot (slot : ℕ) (apart : Apart) (unread left : List ℕ) : Type 0 where
-  pub text : List ℕ
-  pub split : unread ≡ text ++ left
-  pub entered : (state_after (apart_line slot) apart (lines_of text)).entered ≡ true
+-- Lines were read, none of which entered the slot, and the one that entered it: this one through its line feed, or to the end of the input.
+pub record EntersSlot (slot : ℕ) (apart : Apart) (unread left : List ℕ) (is_at_end : Bool) : Type 0 where
+  pub lines : List (List ℕ)
+  pub line : List ℕ
+  pub reads : ReadsLines unread left is_at_end (lines ++ line ∷ [])
+  pub going : (state_after (apart_line slot) apart lines).entered ≡ false
+  pub entered : (state_after (apart_line slot) apart (lines ++ line ∷ [])).entered ≡ true
 
 -- the run was over before the end: no slot was scrambled, or the slot was entered
-abbrev pub IsOver : ℕ → Option Apart → List ℕ → List ℕ → Type 0
-IsOver slot None unread left = left ≡ unread
-IsOver slot (Some apart) unread left = EntersSlot slot apart unread left
+abbrev pub IsOver : ℕ → Option Apart → List ℕ → List ℕ → Bool → Type 0
+IsOver slot None unread left is_at_end = left ≡ unread
+IsOver slot (Some apart) unread left is_at_end = EntersSlot slot apart unread left is_at_end
+
+-- a slot was scrambled, and no line of the input entered it
+abbrev pub IsNeverEntered : ℕ → Option Apart → List ℕ → Type 0
+IsNeverEntered slot apart input = IsSomeAnd apart (λ apart. (state_after (apart_line slot) apart (lines_of input)).entered ≡ false)
+
+-- The source failed in the second script, before the slot was entered.
+pub record StopsUnentered (slot : ℕ) (apart : Apart) (tells : Bool) (unread left kept old new : List ℕ) : Type 0 where
+  pub stops : StopsAtRead (apart_line slot) Input apart tells unread left kept old new
+  pub going : (state_after (apart_line slot) apart (lines_of stops.text)).entered ≡ false
+
+-- The sink failed in what is told of a line of the second script, before which none entered the slot.
+pub record StopsInLine (slot : ℕ) (apart : Apart) (tells : Bool) (unread left old new : List ℕ) : Type 0 where
+  pub stops : StopsAtWrite (apart_line slot) Input apart tells unread left old new
+  pub going : (state_after (apart_line slot) apart stops.answered).entered ≡ false
+
+-- It failed in the line that tells the end of the input, no line having entered the slot.
+pub record StopsInEnd (slot : ℕ) (apart : Apart) (tells : Bool) (unread left old new : List ℕ) : Type 0 where
+  pub used_up : left ≡ []
+  pub going : (state_after (apart_line slot) apart (lines_of unread)).entered ≡ false
+  pub written : IsTrue tells
+      → WritesFront (old ++ replies (apart_line slot) apart (lines_of unread)) new (end_text (state_after (apart_line slot) apart (lines_of unread)).ran)
+
+-- the sink failed in the second script, or in the line that tells that there is no slot
+abbrev pub StopsSecondAtWrite : ℕ → Option Apart → Bool → List ℕ → List ℕ → List ℕ → List ℕ → Type 0
+StopsSecondAtWrite slot None tells unread left old new = (left ≡ unread) × (IsTrue tells → WritesFront old new no_slot_text)
+StopsSecondAtWrite slot (Some apart) tells unread left old new =
+    StopsInLine slot apart tells unread left old new ⊎ StopsInEnd slot apart tells unread left old new
+
+-- this is the last that was written
+abbrev pub EndsIn : List ℕ → List ℕ → Type 0
+EndsIn last written = (front : List ℕ) × (written ≡ front ++ last)
+
+-- what is told last where the run was over before the end
+abbrev pub TellsOver : {W : Type 0} → SinkGhosts W → W → Type 0
+TellsOver h after = IsTrue h.tells → EndsIn no_slot_text (h.taken after) ⊎ ((ran : ℕ) × EndsIn (entered_text ran) (h.taken after))
 
 module _ {S W : Type 0} {g : SourceGhosts S} (h : SinkGhosts W) where
-  -- The text was written, and all was read to the end that the source answered, or as far as the run went.
-  pub record Tells (output : Result (List ℕ) BenchFault) (Over : Type 0) (old new : Lines S g) (before after : W) : Type 0 where
+  -- The run went to the end of the input, which the source answered, and no line entered the slot. That is told last.
+  pub record GoesToEnd (NeverEntered : Type 0) (old new : Lines S g) (after : W) : Type 0 where
+    pub at_end : new.is_at_end ≡ true
+    pub ended : HasEnded old new
+    pub used_up : IsTrue g.tells → unread new ≡ []
+    pub going : IsTrue g.tells → NeverEntered
+    pub told : IsTrue h.tells → (ran : ℕ) × EndsIn (end_text ran) (h.taken after)
+
+  -- The text was written, and all was read to the end of the input, or as far as the run went.
+  pub record Tells (output : Result (List ℕ) BenchFault) (NeverEntered Over : Type 0) (old new : Lines S g) (before after : W) : Type 0 where
     pub source : SourceWorked g old.source new.source
     pub sink : SinkWorked h before after
     pub emptied : held new ≡ []
-    pub read : ((new.is_at_end ≡ true) × HasEnded old new × (IsTrue g.tells → unread new ≡ [])) ⊎ (IsTrue g.tells → Over)
+    pub read : GoesToEnd NeverEntered old new after ⊎ ((IsTrue g.tells → Over) × TellsOver h after)
     pub written : IsTrue g.tells → IsOkAnd output (λ text. IsTrue h.tells → h.taken after ≡ h.taken before ++ text)
 
   -- What each result of the second part means, by the benches once they are set apart.
   abbrev pub RunsSecond : ℕ → Option Apart → Lines S g → Lines S g → W → W → Outcome → Type 0
   RunsSecond slot apart old new before after (Ok _) =
-      Tells (Ok (second_text slot apart (unread old))) (IsOver slot apart (unread old) (unread new)) old new before after
+      Tells (Ok (second_text slot apart (unread old))) (IsNeverEntered slot apart (unread old)) (IsOver slot apart (unread old) (unread new) new.is_at_end)
+      old new before after
   RunsSecond slot apart old new before after (Err Read) =
       FailsToRead h old new before after
       × (IsTrue g.tells → IsSomeAnd apart (λ apart.
-      StopsAtRead (apart_line slot) Input apart h.tells (unread old) (g.remaining new.source) (held new) (h.taken before) (h.taken after)))
+      StopsUnentered slot apart h.tells (unread old) (g.remaining new.source) (held new) (h.taken before) (h.taken after)))
   RunsSecond slot apart old new before after (Err Write) =
       FailsToWrite h (Ok (second_text slot apart (unread old))) old new before after
+      × (IsTrue g.tells → StopsSecondAtWrite slot apart h.tells (unread old) (unread new) (h.taken before) (h.taken after))
   RunsSecond slot apart old new before after (Err _) = ⊥
 
 module _ {S W : Type 0} {g : SourceGhosts S} (h : SinkGhosts W) (setup : Setup) (slot : ℕ) (old new : Lines S g) (before after : W) where
@@ -91,32 +140,50 @@ module _ {S W : Type 0} {g : SourceGhosts S} (h : SinkGhosts W) (setup : Setup) 
   abbrev pub HasFault : BenchFault → Type 0
   HasFault fault = IsTrue g.tells → twin_output setup slot (unread old) ≡ Err fault
 
-  -- the source failed in the first script, or in the second
+  -- the source failed in the first script, or in the second, which follows a separator
   abbrev pub StopsInScripts : List ℕ → BenchState → Type 0
   StopsInScripts scripts bench =
       StopsAtRead bench_line Separator bench h.tells scripts (g.remaining new.source) (held new) (h.taken before) (h.taken after)
-      ⊎ IsSomeAnd (set_apart slot (after_first bench scripts)) (λ apart.
-      StopsAtRead (apart_line slot) Input apart h.tells (after_separator scripts) (g.remaining new.source) (held new)
-      (h.taken before ++ first_text bench scripts) (h.taken after))
+      ⊎ (IsTrue (has_separator scripts) × IsSomeAnd (set_apart slot (after_first bench scripts)) (λ apart.
+      StopsUnentered slot apart h.tells (after_separator scripts) (g.remaining new.source) (held new)
+      (h.taken before ++ first_text bench scripts) (h.taken after)))
 
-  -- The source failed: in the image, when nothing is written, or else in a script.
+  -- The source failed: in the image, when nothing is written, or else in a script, which follows a separator.
   abbrev pub StopsTwinAtRead : Type 0
   StopsTwinAtRead =
       (ReadsInImage (unread old) (g.remaining new.source) (held new) × (after ≡ before))
-      ⊎ IsOkAnd (bench_in (monitored setup) (unread old)) (StopsInScripts (after_separator (unread old)))
+      ⊎ (IsTrue (has_separator (unread old)) × IsOkAnd (bench_in (monitored setup) (unread old)) (StopsInScripts (after_separator (unread old))))
+
+  -- the sink failed in the first script, or after it
+  abbrev pub StopsInScriptsAtWrite : List ℕ → BenchState → Type 0
+  StopsInScriptsAtWrite scripts bench =
+      StopsAtWrite bench_line Separator bench h.tells scripts (unread new) (h.taken before) (h.taken after)
+      ⊎ StopsSecondAtWrite slot (set_apart slot (after_first bench scripts)) h.tells (after_separator scripts) (unread new)
+      (h.taken before ++ first_text bench scripts) (h.taken after)
+
+  abbrev pub StopsTwinAtWrite : Type 0
+  StopsTwinAtWrite = IsOkAnd (bench_in (monitored setup) (unread old)) (StopsInScriptsAtWrite (after_separator (unread old)))
+
+  -- a slot was scrambled after the first script, and no line of the second entered it
+  abbrev pub IsTwinNeverEntered : Type 0
+  IsTwinNeverEntered =
+      IsOkAnd (bench_in (monitored setup) (unread old)) (λ bench.
+      let scripts = after_separator (unread old) in
+      IsNeverEntered slot (set_apart slot (after_first bench scripts)) (after_separator scripts))
 
   -- the run was over before the end of the input
   abbrev pub IsTwinOver : Type 0
   IsTwinOver =
       IsOkAnd (bench_in (monitored setup) (unread old)) (λ bench.
       let scripts = after_separator (unread old) in
-      IsOver slot (set_apart slot (after_first bench scripts)) (after_separator scripts) (unread new))
+      IsOver slot (set_apart slot (after_first bench scripts)) (after_separator scripts) (unread new) new.is_at_end)
 
   -- What each result of `run_twin` means. The image's text, the RAM's size and the image are asked in this order, before a byte is written.
   abbrev pub RunsTwin : Outcome → Type 0
-  RunsTwin (Ok _) = (is_ram_size setup.ram ≡ true) × Tells h (twin_output setup slot (unread old)) IsTwinOver old new before after
+  RunsTwin (Ok _) = (is_ram_size setup.ram ≡ true) × Tells h (twin_output setup slot (unread old)) IsTwinNeverEntered IsTwinOver old new before after
   RunsTwin (Err Read) = FailsToRead h old new before after × (IsTrue g.tells → StopsTwinAtRead)
-  RunsTwin (Err Write) = (is_ram_size setup.ram ≡ true) × FailsToWrite h (twin_output setup slot (unread old)) old new before after
+  RunsTwin (Err Write) =
+      (is_ram_size setup.ram ≡ true) × FailsToWrite h (twin_output setup slot (unread old)) old new before after × (IsTrue g.tells → StopsTwinAtWrite)
   RunsTwin (Err Hex) = FindsFault Hex old new × HasFault Hex × (after ≡ before)
   RunsTwin (Err TooLong) = FindsFault TooLong old new × HasFault TooLong × (after ≡ before)
   RunsTwin (Err NoMemory) = LacksMemory old new × (after ≡ before)

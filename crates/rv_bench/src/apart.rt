@@ -15,7 +15,7 @@ const TOLD_MAX: usize = 16384;
 pub(crate) type Told = ArrayVec<u8, TOLD_MAX>;
 
 /// Two benches, how many commands both have run, and whether the slot was entered, after which no more are run.
-#[derive(Drop, Debug)]
+#[derive(Drop)]
 pub(crate) struct Apart {
     pub(crate) first: Bench,
     pub(crate) second: Bench,

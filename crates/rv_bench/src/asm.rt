@@ -62,7 +62,8 @@ fn write_words<W: Sink>(words: &[u32], sink: &mut W) -> Result<(), DeviceFault>
 /// The first of these that is met; nothing is written at any but the last:
 /// - while the text is read: `Read` where the source failed in this call, `TooLong` where the text has more than
 ///   `ASM_TEXT_MAX` bytes, `NoMemory` where memory for it was refused;
-/// - `Asm` with the first fault of the text, or with `NoMemory` where memory for the words was refused;
+/// - `Asm` with the first fault of the text, or with `NoMemory` where memory for the words was refused, at a line before which none has a
+///   fault of its own;
 /// - `Write` where the sink failed in this call, or took no byte of a part that was not empty: a beginning of the lines is
 ///   written.
 pub fn run_asm<S: Source, W: Sink>(

@@ -29,7 +29,7 @@ impl Answers for Bench {
 }
 
 /// Two benches that are equal.
-#[derive(Drop, Debug)]
+#[derive(Drop)]
 pub(crate) struct EqualBenches {
     pub(crate) first: Bench,
     pub(crate) second: Bench,

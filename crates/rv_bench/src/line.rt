@@ -24,7 +24,7 @@ const CARRIAGE_RETURN: u8 = b'\r';
 pub type Line = ArrayVec<u8, KEPT_MAX>;
 
 /// What ended a text.
-#[derive(Clone, Copy, Debug, PartialEq, Eq)]
+#[derive(Clone, Copy)]
 pub(crate) enum Stop {
     LineFeed,
     End,

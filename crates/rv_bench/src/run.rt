@@ -2,8 +2,10 @@
 
 ghost use Rattle.std.specs.Prelude.{◌≡◌, IfOk, IsTrue, OnOk};
 ghost use Rattle.rv_text.specs.Lines.{lines_of};
+ghost use Rattle.rv_bench.specs.Confidentiality.{ConcealsSecret, ConcealsThrough};
 ghost use Rattle.rv_bench.specs.Integrity.{SparesThrough};
 ghost use Rattle.rv_bench.specs.Loaded.{started};
+ghost use Rattle.rv_bench.specs.MonitorRange.{ReservesMonitorRange};
 ghost use Rattle.rv_bench.specs.Output.{bench_in};
 ghost use Rattle.rv_bench.specs.Replies.{bench_line, state_after};
 ghost use Rattle.rv_bench.specs.Run.{RunsBench, RunsLines};
@@ -46,8 +48,10 @@ pub(crate) fn run_lines<T: Answers, S: Source, W: Sink>(
 }
 
 /// Loads an image into the RAM of a new machine, and writes the reply to each line, until the source answers its end. A monitored
-/// bench has as many harts as the setup says, any other has one. Once the RAM is made, no memory is taken. Under the monitor every
-/// part of a script spares each enclave that rests through it (`integrity`).
+/// bench has as many harts as the setup says, any other has one. Once the RAM is made, no memory is taken.
+///
+/// Under the monitor every part of a script spares each enclave that rests through it (`integrity`), and is answered alike by every
+/// bench that agrees but for an enclave over which it passes: byte for byte, and the benches agree again after it (`conceals`).
 ///
 /// # Errors
 ///
@@ -69,12 +73,18 @@ pub fn run_bench<S: Source, W: Sink>(
     ensures outcome { RunsBench W.Sink image.now setup.now lines.old lines.new sink.old sink.new result }
     ensures end { TellsEnd lines.old lines.new }
     ensures integrity { IfOk (started image.now setup.now) SparesThrough }
+    ensures conceals { IfOk (started image.now setup.now) ConcealsThrough }
+    ensures reserved { ReservesMonitorRange setup.now.monitored }
 {
     let mut bench = start(alloc, image, setup)?;
     run_lines(&mut bench, lines, sink, ScriptEnd::Input)
 }
 
-/// Reads an image, and then runs the lines after it as `run_bench` does, under the same law of integrity.
+/// Reads an image, and then runs the lines after it as `run_bench` does, under the same laws of integrity and of confidentiality.
+///
+/// `secret` is confidentiality from bytes to bytes: two inputs that differ only in what lines of the script poke into the region of an
+/// enclave that is live and does not run, and over which the rest of the script passes, have the same output. What stood in the region
+/// when it was created is not concealed, since the measurement tells it.
 ///
 /// # Errors
 ///
@@ -94,6 +104,8 @@ pub fn run_stream<S: Source, W: Sink>(
     ensures outcome { RunsStream W.Sink setup.now lines.old lines.new sink.old sink.new result }
     ensures end { TellsEnd lines.old lines.new }
     ensures integrity { IfOk (bench_in setup.now (unread lines.old)) SparesThrough }
+    ensures conceals { IfOk (bench_in setup.now (unread lines.old)) ConcealsThrough }
+    ensures secret { ConcealsSecret setup.now (unread lines.old) }
 {
     let image = read_image(alloc, lines)?;
     run_bench(alloc, image.as_slice(), setup, lines, sink)

@@ -5,7 +5,7 @@ ghost use Rattle.rv_bench.specs.Separator.{line_word, is_separator};
 use rv_text::{first_words, is_good_line};
 
 /// Where a script ends, or an image.
-#[derive(Clone, Copy, Debug, PartialEq, Eq)]
+#[derive(Clone, Copy)]
 pub(crate) enum ScriptEnd {
     /// With the input: `--` is a line as any other.
     Input,

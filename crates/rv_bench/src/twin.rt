@@ -4,7 +4,8 @@ ghost use Rattle.std.specs.Prelude.{◌≡◌, Ok, Err, Some, MatchResult, IfSom
 ghost use Rattle.rv_bench.specs.Apart.{set_apart, no_slot_text};
 ghost use Rattle.rv_bench.specs.Loaded.{Starts, started};
 ghost use Rattle.rv_bench.specs.Twin.{RunsSecond, RunsTwin, monitored};
-ghost use Rattle.rv_bench.specs.Unread.{held, TellsEnd};
+ghost use Rattle.rv_bench.specs.TwinLaws.{TwinConceals, TwinSpares};
+ghost use Rattle.rv_bench.specs.Unread.{held, unread, TellsEnd};
 
 use crate::apart::{Apart, Told, end_of};
 use crate::device::{Sink, Source};
@@ -113,7 +114,11 @@ fn run_second<S: Source, W: Sink>(
 /// writes `twin no slot` and is done. It gives each further line to both, by `both_command`: the lines of the first bench's reply are
 /// written after `a: `, and then those of the second's after `b: `. A command that is not blind is skipped and told as `error blind`; a
 /// faulty line is told its fault once. The run ends with `twin entered N` once a command enters the slot, or with `twin end N` at the end
-/// of the input, where N counts the commands that were run (it stays at 2^64 - 1).
+/// of the input, where N counts the commands that were run (it stays at 2^64 - 1). The line that enters the slot is the last that is read.
+///
+/// `outcome` is all of it. `conceals` is that as long as the slot was not entered the two benches agree but for it, and of each line that both
+/// did the two replies are equal. `integrity` is that in the first script, and in both benches in the second, every part of what is done
+/// spares each enclave that rests through it.
 ///
 /// # Errors
 ///
@@ -132,6 +137,8 @@ pub fn run_twin<S: Source, W: Sink>(
 ) -> Result<(), BenchFault>
     ensures outcome { RunsTwin W.Sink setup.now slot lines.old lines.new sink.old sink.new result }
     ensures end { TellsEnd lines.old lines.new }
+    ensures conceals { TwinConceals setup.now slot (unread lines.old) }
+    ensures integrity { TwinSpares setup.now slot (unread lines.old) }
 {
     let image = read_image(alloc, lines)?;
     let mut benches = start_two(alloc, image.as_slice(), setup)?;

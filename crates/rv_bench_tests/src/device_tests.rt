@@ -1,7 +1,7 @@
 //! Whole runs, under the monitor and of two benches too, over devices that move so many bytes a call and fail at each call in turn.
 use crate::expecting::{expect_beginning, expect_bytes, expect_number, expect_outcome};
 use crate::faulty::{AtSetCall, FaultySink, FaultySource};
-use rv_bench::{BenchFault, MemorySink, MemorySource, run_job};
+use rv_bench::{BenchFault, Lines, MemorySink, MemorySource, run_job, run_twin};
 use rv_command_line::{Harts, ImageKind, Job, Setup};
 use std::alloc::Global;
 use std::process::Abort;
@@ -92,6 +92,24 @@ const TWIN_OF_TWO_HARTS: Example = Example {
         b: hart 1 1 pc=80010004 mode=S world=host trap=00000009:00000000\ntwin end 5\n",
     told: &[0, 0, 1, 1, 1, 1, 1, 1, 0, 2, 2, 2, 2, 4],
 };
+
+/// A setup of two benches of one hart.
+const OF_ONE_HART: Setup = Setup {
+    kind: ImageKind::Auto,
+    ram: 196_608,
+    monitored: true,
+    harts: Harts::One,
+};
+
+/// Two benches, and a run that enters the enclave in which they differ, which is the last that is read.
+const ENTERED: &[u8] =
+    b"7300000073000000\n--\nsetreg 17 0a454e43\nsetreg 16 1\nsetreg 10 80020000\n\
+    setreg 11 1000\nsetreg 14 80020000\nstep 1\n--\nsetreg 16 3\nrun 1\nfly\n";
+
+/// What is written for them.
+const ENTERED_OUTPUT: &[u8] = b"ok\nok\nok\nok\nok\n\
+    ran 1 pc=80010004 mode=S world=host why=done trap=00000009:00000000\n\
+    a: ok\nb: ok\ntwin entered 2\n";
 
 /// How many bytes a device moves at most in a call.
 const MOST: [usize; 3] = [1, 7, 100];
@@ -224,4 +242,18 @@ fn two_benches(rt: HostRuntime) {
 #[test]
 fn two_benches_of_two_harts(rt: HostRuntime) {
     fails_at_each_call(&rt, rt.alloc(), &TWIN_OF_TWO_HARTS);
+}
+
+#[test]
+fn nothing_is_read_after_the_entering(rt: HostRuntime) {
+    let mut buffer = [0u8; ROOM];
+    let mut sink = MemorySink::new(&mut buffer);
+    // the call after those for the lines through the entering one would fail
+    let read = ENTERED.len().saturating_sub(b"fly\n".len());
+    let source = FaultySource::new(ENTERED, 1, (read as u64).saturating_add(1));
+    let mut lines = Lines::new(source);
+    let outcome = run_twin(rt.alloc(), &OF_ONE_HART, 0, &mut lines, &mut sink);
+    expect_outcome(&rt, outcome, Ok(()), 1);
+    expect_bytes(&rt, sink.bytes(), ENTERED_OUTPUT, 1);
+    expect_bytes(&rt, lines.source().rest(), b"fly\n", 1);
 }

@@ -76,7 +76,7 @@ told target breaks watches reply = record { state = over target breaks watches; 
 passes : (e : ℕ) (one other : Target) (breaks watches reply reply' : List ℕ) → TargetsAgreeBut e one other → reply ≡ reply'
     → AnswerAlike e (told one breaks watches reply) (told other breaks watches reply')
 passes e one other breaks watches reply reply' agree same =
-    record { entered = refl; passed = λ none. record { reply = same; state = again e one other breaks watches agree } }
+    record { entered = refl; passed = λ none. record { reply = same; entered = refl; state = again e one other breaks watches agree } }
 
 -- ---- steps of named harts, of which the same is told of both
 
@@ -105,6 +105,7 @@ past_alike e hart breaks watches did did' one other same agree =
       entered = refl;
       passed = λ none. record {
         reply = same_lines e did one other agree;
+        entered = refl;
         state = again e _ _ breaks watches (turned_agree e hart one other agree);
       };
     })
@@ -223,6 +224,7 @@ module _ (e hart : ℕ) (seat : Seat) (beside : Option Seat) (rests : is_world_o
       entered = ap (λ (ran : Ran). is_entered e ran.entered) past.ran;
       passed = λ none. record {
         reply = ap₂ (λ (seat : Seat) (ran : Ran). ran_text seat.hart.pc seat.hart.mode (world_name seat.world) ran) past.state.seat past.ran;
+        entered = ap (λ (ran : Ran). ran.entered) past.ran;
         state = again e (chosen_at hart first.state) (chosen_at hart second.state) breaks watches (record { hart = refl; state = past.state });
       };
     }
@@ -364,6 +366,7 @@ alike-itself e after bare = record {
   entered = refl;
   passed = λ none. record {
     reply = refl;
+    entered = refl;
     state = again e after.state.target after.state.target after.state.breaks after.state.watches (bare-itself e after.state.target bare);
   };
 }

@@ -1,13 +1,15 @@
 mod AddressLaws
 pub mod AddressLemmas
 mod Answers
-mod AnswersAlike
-mod BothAlike
+pub mod AnswersAlike
+pub mod BothAlike
 mod CommandExamples
 pub mod Commands
 mod EnteredSlots
 pub mod Isolation
+mod Returned
 mod Keywords
+pub mod PokesAlike
 mod RegisterLines
 mod ReplyExamples
 mod StepsAlike

@@ -1,15 +1,17 @@
 -- What two benches that agree but for an enclave show and leave, given the same commands: nothing of that enclave, up to the command
 -- that enters it. (Laws of this project's own debugger over its own monitor.)
 use Rattle.std.specs.Prelude.{ℕ, ◌≡◌, suc, Bool, true, false, List, [], ◌∷◌, take}
+use Rattle.rv_monitor.specs.Blocks.{has}
 use Rattle.rv_monitor.specs.Table.{is_live}
 use Rattle.rv_debug.specs.Answer.{Answered, answer}
 use Rattle.rv_debug.specs.BenchState.{BenchState}
 use Rattle.rv_debug.specs.Isolation.{after_commands}
 use Rattle.rv_debug.specs.Targets.{KeepsMonitor}
-use Rattle.rv_debug.specs.TwoBenches.{BenchesAgreeBut, BothAnswered, is_blind, is_entered}
+use Rattle.rv_debug.specs.TwoBenches.{BenchesAgreeBut, BothAnswered, is_blind, is_entered, region_of}
 use Rattle.rv_debug.specs.declared.both.BothWhy.{BothWhy}
 use Rattle.rv_debug.specs.declared.both.BothWhy.TheVariants.{All, Entered, NotBlind}
 use Rattle.rv_debug.specs.declared.command.Command.{Command}
+use Rattle.rv_debug.specs.declared.command.Command.TheVariants.{Poke}
 use Rattle.rv_debug.specs.declared.target.Target.{Target}
 use Rattle.rv_debug.specs.declared.target.Target.TheVariants.{Bare, Monitored}
 
@@ -25,9 +27,10 @@ pub record AgreeAgain (e : ℕ) (first second : BenchState) : Type 0 where
 
 -- ---- one command
 
--- the replies are equal, and the benches agree again
+-- the replies and the slots that were entered are equal, and the benches agree again
 pub record PassAlike (e : ℕ) (first second : Answered) : Type 0 where
   pub reply : first.reply ≡ second.reply
+  pub entered : first.entered ≡ second.entered
   pub state : AgreeAgain e first.state second.state
 
 -- the command enters slot e in both or in neither; if in neither, nothing is shown or left of it
@@ -40,6 +43,23 @@ ConfidentialityLaw =
     (e : ℕ) (first second : BenchState) (command : Command) → KeepsMonitor first.target → KeepsMonitor second.target
     → BenchesAgreeBut e first second → is_blind e first command ≡ true
     → AnswerAlike e (answer first command) (answer second command)
+
+-- a command passes over the enclave of slot e: it names no byte of its region, and does not enter it
+pub record PassesOver (e : ℕ) (bench : BenchState) (command : Command) : Type 0 where
+  pub blind : is_blind e bench command ≡ true
+  pub past : is_entered e (answer bench command).entered ≡ false
+
+-- a byte is poked into the region of slot e
+abbrev pub PokesInto : ℕ → BenchState → Command → Type 0
+PokesInto e bench (Poke address byte) = has (region_of e bench.target) address ≡ true
+PokesInto e bench _ = ⊥
+
+-- two benches that agree but for an enclave do so too once each has a byte poked into its region, whichever and wherever, and reply the same
+abbrev pub PokeLaw : Type 0
+PokeLaw =
+    (e : ℕ) (first second : BenchState) (here there : Command) → KeepsMonitor first.target → KeepsMonitor second.target
+    → BenchesAgreeBut e first second → PokesInto e first here → PokesInto e second there
+    → PassAlike e (answer first here) (answer second there)
 
 -- the same as both_command tells it
 pub record BothPassed (e : ℕ) (after : BothAnswered) : Type 0 where

@@ -5,6 +5,7 @@ pub mod Command
 pub mod Confidentiality
 pub mod EnclaveText
 pub mod Isolation
+pub mod Returns
 pub mod Numbers
 pub mod ReplyText
 pub mod Steps

@@ -39,6 +39,7 @@ impl Bench {
     ghost use Rattle.rv_debug.specs.Answer.{answer, line_answer};
     ghost use Rattle.rv_debug.specs.BenchState.{bare, monitored};
     ghost use Rattle.rv_debug.specs.Isolation.{TellsReach, ChangesMemory, SparesResting, SparesOther};
+    ghost use Rattle.rv_debug.specs.Returns.{IsStoredIn};
     ghost use Rattle.rv_debug.specs.Targets.{IsBare, KeepsMonitor};
     ghost use Rattle.rv_debug.specs.TwoBenches.{BenchesAgreeBut, can_scramble, is_blind, scrambled};
 
@@ -96,7 +97,8 @@ impl Bench {
     /// world's reach, by a destroy or by a measure. `spares` is that the command changes neither record nor region nor context of a live
     /// enclave that is not the world of a hart that steps, that it does not enter or end, and of whose region it pokes no byte: it may run
     /// on the other hart. `beside` is that a hart of which the command makes no step, and sets no register and no timer line, keeps its
-    /// world, registers, pc and mode, and all but the entries and mie.
+    /// world, registers, pc and mode, and all but the entries and mie. `stored` is that what is kept of the host of each hart is as a hart
+    /// stores it, which the host that comes back rests on.
     pub fn command(&mut self, command: &Command, out: &mut Reply) -> u16
         ensures answer { answer self.old command.now ≡ record { state = self.new; reply = out.new.items; entered = result } }
         ensures bare { IsBare self.old.target → result ≡ 0 }
@@ -105,9 +107,12 @@ impl Bench {
         ensures changes { ChangesMemory self.old command.now self.new }
         ensures spares { SparesResting self.old command.now self.new }
         ensures beside { SparesOther self.old command.now self.new }
+        ensures stored { IsStoredIn self.new.target }
     {
         self.invariant();
-        self.answer(command, out)
+        let entered = self.answer(command, out);
+        self.target.stored();
+        entered
     }
 
     /// Does one command, and replies.

@@ -1,8 +1,9 @@
 //! Laws of the commands over every bench, for any crate above to cite. Each is proved of the definitions in `specs/`; that of one command
 //! is a clause of `Bench::command` too.
 
-ghost use Rattle.rv_debug.specs.Confidentiality.{ConfidentialityLaw};
+ghost use Rattle.rv_debug.specs.Confidentiality.{ConfidentialityLaw, PokeLaw};
 ghost use Rattle.rv_debug.specs.Isolation.{IntegrityLaw};
+ghost use Rattle.rv_debug.specs.Returns.{ReturnLaw};
 
 /// Integrity: every list of commands leaves the record, the region and the context of each live enclave that no hart runs in a step of
 /// its own, that it neither enters nor ends, and of whose region it pokes no byte. The enclave may run on the hart that does not step.
@@ -14,4 +15,16 @@ pub const fn integrity()
 /// neither, the replies are equal and the benches agree again, and are equal once the enclave is gone.
 pub const fn confidentiality()
     ensures { ConfidentialityLaw }
+{}
+
+/// Two benches that agree but for an enclave do so too once each has a byte poked into its region, whichever and wherever; the replies
+/// are equal.
+pub const fn poking()
+    ensures { PokeLaw }
+{}
+
+/// Leaving: from the command with which the host enters an enclave to the one with which the enclave leaves, whatever commands stand
+/// between them, the host of that hart goes on as it was before the step that entered, past its ecall, but for a0 and a1.
+pub const fn host_comes_back()
+    ensures { ReturnLaw }
 {}

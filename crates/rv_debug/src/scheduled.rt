@@ -12,7 +12,7 @@ use crate::target::Target;
 use rv_hart::Trap;
 
 /// What the steps of one hart did.
-#[derive(Clone, Copy, Debug, PartialEq, Eq)]
+#[derive(Clone, Copy)]
 pub(crate) struct HartRan {
     /// How many they were.
     pub(crate) steps: u32,
@@ -27,7 +27,7 @@ const NOTHING: HartRan = HartRan {
 };
 
 /// What steps of two harts did.
-#[derive(Clone, Copy, Debug, PartialEq, Eq)]
+#[derive(Clone, Copy)]
 pub(crate) struct Scheduled {
     /// Those of hart 0.
     pub(crate) first: HartRan,

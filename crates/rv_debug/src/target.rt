@@ -3,6 +3,7 @@
 ghost use Rattle.std.specs.Prelude.{◌≡◌, ◌<◌, Some, None};
 ghost use Rattle.std.specs.Bool.{OnTrue, OnFalse};
 ghost use Rattle.rv_monitor.specs.State.{IsKept};
+ghost use Rattle.rv_debug.specs.Returns.{IsStoredIn};
 ghost use Rattle.rv_debug.specs.Steps.{no_steps, run};
 ghost use Rattle.rv_debug.specs.TwoBenches.{TargetsAgreeBut, can_scramble_in, region_of, scrambled_in};
 ghost use Rattle.rv_debug.specs.Targets.{chosen_of, hart_of, harts_of, memory_of, pc_of, stepped, turned_to, register_set, timer_set, poked, IsBare, KeepsMonitor};
@@ -29,6 +30,15 @@ pub enum Target {
 }
 
 impl Target {
+    /// What is kept of the host of each hart is as a hart stores it. It does nothing.
+    pub(crate) fn stored(&self)
+        ensures { IsStoredIn self.now }
+    {
+        if let Target::Monitored(machine) = self {
+            machine.invariant();
+        }
+    }
+
     /// The registers of its hart.
     pub(crate) fn regs(&self) -> &Regs
         ensures { result.now ≡ (hart_of self.now).regs }

@@ -1,8 +1,9 @@
+use Rattle.std.proofs.Common.{◌-◌}
 use Rattle.std.proofs.lemmas.Result.{IfOk-weaker}
 use Rattle.rv_asm.specs.Looks.{HasRead}
 use Rattle.rv_asm.specs.Program.{readings}
 use Rattle.rv_asm.proofs.DenotesLemmas.{denotes_assembled, assembled_denoted}
-use Rattle.rv_asm.proofs.Looked.{twice_line, words_decide_if}
+use Rattle.rv_asm.proofs.Looked.{none_of_first, none_of_first_if, twice_line, words_decide_if}
 use Rattle.rv_asm.proofs.assembler.assemble.Goals as goal
 
 pub returns-in_err-look-clause-only : goal.returns-in_err-look-clause-only
@@ -12,6 +13,12 @@ pub returns-in-Some-clause-line : goal.returns-in-Some-clause-line
 returns-in-Some-clause-line c =
     let has : HasRead c.in_ok-look.look (readings c.args.text.now) = c.in_ok-look.ensures.ok.0 in
     twice_line c.args.text.now c.in_ok-look.look c.in-Some.line has c.in-Some.is
+
+pub returns-in-Some-clause-order : goal.returns-in-Some-clause-order
+returns-in-Some-clause-order c = none_of_first c.args.text.now (c.in-Some.line - 1) c.in_ok-look.ensures.ok.1
+
+pub returns-clause-order : goal.returns-clause-order
+returns-clause-order c = none_of_first_if c.args.text.now c.words_of.result c.in_ok-look.ensures.ok.1
 
 pub returns-clause-ok : goal.returns-clause-ok
 returns-clause-ok c =

@@ -9,7 +9,7 @@ use Rattle.rv_bench.specs.declared.device.Sink.{Ghosts as SinkGhosts}
 use Rattle.rv_bench.specs.declared.device.Source.{Ghosts as SourceGhosts}
 use Rattle.rv_bench.specs.declared.fault.BenchFault.{BenchFault}
 use Rattle.rv_bench.specs.declared.fault.BenchFault.TheVariants.{Read, Write, TooLong, NoMemory, Asm}
-use Rattle.rv_bench.specs.Assemble.{ReadsText, ReadsWholeText, RunsAsm}
+use Rattle.rv_bench.specs.Assemble.{IsFaultlessBefore, ReadsText, ReadsWholeText, RunsAsm}
 use Rattle.rv_bench.specs.AssemblyText.{asm_text, asm_output}
 use Rattle.rv_bench.specs.Transfer.{WritesFront}
 use Rattle.rv_bench.proofs.Assembling.{asm_output-ok, asm_output-fault, asm_output-too_long}
@@ -24,7 +24,7 @@ unread : {S W : Type 0} (Z : Type 0) (g : SourceGhosts S) (h : SinkGhosts W) (ol
 unread Z g h old new sink Read reads = (reads, refl)
 unread Z g h old new sink TooLong reads = (
   reads,
-  λ tells. let (front, split, many, few) = reads.reads tells in asm_output-too_long _ (omega (arith, many, ap length split, length-append front (g.remaining new))),
+  λ tells. let (front, split, many) = reads.reads tells in asm_output-too_long _ (omega (arith, many, ap length split, length-append front (g.remaining new))),
   refl,
 )
 unread Z g h old new sink NoMemory reads = (reads, refl)
@@ -64,11 +64,12 @@ returns-in-Ok g c =
 -- a text that has a fault
 faulty : {S W : Type 0} (g : SourceGhosts S) (h : SinkGhosts W) (old new : S) (sink : W) (text : List ℕ) (fault : AsmFault)
     → ReadsWholeText g old new → (IsTrue g.tells → text ≡ g.remaining old) → length text ≤ 4194304
-    → (1 ≤ fault.line) × (fault.line ≤ length (lines_of text)) → (fault.kind ≢ asm.NoMemory → assembled text ≡ Err fault)
+    → (1 ≤ fault.line) × (fault.line ≤ length (lines_of text)) → IsFaultlessBefore fault.line text → (fault.kind ≢ asm.NoMemory → assembled text ≡ Err fault)
     → RunsAsm g h old new sink sink (Err (Asm fault))
-faulty g h old new sink text fault reads is short line told = (
+faulty g h old new sink text fault reads is short line before told = (
   reads,
   λ tells. subst (λ t. (1 ≤ fault.line) × (fault.line ≤ length (lines_of t))) (is tells) line,
+  λ tells. subst (IsFaultlessBefore fault.line) (is tells) before,
   λ tells other. ap asm_output (sym (is tells)) ∙ asm_output-fault text fault short (told other),
   refl,
 )
@@ -77,4 +78,4 @@ pub returns : goal.returns
 returns g c =
     faulty g.S.Source g.W.Sink c.args.source.now c.read_whole.new.source c.args.sink.now c.as_slice.result.now c.in-Err.fault
     c.in_ok-text.ensures.0 (λ tells. c.as_slice.ensures.value ∙ c.in_ok-text.ensures.2 tells) (few _ _ c.as_slice.ensures.value c.in_ok-text.ensures.1)
-    c.in-Err.ensures.line c.in-Err.ensures.fault
+    c.in-Err.ensures.line c.in-Err.ensures.order c.in-Err.ensures.fault

@@ -1,7 +1,9 @@
 use Rattle.std.proofs.Common.{◌∙◌, sym, ap, Ok}
 use Rattle.rv_bench.specs.Twin.{RunsTwin}
+use Rattle.rv_bench.specs.Unread.{unread}
 use Rattle.rv_bench.proofs.Ends.{TellsEnd-more}
 use Rattle.rv_bench.proofs.Mapped.{passed_on}
+use Rattle.rv_bench.proofs.TwinAlike.{twin_conceals, twin_spares}
 use Rattle.rv_bench.proofs.Twins.{first_fails, not_started, second_part}
 use Rattle.rv_bench.proofs.twin.run_twin.Goals as goal
 
@@ -16,14 +18,14 @@ returns-in_err-run_lines-clause-outcome g c =
     passed_on (RunsTwin g.W.Sink c.args.setup.now c.args.slot c.args.lines.now c.run_lines.new.lines c.args.sink.now c.run_lines.new.sink) c.from_residual-in_err-run_lines.result _ c.from_residual-in_err-run_lines.ensures.1
     (first_fails g.W.Sink c.args.setup.now c.args.slot c.as_slice.result.now c.args.lines.now c.read_image.new.lines c.args.sink.now
     c.in_ok-image.ensures.outcome.0 (λ tells. c.in_ok-image.ensures.outcome.2 tells ∙ ap Ok (sym c.as_slice.ensures.value))
-    _ c.in_ok-benches.ensures _ _ _ c.in_err-run_lines.ensures.outcome)
+    _ c.in_ok-benches.ensures _ _ c.run_lines.ensures.end _ c.in_err-run_lines.ensures.outcome)
 
 pub returns-clause-outcome : goal.returns-clause-outcome
 returns-clause-outcome g c =
     second_part g.W.Sink c.args.setup.now c.args.slot c.as_slice.result.now c.args.lines.now c.read_image.new.lines c.args.sink.now
     c.in_ok-image.ensures.outcome.0 (λ tells. c.in_ok-image.ensures.outcome.2 tells ∙ ap Ok (sym c.as_slice.ensures.value))
     _ c.in_ok-benches.ensures c.run_lines.new.lines c.run_lines.new.sink c.in_ok-run_lines.ensures.outcome _ c.in_ok-run_lines.ensures.state
-    c.run_second.new.lines c.run_second.new.sink (TellsEnd-more _ _ _ c.in_ok-image.ensures.end (TellsEnd-more _ _ _ c.run_lines.ensures.end c.run_second.ensures.end))
+    c.run_second.new.lines c.run_second.new.sink c.in_ok-image.ensures.end c.run_lines.ensures.end c.run_second.ensures.end
     c.run_second.result c.run_second.ensures.outcome
 
 pub returns-in_err-run_lines-clause-end : goal.returns-in_err-run_lines-clause-end
@@ -31,3 +33,27 @@ returns-in_err-run_lines-clause-end g c = TellsEnd-more _ _ _ c.in_ok-image.ensu
 
 pub returns-clause-end : goal.returns-clause-end
 returns-clause-end g c = TellsEnd-more _ _ _ c.in_ok-image.ensures.end (TellsEnd-more _ _ _ c.run_lines.ensures.end c.run_second.ensures.end)
+
+pub returns-in_err-image-clause-conceals : goal.returns-in_err-image-clause-conceals
+returns-in_err-image-clause-conceals g c = twin_conceals c.args.setup.now c.args.slot (unread c.args.lines.now)
+
+pub returns-in_err-benches-clause-conceals : goal.returns-in_err-benches-clause-conceals
+returns-in_err-benches-clause-conceals g c = twin_conceals c.args.setup.now c.args.slot (unread c.args.lines.now)
+
+pub returns-in_err-run_lines-clause-conceals : goal.returns-in_err-run_lines-clause-conceals
+returns-in_err-run_lines-clause-conceals g c = twin_conceals c.args.setup.now c.args.slot (unread c.args.lines.now)
+
+pub returns-clause-conceals : goal.returns-clause-conceals
+returns-clause-conceals g c = twin_conceals c.args.setup.now c.args.slot (unread c.args.lines.now)
+
+pub returns-in_err-image-clause-integrity : goal.returns-in_err-image-clause-integrity
+returns-in_err-image-clause-integrity g c = twin_spares c.args.setup.now c.args.slot (unread c.args.lines.now)
+
+pub returns-in_err-benches-clause-integrity : goal.returns-in_err-benches-clause-integrity
+returns-in_err-benches-clause-integrity g c = twin_spares c.args.setup.now c.args.slot (unread c.args.lines.now)
+
+pub returns-in_err-run_lines-clause-integrity : goal.returns-in_err-run_lines-clause-integrity
+returns-in_err-run_lines-clause-integrity g c = twin_spares c.args.setup.now c.args.slot (unread c.args.lines.now)
+
+pub returns-clause-integrity : goal.returns-clause-integrity
+returns-clause-integrity g c = twin_spares c.args.setup.now c.args.slot (unread c.args.lines.now)

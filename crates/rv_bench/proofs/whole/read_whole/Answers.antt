@@ -1,6 +1,5 @@
-use Rattle.std.proofs.Common.{rules, ◌≡◌, ◌≤◌, ◌++◌, ℕ, Global, IsTrue, List, length, take, Err, arith, sym, ap, append_assoc, ◌∙◌}
+use Rattle.std.proofs.Common.{rules, ◌≡◌, ◌++◌, ℕ, Global, IsTrue, List, take, Err, arith, sym, ap, append_assoc, ◌∙◌}
 use Rattle.std.proofs.lemmas.List.{length-append}
-use Rattle.std.proofs.lemmas.Grind.{common_steps}
 use Rattle.rv_bench.specs.declared.device.Source.{Ghosts}
 use Rattle.rv_bench.specs.declared.fault.BenchFault.{BenchFault}
 use Rattle.rv_bench.specs.declared.fault.BenchFault.TheVariants.{TooLong, NoMemory}
@@ -12,12 +11,12 @@ use Rattle.rv_bench.proofs.whole.read_whole.Goals as goal
 -- a part that is not added
 refused : {S : Type 0} (Z : Type 0) (g : Ghosts S) (old new : S) (text part added : List ℕ) (fault : BenchFault)
     → SourceWorked g old new → g.ends new ≡ g.ends old → (IsTrue g.tells → g.remaining old ≡ (text ++ part) ++ g.remaining new)
-    → length text ≤ 4194304 → length part ≤ 4096 → AddsPart part text added (Err fault) → ReadsText g {Z = Z} old new (Err fault)
-refused Z g old new text part added TooLong source going split few short adds =
-    record { source = source; going = going; reads = λ tells. (text ++ part, split tells, omega (arith, adds.0, length-append text part), omega (arith, few, short, length-append text part)) }
-refused Z g old new text part added NoMemory source going split few short adds =
+    → AddsPart part text added (Err fault) → ReadsText g {Z = Z} old new (Err fault)
+refused Z g old new text part added TooLong source going split adds =
     record { source = source; going = going; reads = λ tells. (text ++ part, split tells, omega (arith, adds.0, length-append text part)) }
-refused Z g old new text part added _ source going split few short adds = absurd adds
+refused Z g old new text part added NoMemory source going split adds =
+    record { source = source; going = going; reads = λ tells. (text ++ part, split tells, omega (arith, adds.0, length-append text part)) }
+refused Z g old new text part added _ source going split adds = absurd adds
 
 pub returns-in_err-add_part : goal.returns-in_err-add_part
 returns-in_err-add_part g c =
@@ -25,4 +24,4 @@ returns-in_err-add_part g c =
     passed_on (ReadsText g.S.Source c.args.source.now c.read_some.new.self) c.from_residual-in_err-add_part.result _ c.from_residual-in_err-add_part.ensures.1
     (refused Global g.S.Source c.args.source.now c.read_some.new.self c.loop-text.text.items (take c.in_ok-count.count c.read_some.new.buffer) _ _ (search rules) (search rules)
     (λ tells. c.loop-text.invariant.front tells ∙ (ap (λ t. c.loop-text.text.items ++ t) (rw found at (c.read_some.ensures.bytes tells)) ∙ sym (append_assoc c.loop-text.text.items _ _)))
-    c.loop-text.invariant.few (grind (arith, common_steps)) c.in_err-add_part.ensures)
+    c.in_err-add_part.ensures)

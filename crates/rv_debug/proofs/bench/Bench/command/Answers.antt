@@ -10,15 +10,15 @@ returns-clause-reach c = tells_reach c.args.self.now.target c.args.command.now c
 
 pub returns-clause-changes : goal.returns-clause-changes
 returns-clause-changes c =
-    subst (λ (after : Answered). ChangesMemory c.args.self.now c.args.command.now after.state) c.answer.ensures.answer
+    subst (λ (after : Answered). ChangesMemory c.args.self.now c.args.command.now after.state) c.answer-entered.ensures.answer
     (changes_memory c.args.self.now c.args.command.now c.invariant.ensures)
 
 pub returns-clause-spares : goal.returns-clause-spares
 returns-clause-spares c =
-    subst (λ (after : Answered). SparesResting c.args.self.now c.args.command.now after.state) c.answer.ensures.answer
+    subst (λ (after : Answered). SparesResting c.args.self.now c.args.command.now after.state) c.answer-entered.ensures.answer
     (spares_resting c.args.self.now c.args.command.now c.invariant.ensures)
 
 pub returns-clause-beside : goal.returns-clause-beside
 returns-clause-beside c =
-    subst (λ (after : Answered). SparesOther c.args.self.now c.args.command.now after.state) c.answer.ensures.answer
+    subst (λ (after : Answered). SparesOther c.args.self.now c.args.command.now after.state) c.answer-entered.ensures.answer
     (spares_other c.args.self.now c.args.command.now c.invariant.ensures)

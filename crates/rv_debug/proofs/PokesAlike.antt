@@ -1,0 +1,145 @@
+-- Bytes that are poked into the region of an enclave: two benches that agree but for it do so again, whatever the bytes are.
+use Rattle.std.proofs.Common.{◌≡◌, ℕ, ◌+◌, ◌-◌, ◌≤◌, Bool, true, false, List, [], ◌∷◌, length, Option, Some, None, IfSome, refl, sym, ◌∙◌, ap, subst, inl, inr, arith}
+use Rattle.std.specs.Prelude.{is_some, nat_le, nat_lt, ◌&&◌, ◌==◌, ◌%◌}
+use Rattle.std.proofs.lemmas.Bool.{cases_lt, and_parts, and_from, leb-true, ltb-true, le-leb}
+use Rattle.rv_memory.specs.Memory.{ram_base, is_inside, write, write_bytes}
+use Rattle.rv_memory.proofs.MemoryLaws.{length-write, index-below, index-above, write-is}
+use Rattle.rv_monitor.specs.AgreeBut.{AgreeBut, AgreeOutside, SharedButFor, is_private}
+use Rattle.rv_monitor.specs.Blocks.{has, is_block_size, is_lawful, no_block}
+use Rattle.rv_monitor.specs.Debugger.{with_memory}
+use Rattle.rv_monitor.specs.State.{MonitoredState, OnTurn, IsKept}
+use Rattle.rv_monitor.specs.Table.{Slots, IsLawfulSlot, is_live, region, region_of as region_in, slot_at}
+use Rattle.rv_monitor.specs.declared.block.Block.{Block}
+use Rattle.rv_monitor.specs.declared.slot_info.SlotInfo.{SlotInfo}
+use Rattle.rv_monitor.proofs.Agreement.{inside-is, write-some}
+use Rattle.rv_monitor.proofs.Scrambled.{done_rests, itself_agrees}
+use Rattle.rv_debug.specs.Answer.{answer}
+use Rattle.rv_debug.specs.BenchState.{BenchState}
+use Rattle.rv_debug.specs.Confidentiality.{PassAlike, PokeLaw, PokesInto}
+use Rattle.rv_debug.specs.ReplyText.{ok_text}
+use Rattle.rv_debug.specs.Targets.{KeepsMonitor, chosen_at}
+use Rattle.rv_debug.specs.TwoBenches.{BenchesAgreeBut, ChosenAgreeBut, TargetsAgreeBut, can_scramble, can_scramble_in, region_of}
+use Rattle.rv_debug.specs.declared.command.Command.{Command}
+use Rattle.rv_debug.specs.declared.command.Command.TheVariants.{Poke}
+use Rattle.rv_debug.specs.declared.target.Target.{Target}
+use Rattle.rv_debug.specs.declared.target.Target.TheVariants.{Bare, Monitored}
+use Rattle.rv_debug.proofs.AnswersAlike.{agree_again}
+
+-- ---- memory
+
+-- a hidden byte of the first may be any
+hidden_write : (hidden : ℕ → Bool) (m n : List ℕ) (address byte : ℕ) (m' : List ℕ) → AgreeOutside hidden m n
+    → write m address (byte ∷ []) ≡ Some m' → hidden address ≡ true → AgreeOutside hidden m' n
+hidden_write hidden m n address byte m' agree written secret =
+    let one = write-is m address (byte ∷ []) m' written in
+    let index = address - ram_base in
+    let within : index + 1 ≤ length m = omega (arith, one.0, one.1) in
+    record {
+      size = length-write m address (byte ∷ []) m' written ∙ agree.size;
+      bytes = λ i seen. rw one.2 (elim (cases_lt i index) [
+        | inl below ↦ index-below m index (byte ∷ []) i within below ∙ agree.bytes i seen
+        | inr above ↦ elim (cases_lt i (index + 1)) [
+          | inl here ↦
+              let place : ram_base + i ≡ address = omega (arith, one.0) in
+              let never : true ≡ false = sym secret ∙ ap hidden (sym place) ∙ seen in cc
+          | inr past ↦ index-above m index (byte ∷ []) i within past ∙ agree.bytes i seen
+        ]
+      ]);
+    }
+
+-- and a hidden byte of the second
+hidden_writes : (hidden : ℕ → Bool) (m n : List ℕ) (here there byte other : ℕ) (m' n' : List ℕ) → AgreeOutside hidden m n
+    → write m here (byte ∷ []) ≡ Some m' → write n there (other ∷ []) ≡ Some n' → hidden here ≡ true → hidden there ≡ true → AgreeOutside hidden m' n'
+hidden_writes hidden m n here there byte other m' n' agree first second secret secret' =
+    turn (hidden_write hidden n m' there other n' (turn (hidden_write hidden m n here byte m' agree first secret)) second secret') where
+      turn : {a b : List ℕ} → AgreeOutside hidden a b → AgreeOutside hidden b a
+      turn agree = record { size = sym agree.size; bytes = λ i seen. sym (agree.bytes i seen) }
+
+-- ---- the region
+
+-- it has a byte: its enclave is live, and the byte is in memory
+has_live : (o : Option SlotInfo) (address : ℕ) → has (region_in o) address ≡ true → is_some o ≡ true
+has_live None address is = let parts = and_parts (nat_le 0 address) (nat_lt address 0) is in let never = ltb-true address 0 parts.1 in absurd (omega (arith, never))
+has_live (Some info) address is = refl
+
+has_inside : (memory : List ℕ) (o : Option SlotInfo) (address : ℕ) → IfSome o (IsLawfulSlot memory) → has (region_in o) address ≡ true
+    → is_inside memory address 1 ≡ true
+unfolding is_lawful
+has_inside memory None address law is = let never = has_live None address is in cc
+has_inside memory (Some info) address law is =
+    let block = info.region in
+    let lawful = and_parts (is_block_size block.size) _ law.region in
+    let inside = inside-is memory block.base block.size (and_parts (block.base % block.size == 0) _ lawful.1).1 in
+    let at = and_parts (nat_le block.base address) (nat_lt address (block.base + block.size)) is in
+    let low = leb-true _ _ at.0 in
+    let high = ltb-true _ _ at.1 in
+    and_from _ _ (le-leb ram_base address (omega (arith, inside.0, low))) (le-leb (address + 1) (ram_base + length memory) (omega (arith, inside.1, high)))
+
+written : (state : MonitoredState) (e address byte : ℕ) → IsKept state → has (region state.shared.table e) address ≡ true
+    → write state.shared.memory address (byte ∷ []) ≡ Some (write_bytes state.shared.memory (address - ram_base) (byte ∷ []))
+written state e address byte kept is =
+    write-some state.shared.memory address (byte ∷ []) (has_inside state.shared.memory (slot_at state.shared.table e) address (kept.shared.valid.lawful e) is)
+
+-- ---- machines
+
+module _ (e : ℕ) (one other : OnTurn) (here there byte byte' : ℕ) (agree : ChosenAgreeBut e one other) (m n : List ℕ)
+    (first : write one.state.shared.memory here (byte ∷ []) ≡ Some m) (second : write other.state.shared.memory there (byte' ∷ []) ≡ Some n)
+    (secret : has (region one.state.shared.table e) here ≡ true) (secret' : has (region one.state.shared.table e) there ≡ true) where
+  machines_agree : ChosenAgreeBut e (record one { state = with_memory one.state m }) (record other { state = with_memory other.state n })
+  machines_agree =
+      let state = agree.state in
+      let shared = state.shared in
+      record {
+        hart = agree.hart;
+        state = record {
+          seat = state.seat;
+          beside = state.beside;
+          rests = state.rests;
+          rests_beside = state.rests_beside;
+          shared = record {
+            table = shared.table;
+            memory = hidden_writes (is_private one.state.shared.table e) one.state.shared.memory other.state.shared.memory here there byte byte' m n shared.memory first second secret secret';
+            contexts = shared.contexts;
+            gone = λ free. let never : true ≡ false = sym (has_live (slot_at one.state.shared.table e) here secret) ∙ free in cc;
+          };
+        };
+      }
+
+-- ---- benches
+
+targets_alike : (e : ℕ) (one other : Target) (breaks watches : List ℕ) (here there byte byte' : ℕ) → KeepsMonitor one → KeepsMonitor other → TargetsAgreeBut e one other
+    → has (region_of e one) here ≡ true → has (region_of e other) there ≡ true
+    → PassAlike e (answer (record { target = one; breaks = breaks; watches = watches }) (Poke here byte))
+    (answer (record { target = other; breaks = breaks; watches = watches }) (Poke there byte'))
+unfolding answer
+targets_alike e (Monitored one) (Monitored other) breaks watches here there byte byte' kept kept' agree secret secret' =
+    let first = written one.state e here byte kept secret in
+    let second = written other.state e there byte' kept' secret' in
+    let tables = (let state = agree.state in state.shared.table) in
+    let both = machines_agree e one other here there byte byte' agree _ _ first second secret (ap (λ (slots : Slots). has (region slots e) there) tables ∙ secret') in
+    rw (first, second) (record {
+      reply = refl;
+      entered = refl;
+      state = agree_again e _ _ (record { target = both; breaks = refl; watches = refl });
+    })
+targets_alike e (Bare one) other breaks watches here there byte byte' kept kept' agree secret secret' = let never = has_live None here secret in cc
+targets_alike e (Monitored one) (Bare other) breaks watches here there byte byte' kept kept' agree secret secret' = absurd agree
+
+pub poke_law : PokeLaw
+poke_law e first second (Poke here byte) (Poke there byte') kept kept' agree secret secret' =
+    subst (λ (breaks : List ℕ). PassAlike e (answer first (Poke here byte)) (answer (record second { breaks = breaks }) (Poke there byte'))) agree.breaks
+    (subst (λ (watches : List ℕ). PassAlike e (answer first (Poke here byte)) (answer (record second { breaks = first.breaks; watches = watches }) (Poke there byte'))) agree.watches
+    (targets_alike e first.target second.target first.breaks first.watches here there byte byte' kept kept' agree.target secret secret'))
+poke_law e first second (Poke here byte) _ kept kept' agree secret secret' = absurd secret'
+poke_law e first second _ there kept kept' agree secret secret' = absurd secret
+
+-- ---- a bench and itself
+
+targets_itself : (e : ℕ) (target : Target) → KeepsMonitor target → can_scramble_in e target ≡ true → TargetsAgreeBut e target target
+targets_itself e (Bare machine) kept may = cc
+targets_itself e (Monitored chosen) kept may =
+    record { hart = refl; state = itself_agrees chosen.state e kept (done_rests true chosen.state e (sym may) refl) }
+
+-- a bench agrees with itself but for an enclave that is live and does not run
+pub agrees_with_itself : (e : ℕ) (bench : BenchState) → KeepsMonitor bench.target → can_scramble e bench ≡ true → BenchesAgreeBut e bench bench
+agrees_with_itself e bench kept may = record { target = targets_itself e bench.target kept may; breaks = refl; watches = refl }

@@ -1,0 +1,273 @@
+-- What is kept of the host while an enclave runs on a hart is as it was, whatever commands are given.
+use Rattle.std.proofs.Common.{◌≡◌, ℕ, zero, suc, Bool, true, false, List, [], ◌∷◌, ◌++◌, replicate, Option, Some, None, IfSome, refl, sym, ◌∙◌, ap, subst, arith}
+use Rattle.std.specs.Prelude.{nat_lt, if◌then◌else◌}
+use Rattle.rv_word.specs.Cases.{option_case}
+use Rattle.rv_memory.specs.Memory.{write}
+use Rattle.rv_pmp.specs.declared.mode.Mode.TheVariants.{S}
+use Rattle.rv_monitor.specs.Contexts.{IsStored, saved}
+use Rattle.rv_monitor.specs.Debugger.{with_memory, with_reg, with_timer}
+use Rattle.rv_monitor.specs.HartLaws.{sched}
+use Rattle.rv_monitor.specs.Refused.{past_ecall}
+use Rattle.rv_monitor.specs.Returns.{ComesBack}
+use Rattle.rv_monitor.specs.Runs.{run as steps_on}
+use Rattle.rv_monitor.specs.State.{MonitoredState, OnTurn, IsKept, is_host, machine_of, seated_beside, seen_by, turned}
+use Rattle.rv_monitor.specs.Step.{monitored_step, step_of}
+use Rattle.rv_monitor.specs.declared.context.Context.{Context}
+use Rattle.rv_monitor.specs.declared.seat.Seat.{Seat}
+use Rattle.rv_monitor.proofs.HartsAlike.{sched_kept, step_kept}
+use Rattle.rv_monitor.proofs.HartsSpare.{seated_after}
+use Rattle.rv_monitor.proofs.Returned.{back_from, entered_from, host_stored}
+use Rattle.rv_monitor.proofs.Switched.{kept_between, switch_law}
+use Rattle.rv_monitor.proofs.Turned.{seen_kept, seen_stored, seen_twice}
+use Rattle.rv_debug.specs.Addresses.{with_room_for}
+use Rattle.rv_debug.specs.Answer.{answer, steps_of}
+use Rattle.rv_debug.specs.BenchState.{BenchState}
+use Rattle.rv_debug.specs.Isolation.{after_commands}
+use Rattle.rv_debug.specs.Returns.{EntersUnder, EntersWithin, IsStoredIn, LeavesUnder, LeavesWithin, ReturnLaw, RunsOn, RunsUnder, RunsUnderAll, harts_stepped}
+use Rattle.rv_debug.specs.Schedules.{harts_in, has_all}
+use Rattle.rv_debug.specs.Steps.{AfterRun, no_steps, run}
+use Rattle.rv_debug.specs.Targets.{KeepsMonitor, chosen_at, harts_of, monitored_stepped}
+use Rattle.rv_debug.specs.declared.command.Command.{Command}
+use Rattle.rv_debug.specs.declared.command.Command.TheVariants.{Step, Run, Break, Watch, SetReg, Poke, Timer, Hart, Sched}
+use Rattle.rv_debug.specs.declared.target.Target.{Target}
+use Rattle.rv_debug.specs.declared.target.Target.TheVariants.{Bare, Monitored}
+use Rattle.rv_debug.proofs.Isolation.{after_sched, break_target, is-run, keeps_monitor, over, poke_of, turned_by, watch_target}
+use Rattle.rv_debug.proofs.TargetRuns.{monitored_pc, run_monitored}
+use Rattle.rv_debug.proofs.Turns.{turns_are_sched}
+
+abbrev KeptStored : Option Context → Type 0
+KeptStored o = IfSome o (λ context. IsStored context.supervisor)
+
+-- what is kept of the host of a hart
+abbrev host_on : ℕ → MonitoredState → Option Context
+host_on hart machine = (seen_by hart machine).seat.host_context
+
+-- ---- a step of the hart beside
+
+abbrev next : MonitoredState → MonitoredState
+next machine = (monitored_step machine).state
+
+turned_none : (machine : MonitoredState) → machine.other ≡ None → turned machine ≡ machine
+turned_none machine is = rw is refl
+
+turned_some : (machine : MonitoredState) (seat : Seat) → machine.other ≡ Some seat → (turned machine).seat ≡ seat
+turned_some machine seat is = rw is refl
+
+beside_by : (machine : MonitoredState) (o : Option Seat) → machine.other ≡ o → IsKept machine → is_host (turned machine).seat.world ≡ false
+    → is_host (turned (next machine)).seat.world ≡ false → (turned (next machine)).seat.host_context ≡ (turned machine).seat.host_context
+beside_by machine None is kept runs still =
+    let here = turned_none machine is in
+    let after : (next machine).other ≡ None = seated_after machine kept ∙ ap (seated_beside (next machine).shared.table) is in
+    let there = turned_none (next machine) after in
+    ap (λ (m : MonitoredState). m.seat.host_context) there
+    ∙ kept_between machine
+    (ap (λ (m : MonitoredState). is_host m.seat.world) (sym here) ∙ runs) (ap (λ (m : MonitoredState). is_host m.seat.world) (sym there) ∙ still)
+    ∙ ap (λ (m : MonitoredState). m.seat.host_context) (sym here)
+beside_by machine (Some seat) is kept runs still =
+    let after = seated_after machine kept ∙ ap (seated_beside (next machine).shared.table) is in
+    ap (λ (s : Seat). s.host_context) (turned_some (next machine) _ after) ∙ ap (λ (s : Seat). s.host_context) (sym (turned_some machine seat is))
+
+beside_keeps : (machine : MonitoredState) → IsKept machine → is_host (turned machine).seat.world ≡ false → is_host (turned (next machine)).seat.world ≡ false
+    → (turned (next machine)).seat.host_context ≡ (turned machine).seat.host_context
+beside_keeps machine = beside_by machine machine.other refl
+
+-- ---- a step of either hart
+
+own_keeps : (hart : ℕ) (machine : MonitoredState) → is_host (seen_by hart machine).seat.world ≡ false → is_host (seen_by hart (step_of hart machine).state).seat.world ≡ false
+    → host_on hart (step_of hart machine).state ≡ host_on hart machine
+unfolding step_of
+own_keeps hart machine runs still =
+    let seen = seen_by hart machine in
+    let twice = seen_twice hart (next seen) in
+    ap (λ (m : MonitoredState). m.seat.host_context) twice
+    ∙ kept_between seen runs (ap (λ (m : MonitoredState). is_host m.seat.world) (sym twice) ∙ still)
+
+step_keeps : (hart named : ℕ) (machine : MonitoredState) → IsKept machine → is_host (seen_by hart machine).seat.world ≡ false → is_host (seen_by hart (step_of named machine).state).seat.world ≡ false
+    → host_on hart (step_of named machine).state ≡ host_on hart machine
+unfolding step_of
+step_keeps zero zero machine kept runs still = own_keeps zero machine runs still
+step_keeps (suc n) (suc i) machine kept runs still = own_keeps (suc n) machine runs still
+step_keeps (suc n) zero machine kept runs still = beside_keeps machine kept runs still
+step_keeps zero (suc i) machine kept runs still =
+    let twice = seen_twice 1 machine in
+    beside_keeps (turned machine) (seen_kept 1 machine kept) (ap (λ (m : MonitoredState). is_host m.seat.world) twice ∙ runs) still
+    ∙ ap (λ (m : MonitoredState). m.seat.host_context) twice
+
+-- ---- steps of harts in their order
+
+first_runs : (hart : ℕ) (harts : List ℕ) (machine : MonitoredState) → RunsOn hart harts machine → is_host (seen_by hart machine).seat.world ≡ false
+first_runs hart [] machine runs = runs
+first_runs hart (named ∷ harts) machine runs = runs.0
+
+steps_keep : (hart : ℕ) (harts : List ℕ) (machine : MonitoredState) → IsKept machine → RunsOn hart harts machine
+    → host_on hart (sched harts machine).state ≡ host_on hart machine
+steps_keep hart [] machine kept runs = refl
+steps_keep hart (named ∷ harts) machine kept runs =
+    let after = (step_of named machine).state in
+    steps_keep hart harts after (step_kept named machine kept) runs.1 ∙ step_keeps hart named machine kept runs.0 (first_runs hart harts after runs.1)
+
+last_runs : (hart : ℕ) (harts : List ℕ) (machine : MonitoredState) → RunsOn hart harts machine → is_host (seen_by hart (sched harts machine).state).seat.world ≡ false
+last_runs hart [] machine runs = runs
+last_runs hart (named ∷ harts) machine runs = last_runs hart harts (step_of named machine).state runs.1
+
+sched_on : (before rest : List ℕ) (machine : MonitoredState) → (sched (before ++ rest) machine).state ≡ (sched rest (sched before machine).state).state
+sched_on [] rest machine = refl
+sched_on (named ∷ before) rest machine = sched_on before rest (step_of named machine).state
+
+step_seen : (hart : ℕ) (machine : MonitoredState) → seen_by hart (step_of hart machine).state ≡ next (seen_by hart machine)
+unfolding step_of
+step_seen hart machine = seen_twice hart (next (seen_by hart machine))
+
+-- so many steps of one hart
+runs_are_sched : (n hart : ℕ) (machine : MonitoredState) → (sched (replicate n hart) machine).state ≡ seen_by hart (steps_on n (seen_by hart machine)).state
+runs_are_sched zero hart machine = sym (seen_twice hart machine)
+runs_are_sched (suc n) hart machine =
+    runs_are_sched n hart (step_of hart machine).state ∙ ap (λ (m : MonitoredState). seen_by hart (steps_on n m).state) (step_seen hart machine)
+
+-- ---- a command
+
+abbrev host_in : ℕ → Target → Option Context
+host_in hart (Bare machine) = None
+host_in hart (Monitored chosen) = host_on hart (machine_of chosen)
+
+-- what the debugger writes is no part of what is kept
+abbrev beside_of : MonitoredState → Option Seat → Option Context
+beside_of machine o = (option_case o machine (λ seat. record { seat = seat; other = Some machine.seat; shared = machine.shared })).seat.host_context
+
+turned_alike : (one other : MonitoredState) (o : Option Seat) → other.seat.host_context ≡ one.seat.host_context → beside_of other o ≡ beside_of one o
+turned_alike one other None same = same
+turned_alike one other (Some seat) same = refl
+
+-- of two machines with the same hart beside, as the chosen hart sees them
+alike_on : (hart chosen : ℕ) (one other : MonitoredState) → other.seat.host_context ≡ one.seat.host_context → other.other ≡ one.other
+    → host_on hart (seen_by chosen other) ≡ host_on hart (seen_by chosen one)
+alike_on zero zero one other same beside = same
+alike_on (suc n) (suc i) one other same beside =
+    ap (λ (m : MonitoredState). m.seat.host_context) (seen_twice 1 other) ∙ same ∙ ap (λ (m : MonitoredState). m.seat.host_context) (sym (seen_twice 1 one))
+alike_on zero (suc i) one other same beside = ap (beside_of other) beside ∙ turned_alike one other one.other same
+alike_on (suc n) zero one other same beside = ap (beside_of other) beside ∙ turned_alike one other one.other same
+
+module _ (hart chosen : ℕ) (breaks watches : List ℕ) where
+  run_host : (count : ℕ) (machine : MonitoredState)
+      → (let after = steps_of (chosen_at chosen machine) breaks watches count in
+      host_in hart after.state ≡ host_on hart (sched (replicate after.ran.steps chosen) (seen_by chosen machine)).state)
+  run_host count machine =
+      let ran = is-run chosen breaks watches count (no_steps machine) in
+      let end = run monitored_stepped monitored_pc breaks watches count (no_steps machine) in
+      let is : ran.count ≡ end.ran.steps = omega (arith, ran.steps) in
+      let steps = runs_are_sched ran.count chosen (seen_by chosen machine)
+      ∙ ap (λ (m : MonitoredState). seen_by chosen (steps_on ran.count m).state) (seen_twice chosen machine) in
+      subst (λ (after : AfterRun Target). host_in hart after.state ≡ host_on hart (sched (replicate after.ran.steps chosen) (seen_by chosen machine)).state)
+      (sym (run_monitored chosen breaks watches count (no_steps machine)))
+      (subst (λ (n : ℕ). host_on hart (seen_by chosen end.state) ≡ host_on hart (sched (replicate n chosen) (seen_by chosen machine)).state) is
+      (ap (λ (m : MonitoredState). host_on hart (seen_by chosen m)) ran.state ∙ ap (host_on hart) (sym steps)))
+
+sched_host : (hart : ℕ) (harts : List ℕ) (has : Bool) (machine : OnTurn)
+    → host_in hart (after_sched harts has (Monitored machine)) ≡ host_on hart (sched (if has then harts else []) (machine_of machine)).state
+sched_host hart harts true machine =
+    ap (host_in hart) (turns_are_sched harts machine machine.hart) ∙ ap (host_on hart) (seen_twice machine.hart (sched harts (machine_of machine)).state)
+sched_host hart harts false machine = refl
+
+hart_host : (hart named : ℕ) (has : Bool) (machine : OnTurn) → host_in hart (turned_by named has (Monitored machine)) ≡ host_on hart (machine_of machine)
+hart_host hart named true machine = ap (host_on hart) (seen_twice named (machine_of machine))
+hart_host hart named false machine = refl
+
+poke_host : (hart : ℕ) (machine : OnTurn) (after : Option (List ℕ)) → host_in hart (poke_of (Monitored machine) after) ≡ host_on hart (machine_of machine)
+poke_host hart machine None = refl
+poke_host hart machine (Some memory) = alike_on hart machine.hart machine.state (with_memory machine.state memory) refl refl
+
+-- what is kept after a command is what is kept after its steps
+host_after : (hart : ℕ) (machine : OnTurn) (breaks watches : List ℕ) (command : Command)
+    → (let bench = over (Monitored machine) breaks watches in
+    host_in hart (answer bench command).state.target ≡ host_on hart (sched (harts_stepped bench command) (machine_of machine)).state)
+unfolding answer
+host_after hart machine breaks watches (Step count) = run_host hart machine.hart [] [] count machine.state
+host_after hart machine breaks watches (Run count) = run_host hart machine.hart breaks watches count machine.state
+host_after hart machine breaks watches (Sched schedule) =
+    sched_host hart (harts_in schedule) (has_all (harts_of (Monitored machine)) (harts_in schedule)) machine
+host_after hart machine breaks watches (Hart named) = hart_host hart named (nat_lt named (harts_of (Monitored machine))) machine
+host_after hart machine breaks watches (SetReg number value) =
+    alike_on hart machine.hart machine.state (with_reg machine.state number value) refl refl
+host_after hart machine breaks watches (Timer raised) = alike_on hart machine.hart machine.state (with_timer machine.state raised) refl refl
+host_after hart machine breaks watches (Poke address byte) = poke_host hart machine (write machine.state.shared.memory address (byte ∷ []))
+host_after hart machine breaks watches (Break address) =
+    ap (host_in hart) (sym (break_target (over (Monitored machine) breaks watches) (with_room_for address breaks)))
+host_after hart machine breaks watches (Watch address) =
+    ap (host_in hart) (sym (watch_target (over (Monitored machine) breaks watches) (with_room_for address watches)))
+host_after hart machine breaks watches _ = refl
+
+-- ---- commands
+
+command_keeps : (hart : ℕ) (target : Target) (breaks watches : List ℕ) (command : Command) → KeepsMonitor target
+    → RunsUnder hart (harts_stepped (over target breaks watches) command) target
+    → host_in hart (answer (over target breaks watches) command).state.target ≡ host_in hart target
+command_keeps hart (Bare machine) breaks watches command kept runs = absurd runs
+command_keeps hart (Monitored machine) breaks watches command kept runs =
+    host_after hart machine breaks watches command
+    ∙ steps_keep hart (harts_stepped (over (Monitored machine) breaks watches) command) (machine_of machine) (seen_kept machine.hart machine.state kept) runs
+
+-- through all commands the host is kept as it was
+commands_keep : (hart : ℕ) (bench : BenchState) (commands : List Command) → KeepsMonitor bench.target → RunsUnderAll hart bench commands
+    → KeepsMonitor (after_commands bench commands).target × (host_in hart (after_commands bench commands).target ≡ host_in hart bench.target)
+commands_keep hart bench [] kept runs = (kept, refl)
+commands_keep hart bench (command ∷ commands) kept runs =
+    let rest = commands_keep hart (answer bench command).state commands (keeps_monitor bench command kept) runs.1 in
+    (rest.0, rest.1 ∙ command_keeps hart bench.target bench.breaks bench.watches command kept runs.0)
+
+-- ---- from the first to the last
+
+abbrev kept_at : MonitoredState → Option Context
+kept_at entry = Some (saved entry.seat.hart (past_ecall entry.seat.hart) S)
+
+enters_within : (hart : ℕ) (harts : List ℕ) (machine entry : MonitoredState) → IsKept machine
+    → EntersWithin hart harts machine entry → host_on hart (sched harts machine).state ≡ kept_at entry
+enters_within hart harts machine entry kept enters =
+    let here = (sched enters.before machine).state in
+    let here_kept = sched_kept enters.before machine kept in
+    let entry_kept : IsKept entry = subst IsKept (sym enters.at) (seen_kept hart here here_kept) in
+    let seen : seen_by hart (step_of hart here).state ≡ next entry = step_seen hart here ∙ ap next (sym enters.at) in
+    let still : is_host (next entry).seat.world ≡ false =
+    subst (λ (m : MonitoredState). is_host m.seat.world ≡ false) seen (first_runs hart enters.rest (step_of hart here).state enters.runs) in
+    let saved_is = entered_from entry (monitored_step entry) (switch_law entry entry_kept (host_stored entry entry_kept enters.host)) enters.host still in
+    let after_is : host_on hart (step_of hart here).state ≡ kept_at entry = ap (λ (m : MonitoredState). m.seat.host_context) seen ∙ saved_is in
+    ap (λ (hs : List ℕ). host_on hart (sched hs machine).state) enters.is
+    ∙ ap (host_on hart) (sched_on enters.before (hart ∷ enters.rest) machine)
+    ∙ steps_keep hart enters.rest (step_of hart here).state (step_kept hart here here_kept) enters.runs
+    ∙ after_is
+
+enters_under : (hart : ℕ) (target : Target) (breaks watches : List ℕ) (command : Command) (entry : MonitoredState) → KeepsMonitor target
+    → EntersUnder hart (harts_stepped (over target breaks watches) command) target entry
+    → host_in hart (answer (over target breaks watches) command).state.target ≡ kept_at entry
+enters_under hart (Bare machine) breaks watches command entry kept enters = absurd enters
+enters_under hart (Monitored machine) breaks watches command entry kept enters =
+    host_after hart machine breaks watches command
+    ∙ enters_within hart (harts_stepped (over (Monitored machine) breaks watches) command) (machine_of machine) entry (seen_kept machine.hart machine.state kept) enters
+
+leaves_within : (hart : ℕ) (harts : List ℕ) (machine entry exit : MonitoredState) → IsKept machine → KeptStored (kept_at entry)
+    → host_on hart machine ≡ kept_at entry → LeavesWithin hart harts machine exit → ComesBack entry exit (monitored_step exit)
+leaves_within hart harts machine entry exit kept stored is leaves =
+    let here = (sched leaves.before machine).state in
+    let same : host_on hart here ≡ kept_at entry = steps_keep hart leaves.before machine kept leaves.runs ∙ is in
+    let exit_kept : IsKept exit = subst IsKept (sym leaves.at) (seen_kept hart here (sched_kept leaves.before machine kept)) in
+    let host_is : exit.seat.host_context ≡ kept_at entry = ap (λ (m : MonitoredState). m.seat.host_context) leaves.at ∙ same in
+    let runs : is_host exit.seat.world ≡ false = ap (λ (m : MonitoredState). is_host m.seat.world) leaves.at ∙ last_runs hart leaves.before machine leaves.runs in
+    back_from entry exit (monitored_step exit) (switch_law exit exit_kept (subst KeptStored (sym host_is) stored)) host_is runs leaves.host
+
+leaves_under : (hart : ℕ) (harts : List ℕ) (target : Target) (entry exit : MonitoredState) → KeepsMonitor target → KeptStored (kept_at entry)
+    → host_in hart target ≡ kept_at entry → LeavesUnder hart harts target exit → ComesBack entry exit (monitored_step exit)
+leaves_under hart harts (Bare machine) entry exit kept stored is leaves = absurd leaves
+leaves_under hart harts (Monitored machine) entry exit kept stored is leaves =
+    leaves_within hart harts (machine_of machine) entry exit (seen_kept machine.hart machine.state kept) stored is leaves
+
+stored_on : (hart : ℕ) (target : Target) → IsStoredIn target → KeptStored (host_in hart target)
+stored_on hart (Bare machine) stored = tt
+stored_on hart (Monitored machine) stored = (seen_stored hart (machine_of machine) (seen_stored machine.hart machine.state stored)).0
+
+pub return_law : ReturnLaw
+return_law hart bench first last commands entry exit kept enters stored_between runs leaves =
+    let between = (answer bench first).state in
+    let entered = enters_under hart bench.target bench.breaks bench.watches first entry kept enters in
+    let stored : KeptStored (kept_at entry) = subst KeptStored entered (stored_on hart between.target stored_between) in
+    let all = commands_keep hart between commands (keeps_monitor bench first kept) runs in
+    let end = after_commands between commands in
+    leaves_under hart (harts_stepped end last) end.target entry exit all.0 stored (all.1 ∙ entered) leaves

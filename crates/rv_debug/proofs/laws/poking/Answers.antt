@@ -1,0 +1,5 @@
+use Rattle.rv_debug.proofs.PokesAlike.{poke_law}
+use Rattle.rv_debug.proofs.laws.poking.Goals as goal
+
+pub returns : goal.returns
+returns c = poke_law

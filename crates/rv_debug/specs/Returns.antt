@@ -1,0 +1,89 @@
+-- From the command with which the host enters an enclave to the one with which the enclave leaves, whatever commands stand between them:
+-- the host goes on as it was before the step that entered, past its ecall, but for a0 and a1. (A law of this project's own debugger over
+-- its own monitor; Keystone, EuroSys 2020, in this project's profile.)
+use Rattle.std.specs.Prelude.{ℕ, ◌≡◌, true, false, List, [], ◌∷◌, ◌++◌, replicate, if◌then◌else◌}
+use Rattle.rv_monitor.specs.HartLaws.{sched}
+use Rattle.rv_monitor.specs.Returns.{ComesBack}
+use Rattle.rv_monitor.specs.State.{MonitoredState, AreStored, is_host, machine_of, seen_by}
+use Rattle.rv_monitor.specs.Step.{monitored_step, step_of}
+use Rattle.rv_debug.specs.Answer.{answer, steps_of}
+use Rattle.rv_debug.specs.BenchState.{BenchState}
+use Rattle.rv_debug.specs.Isolation.{after_commands}
+use Rattle.rv_debug.specs.Schedules.{harts_in, has_all}
+use Rattle.rv_debug.specs.Targets.{KeepsMonitor, chosen_of, harts_of}
+use Rattle.rv_debug.specs.declared.command.Command.{Command}
+use Rattle.rv_debug.specs.declared.command.Command.TheVariants.{Step, Run, Sched}
+use Rattle.rv_debug.specs.declared.target.Target.{Target}
+use Rattle.rv_debug.specs.declared.target.Target.TheVariants.{Bare, Monitored}
+
+-- the harts whose steps a command does, one for each step, in their order
+abbrev pub harts_stepped : BenchState → Command → List ℕ
+harts_stepped bench (Step count) = replicate (steps_of bench.target [] [] count).ran.steps (chosen_of bench.target)
+harts_stepped bench (Run count) = replicate (steps_of bench.target bench.breaks bench.watches count).ran.steps (chosen_of bench.target)
+harts_stepped bench (Sched schedule) = if has_all (harts_of bench.target) (harts_in schedule) then harts_in schedule else []
+harts_stepped bench _ = []
+
+-- ---- steps
+
+-- on a hart an enclave runs, before, between and after the steps of these harts
+abbrev pub RunsOn : ℕ → List ℕ → MonitoredState → Type 0
+RunsOn hart [] machine = is_host (seen_by hart machine).seat.world ≡ false
+RunsOn hart (named ∷ harts) machine =
+    (is_host (seen_by hart machine).seat.world ≡ false) × RunsOn hart harts (step_of named machine).state
+
+-- one of these steps is of this hart and from this state, in which the host runs; behind it an enclave runs on the hart through the rest
+pub record EntersWithin (hart : ℕ) (harts : List ℕ) (machine entry : MonitoredState) : Type 0 where
+  pub before : List ℕ
+  pub rest : List ℕ
+  pub is : harts ≡ before ++ hart ∷ rest
+  pub at : entry ≡ seen_by hart (sched before machine).state
+  pub host : is_host entry.seat.world ≡ true
+  pub runs : RunsOn hart rest (step_of hart (sched before machine).state).state
+
+-- an enclave runs on the hart up to this state; from it one of these steps is of this hart, and leads to the host
+pub record LeavesWithin (hart : ℕ) (harts : List ℕ) (machine exit : MonitoredState) : Type 0 where
+  pub before : List ℕ
+  pub rest : List ℕ
+  pub is : harts ≡ before ++ hart ∷ rest
+  pub runs : RunsOn hart before machine
+  pub at : exit ≡ seen_by hart (sched before machine).state
+  pub host : is_host (monitored_step exit).state.seat.world ≡ true
+
+-- ---- commands
+
+-- a step of the command enters an enclave from this state
+abbrev pub EntersUnder : ℕ → List ℕ → Target → MonitoredState → Type 0
+EntersUnder hart harts (Bare machine) entry = ⊥
+EntersUnder hart harts (Monitored chosen) entry = EntersWithin hart harts (machine_of chosen) entry
+
+-- an enclave runs on the hart through its steps
+abbrev pub RunsUnder : ℕ → List ℕ → Target → Type 0
+RunsUnder hart harts (Bare machine) = ⊥
+RunsUnder hart harts (Monitored chosen) = RunsOn hart harts (machine_of chosen)
+
+-- an enclave leaves by one of them from this state
+abbrev pub LeavesUnder : ℕ → List ℕ → Target → MonitoredState → Type 0
+LeavesUnder hart harts (Bare machine) exit = ⊥
+LeavesUnder hart harts (Monitored chosen) exit = LeavesWithin hart harts (machine_of chosen) exit
+
+-- what is kept of the host of each hart is as a hart stores it
+abbrev pub IsStoredIn : Target → Type 0
+IsStoredIn (Bare machine) = Unit {0}
+IsStoredIn (Monitored chosen) = AreStored chosen.state
+
+-- through commands, one after another
+abbrev pub RunsUnderAll : ℕ → BenchState → List Command → Type 0
+RunsUnderAll hart bench [] = RunsUnder hart [] bench.target
+RunsUnderAll hart bench (command ∷ commands) =
+    RunsUnder hart (harts_stepped bench command) bench.target × RunsUnderAll hart (answer bench command).state commands
+
+-- A step of the first command enters an enclave on a hart, which runs there through all commands between, and a step of the last one
+-- leaves it. The commands between may step either hart, set registers, raise and lower the line, and poke any byte.
+abbrev pub ReturnLaw : Type 0
+ReturnLaw =
+    (hart : ℕ) (bench : BenchState) (first last : Command) (commands : List Command) (entry exit : MonitoredState)
+    → KeepsMonitor bench.target → EntersUnder hart (harts_stepped bench first) bench.target entry
+    → (let between = (answer bench first).state in
+    let end = after_commands between commands in
+    IsStoredIn between.target → RunsUnderAll hart between commands → LeavesUnder hart (harts_stepped end last) end.target exit
+    → ComesBack entry exit (monitored_step exit))
