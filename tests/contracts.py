@@ -29,7 +29,7 @@ class Function:
     def __init__(self, crate, path, owner, head):
         name = head.group(2)
         stem = os.path.splitext(os.path.basename(path))[0]
-        self.crate = crate
+        self.crate, self.path = crate, os.path.relpath(path, os.path.join(ROOT, "crates"))
         self.names = {f"{owner}::{name}"} if owner else {f"{stem}::{name}"} | ({name} if stem != "laws" else set())
         self.short = name
         self.contract = "\n".join(re.findall(r"^ *(?:ensures|requires)(?s:.*)", head.group(0), re.M))
@@ -57,6 +57,11 @@ def definitions():
         for head, following in zip(heads, [*heads[1:], None]):
             found.setdefault(head.group(1), []).append(text[head.end():following.start() if following else len(text)])
     return found
+
+
+def defined_in(path):
+    """The names that a definition file defines."""
+    return {it.group(1) for it in DEFINITION.finditer(text_of(path))}
 
 
 def rests_on(contracts, known):

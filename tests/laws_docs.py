@@ -1,8 +1,8 @@
 #!/usr/bin/env python3
 """tests/laws_docs.py --check: tells whether what docs/LAWS.md and docs/PROMISES.md name stands where they say.
 
-Of LAWS: the files, definitions, functions and clauses of each law are there; a clause is one of the functions named before it, also in
-the table; and each definition is part of what one of the functions of that law promises. Of PROMISES: the definitions in parentheses
+Of LAWS: the files, definitions, functions and clauses of each law are there, those before a file's name in that file; a clause is one of
+the functions named before it, also in the table; and each definition is part of what one of the functions of that law promises. Of PROMISES: the definitions in parentheses
 are part of the contract of some function; and in the table of refusals each clause and definition is of each call of its row.
 """
 import os
@@ -10,7 +10,7 @@ import re
 import sys
 
 sys.dont_write_bytecode = True
-from contracts import ROOT, definitions, files_of, functions, rests_on, text_of
+from contracts import ROOT, defined_in, definitions, files_of, functions, rests_on, text_of
 
 NAMES = r"(?:`[\w:]+`(?:, and |, | and )?)+"
 
@@ -49,6 +49,16 @@ def names_in(text):
     return re.findall(r"(?<!command )`([^` ]+)`", text)
 
 
+def check_places(sources, carried, defined):
+    """The names right before a file's name stand in that file."""
+    for names, path in re.findall(rf"({NAMES})(?: of `\w+`)? \(`([\w/]+\.antt)`\)", defined):
+        for name in names_in(names):
+            sources.ask(name in defined_in(os.path.join(ROOT, "crates", path)), f"LAWS: {name} is not in {path}")
+    for names, path in re.findall(rf"({NAMES})(?: of `\w+`)?(?:,? clauses? {NAMES}[^(;]*)? ?\(`([\w/]+\.rt)`", carried):
+        for name, found in sources.all_of(names_in(names)):
+            sources.ask(any(it.path == path for it in found), f"LAWS: {name} is not in {path}")
+
+
 def check_law(sources, section):
     """A part of LAWS: what it defines and which calls carry it."""
     items = {kind: " ".join(text.split()) for kind, text in re.findall(r"^- (Definition|Contract): ((?:.+\n)(?:  .+\n)*)", section, re.M)}
@@ -57,6 +67,7 @@ def check_law(sources, section):
     carried, defined = items.get("Contract", ""), items.get("Definition", "")
     for path in [it for it in names_in(carried + defined) if "/" in it]:
         sources.ask(os.path.exists(os.path.join(ROOT, "crates", path)), f"LAWS: no {path}")
+    check_places(sources, carried, defined)
     clauses = set()
     for calls, named in re.findall(rf"({NAMES})(?: of `\w+`)?(?: \([^)]*\))?,? clauses? ({NAMES})", carried):
         sources.ask_clauses("LAWS", names_in(calls), names_in(named))
