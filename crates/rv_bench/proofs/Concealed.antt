@@ -78,7 +78,7 @@ module _ (e : ℕ) where
   pokes_alike first second (line ∷ lines) (line' ∷ lines') kept kept' agree (poke, more) (poke', more') many =
       let (reply, next) = poke_alike first second line line' kept kept' agree poke poke' in
       let rest = pokes_alike (line_answer first line).state (line_answer second line').state lines lines'
-          (keeps_line first line kept) (keeps_line second line' kept') next more more' (omega (arith, many)) in
+      (keeps_line first line kept) (keeps_line second line' kept') next more more' (omega (arith, many)) in
       record { text = ap₂ (λ (one others : List ℕ). one ++ others) reply rest.text; agree = rest.agree }
 
   -- ---- a script with a secret in it
@@ -91,7 +91,7 @@ module _ (e : ℕ) where
       let keeps = keeps_lines bench before kept in
       let poked = pokes_alike start start secret another keeps keeps (agrees_with_itself e start keeps are.idle) are.here are.there many in
       let ends = lines_alike (state_after bench_line start secret) (state_after bench_line start another) rest
-          (keeps_lines start secret keeps) (keeps_lines start another keeps) poked.agree are.passes in
+      (keeps_lines start secret keeps) (keeps_lines start another keeps) poked.agree are.passes in
       replies-append bench_line bench before (secret ++ rest)
       ∙ ap (λ (text : List ℕ). replies bench_line bench before ++ text)
       (replies-append bench_line start secret rest ∙ ap₂ (λ (one others : List ℕ). one ++ others) poked.text ends.text

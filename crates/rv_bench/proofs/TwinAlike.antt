@@ -177,8 +177,7 @@ module _ (slot : ℕ) where
       let there = lines_going start before going in
       let follows = lines_follow apart part there in
       let commands = commands_done slot apart part in
-      let whole = state_after-append (apart_line slot) start before part in
-      (
+      let whole = state_after-append (apart_line slot) start before part in (
         λ rests. subst (λ (bench : BenchState). IsSparedIn k apart.first.target bench.target) (sym (ap (λ (end : Apart). end.first) whole ∙ follows.first)) (integrity k apart.first commands there.first rests),
         λ rests. subst (λ (bench : BenchState). IsSparedIn k apart.second.target bench.target) (sym (ap (λ (end : Apart). end.second) whole ∙ follows.second)) (integrity k apart.second commands there.second rests),
       )
