@@ -6,27 +6,24 @@ use Rattle.std.proofs.lemmas.List.{same_lists, get_or_default}
 use Rattle.std.proofs.lemmas.Grind.{same_number_lists}
 use Rattle.rv_word.specs.Cases.{option_case}
 use Rattle.rv_memory.specs.Memory.{is_inside, read}
-use Rattle.rv_pmp.specs.Entries.{Entries}
 use Rattle.rv_monitor.specs.AgreeBut.{is_private, AgreeOutside, SameContexts, SharedButFor}
 use Rattle.rv_monitor.specs.Blocks.{has, meets, is_lawful, is_block_size}
 use Rattle.rv_monitor.specs.Contexts.{Contexts, context_at, with_context, first_context}
-use Rattle.rv_monitor.specs.Create.{created, create_refusals, new_slot, recorded, with_enclave, measurement_of}
+use Rattle.rv_monitor.specs.Create.{created, new_slot, recorded, with_enclave, measurement_of}
 use Rattle.rv_monitor.specs.Destroy.{destroyed, without, zeroed}
-use Rattle.rv_monitor.specs.Measure.{measured, measure_refusals, measurement_at, with_bytes}
-use Rattle.rv_monitor.specs.Refusals.{Called, called, refused, first_refusal, state_refusals}
+use Rattle.rv_monitor.specs.Measure.{measured, measurement_at, with_bytes}
 use Rattle.rv_monitor.specs.Table.{Slots, slot_at, with_slot, with_state, is_live, region, region_of, IsValid, IsLawfulSlot}
 use Rattle.rv_monitor.specs.declared.block.Block.{Block}
 use Rattle.rv_monitor.specs.declared.call.Call.TheVariants as calls
 use Rattle.rv_monitor.specs.declared.context.Context.{Context}
 use Rattle.rv_monitor.specs.declared.proposal.Proposal.{Proposal}
-use Rattle.rv_monitor.specs.declared.refusal.Refusal.{Refusal}
 use Rattle.rv_monitor.specs.declared.shared.Shared.{Shared}
 use Rattle.rv_monitor.specs.declared.slot_info.EnclaveState.{EnclaveState}
 use Rattle.rv_monitor.specs.declared.slot_info.SlotInfo.{SlotInfo}
 use Rattle.rv_monitor.proofs.Agreement.{IsSeen, inside-is, same_read, read-none, write-alike, zeros-alike}
 use Rattle.rv_monitor.proofs.BlockLaws.{meets_at}
 use Rattle.rv_monitor.proofs.SavedLists.{same_at_set, same_after_set, length_after}
-use Rattle.rv_monitor.proofs.Refusals.{MayCreate, may_create, may_take, same_create_refusals, same_measure_refusals}
+use Rattle.rv_monitor.proofs.Refusals.{MayCreate, IsTaken}
 use Rattle.rv_monitor.proofs.Slots.{at_other, free_from}
 use Rattle.rv_monitor.proofs.Sound.{free_slot_from}
 
@@ -78,11 +75,6 @@ read_alike hidden m n address count agree seen = elim (cases_Bool (is_inside m a
 
 -- ---- a live slot
 
--- a call ends in the same result, and leaves what agrees
-pub record CalledAlike (e : ℕ) (one other : Called) : Type 0 where
-  pub result : one.result ≡ other.result
-  pub shared : SharedButFor e one.shared other.shared
-
 module _ (e : ℕ) (table : Slots) (m n : List ℕ) (cs ds : Contexts) (agree : AgreeOutside (is_private table e) m n) (saved : SameContexts e cs ds) (live : is_live table e ≡ true) where
   abbrev here : Shared
   here = record { memory = m; table = table; contexts = cs }
@@ -103,15 +95,6 @@ module _ (e : ℕ) (table : Slots) (m n : List ℕ) (cs ds : Contexts) (agree : 
 
   pub as_before : SharedButFor e here there
   as_before = still table m n cs ds refl agree saved
-
-  refused_alike : (refusal : Refusal) → CalledAlike e (refused here refusal) (refused there refusal)
-  refused_alike refusal = record { result = refl; shared = as_before }
-
-  -- where no row holds, the calls are to be judged by what they do
-  unless_alike : (o : Option Refusal) (one other : Called) → (o ≡ None → CalledAlike e one other)
-      → CalledAlike e (option_case o one (refused here)) (option_case o other (refused there))
-  unless_alike None one other alike = alike refl
-  unless_alike (Some refusal) one other alike = refused_alike refusal
 
   -- ---- create
 
@@ -134,18 +117,11 @@ module _ (e : ℕ) (table : Slots) (m n : List ℕ) (cs ds : Contexts) (agree : 
       still (with_slot table k (Some info)) m n (with_context cs k (Some (first_context info))) (with_context ds k (Some (first_context info)))
       (at_other table k e (Some info) (not_free k free)) agree (contexts_with e cs ds k (Some (first_context info)) saved)
 
-  put_if : (new : Proposal) → MayCreate here new
-      → CalledAlike e (called (with_enclave here (new_slot table) (recorded m new)) (Ok (new_slot table)))
-      (called (with_enclave there (new_slot table) (recorded n new)) (Ok (new_slot table)))
-  put_if new may =
-      let same = recorded_alike new ((free_from table new may.apart).others e).regions in
-      rw (← same) (record { result = refl; shared = put_alike (new_slot table) (recorded m new) (free_slot_from table (new_slot table) may.free).free })
-
-  pub created_alike : (new : Proposal) → CalledAlike e (created here new) (created there new)
+  pub created_alike : (new : Proposal) → MayCreate here new → SharedButFor e (created here new) (created there new)
   unfolding created
-  created_alike new =
-      let same = same_create_refusals table m n cs ds new agree.size in
-      rw (← same) (unless_alike (first_refusal (create_refusals here new)) _ _ (λ none. put_if new (may_create here new none)))
+  created_alike new may =
+      let same = recorded_alike new ((free_from table new may.apart).others e).regions in
+      rw (← same) (put_alike (new_slot table) (recorded m new) (free_slot_from table (new_slot table) may.free).free)
 
   -- ---- destroy
 
@@ -178,24 +154,17 @@ module _ (e : ℕ) (table : Slots) (m n : List ℕ) (cs ds : Contexts) (agree : 
   region_inside None law live = cc
   region_inside (Some info) law live = (and_parts _ _ (and_parts (is_block_size info.region.size) _ law.region).1).1
 
-  pub destroyed_alike : (k : ℕ) → IsValid m table → CalledAlike e (destroyed here k) (destroyed there k)
+  pub destroyed_alike : (k : ℕ) → IsValid m table → IsTaken table calls.Destroy k → SharedButFor e (destroyed here k) (destroyed there k)
   unfolding destroyed
-  destroyed_alike k valid = unless_alike (first_refusal (state_refusals table calls.Destroy k)) _ _ (λ none.
-      let may = may_take table calls.Destroy k none in
-      let is_there : is_live table k ≡ true = ap (λ (o : Option SlotInfo). is_some o) may.is in
-      record { result = refl; shared = without_alike k (region_inside (slot_at table k) (valid.lawful k) is_there) })
+  destroyed_alike k valid taken = without_alike k (region_inside (slot_at table k) (valid.lawful k) (ap (λ (o : Option SlotInfo). is_some o) taken.is))
 
   -- ---- measure
 
-  pub measured_alike : (entries : Entries) (k address : ℕ) → CalledAlike e (measured here entries k address) (measured there entries k address)
+  pub measured_alike : (k address : ℕ) → SharedButFor e (measured here k address) (measured there k address)
   unfolding measured
-  measured_alike entries k address =
-      let same = same_measure_refusals table m n cs ds entries k address agree.size in
+  measured_alike k address =
       let bytes = measurement_at table k in
-      rw (← same) (unless_alike (first_refusal (measure_refusals here entries k address)) _ _ (λ none. record {
-        result = refl;
-        shared = still table (with_bytes m address bytes) (with_bytes n address bytes) cs ds refl (write-alike (is_private table e) m n address bytes agree) saved;
-      }))
+      still table (with_bytes m address bytes) (with_bytes n address bytes) cs ds refl (write-alike (is_private table e) m n address bytes agree) saved
 
   -- ---- a switch of another slot
 

@@ -13,10 +13,6 @@ use Rattle.rv_pmp.specs.declared.mode.Mode.TheVariants.{S, M}
 use Rattle.rv_memory.specs.Memory.{byte_at, is_inside, write}
 use Rattle.rv_memory.specs.declared.touched.Span.{Span}
 use Rattle.rv_memory.proofs.MemoryLaws.{byte_at-write}
-use Rattle.rv_state.specs.declared.cause.Cause.{Cause}
-use Rattle.rv_state.specs.declared.cause.Cause.TheVariants as causes
-use Rattle.rv_state.specs.declared.cause.Exception.{Exception}
-use Rattle.rv_state.specs.declared.cause.Exception.TheVariants.{EnvironmentCallFromS}
 use Rattle.rv_hart.specs.Confinement.{IsConfined, Stores, AgreeOn}
 use Rattle.rv_hart.specs.Hart.{trapped, step_counted}
 use Rattle.rv_hart.specs.HartState.{Hart}
@@ -29,39 +25,34 @@ use Rattle.rv_hart.proofs.Confined.{confined}
 use Rattle.rv_hart.proofs.StepLaws.{touches_permitted, trap_keeps}
 use Rattle.rv_monitor.specs.Asked.{is_call}
 use Rattle.rv_monitor.specs.Blocks.{has}
-use Rattle.rv_monitor.specs.Calls.{status_of}
-use Rattle.rv_monitor.specs.Changes.{asked_by_registers, IsStoredInReach, IsMeasured, ByMonitor, IsChanged, IsChangedWithin, ChangeLaw, RunsChangeLaw}
-use Rattle.rv_monitor.specs.Contexts.{exited_context, kept_context, saved}
-use Rattle.rv_monitor.specs.Create.{created, create_refusals, proposed}
+use Rattle.rv_monitor.specs.CallRefusals.{a0, a1}
+use Rattle.rv_monitor.specs.Calls.{asked_in}
+use Rattle.rv_monitor.specs.Changes.{IsStoredInReach, IsMeasured, ByMonitor, IsChanged, IsChangedWithin, ChangeLaw, RunsChangeLaw}
+use Rattle.rv_monitor.specs.Create.{created}
 use Rattle.rv_monitor.specs.Destroy.{destroyed}
 use Rattle.rv_monitor.specs.Layout.{layout}
 use Rattle.rv_monitor.specs.Measure.{measured, measured_slot, measure_refusals, may_store, may_store_all, with_bytes}
-use Rattle.rv_monitor.specs.Refusals.{Called, first_refusal, refused, state_refusals}
+use Rattle.rv_monitor.specs.Refusals.{first_refusal}
 use Rattle.rv_monitor.specs.State.{MonitoredState, IsKept, worlds_beside}
-use Rattle.rv_monitor.specs.Step.{MonitoredStepped, answered, answer_of, entry_of, performed, call_handled, timer_stopped, handled, handled_cause, handled_exception, past_call, stopped_context, with_line_down, trapped_pc, trapped_mode, a0, a1, monitored_step, returned, unhandled}
-use Rattle.rv_monitor.specs.Switches.{Handled, goes_on, entered, left, left_slot, slot_of}
-use Rattle.rv_monitor.specs.Table.{slot_at, with_slot, region, IsValid, IsLawfulSlot}
+use Rattle.rv_monitor.specs.Step.{MonitoredStepped, handled, monitored_step, returned, unhandled}
+use Rattle.rv_monitor.specs.Switches.{Handled, entered, left_slot}
+use Rattle.rv_monitor.specs.Table.{slot_at, with_slot, region, is_live, IsValid, IsLawfulSlot}
 use Rattle.rv_monitor.specs.declared.call.Call.{Call}
-use Rattle.rv_monitor.specs.declared.call.Call.TheVariants.{Create, Destroy, Run, Resume, Measure, Stop, Exit}
-use Rattle.rv_monitor.specs.declared.context.Context.{Context}
-use Rattle.rv_monitor.specs.declared.refusal.Refusal.{Refusal}
-use Rattle.rv_monitor.specs.declared.refusal.Refusal.TheVariants.{NotSupported}
+use Rattle.rv_monitor.specs.declared.call.Call.TheVariants.{Destroy, Measure}
 use Rattle.rv_monitor.specs.declared.seat.Seat.{Seat}
 use Rattle.rv_monitor.specs.declared.shared.Shared.{Shared}
-use Rattle.rv_monitor.specs.declared.slot_info.EnclaveState.{EnclaveState}
-use Rattle.rv_monitor.specs.declared.slot_info.EnclaveState.TheVariants.{Stopped, Exited}
 use Rattle.rv_monitor.specs.declared.slot_info.SlotInfo.{SlotInfo}
 use Rattle.rv_monitor.specs.declared.world.World.{World}
-use Rattle.rv_monitor.specs.declared.world.World.TheVariants.{Host, Enclave}
 use Rattle.rv_monitor.proofs.Integrity.{put_by, zeroed_spares}
 use Rattle.rv_monitor.proofs.KeptReaches.{kept_reach, below_M, clear_mode}
 use Rattle.rv_monitor.proofs.Ready.{IsTrapped}
 use Rattle.rv_monitor.proofs.Reaches.{reach_law}
-use Rattle.rv_monitor.proofs.Refusals.{may_take, may_measure}
+use Rattle.rv_monitor.proofs.Refusals.{IsTaken}
 use Rattle.rv_monitor.proofs.RunsAlike.{kept_law}
 use Rattle.rv_monitor.proofs.Slots.{at_same}
 use Rattle.rv_monitor.proofs.Sound.{live_in_range}
 use Rattle.rv_monitor.proofs.StepKept.{after_trap, same_in}
+use Rattle.rv_monitor.proofs.Works.{AsksFor, by_work}
 
 -- ---- the monitor's work
 
@@ -70,160 +61,89 @@ abbrev Changes : World → List ℕ → Shared → ℕ → Shared → Type 0
 Changes world regs before byte after =
     byte_at after.memory byte ≡ byte_at before.memory byte ⊎ ByMonitor world regs before after byte
 
--- where no row holds, the call is to be judged by what it does
-unless_changes : (world : World) (regs : List ℕ) (shared : Shared) (byte : ℕ) (o : Option Refusal) (done : Called)
-    → (o ≡ None → Changes world regs shared byte done.shared) → Changes world regs shared byte (option_case o done (refused shared)).shared
-unless_changes world regs shared byte None done changes = changes refl
-unless_changes world regs shared byte (Some refusal) done changes = inl refl
-
-created_changes : (seat : Seat) (shared : Shared) (byte : ℕ) → Changes seat.world seat.hart.regs shared byte (created shared (proposed seat.hart.regs)).shared
-unfolding created
-created_changes seat shared byte =
-    unless_changes seat.world seat.hart.regs shared byte (first_refusal (create_refusals shared (proposed seat.hart.regs))) _ (λ none. inl refl)
-
-destroyed_changes : (seat : Seat) (shared : Shared) (byte : ℕ) → IsValid shared.memory shared.table
-    → asked_by_registers seat.world seat.hart.regs ≡ Some Destroy → Changes seat.world seat.hart.regs shared byte (destroyed shared (a0 seat)).shared
+destroyed_changes : (seat : Seat) (shared : Shared) (byte : ℕ) → IsValid shared.memory shared.table → asked_in seat.world seat.hart.regs ≡ Some Destroy
+    → IsTaken shared.table Destroy (a0 seat) → Changes seat.world seat.hart.regs shared byte (destroyed shared (a0 seat))
 unfolding destroyed
-destroyed_changes seat shared byte valid asked =
+destroyed_changes seat shared byte valid asked taken =
     let slot = a0 seat in
-    unless_changes seat.world seat.hart.regs shared byte (first_refusal (state_refusals shared.table Destroy slot)) _ (λ none.
-    let may = may_take shared.table Destroy slot none in
     elim (cases_Bool (has (region shared.table slot) byte)) [
       | inl own ↦
-          let inside = live_in_range shared.table slot may.info valid.count may.is in
+          let is = taken.is in
+          let inside = live_in_range shared.table slot taken.info valid.count taken.is in
           let gone : slot_at (with_slot shared.table slot None) slot ≡ None = at_same shared.table slot None (omega (arith, valid.count)) in
-          inr (inl (record { asked = asked; live = rw may.is refl; gone = rw gone refl; own = own }))
+          inr (inl (record { asked = asked; live = rw is refl; gone = rw gone refl; own = own }))
       | inr other ↦ inl (zeroed_spares shared.memory (region shared.table slot) byte other)
-    ])
+    ]
 
 module _ (seat : Seat) (shared : Shared) (valid : IsValid shared.memory shared.table) (byte : ℕ)
-    (asked : asked_by_registers seat.world seat.hart.regs ≡ Some Measure) where
+    (asked : asked_in seat.world seat.hart.regs ≡ Some Measure) where
   abbrev entries : Entries
   entries = layout shared.table seat.world
 
   abbrev slot : ℕ
   slot = measured_slot seat.world (a0 seat)
 
-  abbrev NotRefused : Type 0
-  NotRefused = first_refusal (measure_refusals shared entries slot (a1 seat)) ≡ None
+  module _ (live : is_live shared.table slot ≡ true) (may : may_store_all shared.memory entries (a1 seat) ≡ true) where
+    not_refused : first_refusal (measure_refusals shared entries slot (a1 seat)) ≡ None
+    unfolding measure_refusals
+    not_refused = rw (live, may) refl
 
-  -- one of the 32 bytes is in reach, since a store of it is done
-  in_reach_of : NotRefused → may_store_all shared.memory entries (a1 seat) ≡ true → a1 seat ≤ byte → byte < a1 seat + 32 → IsMeasured seat.world seat.hart.regs shared byte
-  unfolding may_store_all
-  in_reach_of done may low high =
-      let one = each_from_all (may_store shared.memory entries) (a1 seat) 32 may byte low high in
-      let parts = and_parts (is_inside shared.memory byte 1) (permits (verdict entries S Write (bytes_from byte 1))) one in
-      record {
-        asked = asked;
-        done = done;
-        low = low;
-        high = high;
-        reach = sym (reach_law shared.memory shared.table seat.world S Write byte Byte valid (below_M S refl) parts.0) ∙ parts.1;
-      }
+    -- one of the 32 bytes is in reach, since a store of it is done
+    in_reach_of : a1 seat ≤ byte → byte < a1 seat + 32 → IsMeasured seat.world seat.hart.regs shared byte
+    unfolding may_store_all
+    in_reach_of low high =
+        let one = each_from_all (may_store shared.memory entries) (a1 seat) 32 may byte low high in
+        let parts = and_parts (is_inside shared.memory byte 1) (permits (verdict entries S Write (bytes_from byte 1))) one in
+        record {
+          asked = asked;
+          done = not_refused;
+          low = low;
+          high = high;
+          reach = sym (reach_law shared.memory shared.table seat.world S Write byte Byte valid (below_M S refl) parts.0) ∙ parts.1;
+        }
 
-  put_changes : NotRefused → (o : Option SlotInfo) → IfSome o (IsLawfulSlot shared.memory) → is_some o ≡ true → may_store_all shared.memory entries (a1 seat) ≡ true
-      → Changes seat.world seat.hart.regs shared byte (record shared { memory = with_bytes shared.memory (a1 seat) (option_case o [] (λ info. info.measurement)) })
-  put_changes done None lawful live may = cc
-  put_changes done (Some info) lawful live may = elim (cases_lt byte (a1 seat)) [
-    | inl below ↦ inl (put_by shared.memory (a1 seat) info.measurement byte (write shared.memory (a1 seat) info.measurement) refl (inl below))
-    | inr low ↦ elim (cases_lt byte (a1 seat + 32)) [
-      | inl high ↦ inr (inr (in_reach_of done may low high))
-      | inr past ↦
-          let long = lawful.measured in
-          inl (put_by shared.memory (a1 seat) info.measurement byte (write shared.memory (a1 seat) info.measurement) refl (inr (rw long past)))
+    put_changes : (o : Option SlotInfo) → IfSome o (IsLawfulSlot shared.memory) → is_some o ≡ true
+        → Changes seat.world seat.hart.regs shared byte (record shared { memory = with_bytes shared.memory (a1 seat) (option_case o [] (λ info. info.measurement)) })
+    put_changes None lawful is_there = cc
+    put_changes (Some info) lawful is_there = elim (cases_lt byte (a1 seat)) [
+      | inl below ↦ inl (put_by shared.memory (a1 seat) info.measurement byte (write shared.memory (a1 seat) info.measurement) refl (inl below))
+      | inr low ↦ elim (cases_lt byte (a1 seat + 32)) [
+        | inl high ↦ inr (inr (in_reach_of low high))
+        | inr past ↦
+            let long = lawful.measured in
+            inl (put_by shared.memory (a1 seat) info.measurement byte (write shared.memory (a1 seat) info.measurement) refl (inr (rw long past)))
+      ]
     ]
-  ]
 
-  measured_changes : Changes seat.world seat.hart.regs shared byte (measured shared entries slot (a1 seat)).shared
-  unfolding measured
-  measured_changes =
-      unless_changes seat.world seat.hart.regs shared byte (first_refusal (measure_refusals shared entries slot (a1 seat))) _ (λ none.
-      let may = may_measure shared entries slot (a1 seat) none in
-      put_changes none (slot_at shared.table slot) (valid.lawful slot) may.live may.stores)
+    measured_changes : Changes seat.world seat.hart.regs shared byte (measured shared slot (a1 seat))
+    unfolding measured
+    measured_changes = put_changes (slot_at shared.table slot) (valid.lawful slot) live
 
--- leaving and entering change no byte
-left_same : (seat : Seat) (shared : Shared) (state : EnclaveState) (kept : Context) (x y : ℕ) → (left seat shared state kept x y).shared.memory ≡ shared.memory
-unfolding left left_slot
-left_same seat shared state kept x y = go seat.world seat.host_context where
-  go : (w : World) (h : Option Context)
-      → (option_case (slot_of w) (goes_on seat shared kept.pc kept.mode) (λ j. option_case h (goes_on seat shared kept.pc kept.mode) (λ host. left_slot seat shared j state kept host x y))).shared.memory ≡ shared.memory
-  go Host h = refl
-  go (Enclave j) None = refl
-  go (Enclave j) (Some host) = refl
-
-entry_same : (seat : Seat) (shared : Shared) (call : Call) → (entry_of seat shared call).shared.memory ≡ shared.memory
-unfolding entry_of entered
-entry_same seat shared call = go (first_refusal (state_refusals shared.table call (a0 seat))) where
-  go : (o : Option Refusal)
-      → (option_case o (entered seat shared (a0 seat) (kept_context shared.contexts (a0 seat)) (past_call seat)) (λ refusal. answered seat shared (status_of refusal) 0)).shared.memory ≡ shared.memory
-  go None = refl
-  go (Some refusal) = refl
-
-module _ (beside : List World) (seat : Seat) (shared : Shared) (trapped : IsTrapped beside seat shared) (byte : ℕ) where
-  abbrev Left : Handled → Type 0
-  Left h = Changes seat.world seat.hart.regs shared byte h.shared
-
-  same_bytes : (h : Handled) → h.shared.memory ≡ shared.memory → Left h
-  same_bytes h same = inl (ap (λ (memory : List ℕ). byte_at memory byte) same)
-
-  answer_by : (after : Shared) (r : Result ℕ Refusal) → Changes seat.world seat.hart.regs shared byte after
-      → Left (answer_of seat (record { shared = after; result = r }))
-  unfolding answer_of
-  answer_by after (Ok result) changes = changes
-  answer_by after (Err refusal) changes = changes
-
-  performed_changes : (call : Call) → asked_by_registers seat.world seat.hart.regs ≡ Some call → Left (performed seat shared call)
-  unfolding performed
-  performed_changes Create asked =
-      let call = created shared (proposed seat.hart.regs) in answer_by call.shared call.result (created_changes seat shared byte)
-  performed_changes Destroy asked =
-      let call = destroyed shared (a0 seat) in
-      answer_by call.shared call.result (destroyed_changes seat shared byte trapped.ready.sound.valid asked)
-  performed_changes Run asked = same_bytes (entry_of seat shared Run) (entry_same seat shared Run)
-  performed_changes Resume asked = same_bytes (entry_of seat shared Resume) (entry_same seat shared Resume)
-  performed_changes Measure asked =
-      let k = measured_slot seat.world (a0 seat) in
-      let call = measured shared seat.hart.csrs.pmp k (a1 seat) in
-      answer_by call.shared call.result
-      (subst (λ (entries : Entries). Changes seat.world seat.hart.regs shared byte (measured shared entries k (a1 seat)).shared) (sym trapped.layout.entries)
-      (measured_changes seat shared trapped.ready.sound.valid byte asked))
-  performed_changes Stop asked =
-      same_bytes (left seat shared Stopped (stopped_context seat) 1 (a0 seat)) (left_same seat shared Stopped (stopped_context seat) 1 (a0 seat))
-  performed_changes Exit asked =
-      same_bytes (left seat shared Exited exited_context 0 (a0 seat)) (left_same seat shared Exited exited_context 0 (a0 seat))
-
-  call_by : (o : Option Call) → asked_by_registers seat.world seat.hart.regs ≡ o
-      → Left (option_case o (answered seat shared (status_of NotSupported) 0) (performed seat shared))
-  call_by None is = inl refl
-  call_by (Some call) is = performed_changes call is
-
-  call_changes : Left (call_handled seat shared)
-  unfolding call_handled
-  call_changes = call_by (asked_by_registers seat.world seat.hart.regs) refl
-
-  timer_same : byte_at (timer_stopped seat shared).shared.memory byte ≡ byte_at shared.memory byte
-  unfolding timer_stopped
-  timer_same =
-      let lowered = with_line_down seat in
-      ap (λ (memory : List ℕ). byte_at memory byte)
-      (left_same lowered shared Stopped (saved lowered.hart (trapped_pc seat) (trapped_mode seat)) 2 0)
-
+module _ (beside : List World) (seat : Seat) (shared : Shared) (trapped : IsTrapped beside seat shared) (byte : ℕ) (trap : Trap) where
   -- only a call changes a byte
-  abbrev LeftBy : Cause → Handled → Type 0
-  LeftBy cause h =
-      byte_at h.shared.memory byte ≡ byte_at shared.memory byte ⊎ ((is_call cause ≡ true) × ByMonitor seat.world seat.hart.regs shared h.shared byte)
+  abbrev ChangedBy : Shared → Type 0
+  ChangedBy after =
+      byte_at after.memory byte ≡ byte_at shared.memory byte
+      ⊎ ((is_call trap.cause ≡ true) × ByMonitor seat.world seat.hart.regs shared after byte)
 
-  exception_changes : (trap : Trap) (e : Exception) → LeftBy (causes.Exception e) (handled_exception seat shared trap e)
-  exception_changes trap EnvironmentCallFromS = elim call_changes [ inl same ↦ inl same | inr changed ↦ inr (refl, changed) ]
-  exception_changes trap _ = inl refl
+  by_call : (call : Call) (after : Shared) → AsksFor seat trap.cause call → Changes seat.world seat.hart.regs shared byte after → ChangedBy after
+  by_call call after asks (inl same) = inl same
+  by_call call after asks (inr changed) = let is = asks.is_call in inr (rw is refl, changed)
 
-  cause_changes : (trap : Trap) (cause : Cause) → LeftBy cause (handled_cause seat shared trap cause)
-  cause_changes trap (causes.Interrupt i) = inl timer_same
-  cause_changes trap (causes.Exception e) = exception_changes trap e
-
-  handled_changes : (trap : Trap) → LeftBy trap.cause (handled seat shared trap)
-  unfolding handled
-  handled_changes trap = cause_changes trap trap.cause
+  handled_changes : ChangedBy (handled seat shared trap).shared
+  unfolding created entered left_slot
+  handled_changes = by_work seat trap shared (λ h. ChangedBy h.shared) (record {
+    refuses = λ refusal. inl refl;
+    creates = λ asks may. inl refl;
+    destroys = λ asks taken. by_call Destroy (destroyed shared (a0 seat)) asks (destroyed_changes seat shared byte trapped.ready.sound.valid asks.asked taken);
+    measures = λ asks may.
+        by_call Measure (measured shared (measured_slot seat.world (a0 seat)) (a1 seat)) asks (measured_changes seat shared trapped.ready.sound.valid byte asks.asked may.live
+        (subst (λ (entries : Entries). may_store_all shared.memory entries (a1 seat) ≡ true) trapped.layout.entries may.stores));
+    enters = λ call asks enters host taken. inl refl;
+    leaves = λ k host runs is. inl refl;
+    stays = inl refl;
+    forwards = inl refl;
+  })
 
 -- ---- the bare step
 

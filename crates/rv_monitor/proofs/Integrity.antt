@@ -15,11 +15,6 @@ use Rattle.rv_memory.specs.Memory.{byte_at, is_inside, write}
 use Rattle.rv_memory.specs.declared.touched.Span.{Span}
 use Rattle.rv_memory.proofs.MemoryLaws.{byte_at-write}
 use Rattle.rv_state.specs.Interrupts.{is_machine}
-use Rattle.rv_state.specs.Registers.{register}
-use Rattle.rv_state.specs.declared.cause.Cause.{Cause}
-use Rattle.rv_state.specs.declared.cause.Cause.TheVariants as causes
-use Rattle.rv_state.specs.declared.cause.Exception.{Exception}
-use Rattle.rv_state.specs.declared.cause.Exception.TheVariants.{InstructionAddressMisaligned, InstructionAccessFault, IllegalInstruction, Breakpoint, LoadAccessFault, StoreAccessFault, EnvironmentCallFromU, EnvironmentCallFromS, EnvironmentCallFromM}
 use Rattle.rv_hart.specs.Confinement.{IsConfined, Stores, AgreeOn}
 use Rattle.rv_hart.specs.Permitted.{MayTouch, TouchesPermitted}
 use Rattle.rv_hart.specs.State.{State, Stepped}
@@ -29,33 +24,30 @@ use Rattle.rv_hart.specs.declared.trap.Trap.{Trap}
 use Rattle.rv_hart.proofs.Confined.{confined}
 use Rattle.rv_hart.proofs.StepLaws.{touches_permitted, trap_keeps}
 use Rattle.rv_monitor.specs.Blocks.{has}
-use Rattle.rv_monitor.specs.Calls.{asked_call, status_of}
-use Rattle.rv_monitor.specs.Contexts.{with_context, kept_context, first_context, exited_context, saved}
-use Rattle.rv_monitor.specs.Create.{created, create_refusals, new_slot, proposed, recorded}
+use Rattle.rv_monitor.specs.CallRefusals.{a0, a1}
+use Rattle.rv_monitor.specs.Contexts.{with_context, first_context}
+use Rattle.rv_monitor.specs.Create.{created, new_slot, proposed, recorded}
 use Rattle.rv_monitor.specs.Destroy.{destroyed, without, zeroed}
 use Rattle.rv_monitor.specs.Integrity.{enters, IsSpared, IntegrityLaw}
 use Rattle.rv_monitor.specs.Layout.{layout}
-use Rattle.rv_monitor.specs.Measure.{measured, measure_refusals, measured_slot, may_store, may_store_all, with_bytes}
-use Rattle.rv_monitor.specs.Refusals.{Called, refused, first_refusal, state_refusals}
+use Rattle.rv_monitor.specs.Leaving.{state_after}
+use Rattle.rv_monitor.specs.Measure.{measured, measured_slot, may_store, may_store_all, with_bytes}
 use Rattle.rv_monitor.specs.State.{MonitoredState, IsKept, worlds_beside}
-use Rattle.rv_monitor.specs.Step.{answered, answer_of, entry_of, performed, call_handled, timer_stopped, handled, handled_cause, handled_exception, past_call, stopped_context, with_line_down, trapped_pc, trapped_mode, a0, a1, monitored_step, MonitoredStepped, returned, unhandled}
-use Rattle.rv_monitor.specs.Switches.{Handled, goes_on, entered, left, left_slot, slot_of}
+use Rattle.rv_monitor.specs.Step.{answered, handled, with_layout, monitored_step, MonitoredStepped, returned, unhandled}
+use Rattle.rv_monitor.specs.Switches.{Handled, entered, left_slot}
 use Rattle.rv_monitor.specs.Table.{Slots, slot_at, with_slot, with_state, region, is_live, is_world_of, IsValid, IsLawfulSlot}
 use Rattle.rv_monitor.specs.declared.block.Block.{Block}
-use Rattle.rv_monitor.specs.declared.call.Call.{Call}
-use Rattle.rv_monitor.specs.declared.call.Call.TheVariants.{Create, Destroy, Run, Resume, Measure, Stop, Exit}
+use Rattle.rv_monitor.specs.declared.call.Call.TheVariants.{Destroy}
 use Rattle.rv_monitor.specs.declared.context.Context.{Context}
 use Rattle.rv_monitor.specs.declared.proposal.Proposal.{Proposal}
-use Rattle.rv_monitor.specs.declared.refusal.Refusal.{Refusal}
-use Rattle.rv_monitor.specs.declared.refusal.Refusal.TheVariants.{NotSupported}
 use Rattle.rv_monitor.specs.declared.seat.Seat.{Seat}
 use Rattle.rv_monitor.specs.declared.shared.Shared.{Shared}
 use Rattle.rv_monitor.specs.declared.slot_info.EnclaveState.{EnclaveState}
-use Rattle.rv_monitor.specs.declared.slot_info.EnclaveState.TheVariants.{Running, Stopped, Exited}
+use Rattle.rv_monitor.specs.declared.slot_info.EnclaveState.TheVariants.{Running}
 use Rattle.rv_monitor.specs.declared.slot_info.SlotInfo.{SlotInfo}
 use Rattle.rv_monitor.specs.declared.world.World.{World}
 use Rattle.rv_monitor.specs.declared.world.World.TheVariants.{Host, Enclave}
-use Rattle.rv_monitor.proofs.Refusals.{may_create, may_take, may_measure}
+use Rattle.rv_monitor.proofs.Refusals.{MayCreate, IsTaken}
 use Rattle.rv_monitor.proofs.Slots.{at_same, at_other}
 use Rattle.rv_monitor.proofs.Sound.{live_in_range, free_slot_from}
 use Rattle.rv_monitor.proofs.Owners.{apart_at}
@@ -63,6 +55,7 @@ use Rattle.rv_monitor.proofs.Reaches.{permitted_apart, small_ram, inside_is, som
 use Rattle.rv_monitor.proofs.KeptReaches.{below_M, clear_mode}
 use Rattle.rv_monitor.proofs.Ready.{IsTrapped}
 use Rattle.rv_monitor.proofs.StepKept.{after_trap, same_in}
+use Rattle.rv_monitor.proofs.Works.{by_work, entering, kept_by, leaving}
 
 itself : (k : ℕ) (shared : Shared) → IsSpared k shared shared
 itself k shared = record { slot = refl; bytes = λ byte inside. refl; context = refl }
@@ -133,51 +126,15 @@ store_apart memory slots world mode address count k byte valid below some rests 
   ]
 ]
 
--- ---- leaving
+-- ---- the work
 
-left_slot_spares : (k j : ℕ) (seat : Seat) (shared : Shared) (state : EnclaveState) (kept host : Context) (x y : ℕ) → k ≢ j
-    → IsSpared k shared (left_slot seat shared j state kept host x y).shared
-unfolding left_slot
-left_slot_spares k j seat shared state kept host x y other = other_state k j shared state (Some kept) other
-
-left_by : (k : ℕ) (seat : Seat) (shared : Shared) (state : EnclaveState) (kept : Context) (x y : ℕ) (w : World) (h : Option Context) → is_world_of k w ≡ false
-    → IsSpared k shared (option_case (slot_of w) (goes_on seat shared kept.pc kept.mode) (λ j. option_case h (goes_on seat shared kept.pc kept.mode) (λ host. left_slot seat shared j state kept host x y))).shared
-left_by k seat shared state kept x y Host h rests = itself k shared
-left_by k seat shared state kept x y (Enclave j) None rests = itself k shared
-left_by k seat shared state kept x y (Enclave j) (Some host) rests = left_slot_spares k j seat shared state kept host x y (not_it k j rests)
-
-left_spares : (k : ℕ) (seat : Seat) (shared : Shared) (state : EnclaveState) (kept : Context) (x y : ℕ) → is_world_of k seat.world ≡ false
-    → IsSpared k shared (left seat shared state kept x y).shared
-unfolding left
-left_spares k seat shared state kept x y rests = left_by k seat shared state kept x y seat.world seat.host_context rests
-
--- ---- the calls
-
--- what the monitor leaves spares slot k, where it does not enter it, and it is live
-abbrev Spares : ℕ → Shared → Handled → Type 0
-Spares k before h = enters k h.next.entered ≡ false → is_live h.shared.table k ≡ true → IsSpared k before h.shared
-
-answer_by : (k : ℕ) (seat : Seat) (shared after : Shared) (r : Result ℕ Refusal) → (is_live after.table k ≡ true → IsSpared k shared after)
-    → Spares k shared (answer_of seat (record { shared = after; result = r }))
-unfolding answer_of
-answer_by k seat shared after (Ok result) spared passes live = spared live
-answer_by k seat shared after (Err refusal) spared passes live = spared live
-
--- where no row holds, the call is to be judged by what it does
-unless_spares : (k : ℕ) (shared : Shared) (o : Option Refusal) (done : Called) → (o ≡ None → is_live done.shared.table k ≡ true → IsSpared k shared done.shared)
-    → is_live (option_case o done (refused shared)).shared.table k ≡ true → IsSpared k shared (option_case o done (refused shared)).shared
-unless_spares k shared None done spares live = spares refl live
-unless_spares k shared (Some refusal) done spares live = itself k shared
-
-created_spares : (k : ℕ) (shared : Shared) (new : Proposal) → is_live shared.table k ≡ true → is_live (created shared new).shared.table k ≡ true
-    → IsSpared k shared (created shared new).shared
+created_spares : (k : ℕ) (shared : Shared) (new : Proposal) → is_live shared.table k ≡ true → MayCreate shared new → IsSpared k shared (created shared new)
 unfolding created
-created_spares k shared new live =
-    unless_spares k shared (first_refusal (create_refusals shared new)) _ (λ none after.
-    let free = (free_slot_from shared.table (new_slot shared.table) (may_create shared new none).free).free in
+created_spares k shared new live may =
+    let free = (free_slot_from shared.table (new_slot shared.table) may.free).free in
     let other : k ≢ new_slot shared.table = λ same. both_ways _ (ap (λ (o : Option SlotInfo). is_some o) free) (rw (← same) live) in
     let info = recorded shared.memory new in
-    other_slot k (new_slot shared.table) shared (Some info) (Some (first_context info)) shared.memory other (λ byte inside. refl))
+    other_slot k (new_slot shared.table) shared (Some info) (Some (first_context info)) shared.memory other (λ byte inside. refl)
 
 gone_spares : (k j : ℕ) (shared : Shared) (info : SlotInfo) → IsValid shared.memory shared.table → slot_at shared.table j ≡ Some info
     → is_live (with_slot shared.table j None) k ≡ true → IsSpared k shared (without shared j (region shared.table j))
@@ -192,13 +149,10 @@ gone_spares k j shared info valid is live = elim (cases_eq k j) [
       (apart_at (region shared.table k) (region shared.table j) byte (valid.regions_apart k j other) own))
 ]
 
-destroyed_spares : (k j : ℕ) (shared : Shared) → IsValid shared.memory shared.table → is_live (destroyed shared j).shared.table k ≡ true
-    → IsSpared k shared (destroyed shared j).shared
+destroyed_spares : (k j : ℕ) (shared : Shared) → IsValid shared.memory shared.table → IsTaken shared.table Destroy j → is_live (destroyed shared j).table k ≡ true
+    → IsSpared k shared (destroyed shared j)
 unfolding destroyed
-destroyed_spares k j shared valid =
-    unless_spares k shared (first_refusal (state_refusals shared.table Destroy j)) _ (λ none live.
-    let may = may_take shared.table Destroy j none in
-    gone_spares k j shared may.info valid may.is live)
+destroyed_spares k j shared valid taken live = gone_spares k j shared taken.info valid taken.is live
 
 -- ---- measure
 
@@ -217,100 +171,50 @@ stored_apart memory slots world address k byte valid rests may own = elim (cases
   ]
 ]
 
-module _ (k j address : ℕ) (shared : Shared) (world : World) (valid : IsValid shared.memory shared.table) (rests : is_world_of k world ≡ false) where
-  put_spares : (o : Option SlotInfo) → IfSome o (IsLawfulSlot shared.memory) → is_some o ≡ true → may_store_all shared.memory (layout shared.table world) address ≡ true
+module _ (k j address : ℕ) (shared : Shared) (world : World) (valid : IsValid shared.memory shared.table) (rests : is_world_of k world ≡ false)
+    (may : may_store_all shared.memory (layout shared.table world) address ≡ true) where
+  put_spares : (o : Option SlotInfo) → IfSome o (IsLawfulSlot shared.memory) → is_some o ≡ true
       → IsSpared k shared (record shared { memory = with_bytes shared.memory address (option_case o [] (λ info. info.measurement)) })
-  put_spares None lawful live may = cc
-  put_spares (Some info) lawful live may = record {
+  put_spares None lawful live = cc
+  put_spares (Some info) lawful live = record {
     slot = refl;
     bytes = λ byte own. put_by shared.memory address info.measurement byte (write shared.memory address info.measurement) refl
         (let long = lawful.measured in rw long (stored_apart shared.memory shared.table world address k byte valid rests may own));
     context = refl;
   }
 
-  measured_spares : is_live (measured shared (layout shared.table world) j address).shared.table k ≡ true → IsSpared k shared (measured shared (layout shared.table world) j address).shared
+  measured_spares : is_live shared.table j ≡ true → IsSpared k shared (measured shared j address)
   unfolding measured
-  measured_spares =
-      unless_spares k shared (first_refusal (measure_refusals shared (layout shared.table world) j address)) _ (λ none live.
-      let may = may_measure shared (layout shared.table world) j address none in
-      put_spares (slot_at shared.table j) (valid.lawful j) may.live may.stores)
+  measured_spares live = put_spares (slot_at shared.table j) (valid.lawful j) live
 
--- ---- entering
-
-entered_spares : (k j : ℕ) (seat : Seat) (shared : Shared) (context : Context) (past : ℕ) → Spares k shared (entered seat shared j context past)
-unfolding entered
-entered_spares k j seat shared context past passes live = other_state k j shared Running None (not_it k j passes)
-
-entry_by : (k : ℕ) (seat : Seat) (shared : Shared) (context : Context) (o : Option Refusal)
-    → Spares k shared (option_case o (entered seat shared (a0 seat) context (past_call seat)) (λ refusal. answered seat shared (status_of refusal) 0))
-entry_by k seat shared context None passes live = entered_spares k (a0 seat) seat shared context (past_call seat) passes live
-entry_by k seat shared context (Some refusal) passes live = itself k shared
-
-entry_spares : (k : ℕ) (seat : Seat) (shared : Shared) (call : Call) → Spares k shared (entry_of seat shared call)
-unfolding entry_of
-entry_spares k seat shared call =
-    entry_by k seat shared (kept_context shared.contexts (a0 seat)) (first_refusal (state_refusals shared.table call (a0 seat)))
-
--- ---- all that the monitor does after a trap
+-- what the monitor leaves spares slot k, where it does not enter it, and it is live
+abbrev Spares : ℕ → Shared → Handled → Type 0
+Spares k before h = enters k h.next.entered ≡ false → is_live h.shared.table k ≡ true → IsSpared k before h.shared
 
 module _ (beside : List World) (k : ℕ) (seat : Seat) (shared : Shared) (trapped : IsTrapped beside seat shared)
     (rests : is_world_of k seat.world ≡ false) (live : is_live shared.table k ≡ true) where
-  abbrev MeasureSpares : Entries → Type 0
-  MeasureSpares entries =
-      is_live (measured shared entries (measured_slot seat.world (a0 seat)) (a1 seat)).shared.table k ≡ true
-      → IsSpared k shared (measured shared entries (measured_slot seat.world (a0 seat)) (a1 seat)).shared
+  entered_spares : Spares k shared (with_layout (entering seat shared))
+  unfolding entered
+  entered_spares passes after = other_state k (a0 seat) shared Running None (not_it k (a0 seat) passes)
 
-  measure_spares : MeasureSpares seat.hart.csrs.pmp
-  measure_spares =
-      subst MeasureSpares (sym trapped.layout.entries)
-      (measured_spares k (measured_slot seat.world (a0 seat)) (a1 seat) shared seat.world trapped.ready.sound.valid rests)
-
-  answer_spares : (call : Called) → (is_live call.shared.table k ≡ true → IsSpared k shared call.shared) → Spares k shared (answer_of seat call)
-  answer_spares call spared = answer_by k seat shared call.shared call.result spared
-
-  performed_spares : (call : Call) → Spares k shared (performed seat shared call)
-  unfolding performed
-  performed_spares Create = answer_spares (created shared (proposed seat.hart.regs)) (created_spares k shared (proposed seat.hart.regs) live)
-  performed_spares Destroy = answer_spares (destroyed shared (a0 seat)) (destroyed_spares k (a0 seat) shared trapped.ready.sound.valid)
-  performed_spares Run = entry_spares k seat shared Run
-  performed_spares Resume = entry_spares k seat shared Resume
-  performed_spares Measure =
-      answer_spares (measured shared seat.hart.csrs.pmp (measured_slot seat.world (a0 seat)) (a1 seat)) measure_spares
-  performed_spares Stop = λ passes after. left_spares k seat shared Stopped (stopped_context seat) 1 (a0 seat) rests
-  performed_spares Exit = λ passes after. left_spares k seat shared Exited exited_context 0 (a0 seat) rests
-
-  call_by : (o : Option Call) → Spares k shared (option_case o (answered seat shared (status_of NotSupported) 0) (performed seat shared))
-  call_by None passes after = itself k shared
-  call_by (Some call) passes after = performed_spares call passes after
-
-  call_spares : Spares k shared (call_handled seat shared)
-  unfolding call_handled
-  call_spares = call_by (asked_call seat.world (register seat.hart.regs 17) (register seat.hart.regs 16))
-
-  timer_spares : Spares k shared (timer_stopped seat shared)
-  unfolding timer_stopped
-  timer_spares passes after =
-      let lowered = with_line_down seat in
-      left_spares k lowered shared Stopped (saved lowered.hart (trapped_pc seat) (trapped_mode seat)) 2 0 rests
-
-  exception_spares : (trap : Trap) (e : Exception) → Spares k shared (handled_exception seat shared trap e)
-  exception_spares trap EnvironmentCallFromS = call_spares
-  exception_spares trap InstructionAddressMisaligned = λ passes after. itself k shared
-  exception_spares trap InstructionAccessFault = λ passes after. itself k shared
-  exception_spares trap IllegalInstruction = λ passes after. itself k shared
-  exception_spares trap Breakpoint = λ passes after. itself k shared
-  exception_spares trap LoadAccessFault = λ passes after. itself k shared
-  exception_spares trap StoreAccessFault = λ passes after. itself k shared
-  exception_spares trap EnvironmentCallFromU = λ passes after. itself k shared
-  exception_spares trap EnvironmentCallFromM = λ passes after. itself k shared
-
-  cause_spares : (trap : Trap) (cause : Cause) → Spares k shared (handled_cause seat shared trap cause)
-  cause_spares trap (causes.Interrupt i) = timer_spares
-  cause_spares trap (causes.Exception e) = exception_spares trap e
+  left_spares : (trap : Trap) (j : ℕ) (host : Context) → seat.world ≡ Enclave j → Spares k shared (with_layout (leaving trap.cause seat shared (Enclave j) (Some host)))
+  unfolding left_slot
+  left_spares trap j host runs passes after =
+      other_state k j shared (state_after trap.cause seat.hart.regs) (Some (kept_by trap.cause seat)) (not_it k j (sym (ap (is_world_of k) runs) ∙ rests))
 
   pub handled_spares : (trap : Trap) → Spares k shared (handled seat shared trap)
-  unfolding handled
-  handled_spares trap = cause_spares trap trap.cause
+  handled_spares trap = by_work seat trap shared (Spares k shared) (record {
+    refuses = λ refusal passes after. itself k shared;
+    creates = λ asks may passes after. created_spares k shared (proposed seat.hart.regs) live may;
+    destroys = λ asks taken passes after. destroyed_spares k (a0 seat) shared trapped.ready.sound.valid taken after;
+    measures = λ asks may passes after.
+        measured_spares k (measured_slot seat.world (a0 seat)) (a1 seat) shared seat.world trapped.ready.sound.valid rests
+        (subst (λ (entries : Entries). may_store_all shared.memory entries (a1 seat) ≡ true) trapped.layout.entries may.stores) may.live;
+    enters = λ call asks enters host taken. entered_spares;
+    leaves = λ j host runs is. left_spares trap j host runs;
+    stays = λ passes after. itself k shared;
+    forwards = λ passes after. itself k shared;
+  })
 
 -- ---- the bare step
 

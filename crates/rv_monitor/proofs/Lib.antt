@@ -3,6 +3,8 @@ pub mod Sets
 pub mod Slots
 pub mod Valid
 pub mod Refusals
+pub mod Concluded
+pub mod Works
 pub mod Sound
 pub mod Ready
 pub mod StepKept

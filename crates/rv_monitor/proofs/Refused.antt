@@ -4,7 +4,6 @@ use Rattle.std.specs.Prelude.{◌||◌}
 use Rattle.rv_word.specs.BitFields.{is_set}
 use Rattle.rv_word.specs.Cases.{option_case}
 use Rattle.rv_state.specs.Bits.{aligned_to_4}
-use Rattle.rv_state.specs.Registers.{register}
 use Rattle.rv_state.specs.declared.cause.Cause.{Cause}
 use Rattle.rv_state.specs.declared.cause.Cause.TheVariants as causes
 use Rattle.rv_state.specs.declared.cause.Exception.TheVariants.{EnvironmentCallFromS}
@@ -12,61 +11,37 @@ use Rattle.rv_hart.specs.Arithmetic.{sum_of}
 use Rattle.rv_hart.specs.Step.{step}
 use Rattle.rv_hart.specs.declared.trap.StepOutcome.{StepOutcome}
 use Rattle.rv_hart.specs.declared.trap.Trap.{Trap}
-use Rattle.rv_monitor.specs.Calls.{asked_call, status_of}
+use Rattle.rv_monitor.specs.CallRefusals.{call_refusals}
+use Rattle.rv_monitor.specs.Calls.{asked_in}
 use Rattle.rv_monitor.specs.Confidentiality.{bare}
-use Rattle.rv_monitor.specs.Create.{create_refusals, created, proposed}
-use Rattle.rv_monitor.specs.Destroy.{destroyed}
-use Rattle.rv_monitor.specs.Measure.{measured, measure_refusals, measured_slot}
-use Rattle.rv_monitor.specs.Refusals.{Called, first_refusal, refused, state_refusals}
-use Rattle.rv_monitor.specs.Refused.{call_refusals, refusal_of, refused_state, RefusalLaw}
+use Rattle.rv_monitor.specs.Refusals.{first_refusal}
+use Rattle.rv_monitor.specs.Refused.{refusal_of, refused_state, RefusalLaw}
 use Rattle.rv_monitor.specs.State.{MonitoredState, IsKept}
-use Rattle.rv_monitor.specs.Step.{MonitoredStepped, a0, a1, answer_of, answered, call_handled, entry_of, handled, handled_cause, performed, returned, with_layout}
+use Rattle.rv_monitor.specs.Step.{MonitoredStepped, called, call_handled, handled, handled_cause, refused, returned, with_layout}
 use Rattle.rv_monitor.specs.declared.call.Call.{Call}
-use Rattle.rv_monitor.specs.declared.call.Call.TheVariants.{Create, Destroy, Run, Resume, Measure, Stop, Exit}
 use Rattle.rv_monitor.specs.declared.refusal.Refusal.{Refusal}
 use Rattle.rv_monitor.specs.declared.refusal.Refusal.TheVariants.{NotSupported}
 use Rattle.rv_monitor.specs.declared.seat.Seat.{Seat}
 use Rattle.rv_monitor.specs.declared.shared.Shared.{Shared}
-use Rattle.rv_monitor.specs.Switches.{Handled}
 use Rattle.rv_monitor.proofs.LastAct.{beside_as_is}
 use Rattle.rv_monitor.proofs.TrapSteps.{seat_after, trapped_step}
 
 -- ---- the call
 
 module _ (seat : Seat) (shared : Shared) (refusal : Refusal) where
-  abbrev told : Handled
-  told = answered seat shared (status_of refusal) 0
-
-  -- a call that switches no world, by its first row
-  refused_call : (o : Option Refusal) (done : Called) → o ≡ Some refusal → answer_of seat (option_case o done (refused shared)) ≡ told
-  unfolding answer_of
-  refused_call o done is = rw is refl
-
-  refused_entry : (o : Option Refusal) (done : Handled) → o ≡ Some refusal
-      → option_case o done (λ r. answered seat shared (status_of r) 0) ≡ told
-  refused_entry o done is = rw is refl
-
-  refused_performed : (call : Call) → first_refusal (call_refusals seat shared call) ≡ Some refusal → performed seat shared call ≡ told
-  unfolding performed created destroyed measured entry_of
-  refused_performed Create is = refused_call (first_refusal (create_refusals shared (proposed seat.hart.regs))) _ is
-  refused_performed Destroy is = refused_call (first_refusal (state_refusals shared.table Destroy (a0 seat))) _ is
-  refused_performed Run is = refused_entry (first_refusal (state_refusals shared.table Run (a0 seat))) _ is
-  refused_performed Resume is = refused_entry (first_refusal (state_refusals shared.table Resume (a0 seat))) _ is
-  refused_performed Measure is =
-      refused_call (first_refusal (measure_refusals shared seat.hart.csrs.pmp (measured_slot seat.world (a0 seat)) (a1 seat))) _ is
-  refused_performed Stop is = cc
-  refused_performed Exit is = cc
+  refused_called : (call : Call) → first_refusal (call_refusals seat shared call) ≡ Some refusal → called seat shared call ≡ refused seat shared refusal
+  unfolding called
+  refused_called call is = rw is refl
 
   refused_asked : (o : Option Call) → option_case o (Some NotSupported) (λ call. first_refusal (call_refusals seat shared call)) ≡ Some refusal
-      → option_case o (answered seat shared (status_of NotSupported) 0) (performed seat shared) ≡ told
-  refused_asked None is = let same : NotSupported ≡ refusal = cc in ap (λ (r : Refusal). answered seat shared (status_of r) 0) same
-  refused_asked (Some call) is = refused_performed call is
+      → option_case o (refused seat shared NotSupported) (called seat shared) ≡ refused seat shared refusal
+  refused_asked None is = let same : NotSupported ≡ refusal = cc in ap (refused seat shared) same
+  refused_asked (Some call) is = refused_called call is
 
   pub refused_handled : (trap : Trap) (cause : Cause) → cause ≡ causes.Exception EnvironmentCallFromS → refusal_of seat shared ≡ Some refusal
-      → handled_cause seat shared trap cause ≡ told
+      → handled_cause seat shared trap cause ≡ refused seat shared refusal
   unfolding refusal_of call_handled
-  refused_handled trap cause by_ecall is =
-      rw by_ecall (refused_asked (asked_call seat.world (register seat.hart.regs 17) (register seat.hart.regs 16)) is)
+  refused_handled trap cause by_ecall is = rw by_ecall (refused_asked (asked_in seat.world seat.hart.regs) is)
 
 -- ---- the step
 
@@ -79,7 +54,7 @@ again_aligned pc = omega arith
 
 module _ (state : MonitoredState) (kept : IsKept state) (trap : Trap) (refusal : Refusal) where
   returned_refused : (outcome : StepOutcome)
-      → (returned state.other outcome (with_layout (answered (seat_after state.seat trap) state.shared (status_of refusal) 0))).state ≡ refused_state state trap refusal
+      → (returned state.other outcome (with_layout (refused (seat_after state.seat trap) state.shared refusal))).state ≡ refused_state state trap refusal
   returned_refused outcome =
       let hart = state.seat.hart in
       let mprv = kept.layout.mprv in

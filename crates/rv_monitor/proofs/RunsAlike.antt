@@ -36,7 +36,7 @@ module _ (state : MonitoredState) (kept : IsKept state) where
       let beside = worlds_beside state.other in
       returned_kept state.shared.table state.other (handled seat shared trap)
       (handled_done beside seat shared trap (after_trap state after trap is kept (trap_keeps (bare state)) (confined (bare state))))
-      (handled_laid_out beside seat shared trap) kept.other
+      (handled_laid_out seat shared trap) kept.other
 
 pub kept_law : KeptLaw
 unfolding monitored_step

@@ -9,14 +9,12 @@ use Rattle.std.proofs.lemmas.List.{get_or_past}
 use Rattle.rv_word.specs.Cases.{option_case}
 use Rattle.rv_memory.specs.Memory.{write}
 use Rattle.rv_memory.proofs.MemoryLaws.{length-write}
-use Rattle.rv_pmp.specs.Entries.{Entries}
 use Rattle.rv_monitor.specs.Blocks.{has, is_lawful}
 use Rattle.rv_monitor.specs.Contexts.{context_at, with_context, can_go_on, first_context}
-use Rattle.rv_monitor.specs.Create.{created, create_refusals, new_slot, is_entry, overlaps, recorded, with_enclave, measurement_of, measured_bytes}
+use Rattle.rv_monitor.specs.Create.{created, new_slot, is_entry, overlaps, recorded, with_enclave, measurement_of, measured_bytes}
 use Rattle.sha2.proofs.Facts256.{length-sha256}
 use Rattle.rv_monitor.specs.Destroy.{destroyed, without, zeroed}
-use Rattle.rv_monitor.specs.Measure.{measured, measure_refusals, measurement_at, with_bytes}
-use Rattle.rv_monitor.specs.Refusals.{Called, refused, first_refusal, state_refusals}
+use Rattle.rv_monitor.specs.Measure.{measured, measurement_at, with_bytes}
 use Rattle.rv_monitor.specs.State.{IsSound, AreApart, is_held}
 use Rattle.rv_monitor.specs.Table.{Slots, slot_at, with_slot, with_state, free_slot, runs, is_running, is_window, is_world_of, region, window}
 use Rattle.rv_monitor.specs.declared.block.Block.{Block}
@@ -27,10 +25,9 @@ use Rattle.rv_monitor.specs.declared.shared.Shared.{Shared}
 use Rattle.rv_monitor.specs.declared.slot_info.EnclaveState.{EnclaveState}
 use Rattle.rv_monitor.specs.declared.slot_info.EnclaveState.TheVariants.{Running}
 use Rattle.rv_monitor.specs.declared.slot_info.SlotInfo.{SlotInfo}
-use Rattle.rv_monitor.specs.declared.refusal.Refusal.{Refusal}
 use Rattle.rv_monitor.specs.declared.world.World.{World}
 use Rattle.rv_monitor.specs.declared.world.World.TheVariants.{Host, Enclave}
-use Rattle.rv_monitor.proofs.Refusals.{may_create, may_take, takes_rests}
+use Rattle.rv_monitor.proofs.Refusals.{MayCreate, IsTaken, takes_rests}
 use Rattle.rv_monitor.proofs.Slots.{at_same, at_other, IsFree, free_from}
 use Rattle.rv_monitor.proofs.Valid.{Fits, valid_with, nothing_fits, own_fits, valid_by_size}
 
@@ -170,18 +167,10 @@ created_done shared worlds new k sound lawful window apart entry is =
     sound_with shared worlds worlds k (Some info) (Some (first_context info)) shared.memory sound slot.in_range refl
     (new_fits shared new k lawful window entry (free_from shared.table new apart)) refl (first_goes_on info (entry_aligned new entry)) before (λ j other. refl) sound.apart
 
--- where no row holds, the call is to be judged by what it does
-unless_sound : (shared : Shared) (worlds : List World) (o : Option Refusal) (done : Called) → IsSound shared worlds → (o ≡ None → IsSound done.shared worlds)
-    → IsSound (option_case o done (refused shared)).shared worlds
-unless_sound shared worlds None done sound good = good refl
-unless_sound shared worlds (Some refusal) done sound good = sound
-
-pub created_sound : (shared : Shared) (worlds : List World) (new : Proposal) → IsSound shared worlds → IsSound (created shared new).shared worlds
+pub created_sound : (shared : Shared) (worlds : List World) (new : Proposal) → MayCreate shared new → IsSound shared worlds → IsSound (created shared new) worlds
 unfolding created
-created_sound shared worlds new sound =
-    unless_sound shared worlds (first_refusal (create_refusals shared new)) _ sound (λ none.
-    let may = may_create shared new none in
-    created_done shared worlds new (new_slot shared.table) sound may.lawful may.window may.apart may.entry may.free)
+created_sound shared worlds new may sound =
+    created_done shared worlds new (new_slot shared.table) sound may.lawful may.window may.apart may.entry may.free
 
 -- ---- a live slot
 
@@ -214,22 +203,18 @@ gone shared worlds k info sound is rests =
     (size_zeroed shared.memory block (write shared.memory block.base (replicate block.size 0)) refl)
     (nothing_fits shared.memory shared.table k) refl tt before (λ j other. refl) sound.apart
 
-pub destroyed_sound : (shared : Shared) (worlds : List World) (k : ℕ) → IsSound shared worlds → IsSound (destroyed shared k).shared worlds
+pub destroyed_sound : (shared : Shared) (worlds : List World) (k : ℕ) → IsTaken shared.table calls.Destroy k → IsSound shared worlds → IsSound (destroyed shared k) worlds
 unfolding destroyed
-destroyed_sound shared worlds k sound =
-    unless_sound shared worlds (first_refusal (state_refusals shared.table calls.Destroy k)) _ sound (λ none.
-    let may = may_take shared.table calls.Destroy k none in
-    gone shared worlds k may.info sound may.is (takes_rests calls.Destroy may.info.state may.taken))
+destroyed_sound shared worlds k may sound = gone shared worlds k may.info sound may.is (takes_rests calls.Destroy may.info.state may.taken)
 
 -- ---- measure
 
-pub measured_sound : (shared : Shared) (worlds : List World) (entries : Entries) (k address : ℕ) → IsSound shared worlds → IsSound (measured shared entries k address).shared worlds
+pub measured_sound : (shared : Shared) (worlds : List World) (k address : ℕ) → IsSound shared worlds → IsSound (measured shared k address) worlds
 unfolding measured
-measured_sound shared worlds entries k address sound =
+measured_sound shared worlds k address sound =
     let bytes = measurement_at shared.table k in
-    unless_sound shared worlds (first_refusal (measure_refusals shared entries k address)) _ sound (λ none.
     sound_by_size shared worlds (with_bytes shared.memory address bytes) sound
-    (size_with_bytes shared.memory address bytes (write shared.memory address bytes) refl))
+    (size_with_bytes shared.memory address bytes (write shared.memory address bytes) refl)
 
 -- ---- switches
 

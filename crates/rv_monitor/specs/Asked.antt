@@ -2,16 +2,16 @@
 -- context of the slot; of measure no byte, since its addresses alone decide. (A law of the monitor's definitions, no rule of a
 -- standard.)
 use Rattle.std.specs.Prelude.{◌≡◌, ℕ, Bool, true, false, length, slice_index, Option, Some, None, if◌then◌else◌}
-use Rattle.rv_state.specs.Registers.{register}
 use Rattle.rv_state.specs.declared.cause.Cause.{Cause}
 use Rattle.rv_state.specs.declared.cause.Cause.TheVariants as causes
 use Rattle.rv_state.specs.declared.cause.Exception.TheVariants.{EnvironmentCallFromS}
 use Rattle.rv_hart.specs.declared.trap.Trap.{Trap}
-use Rattle.rv_monitor.specs.Calls.{asked_call}
+use Rattle.rv_monitor.specs.CallRefusals.{a0}
+use Rattle.rv_monitor.specs.Calls.{asked_in}
 use Rattle.rv_monitor.specs.Contexts.{context_at}
 use Rattle.rv_monitor.specs.Create.{bytes_of_block, proposed}
 use Rattle.rv_monitor.specs.State.{MonitoredState}
-use Rattle.rv_monitor.specs.Step.{MonitoredStepped, a0, handled, monitored_step}
+use Rattle.rv_monitor.specs.Step.{MonitoredStepped, handled, monitored_step}
 use Rattle.rv_monitor.specs.Switches.{Handled}
 use Rattle.rv_monitor.specs.declared.call.Call.{Call}
 use Rattle.rv_monitor.specs.declared.call.Call.TheVariants.{Create, Run, Resume}
@@ -25,7 +25,7 @@ is_call _ = false
 
 abbrev pub asked_by : Cause → Seat → Option Call
 asked_by cause seat =
-    if is_call cause then asked_call seat.world (register seat.hart.regs 17) (register seat.hart.regs 16) else None
+    if is_call cause then asked_in seat.world seat.hart.regs else None
 
 -- a call that enters an enclave
 abbrev pub is_entering : Option Call → Bool

@@ -11,7 +11,7 @@ use Rattle.rv_state.specs.Registers.{register}
 use Rattle.rv_hart.specs.declared.trap.Trap.{Trap}
 use Rattle.rv_monitor.specs.Asked.{is_call}
 use Rattle.rv_monitor.specs.Blocks.{has}
-use Rattle.rv_monitor.specs.Calls.{asked_call}
+use Rattle.rv_monitor.specs.Calls.{asked_in}
 use Rattle.rv_monitor.specs.Layout.{layout}
 use Rattle.rv_monitor.specs.Measure.{measured_slot, measure_refusals}
 use Rattle.rv_monitor.specs.Reach.{in_reach}
@@ -20,14 +20,9 @@ use Rattle.rv_monitor.specs.Runs.{run}
 use Rattle.rv_monitor.specs.State.{MonitoredState, IsKept}
 use Rattle.rv_monitor.specs.Step.{MonitoredStepped, monitored_step}
 use Rattle.rv_monitor.specs.Table.{Slots, region, is_live}
-use Rattle.rv_monitor.specs.declared.call.Call.{Call}
 use Rattle.rv_monitor.specs.declared.call.Call.TheVariants.{Destroy, Measure}
 use Rattle.rv_monitor.specs.declared.shared.Shared.{Shared}
 use Rattle.rv_monitor.specs.declared.world.World.{World}
-
--- the call that a7 and a6 ask for
-abbrev pub asked_by_registers : World → List ℕ → Option Call
-asked_by_registers world regs = asked_call world (register regs 17) (register regs 16)
 
 -- the instruction stored the byte, and the store was in its world's reach
 pub record IsStoredInReach (world : World) (shared : Shared) (stored : Option Span) (byte : ℕ) : Type 0 where
@@ -39,14 +34,14 @@ pub record IsStoredInReach (world : World) (shared : Shared) (stored : Option Sp
 
 -- a destroy ended an enclave, of whose region the byte is one
 pub record IsCleared (world : World) (regs : List ℕ) (before after : Slots) (byte : ℕ) : Type 0 where
-  pub asked : asked_by_registers world regs ≡ Some Destroy
+  pub asked : asked_in world regs ≡ Some Destroy
   pub live : is_live before (register regs 10) ≡ true
   pub gone : is_live after (register regs 10) ≡ false
   pub own : has (region before (register regs 10)) byte ≡ true
 
 -- a measure that is not refused put it: it is one of 32 bytes from a1 on, and a store of it is in the caller's reach
 pub record IsMeasured (world : World) (regs : List ℕ) (shared : Shared) (byte : ℕ) : Type 0 where
-  pub asked : asked_by_registers world regs ≡ Some Measure
+  pub asked : asked_in world regs ≡ Some Measure
   pub done : first_refusal (measure_refusals shared (layout shared.table world) (measured_slot world (register regs 10)) (register regs 11)) ≡ None
   pub low : register regs 11 ≤ byte
   pub high : byte < register regs 11 + 32

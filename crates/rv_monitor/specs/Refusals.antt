@@ -1,13 +1,12 @@
 -- Why a call is refused. Each call that can be refused has a table: rows of a condition and the refusal that it means, in the order of
 -- asking. The first row whose condition holds decides. (Keystone, EuroSys 2020, in this project's profile.)
-use Rattle.std.specs.Prelude.{ℕ, Bool, true, false, not, List, [], ◌∷◌, Option, Some, None, Result, Err}
+use Rattle.std.specs.Prelude.{ℕ, Bool, true, false, not, List, [], ◌∷◌, Option, Some, None}
 use Rattle.rv_word.specs.Cases.{option_case}
 use Rattle.rv_monitor.specs.Calls.{takes}
 use Rattle.rv_monitor.specs.Table.{Slots, slot_at, is_live}
 use Rattle.rv_monitor.specs.declared.call.Call.{Call}
 use Rattle.rv_monitor.specs.declared.refusal.Refusal.{Refusal}
 use Rattle.rv_monitor.specs.declared.refusal.Refusal.TheVariants.{NoEnclave, BadState}
-use Rattle.rv_monitor.specs.declared.shared.Shared.{Shared}
 
 -- the first refusal whose condition holds
 abbrev pub first_refusal : List (Bool × Refusal) → Option Refusal
@@ -25,21 +24,3 @@ state_refusals slots call k =
     (not (is_live slots k), NoEnclave)
     ∷ (not (is_taken slots call k), BadState)
     ∷ []
-
--- ---- a call that switches no world
-
--- what is shared after it, and its result or its refusal
-pub record Called : Type 0 where
-  pub shared : Shared
-  pub result : Result ℕ Refusal
-
-abbrev pub called : Shared → Result ℕ Refusal → Called
-called shared result = record { shared = shared; result = result }
-
--- a refused call changes nothing that is shared
-abbrev pub refused : Shared → Refusal → Called
-refused shared refusal = called shared (Err refusal)
-
--- what a call does where it is not refused
-abbrev pub unless_refused : List (Bool × Refusal) → Shared → Called → Called
-unless_refused rows shared done = option_case (first_refusal rows) done (refused shared)

@@ -1,7 +1,7 @@
 -- A call that is refused changes nothing but a0, a1, pc, and what every trap and return change. (Keystone, EuroSys 2020, in this
 -- project's profile; the trap and the return: RISC-V Privileged Architecture 20211203, sections 3.1.6.1 and 3.1.14 to 3.1.16; the
 -- count of cycles: section 3.1.10.)
-use Rattle.std.specs.Prelude.{◌≡◌, ℕ, Bool, true, List, [], Option, Some, None}
+use Rattle.std.specs.Prelude.{◌≡◌, ℕ, true, Option, Some, None}
 use Rattle.rv_word.specs.BitFields.{is_set}
 use Rattle.rv_word.specs.Cases.{option_case}
 use Rattle.rv_pmp.specs.declared.mode.Mode.TheVariants.{U, S}
@@ -9,40 +9,26 @@ use Rattle.rv_state.specs.Bits.{aligned_to_4}
 use Rattle.rv_state.specs.Causes.{cause_code}
 use Rattle.rv_state.specs.Counters.{incremented}
 use Rattle.rv_state.specs.CsrState.{CsrState}
-use Rattle.rv_state.specs.Registers.{register}
 use Rattle.rv_state.specs.declared.cause.Cause.TheVariants as causes
 use Rattle.rv_state.specs.declared.cause.Exception.TheVariants.{EnvironmentCallFromS}
 use Rattle.rv_hart.specs.Arithmetic.{sum_of}
 use Rattle.rv_hart.specs.HartState.{Hart}
 use Rattle.rv_hart.specs.declared.trap.Trap.{Trap}
-use Rattle.rv_monitor.specs.Calls.{asked_call, status_of}
+use Rattle.rv_monitor.specs.CallRefusals.{call_refusals}
+use Rattle.rv_monitor.specs.Calls.{asked_in, status_of}
 use Rattle.rv_monitor.specs.Contexts.{with_answer}
-use Rattle.rv_monitor.specs.Create.{create_refusals, proposed}
-use Rattle.rv_monitor.specs.Measure.{measure_refusals, measured_slot}
-use Rattle.rv_monitor.specs.Refusals.{first_refusal, state_refusals}
+use Rattle.rv_monitor.specs.Refusals.{first_refusal}
 use Rattle.rv_monitor.specs.State.{MonitoredState, IsKept}
-use Rattle.rv_monitor.specs.Step.{MonitoredStepped, monitored_step, a0, a1}
-use Rattle.rv_monitor.specs.declared.call.Call.{Call}
-use Rattle.rv_monitor.specs.declared.call.Call.TheVariants.{Create, Destroy, Run, Resume, Measure, Stop, Exit}
+use Rattle.rv_monitor.specs.Step.{MonitoredStepped, monitored_step}
 use Rattle.rv_monitor.specs.declared.refusal.Refusal.{Refusal}
 use Rattle.rv_monitor.specs.declared.refusal.Refusal.TheVariants.{NotSupported}
 use Rattle.rv_monitor.specs.declared.seat.Seat.{Seat}
 use Rattle.rv_monitor.specs.declared.shared.Shared.{Shared}
 
--- the table of each call; stop and exit are never refused
-abbrev pub call_refusals : Seat → Shared → Call → List (Bool × Refusal)
-call_refusals seat shared Create = create_refusals shared (proposed seat.hart.regs)
-call_refusals seat shared Destroy = state_refusals shared.table Destroy (a0 seat)
-call_refusals seat shared Run = state_refusals shared.table Run (a0 seat)
-call_refusals seat shared Resume = state_refusals shared.table Resume (a0 seat)
-call_refusals seat shared Measure = measure_refusals shared seat.hart.csrs.pmp (measured_slot seat.world (a0 seat)) (a1 seat)
-call_refusals seat shared Stop = []
-call_refusals seat shared Exit = []
-
 -- why an ecall from S is refused, if it is: where a7 and a6 ask for no call of the world, or by the table of the call
 unfoldable pub refusal_of : Seat → Shared → Option Refusal
 refusal_of seat shared =
-    option_case (asked_call seat.world (register seat.hart.regs 17) (register seat.hart.regs 16)) (Some NotSupported)
+    option_case (asked_in seat.world seat.hart.regs) (Some NotSupported)
     (λ call. first_refusal (call_refusals seat shared call))
 
 -- ---- what a refused call leaves

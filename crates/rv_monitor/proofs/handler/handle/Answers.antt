@@ -1,7 +1,10 @@
 use Rattle.std.proofs.Common.{sym, ap, ◌∙◌, subst}
+use Rattle.rv_state.specs.declared.cause.Cause.TheVariants as causes
+use Rattle.rv_state.specs.declared.cause.Exception.TheVariants.{EnvironmentCallFromS}
+use Rattle.rv_state.specs.declared.cause.Interrupt.TheVariants.{MachineTimer}
 use Rattle.rv_monitor.specs.Unlocked.{HasNoLock}
 use Rattle.rv_monitor.specs.declared.seat.Seat.{Seat}
-use Rattle.rv_monitor.proofs.LastAct.{entries_of, call_entries, timer_entries}
+use Rattle.rv_monitor.proofs.LastAct.{entries_of, work_entries}
 use Rattle.rv_monitor.proofs.handler.handle.Goals as goal
 use Rattle.rv_monitor.proofs.handler.handle.Goals.{in-Interrupt, in-Exception-EnvironmentCallFromS}
 
@@ -14,8 +17,8 @@ lay_out-requires c =
     elim c.match-trap.branch [
       | in-Interrupt w ↦
           subst P (sym w.seat-is)
-          (subst HasNoLock (sym (timer_entries seat shared) ∙ ap entries_of w.stop_by_timer-next.ensures.meaning) c.requires.unlocked)
+          (subst HasNoLock (sym (work_entries seat shared (record { cause = causes.Interrupt MachineTimer; tval = 0 })) ∙ ap entries_of w.stop_by_timer-next.ensures.meaning) c.requires.unlocked)
       | in-Exception-EnvironmentCallFromS w ↦
           subst P (sym w.seat-is)
-          (subst HasNoLock (sym (call_entries seat shared) ∙ ap entries_of w.call-next.ensures.meaning) c.requires.unlocked)
+          (subst HasNoLock (sym (work_entries seat shared (record { cause = causes.Exception EnvironmentCallFromS; tval = 0 })) ∙ ap entries_of w.call-next.ensures.meaning) c.requires.unlocked)
     ]

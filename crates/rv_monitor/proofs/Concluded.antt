@@ -1,0 +1,15 @@
+-- What a call that switches no world tells its caller.
+use Rattle.std.proofs.Common.{◌≡◌, ℕ, Option, Some, None, Result, Ok, Err, MatchResult, refl}
+use Rattle.rv_word.specs.Cases.{option_case, result_case}
+use Rattle.rv_monitor.specs.Step.{answered, refused}
+use Rattle.rv_monitor.specs.Switches.{Handled}
+use Rattle.rv_monitor.specs.declared.refusal.Refusal.{Refusal}
+use Rattle.rv_monitor.specs.declared.seat.Seat.{Seat}
+use Rattle.rv_monitor.specs.declared.shared.Shared.{Shared}
+
+-- the first row that holds, or what is done where none does, by the result and by what is shared after it
+pub concluded : (seat : Seat) (rows : Option Refusal) (r : Result ℕ Refusal) (before after done : Shared) (value : ℕ)
+    → MatchResult r (λ v. (rows ≡ None) × (v ≡ value) × (after ≡ done)) (λ refusal. (rows ≡ Some refusal) × (after ≡ before))
+    → option_case rows (answered seat done 0 value) (refused seat before) ≡ result_case r (answered seat after 0) (refused seat after)
+concluded seat rows (Ok v) before after done value (none, is, same) = rw (none, is, same) refl
+concluded seat rows (Err refusal) before after done value (some, same) = rw (some, same) refl
