@@ -1,7 +1,8 @@
 -- A step changes the bytes that its instruction stored, the region that a destroy clears, or those that a measure puts.
-use Rattle.std.proofs.Common.{◌≡◌, ◌≢◌, ℕ, zero, suc, ◌+◌, ◌<◌, ◌≤◌, ◌⊎◌, true, false, List, [], Option, Some, None, Result, Ok, Err, IfSome, refl, sym, ◌∙◌, ap, subst, inl, inr, arith}
+use Rattle.std.proofs.Common.{◌≡◌, ◌≢◌, ℕ, zero, suc, ◌+◌, ◌<◌, ◌≤◌, ◌⊎◌, true, false, List, [], length, replicate, Option, Some, None, IfSome, refl, sym, ◌∙◌, ap, subst, inl, inr, arith}
 use Rattle.std.specs.Prelude.{is_some}
-use Rattle.std.proofs.lemmas.Bool.{cases_lt, cases_Bool, and_parts}
+use Rattle.std.proofs.lemmas.Bool.{both_ways, cases_lt, cases_Bool, and_from, and_parts, le-leb, lt-ltb}
+use Rattle.std.proofs.lemmas.List.{length-replicate}
 use Rattle.rv_word.specs.Cases.{option_case}
 use Rattle.rv_word.specs.Widths.{bytes_in}
 use Rattle.rv_word.specs.declared.width.Width.TheVariants.{Byte}
@@ -29,7 +30,8 @@ use Rattle.rv_monitor.specs.CallRefusals.{a0, a1}
 use Rattle.rv_monitor.specs.Calls.{asked_in}
 use Rattle.rv_monitor.specs.Changes.{IsStoredInReach, IsMeasured, ByMonitor, IsChanged, IsChangedWithin, ChangeLaw, RunsChangeLaw}
 use Rattle.rv_monitor.specs.Create.{created}
-use Rattle.rv_monitor.specs.Destroy.{destroyed}
+use Rattle.rv_monitor.specs.Confidentiality.{bare}
+use Rattle.rv_monitor.specs.Destroy.{destroyed, zeroed}
 use Rattle.rv_monitor.specs.Layout.{layout}
 use Rattle.rv_monitor.specs.Measure.{measured, measured_slot, measure_refusals, may_store, may_store_all, with_bytes}
 use Rattle.rv_monitor.specs.Refusals.{first_refusal}
@@ -37,13 +39,13 @@ use Rattle.rv_monitor.specs.State.{MonitoredState, IsKept, worlds_beside}
 use Rattle.rv_monitor.specs.Step.{MonitoredStepped, handled, monitored_step, returned, unhandled}
 use Rattle.rv_monitor.specs.Switches.{Handled, entered, left_slot}
 use Rattle.rv_monitor.specs.Table.{slot_at, with_slot, region, is_live, IsValid, IsLawfulSlot}
+use Rattle.rv_monitor.specs.declared.block.Block.{Block}
 use Rattle.rv_monitor.specs.declared.call.Call.{Call}
 use Rattle.rv_monitor.specs.declared.call.Call.TheVariants.{Destroy, Measure}
 use Rattle.rv_monitor.specs.declared.seat.Seat.{Seat}
 use Rattle.rv_monitor.specs.declared.shared.Shared.{Shared}
 use Rattle.rv_monitor.specs.declared.slot_info.SlotInfo.{SlotInfo}
 use Rattle.rv_monitor.specs.declared.world.World.{World}
-use Rattle.rv_monitor.proofs.Integrity.{put_by, zeroed_spares}
 use Rattle.rv_monitor.proofs.KeptReaches.{kept_reach, below_M, clear_mode}
 use Rattle.rv_monitor.proofs.Ready.{IsTrapped}
 use Rattle.rv_monitor.proofs.Reaches.{reach_law}
@@ -51,8 +53,30 @@ use Rattle.rv_monitor.proofs.Refusals.{IsTaken}
 use Rattle.rv_monitor.proofs.RunsAlike.{kept_law}
 use Rattle.rv_monitor.proofs.Slots.{at_same}
 use Rattle.rv_monitor.proofs.Sound.{live_in_range}
-use Rattle.rv_monitor.proofs.StepKept.{after_trap, same_in}
+use Rattle.rv_monitor.proofs.StepKept.{same_in, trapped_here}
+use Rattle.rv_monitor.proofs.TrapSteps.{by_step, seat_after}
 use Rattle.rv_monitor.proofs.Works.{AsksFor, by_work}
+
+-- ---- bytes that are put elsewhere
+
+put_by : (memory : List ℕ) (address : ℕ) (bytes : List ℕ) (byte : ℕ) (o : Option (List ℕ)) → write memory address bytes ≡ o
+    → byte < address ⊎ address + length bytes ≤ byte → byte_at (option_case o memory (λ after. after)) byte ≡ byte_at memory byte
+put_by memory address bytes byte None is apart = refl
+put_by memory address bytes byte (Some after) is apart = byte_at-write memory address bytes after byte is apart
+
+outside : (block : Block) (byte : ℕ) → has block byte ≡ false → byte < block.base ⊎ block.base + block.size ≤ byte
+outside block byte none = elim (cases_lt byte block.base) [
+  | inl below ↦ inl below
+  | inr low ↦ elim (cases_lt byte (block.base + block.size)) [
+    | inl high ↦ absurd (both_ways _ none (and_from _ _ (le-leb block.base byte low) (lt-ltb byte (block.base + block.size) high)))
+    | inr past ↦ inr past
+  ]
+]
+
+zeroed_spares : (memory : List ℕ) (block : Block) (byte : ℕ) → has block byte ≡ false → byte_at (zeroed memory block) byte ≡ byte_at memory byte
+zeroed_spares memory block byte none =
+    let long : length (replicate block.size 0) ≡ block.size = length-replicate {A = ℕ} block.size 0 in
+    put_by memory block.base (replicate block.size 0) byte (write memory block.base (replicate block.size 0)) refl (rw long (outside block byte none))
 
 -- ---- the monitor's work
 
@@ -147,9 +171,6 @@ module _ (beside : List World) (seat : Seat) (shared : Shared) (trapped : IsTrap
 
 -- ---- the bare step
 
-abbrev bare_of : MonitoredState → State
-bare_of state = record { hart = state.seat.hart; memory = state.shared.memory }
-
 module _ (state : MonitoredState) (kept : IsKept state) (byte : ℕ) where
   abbrev Stored : Option Span → List ℕ → Type 0
   Stored stored memory = byte_at memory byte ≡ byte_at state.shared.memory byte ⊎ IsStoredInReach state.seat.world state.shared stored byte
@@ -157,7 +178,7 @@ module _ (state : MonitoredState) (kept : IsKept state) (byte : ℕ) where
   data_below : data_mode state.seat.hart ≢ M
   data_below = below_M (data_mode state.seat.hart) (rw (clear_mode state.seat.hart kept.layout.mprv) kept.layout.mode)
 
-  stored_by : (stored : Option Span) (bytes after : List ℕ) → MayTouch (bare_of state) (data_mode state.seat.hart) Write stored
+  stored_by : (stored : Option Span) (bytes after : List ℕ) → MayTouch (bare state) (data_mode state.seat.hart) Write stored
       → Stores bytes state.shared.memory after stored → Stored stored after
   stored_by None bytes after may is = inl (ap (λ (memory : List ℕ). byte_at memory byte) is)
   stored_by (Some span) bytes after may stores =
@@ -177,56 +198,23 @@ module _ (state : MonitoredState) (kept : IsKept state) (byte : ℕ) where
         ]
       ]
 
-  bare_changes : (after : Stepped) → IsConfined (bare_of state) after → TouchesPermitted (bare_of state) after
+  bare_changes : (after : Stepped) → IsConfined (bare state) after → TouchesPermitted (bare state) after
       → Stored after.outcome.touched.stored after.state.memory
   bare_changes after is may =
       let agree : AgreeOn state.shared.memory state.shared.memory after.outcome.touched =
       record { size = refl; fetched = same_in state.shared.memory after.outcome.touched.fetched; loaded = same_in state.shared.memory after.outcome.touched.loaded } in
       stored_by after.outcome.touched.stored is.bytes after.state.memory may.stored (is.alike state.shared.memory agree).here
 
-  abbrev seat_after : Stepped → Seat
-  seat_after after = record state.seat { hart = after.state.hart }
-
-  abbrev shared_after : Stepped → Shared
-  shared_after after = record state.shared { memory = after.state.memory }
-
-  abbrev ended : Stepped → Option Trap → MonitoredStepped
-  ended after o =
-      option_case o (unhandled state.other after.outcome (seat_after after) (shared_after after))
-      (λ trap. returned state.other after.outcome (handled (seat_after after) (shared_after after) trap))
-
-  abbrev Changed : Stepped → Option Trap → Type 0
-  Changed after o =
-      byte_at (ended after o).state.shared.memory byte ≡ byte_at state.shared.memory byte
-      ⊎ IsChanged state (ended after o) byte
-
-  same_if : (o : Option Trap) (trap : Trap) (after : State) → o ≡ Some trap
-      → IfSome o (λ trap. (after.hart ≡ step_counted (trapped state.seat.hart trap) false state.seat.hart.csrs.mcountinhibit None) × (after.memory ≡ state.shared.memory))
-      → (after.hart.regs ≡ state.seat.hart.regs) × (after.memory ≡ state.shared.memory)
-  same_if None trap after is keeps = cc
-  same_if (Some other) trap after is keeps = (ap (λ (h : Hart). h.regs) keeps.0, keeps.1)
-
-  by_trap : (after : Stepped) (o : Option Trap) → after.outcome.trap ≡ o → IsConfined (bare_of state) after
-      → TouchesPermitted (bare_of state) after → TrapKeeps (bare_of state) after → Changed after o
-  by_trap after None is confined_by may keeps = elim (bare_changes after confined_by may) [ inl same ↦ inl same | inr stored ↦ inr (inl stored) ]
-  by_trap after (Some trap) is confined_by may keeps =
-      let trapped = after_trap state after trap is kept keeps confined_by in
-      let as_before = same_if after.outcome.trap trap after.state is keeps in
-      let work = handled_changes (worlds_beside state.other) (seat_after after) (shared_after after) trapped byte trap in
-      let end = (handled (seat_after after) (shared_after after) trap).shared in
-      elim work [
-        | inl same ↦ inl (same ∙ ap (λ (memory : List ℕ). byte_at memory byte) as_before.1)
-        | inr changed ↦
-            let moved = subst (λ (regs : List ℕ). ByMonitor state.seat.world regs (shared_after after) end byte) as_before.0 changed.1 in
-            let change = subst (λ (memory : List ℕ). ByMonitor state.seat.world state.seat.hart.regs (record state.shared { memory = memory }) end byte) as_before.1 moved in
-            inr (inr (record { trap = trap; trapped = is; is = changed.0; change = change }))
-      ]
-
 pub changes : ChangeLaw
-unfolding monitored_step
-changes state kept byte =
-    let before = bare_of state in
-    by_trap state kept byte (step before) (step before).outcome.trap refl (confined before) (touches_permitted before) (trap_keeps before)
+changes state kept byte = by_step state (λ after. byte_at after.state.shared.memory byte ≡ byte_at state.shared.memory byte ⊎ IsChanged state after byte)
+    (λ none. elim (bare_changes state kept byte (step (bare state)) (confined (bare state)) (touches_permitted (bare state))) [
+      | inl same ↦ inl same
+      | inr stored ↦ inr (inl stored)
+    ])
+    (λ trap is. elim (handled_changes (worlds_beside state.other) (seat_after state.seat trap) state.shared (trapped_here state trap kept) byte trap) [
+      | inl same ↦ inl same
+      | inr changed ↦ inr (inr (record { trap = trap; trapped = is; is = changed.0; change = changed.1 }))
+    ])
 
 -- ---- so many steps
 

@@ -25,36 +25,21 @@ use Rattle.rv_monitor.proofs.RunsAlike.{kept_law}
 use Rattle.rv_monitor.proofs.LastAct.{beside_as_is}
 use Rattle.rv_monitor.proofs.RunsSpare.{spared_twice}
 use Rattle.rv_monitor.proofs.StepKept.{worlds_stay}
+use Rattle.rv_monitor.proofs.TrapSteps.{by_step, seat_after}
 use Rattle.rv_monitor.proofs.Switched.{switch_law}
 use Rattle.rv_monitor.proofs.Turned.{seen_kept}
 
 -- ---- who runs on the other hart goes on there
 
-goes_on_by : (o : Option Trap) (beside : Option Seat) (outcome : StepOutcome) (seat : Seat) (shared : Shared)
-    → worlds_beside (option_case o (unhandled beside outcome seat shared) (λ trap. returned beside outcome (handled seat shared trap))).state.other ≡ worlds_beside beside
-goes_on_by None beside outcome seat shared = refl
-goes_on_by (Some trap) beside outcome seat shared = worlds_stay (handled seat shared trap).shared.table beside
-
 pub goes_on_beside : (state : MonitoredState) → worlds_beside (monitored_step state).state.other ≡ worlds_beside state.other
-unfolding monitored_step
-goes_on_beside state =
-    let after = step (bare state) in
-    goes_on_by after.outcome.trap state.other after.outcome (record state.seat { hart = after.state.hart }) (record state.shared { memory = after.state.memory })
+goes_on_beside state = by_step state (λ after. worlds_beside after.state.other ≡ worlds_beside state.other) (λ none. refl)
+    (λ trap is. worlds_stay (handled (seat_after state.seat trap) state.shared trap).shared.table state.other)
 
 -- ---- and its hart is as it was, but for the entries and mie
 
-seated_by : (o : Option Trap) (beside : Option Seat) (outcome : StepOutcome) (seat : Seat) (shared : Shared) → seated_beside shared.table beside ≡ beside
-    → (let after = option_case o (unhandled beside outcome seat shared) (λ trap. returned beside outcome (handled seat shared trap)) in
-    after.state.other ≡ seated_beside after.state.shared.table beside)
-seated_by None beside outcome seat shared is = sym is
-seated_by (Some trap) beside outcome seat shared is = refl
-
 pub seated_after : (state : MonitoredState) → IsKept state → (monitored_step state).state.other ≡ seated_beside (monitored_step state).state.shared.table state.other
-unfolding monitored_step
-seated_after state kept =
-    let after = step (bare state) in
-    seated_by after.outcome.trap state.other after.outcome (record state.seat { hart = after.state.hart }) (record state.shared { memory = after.state.memory })
-    (beside_as_is state.shared.table state.other kept.other)
+seated_after state kept = by_step state (λ after. after.state.other ≡ seated_beside after.state.shared.table state.other)
+    (λ none. sym (beside_as_is state.shared.table state.other kept.other)) (λ trap is. refl)
 
 -- ---- it is live, is not this hart's world, and is not entered by it
 

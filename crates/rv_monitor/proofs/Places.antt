@@ -4,6 +4,7 @@ use Rattle.std.specs.Prelude.{slice_index_or, if◌then◌else◌}
 use Rattle.rv_word.specs.Cases.{option_case}
 use Rattle.std.proofs.lemmas.List.{get_or_default, get_or-set_same, get_or-set_other}
 use Rattle.rv_monitor.specs.State.{MonitoredState, OnTurn, IsKept, count_of, seat_at_start, seated_beside, seen_by}
+use Rattle.rv_monitor.specs.Step.{MonitoredStepped, monitored_step}
 use Rattle.rv_monitor.specs.Table.{Slots}
 use Rattle.rv_monitor.specs.Turns.{seat_at, beside, count_in, on_turn, over, as_seen}
 use Rattle.rv_monitor.specs.declared.seat.Seat.{Seat}
@@ -103,3 +104,9 @@ first_by false turn is = omega (arith, is)
 
 pub first_has : (seats : Seats) → seats.turn ≡ 0 → seats.turn < count_in seats
 first_has seats is = first_by seats.are_two seats.turn is
+
+-- ---- a law of a step, said of the machine that stepped
+
+pub carried : (Law : MonitoredState → MonitoredStepped → Type 0) (seen machine : OnTurn) (after : MonitoredStepped) → seen ≡ machine
+    → monitored_step seen.state ≡ after → Law seen.state (monitored_step seen.state) → Law machine.state after
+carried Law seen machine after view means law = subst (λ (m : OnTurn). Law m.state after) view (subst (Law seen.state) means law)

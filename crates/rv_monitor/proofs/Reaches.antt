@@ -172,6 +172,26 @@ slot_in_range memory t w k b valid held = elim (cases_lt k 13) [
       absurd (both_ways _ (has_nothing b) (sym (ap (λ o. has (region_of o) b) nothing) ∙ held))
 ]
 
+-- what is in reach lies in no region of another enclave
+pub reached_apart : (memory : List ℕ) (t : Slots) (w : World) (access : Access) (a n k : ℕ) → IsValid memory t → is_world_of k w ≡ false
+    → in_reach memory t w access (bytes_from a n) ≡ true → (b : ℕ) → a ≤ b → b < a + n → has (region t k) b ≡ false
+reached_apart memory t w access a n k valid other reached b low high =
+    let apart_bytes = apart memory t valid in
+    elim (reach_cases memory t w access (bytes_from a n) reached) [
+      | inl host ↦
+          let parts = and_parts (not (has monitor_block b)) (not (is_in_region t b)) (and_parts (is_inside memory b 1) _ (each_from_all (host_has memory t) a n host.1 b low high)).1 in
+          false_from_ne_true _ (λ held. both_ways _
+          (none_from_any (λ j. has (region t j) b) 0 13 (not-true _ parts.1) k (omega arith) (slot_in_range memory t w k b valid held))
+          held)
+      | inr enclave ↦
+          let j = enclave.0 in
+          let apart : j ≢ k = λ same. both_ways _ other (rw enclave.1 (eq-eqb j k same)) in
+          elim enclave.2 [
+            | inl inner ↦ apart_bytes.regions_apart j k b apart (each_from_all (has (region t j)) a n inner b low high)
+            | inr outer ↦ false_from_ne_true _ (λ held. both_ways _ (apart_bytes.windows_apart k j b held) (each_from_all (has (window t j)) a n outer.1 b low high))
+          ]
+    ]
+
 module _ (memory : List ℕ) (t : Slots) (w : World) (mode : Mode) (access : Access) (a n : ℕ) (ram_size : length memory ≤ 0x1000000) (valid : IsValid memory t) (below : mode ≢ M) (some : 0 < n) (inside : (ram_base ≤ a) × (a + n ≤ ram_base + length memory)) where
   abbrev entries : Entries
   entries = layout t w
@@ -333,26 +353,9 @@ module _ (memory : List ℕ) (t : Slots) (w : World) (mode : Mode) (access : Acc
   pub reach_from : permits (verdict entries mode access bytes) ≡ in_reach memory t w access bytes
   reach_from = same_test _ _ there back
 
-  -- what is in reach lies in no region of another enclave
-  pub reached_apart : (k : ℕ) → is_world_of k w ≡ false → in_reach memory t w access bytes ≡ true → (b : ℕ) → a ≤ b → b < a + n → has (region t k) b ≡ false
-  reached_apart k other reached b low high = elim (reach_cases memory t w access bytes reached) [
-    | inl host ↦
-        let parts = and_parts (not (has monitor_block b)) (not (is_in_region t b)) (and_parts (is_inside memory b 1) _ (each_from_all (host_has memory t) a n host.1 b low high)).1 in
-        false_from_ne_true _ (λ held. both_ways _
-        (none_from_any (λ j. has (region t j) b) 0 13 (not-true _ parts.1) k (omega arith) (slot_in_range memory t w k b valid held))
-        held)
-    | inr enclave ↦
-        let j = enclave.0 in
-        let apart : j ≢ k = λ same. both_ways _ other (rw enclave.1 (eq-eqb j k same)) in
-        elim enclave.2 [
-          | inl inner ↦ apart_bytes.regions_apart j k b apart (each_from_all (has (region t j)) a n inner b low high)
-          | inr outer ↦ false_from_ne_true _ (λ held. both_ways _ (apart_bytes.windows_apart k j b held) (each_from_all (has (window t j)) a n outer.1 b low high))
-        ]
-  ]
-
   -- so no permitted access has a byte there
   pub permitted_apart : (k : ℕ) → is_world_of k w ≡ false → permits (verdict entries mode access bytes) ≡ true → (b : ℕ) → a ≤ b → b < a + n → has (region t k) b ≡ false
-  permitted_apart k other permitted = reached_apart k other (there permitted)
+  permitted_apart k other permitted = reached_apart memory t w access a n k valid other (there permitted)
 
 -- ---- the laws
 

@@ -15,32 +15,19 @@ use Rattle.rv_monitor.specs.declared.seat.Seat.{Seat}
 use Rattle.rv_monitor.specs.declared.shared.Shared.{Shared}
 use Rattle.rv_monitor.proofs.MonitoredAlike.{confidentiality}
 use Rattle.rv_monitor.proofs.Ready.{handled_done, handled_laid_out}
-use Rattle.rv_monitor.proofs.StepKept.{after_none, after_trap, returned_kept}
+use Rattle.rv_monitor.proofs.StepKept.{after_none, trapped_here, returned_kept}
+use Rattle.rv_monitor.proofs.TrapSteps.{by_step, seat_after}
 
 -- ---- a step keeps what is true
 
-module _ (state : MonitoredState) (kept : IsKept state) where
-  abbrev after : Stepped
-  after = step (bare state)
-
-  abbrev seat : Seat
-  seat = record state.seat { hart = after.state.hart }
-
-  abbrev shared : Shared
-  shared = record state.shared { memory = after.state.memory }
-
-  kept_by_trap : (o : Option Trap) → after.outcome.trap ≡ o
-      → IsKept (option_case o (unhandled state.other after.outcome seat shared) (λ trap. returned state.other after.outcome (handled seat shared trap))).state
-  kept_by_trap None is = after_none state after is kept (keeps_machine_parts (bare state)) (keeps_mprv_clear (bare state)) (confined (bare state))
-  kept_by_trap (Some trap) is =
-      let beside = worlds_beside state.other in
-      returned_kept state.shared.table state.other (handled seat shared trap)
-      (handled_done beside seat shared trap (after_trap state after trap is kept (trap_keeps (bare state)) (confined (bare state))))
-      (handled_laid_out seat shared trap) kept.other
-
 pub kept_law : KeptLaw
-unfolding monitored_step
-kept_law state kept = kept_by_trap state kept (step (bare state)).outcome.trap refl
+kept_law state kept = by_step state (λ after. IsKept after.state)
+    (λ none. after_none state (step (bare state)) none kept (keeps_machine_parts (bare state)) (keeps_mprv_clear (bare state)) (confined (bare state)))
+    (λ trap is.
+    let beside = worlds_beside state.other in
+    let seat = seat_after state.seat trap in
+    returned_kept state.shared.table state.other (handled seat state.shared trap) (handled_done beside seat state.shared trap (trapped_here state trap kept))
+    (handled_laid_out seat state.shared trap) kept.other)
 
 -- ---- runs
 

@@ -85,6 +85,11 @@ trapped_at state trap memory kept size = record {
   pc = multiple state.seat.hart.pc;
 }
 
+-- after the trap itself
+pub trapped_here : (state : MonitoredState) (trap : Trap) → IsKept state
+    → IsTrapped (worlds_beside state.other) (seat_after state (step_counted (trapped state.seat.hart trap) false state.seat.hart.csrs.mcountinhibit None)) state.shared
+trapped_here state trap kept = trapped_at state trap state.shared.memory kept refl
+
 trapped_if : (state : MonitoredState) (o : Option Trap) (trap : Trap) (hart : Hart) (memory : List ℕ) → o ≡ Some trap → IsKept state → length state.shared.memory ≡ length memory
     → IfSome o (λ t. (hart ≡ step_counted (trapped state.seat.hart t) false state.seat.hart.csrs.mcountinhibit None) × (memory ≡ state.shared.memory))
     → IsTrapped (worlds_beside state.other) (seat_after state hart) (shared_after state memory)

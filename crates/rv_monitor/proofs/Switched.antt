@@ -28,7 +28,7 @@ use Rattle.rv_monitor.specs.declared.seat.Seat.{Seat}
 use Rattle.rv_monitor.specs.declared.shared.Shared.{Shared}
 use Rattle.rv_monitor.specs.declared.world.World.{World}
 use Rattle.rv_monitor.specs.declared.world.World.TheVariants.{Host, Enclave}
-use Rattle.rv_monitor.proofs.TrapSteps.{hart_after, seat_after}
+use Rattle.rv_monitor.proofs.TrapSteps.{by_step, seat_after}
 use Rattle.rv_monitor.proofs.Works.{by_work}
 
 -- ---- what the monitor's work does to a seat
@@ -112,20 +112,13 @@ runs_on seat x y h (inl stays) before after = stays.host
 runs_on seat x y h (inr (inl enters)) before after = absurd (both_ways _ before (ap is_host enters.from_host))
 runs_on seat x y h (inr (inr leaves)) before after = absurd (both_ways _ after (ap is_host leaves.world))
 
-runs_on_by : (other : Option Seat) (outcome : StepOutcome) (seat : Seat) (shared : Shared) (o : Option Trap) → is_host seat.world ≡ false
-    → (let after = option_case o (unhandled other outcome seat shared) (λ t. returned other outcome (handled seat shared t)) in
-    is_host after.state.seat.world ≡ false → after.state.seat.host_context ≡ seat.host_context)
-runs_on_by other outcome seat shared None before after = refl
-runs_on_by other outcome seat shared (Some trap) before after =
-    runs_on seat (reason trap.cause seat.hart.regs) (value trap.cause seat.hart.regs) (handled seat shared trap) (handled_turns seat shared trap) before after
-
 pub kept_between : (state : MonitoredState) → is_host state.seat.world ≡ false → is_host (monitored_step state).state.seat.world ≡ false
     → (monitored_step state).state.seat.host_context ≡ state.seat.host_context
-unfolding monitored_step
-kept_between state before after =
-    let bare_after = step (bare state) in
-    runs_on_by state.other bare_after.outcome (record state.seat { hart = bare_after.state.hart }) (record state.shared { memory = bare_after.state.memory })
-    bare_after.outcome.trap before after
+kept_between state before = by_step state (λ after. is_host after.state.seat.world ≡ false → after.state.seat.host_context ≡ state.seat.host_context)
+    (λ none after. refl)
+    (λ trap is after.
+    let seat = seat_after state.seat trap in
+    runs_on seat (reason trap.cause seat.hart.regs) (value trap.cause seat.hart.regs) (handled seat state.shared trap) (handled_turns seat state.shared trap) before after)
 
 -- ---- the step
 
@@ -169,18 +162,7 @@ module _ (state : MonitoredState) (kept : IsKept state) (stored : HostIsStored s
         entered = leaves.entered;
       }))
 
-switched_by : (state : MonitoredState) (o : Option Trap) (outcome : StepOutcome) (hart : Hart) (memory : List ℕ) → IsKept state → HostIsStored state.seat → outcome.trap ≡ o
-    → IfSome o (λ t. (hart ≡ hart_after state.seat.hart t) × (memory ≡ state.shared.memory))
-    → StaysOrSwitches state (option_case o (unhandled state.other outcome (record state.seat { hart = hart }) (record state.shared { memory = memory }))
-    (λ t. returned state.other outcome (handled (record state.seat { hart = hart }) (record state.shared { memory = memory }) t)))
-switched_by state None outcome hart memory kept stored is keeps = inl (record { world = refl; host = refl; entered = refl })
-switched_by state (Some trap) outcome hart memory kept stored is keeps =
-    let hart_is = keeps.0 in
-    let shared = record state.shared { memory = memory } in
-    rw hart_is (returned_turns state kept stored trap outcome _ is (handled_turns (seat_after state.seat trap) shared trap))
-
 pub switch_law : SwitchLaw
-unfolding monitored_step
-switch_law state kept stored =
-    let after = step (bare state) in
-    switched_by state after.outcome.trap after.outcome after.state.hart after.state.memory kept stored refl (trap_keeps (bare state))
+switch_law state kept stored = by_step state (StaysOrSwitches state)
+    (λ none. inl (record { world = refl; host = refl; entered = refl }))
+    (λ trap is. returned_turns state kept stored trap (step (bare state)).outcome _ is (handled_turns (seat_after state.seat trap) state.shared trap))

@@ -9,7 +9,7 @@ use Rattle.rv_hart.specs.declared.trap.Trap.{Trap}
 use Rattle.rv_hart.proofs.StepLaws.{trap_keeps}
 use Rattle.rv_monitor.specs.Confidentiality.{bare}
 use Rattle.rv_monitor.specs.State.{MonitoredState}
-use Rattle.rv_monitor.specs.Step.{handled, monitored_step, returned, unhandled}
+use Rattle.rv_monitor.specs.Step.{MonitoredStepped, handled, monitored_step, returned, unhandled}
 use Rattle.rv_monitor.specs.declared.seat.Seat.{Seat}
 use Rattle.rv_monitor.specs.declared.shared.Shared.{Shared}
 
@@ -20,34 +20,49 @@ hart_after hart trap = step_counted (trapped hart trap) false hart.csrs.mcountin
 abbrev pub seat_after : Seat → Trap → Seat
 seat_after seat trap = record seat { hart = hart_after seat.hart trap }
 
--- what the step shows of the hart's own
-shows_step : (o : Option Trap) (beside : Option Seat) (outcome : StepOutcome) (seat : Seat) (shared : Shared)
-    → (option_case o (unhandled beside outcome seat shared) (λ trap. returned beside outcome (handled seat shared trap))).outcome.step ≡ outcome
-shows_step None beside outcome seat shared = refl
-shows_step (Some trap) beside outcome seat shared = refl
+-- ---- the two ways of a step
 
-pub same_outcome : (state : MonitoredState) → (monitored_step state).outcome.step ≡ (step (bare state)).outcome
-unfolding monitored_step
-same_outcome state =
+-- without a trap
+abbrev pub untrapped : MonitoredState → MonitoredStepped
+untrapped state =
     let after = step (bare state) in
-    shows_step after.outcome.trap state.other after.outcome (record state.seat { hart = after.state.hart }) (record state.shared { memory = after.state.memory })
+    unhandled state.other after.outcome (record state.seat { hart = after.state.hart }) (record state.shared { memory = after.state.memory })
 
-trapped_by : (state : MonitoredState) (trap : Trap) (o : Option Trap) (outcome : StepOutcome) (hart : Hart) (memory : List ℕ) → o ≡ Some trap
+-- with one, which the monitor handles
+abbrev pub trapped_to : MonitoredState → Trap → MonitoredStepped
+trapped_to state trap = returned state.other (step (bare state)).outcome (handled (seat_after state.seat trap) state.shared trap)
+
+by-end : (state : MonitoredState) (P : MonitoredStepped → Type 0) (o : Option Trap) (outcome : StepOutcome) (hart : Hart) (memory : List ℕ)
     → IfSome o (λ t. (hart ≡ hart_after state.seat.hart t) × (memory ≡ state.shared.memory))
-    → option_case o (unhandled state.other outcome (record state.seat { hart = hart }) (record state.shared { memory = memory }))
-    (λ t. returned state.other outcome (handled (record state.seat { hart = hart }) (record state.shared { memory = memory }) t))
-    ≡ returned state.other outcome (handled (seat_after state.seat trap) state.shared trap)
-trapped_by state trap None outcome hart memory is keeps = cc
-trapped_by state trap (Some t) outcome hart memory is keeps =
-    let same : t ≡ trap = cc in
+    → (let seat = record state.seat { hart = hart } in
+    let shared = record state.shared { memory = memory } in
+    (o ≡ None → P (unhandled state.other outcome seat shared))
+    → ((trap : Trap) → o ≡ Some trap → P (returned state.other outcome (handled (seat_after state.seat trap) state.shared trap)))
+    → P (option_case o (unhandled state.other outcome seat shared) (λ t. returned state.other outcome (handled seat shared t))))
+by-end state P None outcome hart memory keeps quiet traps = quiet refl
+by-end state P (Some trap) outcome hart memory keeps quiet traps =
     let hart_is = keeps.0 in
     let memory_is = keeps.1 in
-    rw (hart_is, memory_is, same) refl
+    rw (hart_is, memory_is) (traps trap refl)
 
-pub trapped_step : (state : MonitoredState) (trap : Trap) → (monitored_step state).outcome.step.trap ≡ Some trap
-    → monitored_step state ≡ returned state.other (step (bare state)).outcome (handled (seat_after state.seat trap) state.shared trap)
+-- what holds of each holds of the step
+pub by_step : (state : MonitoredState) (P : MonitoredStepped → Type 0) → ((step (bare state)).outcome.trap ≡ None → P (untrapped state))
+    → ((trap : Trap) → (step (bare state)).outcome.trap ≡ Some trap → P (trapped_to state trap)) → P (monitored_step state)
 unfolding monitored_step
-trapped_step state trap is =
+by_step state P quiet traps =
     let after = step (bare state) in
-    let trap_is : after.outcome.trap ≡ Some trap = sym (ap (λ (o : StepOutcome). o.trap) (same_outcome state)) ∙ is in
-    trapped_by state trap after.outcome.trap after.outcome after.state.hart after.state.memory trap_is (trap_keeps (bare state))
+    by-end state P after.outcome.trap after.outcome after.state.hart after.state.memory (trap_keeps (bare state)) quiet traps
+
+-- what the step shows of the hart's own
+pub same_outcome : (state : MonitoredState) → (monitored_step state).outcome.step ≡ (step (bare state)).outcome
+same_outcome state =
+    by_step state (λ after. after.outcome.step ≡ (step (bare state)).outcome) (λ none. refl) (λ trap is. refl)
+
+pub trapped_step : (state : MonitoredState) (trap : Trap) → (monitored_step state).outcome.step.trap ≡ Some trap → monitored_step state ≡ trapped_to state trap
+trapped_step state trap =
+    by_step state (λ after. after.outcome.step.trap ≡ Some trap → after ≡ trapped_to state trap)
+    (λ none is. let never : None ≡ Some trap = sym none ∙ is in cc)
+    (λ other there is.
+    let traps : Some other ≡ Some trap = sym there ∙ is in
+    let same : other ≡ trap = cc in
+    ap (trapped_to state) same)
