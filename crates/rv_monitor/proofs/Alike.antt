@@ -4,22 +4,12 @@ use Rattle.std.specs.Prelude.{nat_le, nat_lt, is_some}
 use Rattle.std.proofs.lemmas.Bool.{cases_Bool, cases_eq, both_ways, and_parts, and_from, leb-true, ltb-true, le-leb, lt-ltb}
 use Rattle.std.proofs.lemmas.List.{same_lists, get_or_default}
 use Rattle.std.proofs.lemmas.Grind.{same_number_lists}
-use Rattle.rv_word.specs.Cases.{option_case}
-use Rattle.rv_memory.specs.Memory.{is_inside, read}
-use Rattle.rv_monitor.specs.AgreeBut.{is_private, AgreeOutside, SameContexts, SharedButFor}
-use Rattle.rv_monitor.specs.Blocks.{has, meets, is_lawful, is_block_size}
-use Rattle.rv_monitor.specs.Contexts.{Contexts, context_at, with_context, first_context}
-use Rattle.rv_monitor.specs.Create.{created, new_slot, recorded, with_enclave, measurement_of}
-use Rattle.rv_monitor.specs.Destroy.{destroyed, without, zeroed}
-use Rattle.rv_monitor.specs.Measure.{measured, measurement_at, with_bytes}
-use Rattle.rv_monitor.specs.Table.{Slots, slot_at, with_slot, with_state, is_live, region, region_of, IsValid, IsLawfulSlot}
-use Rattle.rv_monitor.specs.declared.block.Block.{Block}
+use Rattle.rv_memory.specs.Memory.{read}
+use Rattle.rv_monitor.specs.AgreeBut.{SameContexts}
+use Rattle.rv_monitor.specs.Create.{with_enclave}
+use Rattle.rv_monitor.specs.Destroy.{without}
 use Rattle.rv_monitor.specs.declared.call.Call.TheVariants as calls
-use Rattle.rv_monitor.specs.declared.context.Context.{Context}
-use Rattle.rv_monitor.specs.declared.proposal.Proposal.{Proposal}
-use Rattle.rv_monitor.specs.declared.shared.Shared.{Shared}
-use Rattle.rv_monitor.specs.declared.slot_info.EnclaveState.{EnclaveState}
-use Rattle.rv_monitor.specs.declared.slot_info.SlotInfo.{SlotInfo}
+use Rattle.rv_monitor.proofs.Prelude.{AgreeOutside, Block, Context, Contexts, EnclaveState, IsLawfulSlot, IsValid, Proposal, Shared, SharedButFor, SlotInfo, Slots, context_at, created, destroyed, first_context, has, is_block_size, is_inside, is_lawful, is_live, is_private, measured, measurement_at, measurement_of, meets, new_slot, option_case, recorded, region, region_of, slot_at, with_bytes, with_context, with_slot, with_state, zeroed}
 use Rattle.rv_monitor.proofs.Agreement.{IsSeen, inside-is, same_read, read-none, write-alike, zeros-alike}
 use Rattle.rv_monitor.proofs.BlockLaws.{meets_at}
 use Rattle.rv_monitor.proofs.SavedLists.{same_at_set, same_after_set, length_after}

@@ -2,34 +2,11 @@
 use Rattle.std.proofs.Common.{◌≡◌, ℕ, ◌+◌, ◌==◌, Bool, true, false, List, length, replicate, Option, Some, None, Result, Ok, Err, refl, sym, ap, ap₂, subst, inl, inr, arith}
 use Rattle.std.specs.Prelude.{not, slice_index}
 use Rattle.std.proofs.lemmas.Bool.{cases_eq, eq-eqb, both_ways, ne_eqb}
-use Rattle.rv_word.specs.Cases.{option_case, result_case}
-use Rattle.rv_memory.specs.Memory.{ram_base, write}
-use Rattle.rv_state.specs.declared.cause.Cause.{Cause}
-use Rattle.rv_hart.specs.Step.{step}
-use Rattle.rv_hart.specs.declared.trap.StepOutcome.{StepOutcome}
-use Rattle.rv_hart.specs.declared.trap.Trap.{Trap}
-use Rattle.rv_monitor.specs.AgreeBut.{AgreeOutside}
+use Rattle.rv_word.specs.Cases.{result_case}
 use Rattle.rv_monitor.specs.Asked.{asked_by, is_entering, SameAsked, SameWhereSame, SameWork, AskedLaw, SameStep, AskedStepLaw}
-use Rattle.rv_monitor.specs.CallRefusals.{a0, a1}
-use Rattle.rv_monitor.specs.Calls.{status_of}
-use Rattle.rv_monitor.specs.Confidentiality.{bare}
-use Rattle.rv_monitor.specs.Contexts.{Contexts, context_at, exited_context, first_context, kept_context, with_context}
-use Rattle.rv_monitor.specs.Create.{bytes_of_block, created, measurement_of, new_slot, proposed, recorded}
-use Rattle.rv_monitor.specs.Destroy.{destroyed}
-use Rattle.rv_monitor.specs.Leaving.{state_after}
-use Rattle.rv_monitor.specs.Measure.{measured, measured_slot, measurement_at}
-use Rattle.rv_monitor.specs.State.{MonitoredState, seated, seated_beside}
-use Rattle.rv_monitor.specs.Step.{MonitoredStepped, answered, handled, monitored_step, returned, returned_to, with_layout}
-use Rattle.rv_monitor.specs.Switches.{Handled, entered, left_slot}
-use Rattle.rv_monitor.specs.Table.{Slots, region, with_slot, with_state}
-use Rattle.rv_monitor.specs.declared.call.Call.{Call}
-use Rattle.rv_monitor.specs.declared.call.Call.TheVariants.{Create}
-use Rattle.rv_monitor.specs.declared.context.Context.{Context}
+use Rattle.rv_monitor.specs.Create.{bytes_of_block}
 use Rattle.rv_monitor.specs.declared.next.Next.{Next}
-use Rattle.rv_monitor.specs.declared.proposal.Proposal.{Proposal}
-use Rattle.rv_monitor.specs.declared.seat.Seat.{Seat}
-use Rattle.rv_monitor.specs.declared.shared.Shared.{Shared}
-use Rattle.rv_monitor.specs.declared.slot_info.EnclaveState.TheVariants.{Running}
+use Rattle.rv_monitor.proofs.Prelude.{AgreeOutside, Call, Cause, Context, Contexts, Create, Handled, MonitoredState, MonitoredStepped, Proposal, Running, Seat, Shared, Slots, StepOutcome, Trap, a0, a1, answered, bare, context_at, created, destroyed, entered, exited_context, first_context, handled, kept_context, left_slot, measured, measured_slot, measurement_at, measurement_of, monitored_step, new_slot, option_case, proposed, ram_base, recorded, region, returned, returned_to, seated, seated_beside, state_after, status_of, step, with_context, with_layout, with_slot, with_state, write}
 use Rattle.rv_monitor.proofs.Agreement.{or_same, write-alike}
 use Rattle.rv_monitor.proofs.SavedLists.{same_after_set}
 use Rattle.rv_monitor.proofs.TrapSteps.{seat_after, trapped_step}

@@ -1,22 +1,10 @@
 -- A bare step of a kept state neither depends on a region that is not the world's nor changes it.
 use Rattle.std.proofs.Common.{◌≡◌, ℕ, Bool, false, List, Option, Some, None}
-use Rattle.rv_word.specs.Widths.{bytes_in}
-use Rattle.rv_pmp.specs.declared.access.Access.{Access}
-use Rattle.rv_pmp.specs.declared.access.Access.TheVariants.{Fetch, Read}
-use Rattle.rv_pmp.specs.declared.mode.Mode.{Mode}
-use Rattle.rv_memory.specs.declared.touched.Span.{Span}
 use Rattle.rv_memory.specs.declared.touched.Touched.{Touched}
-use Rattle.rv_state.specs.Interrupts.{is_machine}
-use Rattle.rv_hart.proofs.Confined.{confined}
-use Rattle.rv_hart.proofs.StepLaws.{touches_permitted}
-use Rattle.rv_hart.specs.Confinement.{SameIn, AgreeOn, Stores}
-use Rattle.rv_hart.specs.Permitted.{MayTouch, MayTouchAll}
-use Rattle.rv_hart.specs.State.{State}
-use Rattle.rv_hart.specs.Step.{step, data_mode}
-use Rattle.rv_monitor.specs.AgreeBut.{AgreeOutside, is_private}
-use Rattle.rv_monitor.specs.Confidentiality.{BareLaw, StepAlike, bare}
-use Rattle.rv_monitor.specs.State.{MonitoredState, IsKept}
-use Rattle.rv_monitor.specs.Table.{is_world_of}
+use Rattle.rv_hart.specs.Confinement.{SameIn}
+use Rattle.rv_hart.specs.Permitted.{MayTouchAll}
+use Rattle.rv_monitor.specs.Confidentiality.{BareLaw, StepAlike}
+use Rattle.rv_monitor.proofs.Prelude.{Access, AgreeOn, AgreeOutside, Fetch, IsKept, MayTouch, Mode, MonitoredState, Read, Span, State, Stores, bare, bytes_in, confined, data_mode, is_machine, is_private, is_world_of, step, touches_permitted}
 use Rattle.rv_monitor.proofs.Agreement.{IsSeen, same_read, same_write}
 use Rattle.rv_monitor.proofs.KeptReaches.{below_M, clear_mode}
 use Rattle.rv_monitor.proofs.Reaches.{permitted_apart, small_ram, inside_is, some_bytes}

@@ -3,49 +3,16 @@ use Rattle.std.proofs.Common.{◌≡◌, ◌≢◌, ℕ, zero, suc, ◌+◌, ◌
 use Rattle.std.specs.Prelude.{is_some}
 use Rattle.std.proofs.lemmas.Bool.{both_ways, cases_lt, cases_Bool, and_from, and_parts, le-leb, lt-ltb}
 use Rattle.std.proofs.lemmas.List.{length-replicate}
-use Rattle.rv_word.specs.Cases.{option_case}
-use Rattle.rv_word.specs.Widths.{bytes_in}
 use Rattle.rv_word.specs.declared.width.Width.TheVariants.{Byte}
 use Rattle.rv_pmp.proofs.VerdictLemmas.{each_from_all}
-use Rattle.rv_pmp.specs.Entries.{Entries}
-use Rattle.rv_pmp.specs.Verdicts.{bytes_from, permits, verdict}
-use Rattle.rv_pmp.specs.declared.access.Access.TheVariants.{Write}
-use Rattle.rv_pmp.specs.declared.mode.Mode.TheVariants.{S, M}
-use Rattle.rv_memory.specs.Memory.{byte_at, is_inside, write}
-use Rattle.rv_memory.specs.declared.touched.Span.{Span}
 use Rattle.rv_memory.proofs.MemoryLaws.{byte_at-write}
-use Rattle.rv_hart.specs.Confinement.{IsConfined, Stores, AgreeOn}
-use Rattle.rv_hart.specs.Hart.{trapped, step_counted}
-use Rattle.rv_hart.specs.HartState.{Hart}
-use Rattle.rv_hart.specs.Permitted.{MayTouch, TouchesPermitted}
-use Rattle.rv_hart.specs.State.{State, Stepped}
-use Rattle.rv_hart.specs.Step.{step, data_mode}
+use Rattle.rv_hart.specs.Confinement.{IsConfined}
+use Rattle.rv_hart.specs.Permitted.{TouchesPermitted}
 use Rattle.rv_hart.specs.StepLaws.{TrapKeeps}
-use Rattle.rv_hart.specs.declared.trap.Trap.{Trap}
-use Rattle.rv_hart.proofs.Confined.{confined}
-use Rattle.rv_hart.proofs.StepLaws.{touches_permitted, trap_keeps}
 use Rattle.rv_monitor.specs.Asked.{is_call}
-use Rattle.rv_monitor.specs.Blocks.{has}
-use Rattle.rv_monitor.specs.CallRefusals.{a0, a1}
-use Rattle.rv_monitor.specs.Calls.{asked_in}
 use Rattle.rv_monitor.specs.Changes.{IsStoredInReach, IsMeasured, ByMonitor, IsChanged, IsChangedWithin, ChangeLaw, RunsChangeLaw}
-use Rattle.rv_monitor.specs.Create.{created}
-use Rattle.rv_monitor.specs.Confidentiality.{bare}
-use Rattle.rv_monitor.specs.Destroy.{destroyed, zeroed}
-use Rattle.rv_monitor.specs.Layout.{layout}
-use Rattle.rv_monitor.specs.Measure.{measured, measured_slot, measure_refusals, may_store, may_store_all, with_bytes}
-use Rattle.rv_monitor.specs.Refusals.{first_refusal}
-use Rattle.rv_monitor.specs.State.{MonitoredState, IsKept, worlds_beside}
-use Rattle.rv_monitor.specs.Step.{MonitoredStepped, handled, monitored_step, returned, unhandled}
-use Rattle.rv_monitor.specs.Switches.{Handled, entered, left_slot}
-use Rattle.rv_monitor.specs.Table.{slot_at, with_slot, region, is_live, IsValid, IsLawfulSlot}
-use Rattle.rv_monitor.specs.declared.block.Block.{Block}
-use Rattle.rv_monitor.specs.declared.call.Call.{Call}
-use Rattle.rv_monitor.specs.declared.call.Call.TheVariants.{Destroy, Measure}
-use Rattle.rv_monitor.specs.declared.seat.Seat.{Seat}
-use Rattle.rv_monitor.specs.declared.shared.Shared.{Shared}
-use Rattle.rv_monitor.specs.declared.slot_info.SlotInfo.{SlotInfo}
-use Rattle.rv_monitor.specs.declared.world.World.{World}
+use Rattle.rv_monitor.specs.Measure.{measure_refusals, may_store, may_store_all}
+use Rattle.rv_monitor.proofs.Prelude.{AgreeOn, Block, Call, Destroy, Entries, Handled, Hart, IsKept, IsLawfulSlot, IsValid, M, MayTouch, Measure, MonitoredState, MonitoredStepped, S, Seat, Shared, SlotInfo, Span, State, Stepped, Stores, Trap, World, Write, a0, a1, asked_in, bare, byte_at, bytes_from, bytes_in, confined, created, data_mode, destroyed, entered, first_refusal, handled, has, is_inside, is_live, layout, left_slot, measured, measured_slot, monitored_step, option_case, permits, region, returned, slot_at, step, step_counted, touches_permitted, trap_keeps, trapped, unhandled, verdict, with_bytes, with_slot, worlds_beside, write, zeroed}
 use Rattle.rv_monitor.proofs.KeptReaches.{kept_reach, below_M, clear_mode}
 use Rattle.rv_monitor.proofs.Ready.{IsTrapped}
 use Rattle.rv_monitor.proofs.Reaches.{reach_law}

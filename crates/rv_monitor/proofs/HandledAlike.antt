@@ -1,29 +1,10 @@
 -- The monitor's work after a trap, from two shared parts that agree but for what is private to an enclave.
 use Rattle.std.proofs.Common.{◌≡◌, ◌≢◌, ℕ, ◌==◌, true, false, List, length, Option, Some, None, refl, sym, ◌∙◌, ap, subst, inl, inr}
 use Rattle.std.proofs.lemmas.Bool.{cases_Bool, cases_eq, both_ways, ne_eqb, eq-eqb}
-use Rattle.rv_hart.specs.declared.trap.Trap.{Trap}
-use Rattle.rv_monitor.specs.AgreeBut.{is_private, AgreeOutside, SameContexts, SharedButFor}
-use Rattle.rv_monitor.specs.CallRefusals.{a0, a1}
-use Rattle.rv_monitor.specs.Calls.{status_of}
+use Rattle.rv_monitor.specs.AgreeBut.{SameContexts}
 use Rattle.rv_monitor.specs.Confidentiality.{HandledAlike, HandlerLaw}
-use Rattle.rv_monitor.specs.Contexts.{Contexts, kept_context, with_context}
-use Rattle.rv_monitor.specs.Create.{created, new_slot, proposed}
-use Rattle.rv_monitor.specs.Destroy.{destroyed}
-use Rattle.rv_monitor.specs.Leaving.{state_after}
-use Rattle.rv_monitor.specs.Measure.{measured, measured_slot}
-use Rattle.rv_monitor.specs.State.{IsSound, seated}
-use Rattle.rv_monitor.specs.Step.{answered, handled, with_layout}
-use Rattle.rv_monitor.specs.Switches.{entered, left_slot}
-use Rattle.rv_monitor.specs.Table.{Slots, with_state, is_live, is_world_of}
-use Rattle.rv_monitor.specs.declared.call.Call.TheVariants.{Destroy}
-use Rattle.rv_monitor.specs.declared.context.Context.{Context}
-use Rattle.rv_monitor.specs.declared.proposal.Proposal.{Proposal}
-use Rattle.rv_monitor.specs.declared.seat.Seat.{Seat}
-use Rattle.rv_monitor.specs.declared.shared.Shared.{Shared}
-use Rattle.rv_monitor.specs.declared.slot_info.EnclaveState.{EnclaveState}
 use Rattle.rv_monitor.specs.declared.slot_info.EnclaveState.TheVariants as states
-use Rattle.rv_monitor.specs.declared.world.World.{World}
-use Rattle.rv_monitor.specs.declared.world.World.TheVariants.{Host, Enclave}
+use Rattle.rv_monitor.proofs.Prelude.{AgreeOutside, Context, Contexts, Destroy, Enclave, EnclaveState, Host, IsSound, Proposal, Seat, Shared, SharedButFor, Slots, Trap, World, a0, a1, answered, created, destroyed, entered, handled, is_live, is_private, is_world_of, kept_context, left_slot, measured, measured_slot, new_slot, proposed, seated, state_after, status_of, with_context, with_layout, with_state}
 use Rattle.rv_monitor.proofs.Alike.{itself, as_before, created_alike, destroyed_alike, measured_alike, switched_alike}
 use Rattle.rv_monitor.proofs.Refusals.{MayCreate, IsTaken}
 use Rattle.rv_monitor.proofs.Works.{by_work_of_both, entering, kept_by, leaving, over}

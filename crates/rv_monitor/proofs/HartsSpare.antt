@@ -3,21 +3,9 @@ use Rattle.std.proofs.Common.{◌≡◌, ℕ, zero, suc, Bool, true, false, List
 use Rattle.std.specs.Prelude.{◌||◌, is_some}
 use Rattle.std.specs.List.{list_any}
 use Rattle.std.proofs.lemmas.Bool.{cases_Bool, both_ways}
-use Rattle.rv_word.specs.Cases.{option_case}
-use Rattle.rv_hart.specs.Step.{step}
-use Rattle.rv_hart.specs.declared.trap.StepOutcome.{StepOutcome}
-use Rattle.rv_hart.specs.declared.trap.Trap.{Trap}
-use Rattle.rv_monitor.specs.Confidentiality.{bare}
 use Rattle.rv_monitor.specs.HartLaws.{sched, BesideLaw, IsLeftAlone, SchedSparesLaw, SchedChangeLaw}
-use Rattle.rv_monitor.specs.Integrity.{enters, IsSpared}
-use Rattle.rv_monitor.specs.State.{MonitoredState, IsKept, seen_by, turned, worlds_beside, seated_beside}
-use Rattle.rv_monitor.specs.Step.{MonitoredStepped, handled, monitored_step, returned, unhandled, step_of}
-use Rattle.rv_monitor.specs.SwitchLaws.{StaysOrSwitches}
-use Rattle.rv_monitor.specs.Table.{slot_at, is_live, is_running, is_world_of, runs}
-use Rattle.rv_monitor.specs.declared.seat.Seat.{Seat}
-use Rattle.rv_monitor.specs.declared.shared.Shared.{Shared}
-use Rattle.rv_monitor.specs.declared.slot_info.SlotInfo.{SlotInfo}
-use Rattle.rv_memory.specs.Memory.{byte_at}
+use Rattle.rv_monitor.specs.Integrity.{enters}
+use Rattle.rv_monitor.proofs.Prelude.{IsKept, IsSpared, MonitoredState, MonitoredStepped, Seat, Shared, SlotInfo, StaysOrSwitches, StepOutcome, Trap, bare, byte_at, handled, is_live, is_running, is_world_of, monitored_step, option_case, returned, runs, seated_beside, seen_by, slot_at, step, step_of, turned, unhandled, worlds_beside}
 use Rattle.rv_monitor.proofs.Changes.{changes}
 use Rattle.rv_monitor.proofs.HartsAlike.{step_kept}
 use Rattle.rv_monitor.proofs.Integrity.{integrity}

@@ -2,34 +2,9 @@
 use Rattle.std.proofs.Common.{◌≡◌, ◌≢◌, ℕ, ◌==◌, ◌⊎◌, true, false, List, Option, Some, None, refl, sym, ◌∙◌, ap, inl, inr, arith}
 use Rattle.std.specs.Prelude.{is_some}
 use Rattle.std.proofs.lemmas.Bool.{both_ways, cases_eq, eq-eqb}
-use Rattle.rv_word.specs.Cases.{option_case}
-use Rattle.rv_word.specs.Widths.{bytes_in}
-use Rattle.rv_memory.specs.Memory.{byte_at}
-use Rattle.rv_pmp.specs.declared.access.Access.TheVariants.{Write}
-use Rattle.rv_state.specs.Registers.{register}
-use Rattle.rv_hart.specs.declared.trap.Trap.{Trap}
-use Rattle.rv_monitor.specs.Blocks.{has}
-use Rattle.rv_monitor.specs.CallRefusals.{a0}
 use Rattle.rv_monitor.specs.Changes.{IsChanged}
-use Rattle.rv_monitor.specs.Contexts.{context_at, first_context, with_context}
-use Rattle.rv_monitor.specs.Create.{created, new_slot, proposed, recorded}
-use Rattle.rv_monitor.specs.Destroy.{destroyed}
-use Rattle.rv_monitor.specs.Integrity.{enters, IsSpared, IntegrityLaw}
-use Rattle.rv_monitor.specs.Leaving.{state_after}
-use Rattle.rv_monitor.specs.Measure.{measured}
-use Rattle.rv_monitor.specs.State.{MonitoredState, IsKept}
-use Rattle.rv_monitor.specs.Step.{handled, monitored_step, with_layout}
-use Rattle.rv_monitor.specs.Switches.{Handled, entered, left_slot}
-use Rattle.rv_monitor.specs.Table.{Slots, slot_at, with_slot, with_state, region, is_live, is_world_of, IsValid}
-use Rattle.rv_monitor.specs.declared.call.Call.TheVariants.{Destroy}
-use Rattle.rv_monitor.specs.declared.context.Context.{Context}
-use Rattle.rv_monitor.specs.declared.proposal.Proposal.{Proposal}
-use Rattle.rv_monitor.specs.declared.seat.Seat.{Seat}
-use Rattle.rv_monitor.specs.declared.shared.Shared.{Shared}
-use Rattle.rv_monitor.specs.declared.slot_info.EnclaveState.{EnclaveState}
-use Rattle.rv_monitor.specs.declared.slot_info.EnclaveState.TheVariants.{Running}
-use Rattle.rv_monitor.specs.declared.slot_info.SlotInfo.{SlotInfo}
-use Rattle.rv_monitor.specs.declared.world.World.TheVariants.{Enclave}
+use Rattle.rv_monitor.specs.Integrity.{enters, IntegrityLaw}
+use Rattle.rv_monitor.proofs.Prelude.{Context, Destroy, Enclave, EnclaveState, Handled, IsKept, IsSpared, IsValid, MonitoredState, Proposal, Running, Seat, Shared, SlotInfo, Slots, Trap, Write, a0, byte_at, bytes_in, context_at, created, destroyed, entered, first_context, handled, has, is_live, is_world_of, left_slot, measured, monitored_step, new_slot, option_case, proposed, recorded, region, register, slot_at, state_after, with_context, with_layout, with_slot, with_state}
 use Rattle.rv_monitor.proofs.Changes.{changes}
 use Rattle.rv_monitor.proofs.Owners.{apart_at}
 use Rattle.rv_monitor.proofs.Reaches.{reached_apart}

@@ -4,18 +4,13 @@ use Rattle.std.specs.Prelude.{if◌then◌else◌, nat_lt}
 use Rattle.std.proofs.lemmas.List.FromFn.{fill_by_all}
 use Rattle.std.proofs.lemmas.Bool.{cases_Bool}
 use Rattle.rv_pmp.specs.Cfg.{is_locked, stored_cfg}
-use Rattle.rv_pmp.specs.Entries.{Entries}
 use Rattle.rv_pmp.specs.Locks.{with_entries}
 use Rattle.std.proofs.lemmas.List.{length-map, get_or-map}
-use Rattle.rv_monitor.specs.Blocks.{monitor_block}
-use Rattle.rv_monitor.specs.declared.slot_info.SlotInfo.{SlotInfo}
-use Rattle.rv_monitor.specs.declared.world.World.{World}
-use Rattle.rv_monitor.specs.declared.world.World.TheVariants.{Host, Enclave}
-use Rattle.rv_monitor.specs.Table.{Slots, slot_at, is_world_of}
-use Rattle.rv_monitor.specs.Layout.{nothing, napot, entry_at, region_entry, window_entry, window_entry_of, host_entry, layout}
+use Rattle.rv_monitor.specs.Layout.{nothing, napot}
 use Rattle.rv_state.specs.CsrTable.{enabled_of}
 use Rattle.rv_monitor.specs.Layout.{mie_of}
 use Rattle.rv_word.specs.Logic.{by_bits}
+use Rattle.rv_monitor.proofs.Prelude.{Enclave, Entries, Host, SlotInfo, Slots, World, entry_at, host_entry, is_world_of, layout, monitor_block, region_entry, slot_at, window_entry, window_entry_of}
 
 -- a cfg byte that the monitor uses is stored as it is, and locks nothing
 pub record IsPlain (cfg : ℕ) : Type 0 where

@@ -1,15 +1,8 @@
 -- In every kept state the entries permit S and U exactly what is in reach.
 use Rattle.std.proofs.Common.{◌≡◌, ◌≢◌, true, false, refl, sym, ◌∙◌, subst}
-use Rattle.rv_pmp.specs.declared.mode.Mode.{Mode}
-use Rattle.rv_pmp.specs.declared.mode.Mode.TheVariants.{M}
-use Rattle.rv_state.specs.Interrupts.{is_machine}
-use Rattle.rv_word.specs.Widths.{bytes_in}
-use Rattle.rv_pmp.specs.Entries.{Entries}
-use Rattle.rv_pmp.specs.Verdicts.{bytes_from, permits, verdict}
-use Rattle.rv_hart.specs.HartState.{Hart}
-use Rattle.rv_hart.specs.Step.{data_mode}
 use Rattle.rv_monitor.specs.Access.{KeptReachLaw}
 use Rattle.rv_monitor.specs.Reach.{in_reach}
+use Rattle.rv_monitor.proofs.Prelude.{Entries, Hart, M, Mode, bytes_from, bytes_in, data_mode, is_machine, permits, verdict}
 use Rattle.rv_monitor.proofs.Reaches.{reach_law}
 
 pub kept_reach : KeptReachLaw

@@ -1,13 +1,7 @@
 -- The last act after a trap, which sets the entries and mie: where it changes nothing, and that nothing before it writes an entry.
 use Rattle.std.proofs.Common.{◌≡◌, Option, Some, None, IfSome, refl, ap}
-use Rattle.rv_pmp.specs.Entries.{Entries}
-use Rattle.rv_hart.specs.declared.trap.Trap.{Trap}
-use Rattle.rv_monitor.specs.State.{seated, seated_beside, IsSeated}
-use Rattle.rv_monitor.specs.Step.{forwarded, forwarded_csrs, handled_cause, with_layout}
-use Rattle.rv_monitor.specs.Switches.{Handled, entered, left_slot}
-use Rattle.rv_monitor.specs.Table.{Slots}
-use Rattle.rv_monitor.specs.declared.seat.Seat.{Seat}
-use Rattle.rv_monitor.specs.declared.shared.Shared.{Shared}
+use Rattle.rv_monitor.specs.Step.{forwarded_csrs}
+use Rattle.rv_monitor.proofs.Prelude.{Entries, Handled, IsSeated, Seat, Shared, Slots, Trap, entered, forwarded, handled_cause, left_slot, seated, seated_beside, with_layout}
 use Rattle.rv_monitor.proofs.Ready.{IsLaidOut}
 use Rattle.rv_monitor.proofs.Works.{by_pieces}
 

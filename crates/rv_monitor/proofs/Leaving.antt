@@ -1,23 +1,9 @@
 -- What an enclave leaves behind when it leaves: either it goes on, or the state is the one that leaving leaves.
 use Rattle.std.proofs.Common.{◌≡◌, ℕ, ◌⊎◌, true, Option, Some, None, IfSome, refl, sym, ◌∙◌, ap, subst, inl, inr}
 use Rattle.rv_word.specs.BitFields.{is_set}
-use Rattle.rv_word.specs.Cases.{option_case}
-use Rattle.rv_state.specs.declared.cause.Cause.{Cause}
 use Rattle.rv_state.specs.declared.cause.Cause.TheVariants as causes
-use Rattle.rv_hart.specs.Step.{step}
-use Rattle.rv_hart.specs.declared.trap.StepOutcome.{StepOutcome}
-use Rattle.rv_hart.specs.declared.trap.Trap.{Trap}
-use Rattle.rv_monitor.specs.Confidentiality.{bare}
-use Rattle.rv_monitor.specs.Contexts.{can_go_on}
-use Rattle.rv_monitor.specs.Leaving.{LeaveLaw, kept_after, left_state, state_after}
-use Rattle.rv_monitor.specs.SwitchLaws.{reason, value}
-use Rattle.rv_monitor.specs.State.{MonitoredState, IsKept}
-use Rattle.rv_monitor.specs.Step.{MonitoredStepped, handled, returned, with_layout}
-use Rattle.rv_monitor.specs.Switches.{Handled, left_slot}
-use Rattle.rv_monitor.specs.declared.context.Context.{Context}
-use Rattle.rv_monitor.specs.declared.seat.Seat.{Seat}
-use Rattle.rv_monitor.specs.declared.world.World.{World}
-use Rattle.rv_monitor.specs.declared.world.World.TheVariants.{Host, Enclave}
+use Rattle.rv_monitor.specs.Leaving.{LeaveLaw, kept_after, left_state}
+use Rattle.rv_monitor.proofs.Prelude.{Cause, Context, Enclave, Handled, Host, IsKept, MonitoredState, MonitoredStepped, Seat, StepOutcome, Trap, World, bare, can_go_on, handled, left_slot, option_case, reason, returned, state_after, step, value, with_layout}
 use Rattle.rv_monitor.proofs.Refused.{or_none}
 use Rattle.rv_monitor.proofs.Switched.{aligned_again}
 use Rattle.rv_monitor.proofs.TrapSteps.{seat_after, trapped_step}

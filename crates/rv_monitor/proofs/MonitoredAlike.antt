@@ -1,24 +1,9 @@
 -- A step of two monitored machines that agree but for what is private to an enclave.
 use Rattle.std.proofs.Common.{◌≡◌, ℕ, false, List, ◌∷◌, Option, Some, None, refl, sym, ◌∙◌, ap, ap₂, subst, inl, inr}
 use Rattle.std.specs.List.{list_any}
-use Rattle.rv_word.specs.Cases.{option_case}
-use Rattle.rv_hart.specs.HartState.{Hart}
-use Rattle.rv_hart.specs.State.{State, Stepped}
-use Rattle.rv_hart.specs.Step.{step}
-use Rattle.rv_hart.specs.declared.trap.StepOutcome.{StepOutcome}
-use Rattle.rv_hart.specs.declared.trap.Trap.{Trap}
-use Rattle.rv_hart.proofs.Confined.{confined}
-use Rattle.rv_monitor.specs.AgreeBut.{AgreeBut, SharedButFor}
 use Rattle.rv_monitor.specs.Confidentiality.{HandledAlike, BareLaw, SteppedAlike, ConfidentialityLaw}
-use Rattle.rv_monitor.specs.State.{MonitoredState, IsSound, IsKept, seated_beside, worlds_beside}
-use Rattle.rv_monitor.specs.Step.{MonitoredStepped, handled, monitored_step, returned, returned_to, unhandled}
-use Rattle.rv_monitor.specs.Switches.{Handled}
-use Rattle.rv_monitor.specs.Table.{Slots, is_live, is_world_of}
-use Rattle.rv_monitor.specs.declared.world.World.{World}
 use Rattle.rv_monitor.specs.declared.next.Next.{Next}
-use Rattle.rv_monitor.specs.declared.outcome.Outcome.{Outcome}
-use Rattle.rv_monitor.specs.declared.seat.Seat.{Seat}
-use Rattle.rv_monitor.specs.declared.shared.Shared.{Shared}
+use Rattle.rv_monitor.proofs.Prelude.{AgreeBut, Handled, Hart, IsKept, IsSound, MonitoredState, MonitoredStepped, Outcome, Seat, Shared, SharedButFor, Slots, State, StepOutcome, Stepped, Trap, World, confined, handled, is_live, is_world_of, monitored_step, option_case, returned, returned_to, seated_beside, step, unhandled, worlds_beside}
 use Rattle.rv_monitor.proofs.BlindSteps.{bare_law}
 use Rattle.rv_monitor.proofs.HandledAlike.{handler_law}
 use Rattle.rv_monitor.proofs.Sound.{sound_by_size}

@@ -6,18 +6,12 @@ use Rattle.std.proofs.lemmas.List.FromFn.{get_or-map-range_with_len}
 use Rattle.std.proofs.lemmas.Bool.{cases_eq, cond-true, cond-false, eqb-true, eq-eqb, ne_eqb, lt-ltb, leb-true, cases_Bool, and_parts, or_cases, both_ways, false_from_ne_true}
 use Rattle.std.proofs.lemmas.Bool.Decides.{nat_tests}
 use Rattle.rv_pmp.specs.Cfg.{matching_of}
-use Rattle.rv_pmp.specs.Entries.{cfg_of, addr_of, addr_before}
-use Rattle.rv_pmp.specs.Covers.{matches, covers, napot_size, ones_at_end}
+use Rattle.rv_pmp.specs.Entries.{addr_of, addr_before}
+use Rattle.rv_pmp.specs.Covers.{matches, napot_size, ones_at_end}
 use Rattle.rv_pmp.proofs.VerdictLemmas.{some_from_any}
-use Rattle.rv_memory.specs.Memory.{ram_base}
-use Rattle.rv_monitor.specs.Blocks.{has, meets, is_lawful, is_block_size, no_block, monitor_block}
-use Rattle.rv_monitor.specs.State.{is_host}
-use Rattle.rv_monitor.specs.Table.{Slots, slot_at, region, window, region_of, window_of, is_world_of, is_window, IsLawfulSlot, IsValid}
-use Rattle.rv_monitor.specs.Layout.{Entry, napot, nothing, region_entry, window_entry, window_entry_of, host_entry, entry_at, layout}
-use Rattle.rv_monitor.specs.declared.block.Block.{Block}
-use Rattle.rv_monitor.specs.declared.slot_info.SlotInfo.{SlotInfo}
-use Rattle.rv_monitor.specs.declared.world.World.{World}
-use Rattle.rv_monitor.specs.declared.world.World.TheVariants.{Host, Enclave}
+use Rattle.rv_monitor.specs.Blocks.{no_block}
+use Rattle.rv_monitor.specs.Layout.{Entry, napot, nothing}
+use Rattle.rv_monitor.proofs.Prelude.{Block, Enclave, Host, IsLawfulSlot, IsValid, SlotInfo, Slots, World, cfg_of, covers, entry_at, has, host_entry, is_block_size, is_host, is_lawful, is_window, is_world_of, layout, meets, monitor_block, ram_base, region, region_entry, region_of, slot_at, window, window_entry, window_entry_of, window_of}
 use Rattle.rv_monitor.proofs.BlockLaws.{meets_at}
 use Rattle.rv_monitor.proofs.Napots.{napot_addr, napot_matches}
 

@@ -1,15 +1,11 @@
 -- The seats, each at its place: one read, and one put back.
 use Rattle.std.proofs.Common.{◌≡◌, ◌<◌, ℕ, zero, suc, ◌-◌, Bool, true, false, List, Option, Some, None, length, slice_set, ◌≢◌, refl, sym, ◌∙◌, ap, subst, arith}
 use Rattle.std.specs.Prelude.{slice_index_or, if◌then◌else◌}
-use Rattle.rv_word.specs.Cases.{option_case}
 use Rattle.std.proofs.lemmas.List.{get_or_default, get_or-set_same, get_or-set_other}
-use Rattle.rv_monitor.specs.State.{MonitoredState, OnTurn, IsKept, count_of, seat_at_start, seated_beside, seen_by}
-use Rattle.rv_monitor.specs.Step.{MonitoredStepped, monitored_step}
-use Rattle.rv_monitor.specs.Table.{Slots}
-use Rattle.rv_monitor.specs.Turns.{seat_at, beside, count_in, on_turn, over, as_seen}
-use Rattle.rv_monitor.specs.declared.seat.Seat.{Seat}
+use Rattle.rv_monitor.specs.State.{seat_at_start}
+use Rattle.rv_monitor.specs.Turns.{seat_at, beside, count_in, over}
 use Rattle.rv_monitor.specs.declared.seat.Seats.{Seats}
-use Rattle.rv_monitor.specs.declared.shared.Shared.{Shared}
+use Rattle.rv_monitor.proofs.Prelude.{IsKept, MonitoredState, MonitoredStepped, OnTurn, Seat, Shared, Slots, as_seen, count_of, monitored_step, on_turn, option_case, seated_beside, seen_by}
 
 -- a seat is what is read at its place, whatever is past the end
 pub seat_read : (seats : List Seat) (hart : ℕ) (past : Seat) → length seats ≡ 2 → hart < 2 → seat_at seats hart ≡ slice_index_or seats hart past

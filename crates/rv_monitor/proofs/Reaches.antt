@@ -4,29 +4,18 @@ use Rattle.std.specs.Prelude.{nat_le, ◌%◌}
 use Rattle.std.proofs.lemmas.List.{get_or_past}
 use Rattle.std.specs.List.{list_any, list_all}
 use Rattle.std.proofs.lemmas.Bool.{cases_lt, cases_eq, cases_Bool, eqb-true, eq-eqb, ne_eqb, both_ways, false≢true, or_left, or_right, or_cases, and_from, and_parts, not-true, le-leb, leb-true, ltb-true, false_from_ne_true}
-use Rattle.rv_pmp.specs.declared.mode.Mode.{Mode}
-use Rattle.rv_pmp.specs.declared.mode.Mode.TheVariants.{U, S, M}
-use Rattle.rv_pmp.specs.declared.access.Access.{Access}
-use Rattle.rv_pmp.specs.declared.access.Access.TheVariants.{Fetch, Read, Write}
+use Rattle.rv_pmp.specs.declared.mode.Mode.TheVariants.{U}
 use Rattle.rv_pmp.specs.Cfg.{has_permission, grants}
-use Rattle.rv_pmp.specs.Entries.{Entries, cfg_of}
-use Rattle.rv_pmp.specs.Covers.{covers}
-use Rattle.rv_pmp.specs.Verdicts.{bytes_from, permits, verdict, decided, undecided}
+use Rattle.rv_pmp.specs.Verdicts.{decided, undecided}
 use Rattle.rv_pmp.proofs.VerdictLemmas.{any_at, any_none, all_each, each_from_all, none_from_any, IsFirst, verdict_decided}
+use Rattle.rv_monitor.proofs.Prelude.{Access, Enclave, Entries, Fetch, Host, IsValid, M, Mode, Read, S, SlotInfo, Slots, World, Write, bytes_from, bytes_in, cfg_of, covers, has, host_entry, is_host, is_inside, is_ram_size, is_world_of, layout, monitor_block, permits, ram_base, region, region_entry, region_of, slot_at, verdict, window, window_entry, window_entry_of, window_of}
 use Rattle.rv_monitor.proofs.Scans.{same_any, same_all, verdict_cases}
-use Rattle.rv_monitor.specs.declared.slot_info.SlotInfo.{SlotInfo}
-use Rattle.rv_monitor.specs.Blocks.{has, monitor_block}
-use Rattle.rv_monitor.specs.Table.{Slots, IsValid, slot_at, region, window, region_of, window_of, is_world_of, is_in_region}
-use Rattle.rv_memory.specs.Memory.{ram_base, is_inside, is_ram_size}
-use Rattle.rv_monitor.specs.Layout.{Entry, layout, region_entry, window_entry, window_entry_of, host_entry, nothing as nothing_cfg, all as all_cfg, read_write}
+use Rattle.rv_monitor.specs.Table.{is_in_region}
+use Rattle.rv_monitor.specs.Layout.{Entry, nothing as nothing_cfg, all as all_cfg, read_write}
 use Rattle.rv_monitor.specs.Reach.{in_reach, host_has, ReachLaw}
 use Rattle.rv_monitor.specs.Access.{ApartLaw}
-use Rattle.rv_word.specs.Widths.{bytes_in}
 use Rattle.rv_word.specs.declared.width.Width.{Width}
 use Rattle.rv_word.specs.declared.width.Width.TheVariants.{Byte, Half, Word}
-use Rattle.rv_monitor.specs.State.{is_host}
-use Rattle.rv_monitor.specs.declared.world.World.{World}
-use Rattle.rv_monitor.specs.declared.world.World.TheVariants.{Host, Enclave}
 use Rattle.rv_monitor.proofs.Napots.{same_test}
 use Rattle.rv_monitor.proofs.Owners.{cfg_of-layout, entry_at-monitor, entry_at-slot, entry_at-window, entry_at-host, world_window, covers_monitor, covers_slot, covers_window, covers_host, has_nothing, IsApart, apart}
 

@@ -3,23 +3,14 @@ use Rattle.std.proofs.Common.{◌≡◌, ℕ, Bool, true, false, List, ◌∷◌
 use Rattle.std.specs.Prelude.{not}
 use Rattle.std.specs.Option.{is_none}
 use Rattle.std.proofs.lemmas.Bool.{false≢true}
-use Rattle.rv_word.specs.Cases.{option_case}
-use Rattle.rv_pmp.specs.Entries.{Entries}
-use Rattle.rv_monitor.specs.Blocks.{is_lawful}
 use Rattle.rv_monitor.specs.Calls.{takes}
-use Rattle.rv_monitor.specs.Contexts.{Contexts}
-use Rattle.rv_monitor.specs.Create.{create_refusals, overlaps, is_entry, new_slot}
+use Rattle.rv_monitor.specs.Create.{create_refusals, is_entry}
 use Rattle.rv_monitor.specs.Measure.{measure_refusals, may_store_all}
-use Rattle.rv_monitor.specs.Refusals.{first_refusal, state_refusals, is_taken}
-use Rattle.rv_monitor.specs.Table.{Slots, slot_at, free_slot, is_live, is_running, is_window}
-use Rattle.rv_monitor.specs.declared.call.Call.{Call}
-use Rattle.rv_monitor.specs.declared.call.Call.TheVariants.{Create, Destroy, Run, Resume, Measure, Stop, Exit}
-use Rattle.rv_monitor.specs.declared.proposal.Proposal.{Proposal}
-use Rattle.rv_monitor.specs.declared.refusal.Refusal.{Refusal}
-use Rattle.rv_monitor.specs.declared.shared.Shared.{Shared}
-use Rattle.rv_monitor.specs.declared.slot_info.EnclaveState.{EnclaveState}
+use Rattle.rv_monitor.specs.Refusals.{state_refusals, is_taken}
+use Rattle.rv_monitor.specs.Table.{free_slot}
+use Rattle.rv_monitor.specs.declared.call.Call.TheVariants.{Run, Resume, Stop}
 use Rattle.rv_monitor.specs.declared.slot_info.EnclaveState.TheVariants as states
-use Rattle.rv_monitor.specs.declared.slot_info.SlotInfo.{SlotInfo}
+use Rattle.rv_monitor.proofs.Prelude.{Call, Contexts, Create, Destroy, EnclaveState, Entries, Exit, Measure, Proposal, Refusal, Shared, SlotInfo, Slots, first_refusal, is_lawful, is_live, is_running, is_window, new_slot, option_case, overlaps, slot_at}
 use Rattle.rv_monitor.proofs.Valid.{lawful_by_size, window_by_size}
 
 -- where no row holds, the first does not, nor one of the rest

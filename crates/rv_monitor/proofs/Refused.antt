@@ -2,27 +2,13 @@
 use Rattle.std.proofs.Common.{◌≡◌, ℕ, Bool, true, false, Option, Some, None, refl, sym, ap, subst, arith}
 use Rattle.std.specs.Prelude.{◌||◌}
 use Rattle.rv_word.specs.BitFields.{is_set}
-use Rattle.rv_word.specs.Cases.{option_case}
-use Rattle.rv_state.specs.Bits.{aligned_to_4}
-use Rattle.rv_state.specs.declared.cause.Cause.{Cause}
 use Rattle.rv_state.specs.declared.cause.Cause.TheVariants as causes
-use Rattle.rv_state.specs.declared.cause.Exception.TheVariants.{EnvironmentCallFromS}
 use Rattle.rv_hart.specs.Arithmetic.{sum_of}
-use Rattle.rv_hart.specs.Step.{step}
-use Rattle.rv_hart.specs.declared.trap.StepOutcome.{StepOutcome}
-use Rattle.rv_hart.specs.declared.trap.Trap.{Trap}
 use Rattle.rv_monitor.specs.CallRefusals.{call_refusals}
-use Rattle.rv_monitor.specs.Calls.{asked_in}
-use Rattle.rv_monitor.specs.Confidentiality.{bare}
-use Rattle.rv_monitor.specs.Refusals.{first_refusal}
 use Rattle.rv_monitor.specs.Refused.{refusal_of, refused_state, RefusalLaw}
-use Rattle.rv_monitor.specs.State.{MonitoredState, IsKept}
-use Rattle.rv_monitor.specs.Step.{MonitoredStepped, called, call_handled, handled, handled_cause, refused, returned, with_layout}
-use Rattle.rv_monitor.specs.declared.call.Call.{Call}
-use Rattle.rv_monitor.specs.declared.refusal.Refusal.{Refusal}
+use Rattle.rv_monitor.specs.Step.{called, call_handled}
 use Rattle.rv_monitor.specs.declared.refusal.Refusal.TheVariants.{NotSupported}
-use Rattle.rv_monitor.specs.declared.seat.Seat.{Seat}
-use Rattle.rv_monitor.specs.declared.shared.Shared.{Shared}
+use Rattle.rv_monitor.proofs.Prelude.{Call, Cause, EnvironmentCallFromS, IsKept, MonitoredState, MonitoredStepped, Refusal, Seat, Shared, StepOutcome, Trap, aligned_to_4, asked_in, bare, first_refusal, handled, handled_cause, option_case, refused, returned, step, with_layout}
 use Rattle.rv_monitor.proofs.LastAct.{beside_as_is}
 use Rattle.rv_monitor.proofs.TrapSteps.{seat_after, trapped_step}
 

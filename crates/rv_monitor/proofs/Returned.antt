@@ -2,15 +2,10 @@
 use Rattle.std.proofs.Common.{◌≡◌, ℕ, zero, suc, true, false, Option, Some, None, IfSome, sym, ap, ◌∙◌, subst, inl, inr}
 use Rattle.std.specs.Prelude.{not, is_some}
 use Rattle.std.proofs.lemmas.Bool.{both_ways}
-use Rattle.rv_pmp.specs.declared.mode.Mode.TheVariants.{S}
-use Rattle.rv_monitor.specs.Contexts.{saved, with_answer, IsStored}
+use Rattle.rv_monitor.specs.Contexts.{with_answer, IsStored}
 use Rattle.rv_monitor.specs.Refused.{past_ecall}
 use Rattle.rv_monitor.specs.Returns.{RunsThrough, ComesBack, ReturnLaw}
-use Rattle.rv_monitor.specs.Runs.{run}
-use Rattle.rv_monitor.specs.State.{MonitoredState, IsKept, HostIsStored, is_host}
-use Rattle.rv_monitor.specs.Step.{MonitoredStepped, monitored_step}
-use Rattle.rv_monitor.specs.SwitchLaws.{StaysOrSwitches, reason, value}
-use Rattle.rv_monitor.specs.declared.context.Context.{Context}
+use Rattle.rv_monitor.proofs.Prelude.{Context, HostIsStored, IsKept, MonitoredState, MonitoredStepped, S, StaysOrSwitches, is_host, monitored_step, reason, run, saved, value}
 use Rattle.rv_monitor.proofs.RunsAlike.{kept_law}
 use Rattle.rv_monitor.proofs.Switched.{kept_between, switch_law}
 

@@ -1,12 +1,7 @@
 -- So many steps spare an enclave that rests through them, by the law of one.
 use Rattle.std.proofs.Common.{ℕ, zero, suc, refl, ◌∙◌, ap}
-use Rattle.rv_monitor.specs.Blocks.{has}
-use Rattle.rv_monitor.specs.Integrity.{IsSpared, Rests, RestsThrough, RunsSpareLaw}
-use Rattle.rv_monitor.specs.Runs.{run}
-use Rattle.rv_monitor.specs.State.{MonitoredState}
-use Rattle.rv_monitor.specs.Step.{monitored_step}
-use Rattle.rv_monitor.specs.Table.{region_of}
-use Rattle.rv_monitor.specs.declared.shared.Shared.{Shared}
+use Rattle.rv_monitor.specs.Integrity.{Rests, RestsThrough, RunsSpareLaw}
+use Rattle.rv_monitor.proofs.Prelude.{IsSpared, MonitoredState, Shared, has, monitored_step, region_of, run}
 use Rattle.rv_monitor.proofs.Integrity.{integrity}
 use Rattle.rv_monitor.proofs.RunsAlike.{kept_law}
 

@@ -3,21 +3,11 @@ use Rattle.std.proofs.Common.{◌≡◌, ℕ, ◌+◌, ◌-◌, ◌<◌, Bool, t
 use Rattle.std.specs.Prelude.{is_some, nat_le, nat_lt, not, if◌then◌else◌}
 use Rattle.std.specs.Option.{option_map}
 use Rattle.std.proofs.lemmas.Bool.{cases_lt, cases_eq, cases_Bool, and_from, le-leb, lt-ltb}
-use Rattle.rv_word.specs.Cases.{option_case}
-use Rattle.rv_memory.specs.Memory.{ram_base, is_inside}
 use Rattle.rv_memory.proofs.Complements.{with_complements, length-with_complements, below, above, inside-index, complemented-is}
-use Rattle.rv_monitor.specs.AgreeBut.{AgreeBut, AgreeOutside, SharedButFor}
-use Rattle.rv_monitor.specs.Blocks.{has}
-use Rattle.rv_monitor.specs.Contexts.{Contexts, context_at, with_context, can_go_on}
 use Rattle.rv_monitor.specs.Scramble.{can_scramble, complemented_context, complemented_block, scrambled_shared, scrambled}
 use Rattle.std.specs.List.{list_any}
-use Rattle.rv_monitor.specs.State.{MonitoredState, IsSound, IsKept, is_held, worlds, worlds_beside}
-use Rattle.rv_monitor.specs.Table.{slot_at, region, is_live, is_running, runs, is_world_of}
-use Rattle.rv_monitor.specs.declared.block.Block.{Block}
-use Rattle.rv_monitor.specs.declared.context.Context.{Context}
-use Rattle.rv_monitor.specs.declared.shared.Shared.{Shared}
-use Rattle.rv_monitor.specs.declared.slot_info.SlotInfo.{SlotInfo}
-use Rattle.rv_monitor.specs.declared.world.World.{World}
+use Rattle.rv_monitor.specs.State.{worlds}
+use Rattle.rv_monitor.proofs.Prelude.{AgreeBut, AgreeOutside, Block, Context, Contexts, IsKept, IsSound, MonitoredState, Shared, SharedButFor, SlotInfo, World, can_go_on, context_at, has, is_held, is_inside, is_live, is_running, is_world_of, option_case, ram_base, region, runs, slot_at, with_context, worlds_beside}
 use Rattle.rv_monitor.proofs.Agreement.{inside-is, read-none}
 use Rattle.rv_monitor.proofs.Alike.{itself}
 use Rattle.rv_monitor.proofs.Slots.{at_same, at_other, or-first, or-second}

@@ -3,13 +3,9 @@ use Rattle.std.proofs.Common.{◌≡◌, ℕ, zero, suc, ◌-◌, ◌^◌, ◌<�
 use Rattle.std.specs.Prelude.{slice_index, slice_index_or, slice_set}
 use Rattle.std.specs.Option.{option_map}
 use Rattle.std.proofs.lemmas.Bool.{cases_Bool}
-use Rattle.rv_memory.specs.Memory.{ram_base, is_inside}
 use Rattle.rv_memory.proofs.Complements.{with_complements, length-with_complements, complemented_twice, inside-index, complemented-is}
-use Rattle.rv_monitor.specs.Contexts.{context_at}
 use Rattle.rv_monitor.specs.Scramble.{complemented_registers, complemented_context, complemented_block, scrambled_shared, ScrambleLaw}
-use Rattle.rv_monitor.specs.Table.{region}
-use Rattle.rv_monitor.specs.declared.block.Block.{Block}
-use Rattle.rv_monitor.specs.declared.context.Context.{Context}
+use Rattle.rv_monitor.proofs.Prelude.{Block, Context, context_at, is_inside, ram_base, region}
 use Rattle.rv_monitor.proofs.Agreement.{read-none}
 
 words_twice : (words : List ℕ) → ((n : ℕ) → get_or words n 0 < 2 ^ 32) → map (λ word. 2 ^ 32 - 1 - word) (map (λ word. 2 ^ 32 - 1 - word) words) ≡ words

@@ -6,27 +6,12 @@ use Rattle.std.specs.Option.{is_none}
 use Rattle.std.proofs.lemmas.Bool.{cases_eq, cases_Bool, cases_lt, cond-true, cond-false, and_parts, ne_eqb, eq-eqb, eqb-true}
 use Rattle.std.proofs.lemmas.Bool.Decides.{nat_tests}
 use Rattle.std.proofs.lemmas.List.{get_or_past}
-use Rattle.rv_word.specs.Cases.{option_case}
-use Rattle.rv_memory.specs.Memory.{write}
-use Rattle.rv_memory.proofs.MemoryLaws.{length-write}
-use Rattle.rv_monitor.specs.Blocks.{has, is_lawful}
-use Rattle.rv_monitor.specs.Contexts.{context_at, with_context, can_go_on, first_context}
-use Rattle.rv_monitor.specs.Create.{created, new_slot, is_entry, overlaps, recorded, with_enclave, measurement_of, measured_bytes}
+use Rattle.rv_monitor.specs.Create.{is_entry, with_enclave, measured_bytes}
 use Rattle.sha2.proofs.Facts256.{length-sha256}
-use Rattle.rv_monitor.specs.Destroy.{destroyed, without, zeroed}
-use Rattle.rv_monitor.specs.Measure.{measured, measurement_at, with_bytes}
-use Rattle.rv_monitor.specs.State.{IsSound, AreApart, is_held}
-use Rattle.rv_monitor.specs.Table.{Slots, slot_at, with_slot, with_state, free_slot, runs, is_running, is_window, is_world_of, region, window}
-use Rattle.rv_monitor.specs.declared.block.Block.{Block}
+use Rattle.rv_monitor.specs.Destroy.{without}
+use Rattle.rv_monitor.specs.Table.{free_slot}
 use Rattle.rv_monitor.specs.declared.call.Call.TheVariants as calls
-use Rattle.rv_monitor.specs.declared.context.Context.{Context}
-use Rattle.rv_monitor.specs.declared.proposal.Proposal.{Proposal}
-use Rattle.rv_monitor.specs.declared.shared.Shared.{Shared}
-use Rattle.rv_monitor.specs.declared.slot_info.EnclaveState.{EnclaveState}
-use Rattle.rv_monitor.specs.declared.slot_info.EnclaveState.TheVariants.{Running}
-use Rattle.rv_monitor.specs.declared.slot_info.SlotInfo.{SlotInfo}
-use Rattle.rv_monitor.specs.declared.world.World.{World}
-use Rattle.rv_monitor.specs.declared.world.World.TheVariants.{Host, Enclave}
+use Rattle.rv_monitor.proofs.Prelude.{AreApart, Block, Context, Enclave, EnclaveState, Host, IsSound, Proposal, Running, Shared, SlotInfo, Slots, World, can_go_on, context_at, created, destroyed, first_context, has, is_held, is_lawful, is_running, is_window, is_world_of, length-write, measured, measurement_at, measurement_of, new_slot, option_case, overlaps, recorded, region, runs, slot_at, window, with_bytes, with_context, with_slot, with_state, write, zeroed}
 use Rattle.rv_monitor.proofs.Refusals.{MayCreate, IsTaken, takes_rests}
 use Rattle.rv_monitor.proofs.Slots.{at_same, at_other, IsFree, free_from}
 use Rattle.rv_monitor.proofs.Valid.{Fits, valid_with, nothing_fits, own_fits, valid_by_size}

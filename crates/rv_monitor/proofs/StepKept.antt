@@ -4,28 +4,11 @@ use Rattle.std.specs.Prelude.{◌%◌, IfNone}
 use Rattle.std.proofs.lemmas.Bool.{cases_lt}
 use Rattle.std.proofs.lemmas.List.{get_or_past}
 use Rattle.std.proofs.lemmas.List.FromFn.{get_or-map-range_with_len}
-use Rattle.rv_pmp.specs.Entries.{Entries, cfg_of}
-use Rattle.rv_memory.specs.declared.touched.Span.{Span}
-use Rattle.rv_memory.proofs.MemoryLaws.{length-write}
-use Rattle.rv_state.specs.Bits.{aligned_to_4}
-use Rattle.rv_state.specs.CsrState.{CsrState}
 use Rattle.rv_state.specs.MachineParts.{machine_parts}
-use Rattle.rv_hart.specs.Confinement.{IsConfined, Stores, SameIn, AgreeOn}
-use Rattle.rv_hart.specs.Hart.{trapped, step_counted}
-use Rattle.rv_hart.specs.HartState.{Hart}
-use Rattle.rv_hart.specs.State.{State, Stepped}
+use Rattle.rv_hart.specs.Confinement.{IsConfined, SameIn}
 use Rattle.rv_hart.specs.StepLaws.{TrapKeeps, KeepsMprvClear, KeepsMachineParts, StaysBelow}
-use Rattle.rv_hart.specs.declared.trap.Trap.{Trap}
-use Rattle.rv_monitor.specs.Layout.{layout, entry_at}
-use Rattle.rv_monitor.specs.State.{MonitoredState, IsKept, IsSeated, IsSound, HostIsStored, seated, seated_beside, worlds, worlds_beside}
-use Rattle.rv_hart.specs.Step.{step}
-use Rattle.rv_monitor.specs.Step.{handled, monitored_step, returned_to}
-use Rattle.rv_monitor.specs.Switches.{Handled}
-use Rattle.rv_monitor.specs.Table.{Slots}
-use Rattle.rv_monitor.specs.Unlocked.{HasNoLock}
-use Rattle.rv_monitor.specs.declared.seat.Seat.{Seat}
-use Rattle.rv_monitor.specs.declared.shared.Shared.{Shared}
-use Rattle.rv_monitor.specs.declared.world.World.{World}
+use Rattle.rv_monitor.specs.State.{worlds}
+use Rattle.rv_monitor.proofs.Prelude.{AgreeOn, CsrState, Entries, Handled, Hart, HasNoLock, HostIsStored, IsKept, IsSeated, IsSound, MonitoredState, Seat, Shared, Slots, Span, State, Stepped, Stores, Trap, World, aligned_to_4, cfg_of, entry_at, handled, layout, length-write, monitored_step, returned_to, seated, seated_beside, step, step_counted, trapped, worlds_beside}
 use Rattle.rv_monitor.proofs.Kept.{entry_is_plain}
 use Rattle.rv_monitor.proofs.Ready.{IsTrapped, IsDone, IsLaidOut}
 use Rattle.rv_monitor.proofs.Sound.{sound_by_size}

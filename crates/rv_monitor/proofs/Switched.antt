@@ -3,31 +3,11 @@ use Rattle.std.proofs.Common.{◌≡◌, ℕ, ◌==◌, ◌⊎◌, true, false, 
 use Rattle.std.specs.Prelude.{◌%◌, ◌&&◌, not, if◌then◌else◌}
 use Rattle.std.proofs.lemmas.Bool.{and_parts, both_ways}
 use Rattle.std.proofs.lemmas.Bool.Decides.{nat_tests}
-use Rattle.rv_word.specs.Cases.{option_case}
-use Rattle.rv_pmp.specs.declared.mode.Mode.{Mode}
-use Rattle.rv_pmp.specs.declared.mode.Mode.TheVariants.{S}
-use Rattle.rv_state.specs.Bits.{aligned_to_4}
-use Rattle.rv_state.specs.CsrState.{CsrState}
-use Rattle.rv_state.specs.Interrupts.{is_machine}
 use Rattle.rv_state.specs.SContexts.{s_context, with_s_context, KeepsOwn}
 use Rattle.rv_state.specs.declared.s_context.SContext.{SContext}
-use Rattle.rv_hart.specs.HartState.{Hart}
-use Rattle.rv_hart.specs.Step.{step}
-use Rattle.rv_hart.specs.declared.trap.StepOutcome.{StepOutcome}
-use Rattle.rv_hart.specs.declared.trap.Trap.{Trap}
-use Rattle.rv_hart.proofs.StepLaws.{trap_keeps}
-use Rattle.rv_monitor.specs.CallRefusals.{a0}
-use Rattle.rv_monitor.specs.Confidentiality.{bare}
-use Rattle.rv_monitor.specs.Contexts.{IsStored, can_go_on, saved, with_answer}
-use Rattle.rv_monitor.specs.State.{MonitoredState, IsKept, HostIsStored, is_host}
-use Rattle.rv_monitor.specs.Step.{handled, monitored_step, past_call, returned, unhandled}
-use Rattle.rv_monitor.specs.SwitchLaws.{StaysOrSwitches, SwitchLaw, reason, value}
-use Rattle.rv_monitor.specs.Switches.{Handled, entered, left_slot}
-use Rattle.rv_monitor.specs.declared.context.Context.{Context}
-use Rattle.rv_monitor.specs.declared.seat.Seat.{Seat}
-use Rattle.rv_monitor.specs.declared.shared.Shared.{Shared}
-use Rattle.rv_monitor.specs.declared.world.World.{World}
-use Rattle.rv_monitor.specs.declared.world.World.TheVariants.{Host, Enclave}
+use Rattle.rv_monitor.specs.Contexts.{IsStored, with_answer}
+use Rattle.rv_monitor.specs.SwitchLaws.{SwitchLaw}
+use Rattle.rv_monitor.proofs.Prelude.{Context, CsrState, Enclave, Handled, Hart, Host, HostIsStored, IsKept, Mode, MonitoredState, S, Seat, Shared, StaysOrSwitches, StepOutcome, Trap, World, a0, aligned_to_4, bare, can_go_on, entered, handled, is_host, is_machine, left_slot, monitored_step, option_case, past_call, reason, returned, saved, step, trap_keeps, unhandled, value}
 use Rattle.rv_monitor.proofs.TrapSteps.{by_step, seat_after}
 use Rattle.rv_monitor.proofs.Works.{by_work}
 

@@ -1,22 +1,11 @@
 -- What a step's instruction touches is in the reach of the world that runs.
 use Rattle.std.proofs.Common.{◌≡◌, ◌≢◌, ◌⊎◌, ℕ, false, Option, Some, None, Result, Ok, Err, refl, sym, ◌∙◌, subst, inl, inr}
 use Rattle.rv_word.specs.declared.width.Width.TheVariants.{Word}
-use Rattle.rv_pmp.specs.declared.access.Access.{Access}
-use Rattle.rv_pmp.specs.declared.access.Access.TheVariants.{Fetch, Read, Write}
-use Rattle.rv_pmp.specs.declared.mode.Mode.{Mode}
-use Rattle.rv_pmp.specs.declared.mode.Mode.TheVariants.{M}
-use Rattle.rv_memory.specs.declared.touched.Span.{Span}
 use Rattle.rv_memory.specs.declared.touched.Touched.{Touched}
-use Rattle.rv_hart.specs.HartState.{Hart}
-use Rattle.rv_hart.specs.Permitted.{MayTouch}
-use Rattle.rv_hart.specs.State.{State, Stepped}
-use Rattle.rv_hart.specs.Step.{data_mode, retired_or_trapped, span, step}
-use Rattle.rv_hart.specs.declared.trap.Trap.{Trap}
+use Rattle.rv_hart.specs.Step.{retired_or_trapped, span}
 use Rattle.rv_hart.proofs.StepCases.{by_ways}
-use Rattle.rv_hart.proofs.StepLaws.{touches_permitted}
-use Rattle.rv_monitor.specs.Confidentiality.{bare}
-use Rattle.rv_monitor.specs.State.{MonitoredState, IsKept}
 use Rattle.rv_monitor.specs.Touches.{executes, IsReached, IsTouchedInReach, TouchLaw}
+use Rattle.rv_monitor.proofs.Prelude.{Access, Fetch, Hart, IsKept, M, MayTouch, Mode, MonitoredState, Read, Span, State, Stepped, Trap, Write, bare, data_mode, step, touches_permitted}
 use Rattle.rv_monitor.proofs.KeptReaches.{kept_reach, below_M, clear_mode}
 use Rattle.rv_monitor.proofs.TrapSteps.{same_outcome}
 

@@ -1,17 +1,6 @@
 -- A step that traps: the hart's own step is the trap alone, and the monitor's work follows it.
 use Rattle.std.proofs.Common.{◌≡◌, ℕ, false, List, Option, Some, None, IfSome, refl, sym, ap, ◌∙◌}
-use Rattle.rv_word.specs.Cases.{option_case}
-use Rattle.rv_hart.specs.Hart.{trapped, step_counted}
-use Rattle.rv_hart.specs.HartState.{Hart}
-use Rattle.rv_hart.specs.Step.{step}
-use Rattle.rv_hart.specs.declared.trap.StepOutcome.{StepOutcome}
-use Rattle.rv_hart.specs.declared.trap.Trap.{Trap}
-use Rattle.rv_hart.proofs.StepLaws.{trap_keeps}
-use Rattle.rv_monitor.specs.Confidentiality.{bare}
-use Rattle.rv_monitor.specs.State.{MonitoredState}
-use Rattle.rv_monitor.specs.Step.{MonitoredStepped, handled, monitored_step, returned, unhandled}
-use Rattle.rv_monitor.specs.declared.seat.Seat.{Seat}
-use Rattle.rv_monitor.specs.declared.shared.Shared.{Shared}
+use Rattle.rv_monitor.proofs.Prelude.{Hart, MonitoredState, MonitoredStepped, Seat, Shared, StepOutcome, Trap, bare, handled, monitored_step, option_case, returned, step, step_counted, trap_keeps, trapped, unhandled}
 
 -- a hart after a trap that was counted
 abbrev pub hart_after : Hart → Trap → Hart

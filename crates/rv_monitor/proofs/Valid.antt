@@ -2,12 +2,7 @@
 use Rattle.std.proofs.Common.{◌≡◌, ◌≢◌, ℕ, ◌+◌, ◌<◌, false, List, Option, Some, None, IfSome, length, refl, sym, ap, ◌∙◌, subst, inl, inr, arith, length-set}
 use Rattle.std.specs.Prelude.{◌&&◌, nat_le, ◌==◌, ◌%◌, ◌||◌}
 use Rattle.std.proofs.lemmas.Bool.{cases_eq}
-use Rattle.rv_memory.specs.Memory.{ram_base, is_ram_size}
-use Rattle.rv_monitor.specs.Blocks.{meets, monitor_block, is_lawful, is_block_size}
-use Rattle.rv_monitor.specs.Table.{Slots, slot_at, with_slot, region, window, region_of, window_of, IsValid, IsLawfulSlot, is_window}
-use Rattle.rv_monitor.specs.declared.block.Block.{Block}
-use Rattle.rv_monitor.specs.declared.slot_info.EnclaveState.{EnclaveState}
-use Rattle.rv_monitor.specs.declared.slot_info.SlotInfo.{SlotInfo}
+use Rattle.rv_monitor.proofs.Prelude.{Block, EnclaveState, IsLawfulSlot, IsValid, SlotInfo, Slots, is_block_size, is_lawful, is_ram_size, is_window, meets, monitor_block, ram_base, region, region_of, slot_at, window, window_of, with_slot}
 use Rattle.rv_monitor.proofs.Slots.{at_same, at_other, meets_symmetric, meets_nothing, nothing_meets}
 
 -- what may stand in slot k

@@ -5,36 +5,18 @@ use Rattle.std.specs.Prelude.{◌&&◌, ◌==◌, if◌then◌else◌}
 use Rattle.std.specs.List.{find}
 use Rattle.std.proofs.lemmas.Bool.{cases_Bool, cond-true, cond-false, and_parts}
 use Rattle.std.proofs.lemmas.Bool.Decides.{nat_tests}
-use Rattle.rv_word.specs.Cases.{option_case}
-use Rattle.rv_state.specs.Registers.{register}
-use Rattle.rv_state.specs.declared.cause.Cause.{Cause}
 use Rattle.rv_state.specs.declared.cause.Cause.TheVariants as causes
 use Rattle.rv_state.specs.declared.cause.Exception.{Exception}
-use Rattle.rv_state.specs.declared.cause.Exception.TheVariants.{EnvironmentCallFromS}
-use Rattle.rv_hart.specs.declared.trap.Trap.{Trap}
 use Rattle.rv_monitor.specs.Asked.{is_entering}
-use Rattle.rv_monitor.specs.CallRefusals.{a0, a1, call_refusals}
-use Rattle.rv_monitor.specs.Calls.{asked_call, asked_in, status_of, is_offered, call_number, calls, call_key}
-use Rattle.rv_monitor.specs.Contexts.{Contexts, kept_context, saved, exited_context}
-use Rattle.rv_monitor.specs.Create.{created, new_slot, proposed}
-use Rattle.rv_monitor.specs.Destroy.{destroyed}
-use Rattle.rv_monitor.specs.Leaving.{state_after, line_after}
-use Rattle.rv_monitor.specs.Measure.{measured, measured_slot}
-use Rattle.rv_monitor.specs.Refusals.{first_refusal}
-use Rattle.rv_monitor.specs.Step.{answered, refused, performed, called, call_handled, timer_stopped, forwarded, handled, handled_cause, handled_exception, past_call, stopped_context, trapped_pc, trapped_mode, with_layout}
-use Rattle.rv_monitor.specs.SwitchLaws.{reason, value}
-use Rattle.rv_monitor.specs.Switches.{Handled, goes_on, entered, left, left_by, left_slot}
-use Rattle.rv_monitor.specs.Table.{Slots}
-use Rattle.rv_monitor.specs.declared.call.Call.{Call}
-use Rattle.rv_monitor.specs.declared.call.Call.TheVariants.{Create, Destroy, Run, Resume, Measure, Stop, Exit}
-use Rattle.rv_monitor.specs.declared.context.Context.{Context}
-use Rattle.rv_monitor.specs.declared.refusal.Refusal.{Refusal}
+use Rattle.rv_monitor.specs.CallRefusals.{call_refusals}
+use Rattle.rv_monitor.specs.Calls.{asked_call, is_offered, call_number, calls, call_key}
+use Rattle.rv_monitor.specs.Leaving.{line_after}
+use Rattle.rv_monitor.specs.Step.{performed, called, call_handled, timer_stopped, handled_exception, stopped_context, trapped_pc, trapped_mode}
+use Rattle.rv_monitor.specs.Switches.{goes_on, left, left_by}
+use Rattle.rv_monitor.specs.declared.call.Call.TheVariants.{Run, Resume, Stop}
 use Rattle.rv_monitor.specs.declared.refusal.Refusal.TheVariants.{NotSupported}
-use Rattle.rv_monitor.specs.declared.seat.Seat.{Seat}
-use Rattle.rv_monitor.specs.declared.shared.Shared.{Shared}
 use Rattle.rv_monitor.specs.declared.slot_info.EnclaveState.TheVariants.{Stopped, Exited}
-use Rattle.rv_monitor.specs.declared.world.World.{World}
-use Rattle.rv_monitor.specs.declared.world.World.TheVariants.{Host, Enclave}
+use Rattle.rv_monitor.proofs.Prelude.{Call, Cause, Context, Contexts, Create, Destroy, Enclave, EnvironmentCallFromS, Exit, Handled, Host, Measure, Refusal, Seat, Shared, Slots, Trap, World, a0, a1, answered, asked_in, created, destroyed, entered, exited_context, first_refusal, forwarded, handled, handled_cause, kept_context, left_slot, measured, measured_slot, new_slot, option_case, past_call, proposed, reason, refused, register, saved, state_after, status_of, value, with_layout}
 use Rattle.rv_monitor.proofs.Refusals.{MayCreate, IsTaken, MayMeasure, may_create, may_take, may_measure, same_create_refusals, same_measure_refusals}
 
 -- ---- the call that is asked for

@@ -1,9 +1,7 @@
 use Rattle.std.proofs.Common.{sym, ap, ◌∙◌, subst}
 use Rattle.rv_state.specs.declared.cause.Cause.TheVariants as causes
-use Rattle.rv_state.specs.declared.cause.Exception.TheVariants.{EnvironmentCallFromS}
 use Rattle.rv_state.specs.declared.cause.Interrupt.TheVariants.{MachineTimer}
-use Rattle.rv_monitor.specs.Unlocked.{HasNoLock}
-use Rattle.rv_monitor.specs.declared.seat.Seat.{Seat}
+use Rattle.rv_monitor.proofs.Prelude.{EnvironmentCallFromS, HasNoLock, Seat}
 use Rattle.rv_monitor.proofs.LastAct.{entries_of, work_entries}
 use Rattle.rv_monitor.proofs.handler.handle.Goals as goal
 use Rattle.rv_monitor.proofs.handler.handle.Goals.{in-Interrupt, in-Exception-EnvironmentCallFromS}
