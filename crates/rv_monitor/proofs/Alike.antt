@@ -39,7 +39,8 @@ same_contexts e cs ds saved own = same_lists cs ds saved.size (λ k d inside.
     ∙ elim (cases_eq k e) [ inl is ↦ rw is own | inr other ↦ saved.others k other ]
     ∙ sym (get_or_default ds k d None inside'))
 
-contexts_with : (e : ℕ) (cs ds : Contexts) (k : ℕ) (c : Option Context) → SameContexts e cs ds → SameContexts e (with_context cs k c) (with_context ds k c)
+contexts_with : (e : ℕ) (cs ds : Contexts) (k : ℕ) (c : Option Context) → SameContexts e cs ds
+    → SameContexts e (with_context cs k c) (with_context ds k c)
 contexts_with e cs ds k c saved = record {
   size = length_after cs ds k c saved.size;
   others = λ j other. same_after_set cs ds k j c None saved.size (saved.others j other);
@@ -161,7 +162,8 @@ module _ (e : ℕ) (table : Slots) (m n : List ℕ) (cs ds : Contexts) (agree : 
   state_other : (k : ℕ) (state : EnclaveState) → e ≢ k → slot_at (with_state table k state) e ≡ slot_at table e
   state_other k state other = of_slot (slot_at table k)
     where
-      of_slot : (o : Option SlotInfo) → slot_at (option_case o table (λ info. with_slot table k (Some (record info { state = state })))) e ≡ slot_at table e
+      of_slot : (o : Option SlotInfo)
+          → slot_at (option_case o table (λ info. with_slot table k (Some (record info { state = state })))) e ≡ slot_at table e
       of_slot None = refl
       of_slot (Some info) = at_other table k e (Some (record info { state = state })) other
 

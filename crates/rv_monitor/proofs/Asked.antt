@@ -43,7 +43,8 @@ module _ (table : Slots) (m n : List ℕ) (cs ds : Contexts) (size : length m �
   untouched : Same here there
   untouched = record { table = refl; bytes = λ i same. same; contexts = λ k same. same }
 
-  with_put : (after : Slots) (address : ℕ) (bytes : List ℕ) → Same (over after (or_same m (write m address bytes)) cs) (over after (or_same n (write n address bytes)) ds)
+  with_put : (after : Slots) (address : ℕ) (bytes : List ℕ)
+      → Same (over after (or_same m (write m address bytes)) cs) (over after (or_same n (write n address bytes)) ds)
   with_put after address bytes = record { table = refl; bytes = λ i same. same_byte m n address bytes i size same; contexts = λ k same. same }
 
   with_kept : (after : Slots) (j : ℕ) (c : Option Context) → Same (over after m (with_context cs j c)) (over after n (with_context ds j c))
@@ -118,7 +119,8 @@ asked_law seat trap one other same =
 -- ---- the step
 
 -- a trap changes nothing of what is asked
-asked_after : (cause : Cause) (seat : Seat) (trap : Trap) (one other : Shared) → SameAsked seat cause one other → SameAsked (seat_after seat trap) cause one other
+asked_after : (cause : Cause) (seat : Seat) (trap : Trap) (one other : Shared) → SameAsked seat cause one other
+    → SameAsked (seat_after seat trap) cause one other
 asked_after cause seat trap one other same = record {
   table = same.table;
   size = same.size;

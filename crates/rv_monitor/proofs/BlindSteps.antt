@@ -17,7 +17,8 @@ module _ (e : ℕ) (state : MonitoredState) (kept : IsKept state) (other : is_wo
   hidden = is_private state.shared.table e
 
   -- what is touched is not hidden
-  seen : (mode : Mode) (access : Access) (span : Span) → is_machine mode ≡ false → MayTouch before mode access (Some span) → IsSeen hidden span.addr (bytes_in span.len)
+  seen : (mode : Mode) (access : Access) (span : Span) → is_machine mode ≡ false → MayTouch before mode access (Some span)
+      → IsSeen hidden span.addr (bytes_in span.len)
   seen mode access span below may byte low high =
       let entries = kept.layout.entries in
       permitted_apart state.shared.memory state.shared.table state.seat.world mode access span.addr (bytes_in span.len)
@@ -39,7 +40,8 @@ module _ (e : ℕ) (state : MonitoredState) (kept : IsKept state) (other : is_wo
     loaded = same_in (data_mode before.hart) Read touched.loaded n data_below may.loaded agree;
   }
 
-  same_stores : (stored : Option Span) (n bytes one two : List ℕ) → AgreeOutside hidden before.memory n → Stores bytes before.memory one stored → Stores bytes n two stored
+  same_stores : (stored : Option Span) (n bytes one two : List ℕ) → AgreeOutside hidden before.memory n → Stores bytes before.memory one stored
+      → Stores bytes n two stored
       → AgreeOutside hidden one two
   same_stores None n bytes one two agree here there = rw (here, there) agree
   same_stores (Some span) n bytes one two agree here there = same_write hidden before.memory n span.addr bytes one two agree here.1 there.1

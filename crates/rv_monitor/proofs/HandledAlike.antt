@@ -35,7 +35,8 @@ equal_work e shared = record {
 
 -- where e is live
 module _ (e : ℕ) (table : Slots) (m n : List ℕ) (cs ds : Contexts) (agree : AgreeOutside (is_private table e) m n) (saved : SameContexts e cs ds) (live : is_live table e ≡ true) where
-  live_work : (worlds : List World) → IsSound (over table m cs) worlds → IsSound (over table n ds) worlds → WorksAlike e (over table m cs) (over table n ds)
+  live_work : (worlds : List World) → IsSound (over table m cs) worlds → IsSound (over table n ds) worlds
+      → WorksAlike e (over table m cs) (over table n ds)
   live_work worlds one other = record {
     before = as_before e table m n cs ds agree saved live;
     creates = created_alike e table m n cs ds agree saved live;
@@ -45,7 +46,8 @@ module _ (e : ℕ) (table : Slots) (m n : List ℕ) (cs ds : Contexts) (agree : 
     switches = switched_alike e table m n cs ds agree saved live;
   }
 
-works_alike : (e : ℕ) (one other : Shared) (worlds : List World) → IsSound one worlds → IsSound other worlds → SharedButFor e one other → WorksAlike e one other
+works_alike : (e : ℕ) (one other : Shared) (worlds : List World) → IsSound one worlds → IsSound other worlds → SharedButFor e one other
+    → WorksAlike e one other
 works_alike e one other worlds here there agree = elim (cases_Bool (is_live one.table e)) [
   | inr dead ↦ subst (WorksAlike e one) (agree.gone dead) (equal_work e one)
   | inl live ↦

@@ -60,11 +60,13 @@ seen_agree e (suc n) one other agree = turned_agree e one other agree
 
 -- ---- and after a step of the same hart
 
-turned_alike : (e hart : ℕ) (one other : MonitoredStepped) → SteppedAlike e one other → SteppedAlike e (turned_stepped hart one) (turned_stepped hart other)
+turned_alike : (e hart : ℕ) (one other : MonitoredStepped) → SteppedAlike e one other
+    → SteppedAlike e (turned_stepped hart one) (turned_stepped hart other)
 turned_alike e hart one other (inl both) = inl (record { here = both.here; there = both.there })
 turned_alike e hart one other (inr past) = inr (record { outcome = past.outcome; state = seen_agree e hart one.state other.state past.state })
 
-pub step_alike : (e hart : ℕ) (one other : MonitoredState) → IsKept one → IsKept other → AgreeBut e one other → SteppedAlike e (step_of hart one) (step_of hart other)
+pub step_alike : (e hart : ℕ) (one other : MonitoredState) → IsKept one → IsKept other → AgreeBut e one other
+    → SteppedAlike e (step_of hart one) (step_of hart other)
 unfolding step_of
 step_alike e hart one other here there agree =
     turned_alike e hart (monitored_step (seen_by hart one)) (monitored_step (seen_by hart other))
@@ -72,7 +74,8 @@ step_alike e hart one other here there agree =
 
 -- ---- every order
 
-first_enters : (e : ℕ) (a b : Outcome) (one other : Scheduled) → a.entered ≡ Some e → b.entered ≡ Some e → BothEnterIn e (after_first a one) (after_first b other)
+first_enters : (e : ℕ) (a b : Outcome) (one other : Scheduled) → a.entered ≡ Some e → b.entered ≡ Some e
+    → BothEnterIn e (after_first a one) (after_first b other)
 first_enters e a b one other here there = record {
   before = [];
   entry_here = a;

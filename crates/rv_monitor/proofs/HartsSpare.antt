@@ -25,7 +25,8 @@ goes_on_beside state = by_step state (λ after. worlds_beside after.state.other 
 
 -- ---- and its hart is as it was, but for the entries and mie
 
-pub seated_after : (state : MonitoredState) → IsKept state → (monitored_step state).state.other ≡ seated_beside (monitored_step state).state.shared.table state.other
+pub seated_after : (state : MonitoredState) → IsKept state
+    → (monitored_step state).state.other ≡ seated_beside (monitored_step state).state.shared.table state.other
 seated_after state kept = by_step state (λ after. after.state.other ≡ seated_beside after.state.shared.table state.other)
     (λ none. sym (beside_as_is state.shared.table state.other kept.other)) (λ trap is. refl)
 
@@ -39,17 +40,20 @@ or_second_true : (a b : Bool) → b ≡ true → (a || b) ≡ true
 or_second_true true b is = refl
 or_second_true false b is = is
 
-beside_is_live : (state : MonitoredState) (k : ℕ) → IsKept state → list_any (is_world_of k) (worlds_beside state.other) ≡ true → is_live state.shared.table k ≡ true
+beside_is_live : (state : MonitoredState) (k : ℕ) → IsKept state → list_any (is_world_of k) (worlds_beside state.other) ≡ true
+    → is_live state.shared.table k ≡ true
 beside_is_live state k kept beside =
     live_by (slot_at state.shared.table k) (kept.shared.running k ∙ or_second_true (is_world_of k state.seat.world) _ beside)
 
-beside_not_here : (state : MonitoredState) (k : ℕ) → IsKept state → list_any (is_world_of k) (worlds_beside state.other) ≡ true → is_world_of k state.seat.world ≡ false
+beside_not_here : (state : MonitoredState) (k : ℕ) → IsKept state → list_any (is_world_of k) (worlds_beside state.other) ≡ true
+    → is_world_of k state.seat.world ≡ false
 beside_not_here state k kept beside = elim (cases_Bool (is_world_of k state.seat.world)) [
   | inl here ↦ absurd (both_ways _ (kept.shared.apart.0 k here) beside)
   | inr none ↦ none
 ]
 
-not_entered : (k : ℕ) (state : MonitoredState) (after : MonitoredStepped) → StaysOrSwitches state after → is_world_of k after.state.seat.world ≡ false → enters k after.outcome.entered ≡ false
+not_entered : (k : ℕ) (state : MonitoredState) (after : MonitoredStepped) → StaysOrSwitches state after
+    → is_world_of k after.state.seat.world ≡ false → enters k after.outcome.entered ≡ false
 not_entered k state after (inl stays) rests = ap (enters k) stays.entered
 not_entered k state after (inr (inl enter)) rests = ap (enters k) enter.entered ∙ sym (ap (is_world_of k) enter.world) ∙ rests
 not_entered k state after (inr (inr leaves)) rests = ap (enters k) leaves.entered
@@ -70,7 +74,8 @@ spares_beside state kept stored k beside =
 
 -- ---- every order of steps
 
-turned_shared_by : (seat : Seat) (other : Option Seat) (shared : Shared) → (let state : MonitoredState = record { seat = seat; other = other; shared = shared } in (turned state).shared ≡ shared)
+turned_shared_by : (seat : Seat) (other : Option Seat) (shared : Shared)
+    → (let state : MonitoredState = record { seat = seat; other = other; shared = shared } in (turned state).shared ≡ shared)
 turned_shared_by seat None shared = refl
 turned_shared_by seat (Some other) shared = refl
 
@@ -82,7 +87,8 @@ first_live : (k : ℕ) (harts : List ℕ) (state : MonitoredState) → IsLeftAlo
 first_live k [] state alone = alone
 first_live k (hart ∷ harts) state alone = alone.0
 
-step_spares : (k hart : ℕ) (state : MonitoredState) → IsKept state → is_live state.shared.table k ≡ true → is_world_of k (seen_by hart state).seat.world ≡ false
+step_spares : (k hart : ℕ) (state : MonitoredState) → IsKept state → is_live state.shared.table k ≡ true
+    → is_world_of k (seen_by hart state).seat.world ≡ false
     → enters k (step_of hart state).outcome.entered ≡ false → is_live (step_of hart state).state.shared.table k ≡ true
     → IsSpared k state.shared (step_of hart state).state.shared
 unfolding step_of

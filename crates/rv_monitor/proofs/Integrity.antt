@@ -79,7 +79,8 @@ module _ (k : ℕ) (seat : Seat) (shared : Shared) (valid : IsValid shared.memor
 -- ---- the bytes of its region
 
 -- what a step changes is in the reach of the world that runs, or in the region of an enclave that it ends
-not_changed : (state : MonitoredState) (k byte : ℕ) → IsKept state → is_world_of k state.seat.world ≡ false → is_live (monitored_step state).state.shared.table k ≡ true
+not_changed : (state : MonitoredState) (k byte : ℕ) → IsKept state → is_world_of k state.seat.world ≡ false
+    → is_live (monitored_step state).state.shared.table k ≡ true
     → has (region state.shared.table k) byte ≡ true → byte_at (monitored_step state).state.shared.memory byte ≡ byte_at state.shared.memory byte
 not_changed state k byte kept rests stays own =
     let shared = state.shared in

@@ -61,7 +61,9 @@ entries_are e d cfgs addrs =
     ap₂ at cfgs addrs
 
 -- the entries set to what each is in the layout are the layout
-pub layout_from_each : (t : Slots) (w : World) (cfgs addrs : List ℕ) → length cfgs ≡ 16 → length addrs ≡ 16 → ((j : ℕ) → j < 16 → slice_index cfgs j ≡ (entry_at t w j).cfg) → ((j : ℕ) → j < 16 → slice_index addrs j ≡ (entry_at t w j).addr) → with_entries cfgs addrs ≡ layout t w
+pub layout_from_each : (t : Slots) (w : World) (cfgs addrs : List ℕ) → length cfgs ≡ 16 → length addrs ≡ 16
+    → ((j : ℕ) → j < 16 → slice_index cfgs j ≡ (entry_at t w j).cfg)
+    → ((j : ℕ) → j < 16 → slice_index addrs j ≡ (entry_at t w j).addr) → with_entries cfgs addrs ≡ layout t w
 unfolding layout
 layout_from_each t w cfgs addrs cfgs_long addrs_long each_cfg each_addr =
     entries_are (with_entries cfgs addrs) (layout t w)

@@ -61,7 +61,8 @@ stored_sound worlds seat shared sound =
     sound_by_size shared worlds (stepped seat shared).state.memory sound (step_size before (step before) (confined before))
 
 module _ (law : BareLaw) (e : ℕ) where
-  step_alike : (seat : Seat) (beside : Option Seat) (one other : Shared) → IsKept (on seat beside one) → IsKept (on seat beside other) → is_world_of e seat.world ≡ false
+  step_alike : (seat : Seat) (beside : Option Seat) (one other : Shared) → IsKept (on seat beside one) → IsKept (on seat beside other)
+      → is_world_of e seat.world ≡ false
       → list_any (is_world_of e) (worlds_beside beside) ≡ false → SharedButFor e one other
       → SteppedAlike e (monitored_step (on seat beside one)) (monitored_step (on seat beside other))
   unfolding monitored_step

@@ -80,7 +80,8 @@ block_covers memory block before b ram_size lawful =
     let power : block.size ≡ 2 ^ ((m - 3) + 3) = is.power.3 ∙ ap (λ n. 2 ^ n) same in
     napot_matches block.base block.size (m - 3) before b (omega arith) power is.aligned (omega (arith, is.high))
 
-region_covers : (memory : List ℕ) (w : World) (k : ℕ) (o : Option SlotInfo) (before b : ℕ) → length memory ≤ 0x1000000 → IfSome o (IsLawfulSlot memory)
+region_covers : (memory : List ℕ) (w : World) (k : ℕ) (o : Option SlotInfo) (before b : ℕ) → length memory ≤ 0x1000000
+    → IfSome o (IsLawfulSlot memory)
     → matches (matching_of (region_entry w k o).cfg) before (region_entry w k o).addr b ≡ has (region_of o) b
 region_covers memory w k None before b ram_size lawful = sym (has_nothing b)
 region_covers memory w k (Some info) before b ram_size lawful =
@@ -116,7 +117,8 @@ addr_of-layout : (t : Slots) (w : World) (i : ℕ) → i < 16 → addr_of (layou
 unfolding layout
 addr_of-layout t w i in_range = get_or-map-range_with_len (λ j. (entry_at t w j).addr) 0 16 i i 0 in_range (omega arith)
 
-covers-layout : (t : Slots) (w : World) (i b : ℕ) → i < 16 → covers (layout t w) i b ≡ matches (matching_of (entry_at t w i).cfg) (addr_before (layout t w) i) (entry_at t w i).addr b
+covers-layout : (t : Slots) (w : World) (i b : ℕ) → i < 16
+    → covers (layout t w) i b ≡ matches (matching_of (entry_at t w i).cfg) (addr_before (layout t w) i) (entry_at t w i).addr b
 unfolding covers
 covers-layout t w i b in_range =
     ap₂ (λ cfg addr. matches (matching_of cfg) (addr_before (layout t w) i) addr b) (cfg_of-layout t w i in_range) (addr_of-layout t w i in_range)
@@ -162,7 +164,8 @@ host_owned Host before b below =
     rw all_ones_size (eq-eqb _ _ (div-eq_of_lt below))
 
 module _ (memory : List ℕ) (t : Slots) (w : World) (ram_size : length memory ≤ 0x1000000) (valid : IsValid memory t) (b : ℕ) where
-  at_entry : (i : ℕ) (x : Entry) (owned : Bool) → i < 16 → entry_at t w i ≡ x → ((before : ℕ) → matches (matching_of x.cfg) before x.addr b ≡ owned) → covers (layout t w) i b ≡ owned
+  at_entry : (i : ℕ) (x : Entry) (owned : Bool) → i < 16 → entry_at t w i ≡ x
+      → ((before : ℕ) → matches (matching_of x.cfg) before x.addr b ≡ owned) → covers (layout t w) i b ≡ owned
   at_entry i x owned in_range is held =
       covers-layout t w i b in_range
       ∙ ap (λ (y : Entry). matches (matching_of y.cfg) (addr_before (layout t w) i) y.addr b) is

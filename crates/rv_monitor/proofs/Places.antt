@@ -21,7 +21,8 @@ other_place seats hart other seat apart = get_or-set_other seats hart other seat
 abbrev pub with_own : Seats → Seat → Shared → MonitoredState
 with_own seats own shared = record { seat = own; other = beside seats; shared = shared }
 
-pub own_kept : (seats : Seats) (own : Seat) (shared : Shared) → seat_at seats.by_hart seats.turn ≡ own → IsKept (over seats shared) → IsKept (with_own seats own shared)
+pub own_kept : (seats : Seats) (own : Seat) (shared : Shared) → seat_at seats.by_hart seats.turn ≡ own → IsKept (over seats shared)
+    → IsKept (with_own seats own shared)
 own_kept seats own shared read kept = subst (λ (seat : Seat). IsKept (with_own seats seat shared)) read kept
 
 -- the seat of the hart on turn put back
@@ -44,7 +45,8 @@ laid_beside seats after own shared table two has laid =
 abbrev seats_of : List Seat → Bool → ℕ → Seats
 seats_of by_hart are_two turn = record { by_hart = by_hart; are_two = are_two; turn = turn }
 
-turned_from : (by_hart : List Seat) (are_two : Bool) (turn hart : ℕ) (shared : Shared) → (let seats = seats_of by_hart are_two turn in turn < count_in seats → hart < count_in seats
+turned_from : (by_hart : List Seat) (are_two : Bool) (turn hart : ℕ) (shared : Shared)
+    → (let seats = seats_of by_hart are_two turn in turn < count_in seats → hart < count_in seats
     → over (seats_of by_hart are_two hart) shared ≡ seen_by hart (as_seen seats shared))
 turned_from by_hart false zero zero shared has named = refl
 turned_from by_hart false zero (suc hart) shared has named = absurd (omega (arith, named))
@@ -84,7 +86,8 @@ pub few : (seats : Seats) → seats.turn < count_in seats → seats.turn < 2
 few seats has = few_by seats.are_two seats.turn has
 
 -- the hart on turn stays, and is one that the machine has
-pub stays : (before after : Seats) → after.turn ≡ before.turn → count_in after ≡ count_in before → before.turn < count_in before → after.turn < count_in after
+pub stays : (before after : Seats) → after.turn ≡ before.turn → count_in after ≡ count_in before → before.turn < count_in before
+    → after.turn < count_in after
 stays before after turn harts has = subst (λ (n : ℕ). n < count_in after) (sym turn) (subst (λ (n : ℕ). before.turn < n) (sym harts) has)
 
 pub on_turn_is : (seats : Seats) (shared : Shared) (hart : ℕ) (state : MonitoredState) → seats.turn ≡ hart → over seats shared ≡ state

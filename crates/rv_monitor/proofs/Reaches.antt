@@ -32,7 +32,8 @@ grants-below_M S access cfg below = refl
 grants-below_M M access cfg below = absurd (below refl)
 
 -- a decided verdict permits what is covered and granted, and only that
-permits-decided : (e : Entries) (mode : Mode) (access : Access) (i : ℕ) (covers_all : Bool) → permits (decided e mode access i covers_all) ≡ (covers_all && grants mode access (cfg_of e i))
+permits-decided : (e : Entries) (mode : Mode) (access : Access) (i : ℕ) (covers_all : Bool)
+    → permits (decided e mode access i covers_all) ≡ (covers_all && grants mode access (cfg_of e i))
 permits-decided e mode access i false = refl
 permits-decided e mode access i true = elim (cases_Bool (grants mode access (cfg_of e i))) [
   | inl granted ↦ rw granted refl
@@ -57,7 +58,8 @@ all_given Read = refl
 all_given Write = refl
 
 -- a slot's entry gives something only to its own enclave
-slot_gives : (w : World) (k : ℕ) (o : Option SlotInfo) (access : Access) → has_permission access (region_entry w k o).cfg ≡ true → is_world_of k w ≡ true
+slot_gives : (w : World) (k : ℕ) (o : Option SlotInfo) (access : Access) → has_permission access (region_entry w k o).cfg ≡ true
+    → is_world_of k w ≡ true
 slot_gives w k None access given = absurd (both_ways _ (unused_gives access) given)
 slot_gives w k (Some s) access given = elim (cases_Bool (is_world_of k w)) [
   | inl own ↦ own
@@ -65,7 +67,8 @@ slot_gives w k (Some s) access given = elim (cases_Bool (is_world_of k w)) [
 ]
 
 -- and all to it
-slot_gives_all : (w : World) (k : ℕ) (o : Option SlotInfo) (access : Access) (b : ℕ) → is_world_of k w ≡ true → has (region_of o) b ≡ true → has_permission access (region_entry w k o).cfg ≡ true
+slot_gives_all : (w : World) (k : ℕ) (o : Option SlotInfo) (access : Access) (b : ℕ) → is_world_of k w ≡ true → has (region_of o) b ≡ true
+    → has_permission access (region_entry w k o).cfg ≡ true
 slot_gives_all w k None access b own held = absurd (both_ways _ (has_nothing b) held)
 slot_gives_all w k (Some s) access b own held = rw own (all_given access)
 
@@ -88,7 +91,8 @@ window_gives_no_fetch None = refl
 window_gives_no_fetch (Some s) = elim (cases_Bool (s.window.size == 0)) [ inl none ↦ rw none refl | inr some ↦ rw some refl ]
 
 -- and the rest where the window has a byte
-window_gives : (o : Option SlotInfo) (access : Access) (b : ℕ) → access ≢ Fetch → has (window_of o) b ≡ true → has_permission access (window_entry_of o).cfg ≡ true
+window_gives : (o : Option SlotInfo) (access : Access) (b : ℕ) → access ≢ Fetch → has (window_of o) b ≡ true
+    → has_permission access (window_entry_of o).cfg ≡ true
 window_gives None access b other held = absurd (both_ways _ (has_nothing b) held)
 window_gives (Some s) access b other held =
     let parts = and_parts _ _ held in
@@ -103,18 +107,22 @@ world_is : (k : ℕ) (w : World) → is_world_of k w ≡ true → w ≡ Enclave 
 world_is k Host own = absurd (false≢true own)
 world_is k (Enclave j) own = ap Enclave (eqb-true j k own)
 
-region_reaches : (memory : List ℕ) (t : Slots) (w : World) (access : Access) (bytes : List ℕ) (k : ℕ) → is_world_of k w ≡ true → list_all (has (region t k)) bytes ≡ true → in_reach memory t w access bytes ≡ true
+region_reaches : (memory : List ℕ) (t : Slots) (w : World) (access : Access) (bytes : List ℕ) (k : ℕ) → is_world_of k w ≡ true
+    → list_all (has (region t k)) bytes ≡ true → in_reach memory t w access bytes ≡ true
 unfolding in_reach
 region_reaches memory t w access bytes k own all = rw (world_is k w own) (or_left _ _ all)
 
-window_reaches : (memory : List ℕ) (t : Slots) (w : World) (access : Access) (bytes : List ℕ) → has_permission access (window_entry t w).cfg ≡ true → list_all (has (world_window t w)) bytes ≡ true → in_reach memory t w access bytes ≡ true
+window_reaches : (memory : List ℕ) (t : Slots) (w : World) (access : Access) (bytes : List ℕ)
+    → has_permission access (window_entry t w).cfg ≡ true → list_all (has (world_window t w)) bytes ≡ true
+    → in_reach memory t w access bytes ≡ true
 unfolding in_reach
 window_reaches memory t Host access bytes given all = absurd (both_ways _ (unused_gives access) given)
 window_reaches memory t (Enclave k) Fetch bytes given all = absurd (both_ways _ (window_gives_no_fetch (slot_at t k)) given)
 window_reaches memory t (Enclave k) Read bytes given all = or_right _ _ (or_left _ _ all)
 window_reaches memory t (Enclave k) Write bytes given all = or_right _ _ (or_left _ _ all)
 
-host_reaches : (memory : List ℕ) (t : Slots) (w : World) (access : Access) (bytes : List ℕ) → is_host w ≡ true → list_all (host_has memory t) bytes ≡ true → in_reach memory t w access bytes ≡ true
+host_reaches : (memory : List ℕ) (t : Slots) (w : World) (access : Access) (bytes : List ℕ) → is_host w ≡ true
+    → list_all (host_has memory t) bytes ≡ true → in_reach memory t w access bytes ≡ true
 unfolding in_reach
 host_reaches memory t Host access bytes host all = or_left _ _ all
 host_reaches memory t (Enclave k) access bytes host all = absurd (false≢true host)
@@ -230,7 +238,8 @@ module _ (memory : List ℕ) (t : Slots) (w : World) (mode : Mode) (access : Acc
       let in_ram : is_inside memory b 1 ≡ true = inside_from memory b (omega (arith, inside.0)) (omega (arith, inside.1)) in
       and_from _ _ in_ram (and_from _ _ (ap not no_monitor) (ap not no_region)))
 
-  reached_by : (i : ℕ) → IsFirst (λ j. list_any (covers entries j) bytes) 0 16 i → list_all (covers entries i) bytes ≡ true → grants mode access (cfg_of entries i) ≡ true → in_reach memory t w access bytes ≡ true
+  reached_by : (i : ℕ) → IsFirst (λ j. list_any (covers entries j) bytes) 0 16 i → list_all (covers entries i) bytes ≡ true
+      → grants mode access (cfg_of entries i) ≡ true → in_reach memory t w access bytes ≡ true
   reached_by i is covered given = elim (place_cases i is.high) [
     | inl first ↦
         let given' = rw first at given in
@@ -268,7 +277,8 @@ module _ (memory : List ℕ) (t : Slots) (w : World) (mode : Mode) (access : Acc
   ]
 
   -- an entry that covers all bytes, and none before it any, decides
-  done_by : (i : ℕ) → i < 16 → list_all (covers entries i) bytes ≡ true → grants mode access (cfg_of entries i) ≡ true → ((j : ℕ) → j < i → list_any (covers entries j) bytes ≡ false) → permits (verdict entries mode access bytes) ≡ true
+  done_by : (i : ℕ) → i < 16 → list_all (covers entries i) bytes ≡ true → grants mode access (cfg_of entries i) ≡ true
+      → ((j : ℕ) → j < i → list_any (covers entries j) bytes ≡ false) → permits (verdict entries mode access bytes) ≡ true
   done_by i in_range covered given first =
       let meets = any_at (covers entries i) a n a (omega arith) (omega arith) (each_from_all (covers entries i) a n covered a (omega arith) (omega arith)) in
       ap permits (verdict_decided entries mode access bytes i in_range meets first)
@@ -314,7 +324,8 @@ module _ (memory : List ℕ) (t : Slots) (w : World) (mode : Mode) (access : Acc
         ]
       ])
 
-  done_by_window : (k : ℕ) → w ≡ Enclave k → access ≢ Fetch → list_all (has (window t k)) bytes ≡ true → permits (verdict entries mode access bytes) ≡ true
+  done_by_window : (k : ℕ) → w ≡ Enclave k → access ≢ Fetch → list_all (has (window t k)) bytes ≡ true
+      → permits (verdict entries mode access bytes) ≡ true
   done_by_window k own other all =
       let held = each_from_all (has (window t k)) a n all in
       let has_first = held a (omega arith) (omega arith) in
@@ -343,7 +354,8 @@ module _ (memory : List ℕ) (t : Slots) (w : World) (mode : Mode) (access : Acc
   reach_from = same_test _ _ there back
 
   -- so no permitted access has a byte there
-  pub permitted_apart : (k : ℕ) → is_world_of k w ≡ false → permits (verdict entries mode access bytes) ≡ true → (b : ℕ) → a ≤ b → b < a + n → has (region t k) b ≡ false
+  pub permitted_apart : (k : ℕ) → is_world_of k w ≡ false → permits (verdict entries mode access bytes) ≡ true → (b : ℕ) → a ≤ b
+      → b < a + n → has (region t k) b ≡ false
   permitted_apart k other permitted = reached_apart memory t w access a n k valid other (there permitted)
 
 -- ---- the laws
@@ -358,7 +370,8 @@ small_ram memory is =
     let parts = and_parts (length memory % 65536 == 0 && nat_le 65536 (length memory)) (nat_le (length memory) 16777216) is in
     leb-true (length memory) 16777216 parts.1
 
-pub inside_is : (m : List ℕ) (address count : ℕ) → is_inside m address count ≡ true → (ram_base ≤ address) × (address + count ≤ ram_base + length m)
+pub inside_is : (m : List ℕ) (address count : ℕ) → is_inside m address count ≡ true
+    → (ram_base ≤ address) × (address + count ≤ ram_base + length m)
 inside_is m address count inside =
     let parts = and_parts (nat_le ram_base address) (nat_le (address + count) (ram_base + length m)) inside in
     (leb-true _ _ parts.0, leb-true _ _ parts.1)

@@ -60,7 +60,8 @@ pub record IsTaken (slots : Slots) (call : Call) (k : ℕ) : Type 0 where
   pub is : slot_at slots k ≡ Some info
   pub taken : takes call info.state ≡ true
 
-taken_at : (slots : Slots) (call : Call) (k : ℕ) (o : Option SlotInfo) → slot_at slots k ≡ o → option_case o false (λ info. takes call info.state) ≡ true → IsTaken slots call k
+taken_at : (slots : Slots) (call : Call) (k : ℕ) (o : Option SlotInfo) → slot_at slots k ≡ o
+    → option_case o false (λ info. takes call info.state) ≡ true → IsTaken slots call k
 taken_at slots call k None is taken = absurd (false≢true taken)
 taken_at slots call k (Some info) is taken = record { info = info; is = is; taken = taken }
 
@@ -90,7 +91,8 @@ pub record MayMeasure (shared : Shared) (entries : Entries) (k address : ℕ) : 
   pub live : is_live shared.table k ≡ true
   pub stores : may_store_all shared.memory entries address ≡ true
 
-pub may_measure : (shared : Shared) (entries : Entries) (k address : ℕ) → first_refusal (measure_refusals shared entries k address) ≡ None → MayMeasure shared entries k address
+pub may_measure : (shared : Shared) (entries : Entries) (k address : ℕ) → first_refusal (measure_refusals shared entries k address) ≡ None
+    → MayMeasure shared entries k address
 unfolding measure_refusals
 may_measure shared entries k address none =
     let live = no_row (not (is_live shared.table k)) _ _ none in
@@ -117,6 +119,7 @@ module _ (table : Slots) (m n : List ℕ) (cs ds : Contexts) where
   unfolding may_store_all
   same_stores entries address size = rw size (refl {a = may_store_all n entries address})
 
-  pub same_measure_refusals : (entries : Entries) (k address : ℕ) → length m ≡ length n → measure_refusals here entries k address ≡ measure_refusals there entries k address
+  pub same_measure_refusals : (entries : Entries) (k address : ℕ) → length m ≡ length n
+      → measure_refusals here entries k address ≡ measure_refusals there entries k address
   unfolding measure_refusals
   same_measure_refusals entries k address size = let stores = same_stores entries address size in rw (← stores) refl

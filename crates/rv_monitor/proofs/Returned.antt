@@ -21,7 +21,8 @@ pub host_stored : (state : MonitoredState) → IsKept state → is_host state.se
 host_stored state kept host = nothing_kept state.seat.host_context (kept.host.kept ∙ ap not host)
 
 -- the step that enters keeps the host as it was
-pub entered_from : (state : MonitoredState) (after : MonitoredStepped) → StaysOrSwitches state after → is_host state.seat.world ≡ true → is_host after.state.seat.world ≡ false
+pub entered_from : (state : MonitoredState) (after : MonitoredStepped) → StaysOrSwitches state after → is_host state.seat.world ≡ true
+    → is_host after.state.seat.world ≡ false
     → after.state.seat.host_context ≡ Some (saved state.seat.hart (past_ecall state.seat.hart) S)
 entered_from state after (inl stays) host other = absurd (both_ways _ other (ap is_host stays.world ∙ host))
 entered_from state after (inr (inl enters)) host other = enters.host

@@ -21,7 +21,8 @@ kept_law state kept = by_step state (λ after. IsKept after.state)
 
 -- ---- runs
 
-first_enters : (e : ℕ) (a b : Outcome) (one other : Ran) → a.entered ≡ Some e → b.entered ≡ Some e → BothRunIn e (after_one a one) (after_one b other)
+first_enters : (e : ℕ) (a b : Outcome) (one other : Ran) → a.entered ≡ Some e → b.entered ≡ Some e
+    → BothRunIn e (after_one a one) (after_one b other)
 first_enters e a b one other here there = record {
   before = [];
   entry_here = a;

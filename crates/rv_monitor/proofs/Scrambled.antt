@@ -49,7 +49,8 @@ some_after : (o : Option Context) → is_some (option_map complemented_context o
 some_after None = refl
 some_after (Some context) = refl
 
-goes_on_after : (o : Option Context) → IfSome o (λ context. can_go_on context ≡ true) → IfSome (option_map complemented_context o) (λ context. can_go_on context ≡ true)
+goes_on_after : (o : Option Context) → IfSome o (λ context. can_go_on context ≡ true)
+    → IfSome (option_map complemented_context o) (λ context. can_go_on context ≡ true)
 goes_on_after None held = tt
 goes_on_after (Some context) held = held
 
@@ -135,10 +136,12 @@ scramble_kept state k kept may = record {
 not_its_world : (state : MonitoredState) (k : ℕ) → IsKept state → runs state.shared.table k ≡ false → is_world_of k state.seat.world ≡ false
 not_its_world state k kept rests = or-first _ _ (sym (kept.shared.running k) ∙ rests)
 
-not_beside : (state : MonitoredState) (k : ℕ) → IsKept state → runs state.shared.table k ≡ false → list_any (is_world_of k) (worlds_beside state.other) ≡ false
+not_beside : (state : MonitoredState) (k : ℕ) → IsKept state → runs state.shared.table k ≡ false
+    → list_any (is_world_of k) (worlds_beside state.other) ≡ false
 not_beside state k kept rests = or-second _ _ (sym (kept.shared.running k) ∙ rests)
 
-pub scramble_agrees : (state : MonitoredState) (k : ℕ) → IsKept state → can_scramble state.shared.table k ≡ true → AgreeBut k state (scrambled state k)
+pub scramble_agrees : (state : MonitoredState) (k : ℕ) → IsKept state → can_scramble state.shared.table k ≡ true
+    → AgreeBut k state (scrambled state k)
 scramble_agrees state k kept may = record {
   seat = refl;
   beside = refl;
@@ -175,5 +178,6 @@ pub perhaps_agrees : (done : Bool) (state : MonitoredState) (k : ℕ) → done �
 perhaps_agrees true state k asked kept rests = scramble_agrees state k kept (sym asked)
 perhaps_agrees false state k asked kept rests = itself_agrees state k kept rests
 
-pub done_rests : (done : Bool) (state : MonitoredState) (k : ℕ) → done ≡ can_scramble state.shared.table k → done ≡ true → runs state.shared.table k ≡ false
+pub done_rests : (done : Bool) (state : MonitoredState) (k : ℕ) → done ≡ can_scramble state.shared.table k → done ≡ true
+    → runs state.shared.table k ≡ false
 done_rests done state k asked is = (slot_rests (slot_at state.shared.table k) (sym asked ∙ is)).1

@@ -8,7 +8,8 @@ use Rattle.rv_monitor.specs.Scramble.{complemented_registers, complemented_conte
 use Rattle.rv_monitor.proofs.Prelude.{Block, Context, context_at, is_inside, ram_base, region}
 use Rattle.rv_monitor.proofs.Agreement.{read-none}
 
-words_twice : (words : List ℕ) → ((n : ℕ) → get_or words n 0 < 2 ^ 32) → map (λ word. 2 ^ 32 - 1 - word) (map (λ word. 2 ^ 32 - 1 - word) words) ≡ words
+words_twice : (words : List ℕ) → ((n : ℕ) → get_or words n 0 < 2 ^ 32)
+    → map (λ word. 2 ^ 32 - 1 - word) (map (λ word. 2 ^ 32 - 1 - word) words) ≡ words
 words_twice [] small = refl
 words_twice (word ∷ words) small =
     let first : word < 2 ^ 32 = small 0 in

@@ -152,7 +152,8 @@ created_done shared worlds new k sound lawful window apart entry is =
     sound_with shared worlds worlds k (Some info) (Some (first_context info)) shared.memory sound slot.in_range refl
     (new_fits shared new k lawful window entry (free_from shared.table new apart)) refl (first_goes_on info (entry_aligned new entry)) before (λ j other. refl) sound.apart
 
-pub created_sound : (shared : Shared) (worlds : List World) (new : Proposal) → MayCreate shared new → IsSound shared worlds → IsSound (created shared new) worlds
+pub created_sound : (shared : Shared) (worlds : List World) (new : Proposal) → MayCreate shared new → IsSound shared worlds
+    → IsSound (created shared new) worlds
 unfolding created
 created_sound shared worlds new may sound =
     created_done shared worlds new (new_slot shared.table) sound may.lawful may.window may.apart may.entry may.free
@@ -188,7 +189,8 @@ gone shared worlds k info sound is rests =
     (size_zeroed shared.memory block (write shared.memory block.base (replicate block.size 0)) refl)
     (nothing_fits shared.memory shared.table k) refl tt before (λ j other. refl) sound.apart
 
-pub destroyed_sound : (shared : Shared) (worlds : List World) (k : ℕ) → IsTaken shared.table calls.Destroy k → IsSound shared worlds → IsSound (destroyed shared k) worlds
+pub destroyed_sound : (shared : Shared) (worlds : List World) (k : ℕ) → IsTaken shared.table calls.Destroy k → IsSound shared worlds
+    → IsSound (destroyed shared k) worlds
 unfolding destroyed
 destroyed_sound shared worlds k may sound = gone shared worlds k may.info sound may.is (takes_rests calls.Destroy may.info.state may.taken)
 
@@ -215,7 +217,8 @@ module _ (beside : List World) where
   apart_from : (k j : ℕ) → list_any (is_world_of k) beside ≡ false → is_world_of j (Enclave k) ≡ true → list_any (is_world_of j) beside ≡ false
   apart_from k j rests own = let same : k ≡ j = eqb-true k j own in rw (← same) rests
 
-  pub entered_sound : (shared : Shared) (k : ℕ) (info : SlotInfo) → IsSound shared (Host ∷ beside) → slot_at shared.table k ≡ Some info → is_running info.state ≡ false
+  pub entered_sound : (shared : Shared) (k : ℕ) (info : SlotInfo) → IsSound shared (Host ∷ beside) → slot_at shared.table k ≡ Some info
+      → is_running info.state ≡ false
       → IsSound (record shared { table = with_state shared.table k Running; contexts = with_context shared.contexts k None }) (Enclave k ∷ beside)
   entered_sound shared k info sound is rests =
       let own : (k == k) ≡ true = eq-eqb k k refl in
@@ -226,7 +229,8 @@ module _ (beside : List World) where
       (live_in_range shared.table k info sound.valid.count is) refl (own_fits shared.memory shared.table k info Running sound.valid is) refl tt here (λ j other. alone j k other)
       (λ j own. apart_from k j none own, sound.apart.1))
 
-  pub left_sound : (shared : Shared) (k : ℕ) (info : SlotInfo) (state : EnclaveState) (kept : Context) → IsSound shared (Enclave k ∷ beside) → slot_at shared.table k ≡ Some info
+  pub left_sound : (shared : Shared) (k : ℕ) (info : SlotInfo) (state : EnclaveState) (kept : Context) → IsSound shared (Enclave k ∷ beside)
+      → slot_at shared.table k ≡ Some info
       → is_running state ≡ false → can_go_on kept ≡ true
       → IsSound (record shared { table = with_state shared.table k state; contexts = with_context shared.contexts k (Some kept) }) (Host ∷ beside)
   left_sound shared k info state kept sound is rests held =

@@ -73,7 +73,8 @@ pub trapped_here : (state : MonitoredState) (trap : Trap) → IsKept state
     → IsTrapped (worlds_beside state.other) (seat_after state (step_counted (trapped state.seat.hart trap) false state.seat.hart.csrs.mcountinhibit None)) state.shared
 trapped_here state trap kept = trapped_at state trap state.shared.memory kept refl
 
-trapped_if : (state : MonitoredState) (o : Option Trap) (trap : Trap) (hart : Hart) (memory : List ℕ) → o ≡ Some trap → IsKept state → length state.shared.memory ≡ length memory
+trapped_if : (state : MonitoredState) (o : Option Trap) (trap : Trap) (hart : Hart) (memory : List ℕ) → o ≡ Some trap → IsKept state
+    → length state.shared.memory ≡ length memory
     → IfSome o (λ t. (hart ≡ step_counted (trapped state.seat.hart t) false state.seat.hart.csrs.mcountinhibit None) × (memory ≡ state.shared.memory))
     → IsTrapped (worlds_beside state.other) (seat_after state hart) (shared_after state memory)
 trapped_if state None trap hart memory is kept size keeps = cc
@@ -81,7 +82,8 @@ trapped_if state (Some t) trap hart memory is kept size keeps =
     subst (λ (h : Hart). IsTrapped (worlds_beside state.other) (seat_after state h) (shared_after state memory)) (sym keeps.0) (trapped_at state t memory kept size)
 
 pub after_trap : (state : MonitoredState) (after : Stepped) (trap : Trap) → after.outcome.trap ≡ Some trap → IsKept state
-    → TrapKeeps (record { hart = state.seat.hart; memory = state.shared.memory }) after → IsConfined (record { hart = state.seat.hart; memory = state.shared.memory }) after
+    → TrapKeeps (record { hart = state.seat.hart; memory = state.shared.memory }) after
+    → IsConfined (record { hart = state.seat.hart; memory = state.shared.memory }) after
     → IsTrapped (worlds_beside state.other) (seat_after state after.state.hart) (shared_after state after.state.memory)
 after_trap state after trap is kept keeps confined =
     trapped_if state after.outcome.trap trap after.state.hart after.state.memory is kept
@@ -95,13 +97,15 @@ same_mie : (a b : CsrState) → machine_parts a ≡ machine_parts b → a.mie �
 unfolding machine_parts
 same_mie a b is = ap (λ (c : CsrState). c.mie) is
 
-same_status : (a b : CsrState) → machine_parts a ≡ machine_parts b → (a.mstatus.mie ≡ b.mstatus.mie) × (a.mstatus.tvm ≡ b.mstatus.tvm) × (a.mstatus.tw ≡ b.mstatus.tw) × (a.mstatus.tsr ≡ b.mstatus.tsr)
+same_status : (a b : CsrState) → machine_parts a ≡ machine_parts b
+    → (a.mstatus.mie ≡ b.mstatus.mie) × (a.mstatus.tvm ≡ b.mstatus.tvm) × (a.mstatus.tw ≡ b.mstatus.tw) × (a.mstatus.tsr ≡ b.mstatus.tsr)
 unfolding machine_parts
 same_status a b is =
     (ap (λ (c : CsrState). c.mstatus.mie) is, ap (λ (c : CsrState). c.mstatus.tvm) is, ap (λ (c : CsrState). c.mstatus.tw) is, ap (λ (c : CsrState). c.mstatus.tsr) is)
 
 kept_at : (state : MonitoredState) (hart : Hart) (memory : List ℕ) → IsKept state → StaysBelow state.seat.hart hart → hart.csrs.mstatus.mprv ≡ false
-    → length state.shared.memory ≡ length memory → IsKept (record { seat = seat_after state hart; other = state.other; shared = shared_after state memory })
+    → length state.shared.memory ≡ length memory
+    → IsKept (record { seat = seat_after state hart; other = state.other; shared = shared_after state memory })
 kept_at state hart memory kept below mprv size =
     let status = same_status hart.csrs state.seat.hart.csrs below.0 in
     record {
@@ -163,7 +167,8 @@ pub worlds_stay : (slots : Slots) (other : Option Seat) → worlds_beside (seate
 worlds_stay slots None = refl
 worlds_stay slots (Some other) = refl
 
-pub returned_kept : (before : Slots) (other : Option Seat) (h : Handled) → IsDone (worlds_beside other) h → IsLaidOut h.shared.table h.seat → IfSome other (IsSeated before)
+pub returned_kept : (before : Slots) (other : Option Seat) (h : Handled) → IsDone (worlds_beside other) h → IsLaidOut h.shared.table h.seat
+    → IfSome other (IsSeated before)
     → IsKept (record { seat = record h.seat { hart = returned_to h.seat.hart h.next.pc h.next.mode }; other = seated_beside h.shared.table other; shared = h.shared })
 returned_kept before other h done laid seated =
     let ready = done.ready in

@@ -42,7 +42,8 @@ pub record LeavesFor (seat : Seat) (x y : ℕ) (h : Handled) : Type 0 where
 abbrev Turns : Seat → ℕ → ℕ → Handled → Type 0
 Turns seat x y h = StaysIn seat h ⊎ (EntersFrom seat h ⊎ LeavesFor seat x y h)
 
-pub handled_turns : (seat : Seat) (shared : Shared) (trap : Trap) → Turns seat (reason trap.cause seat.hart.regs) (value trap.cause seat.hart.regs) (handled seat shared trap)
+pub handled_turns : (seat : Seat) (shared : Shared) (trap : Trap)
+    → Turns seat (reason trap.cause seat.hart.regs) (value trap.cause seat.hart.regs) (handled seat shared trap)
 unfolding entered left_slot
 handled_turns seat shared trap = by_work seat trap shared (Turns seat (reason trap.cause seat.hart.regs) (value trap.cause seat.hart.regs)) (record {
   refuses = λ refusal. inl (record { world = refl; host = refl; entered = refl });
@@ -80,7 +81,8 @@ stored_by seat x y h (inl stays) stored own = subst KeptStored (sym stays.host) 
 stored_by seat x y h (inr (inl enters)) stored own = subst KeptStored (sym enters.host) (own_stored seat.hart.csrs own)
 stored_by seat x y h (inr (inr leaves)) stored own = subst KeptStored (sym leaves.forgotten) tt
 
-pub handled_stored : (seat : Seat) (shared : Shared) (trap : Trap) → HostIsStored seat → KeepsOwn seat.hart.csrs → HostIsStored (handled seat shared trap).seat
+pub handled_stored : (seat : Seat) (shared : Shared) (trap : Trap) → HostIsStored seat → KeepsOwn seat.hart.csrs
+    → HostIsStored (handled seat shared trap).seat
 handled_stored seat shared trap stored own =
     stored_by seat (reason trap.cause seat.hart.regs) (value trap.cause seat.hart.regs) (handled seat shared trap) (handled_turns seat shared trap) stored own
 
@@ -111,14 +113,16 @@ aligned_again mode pc held =
     let multiple : pc % 4 ≡ 0 = grind (arith, nat_tests) in
     omega arith
 
-same_context : (host : Context) (regs : List ℕ) (pc : ℕ) (mode : Mode) (supervisor : SContext) (told_regs : List ℕ) → regs ≡ told_regs → pc ≡ host.pc → mode ≡ host.mode
+same_context : (host : Context) (regs : List ℕ) (pc : ℕ) (mode : Mode) (supervisor : SContext) (told_regs : List ℕ) → regs ≡ told_regs
+    → pc ≡ host.pc → mode ≡ host.mode
     → supervisor ≡ host.supervisor
     → (let made : Context = record { regs = regs; pc = pc; mode = mode; supervisor = supervisor } in made) ≡ record host { regs = told_regs }
 same_context host regs pc mode supervisor told_regs regs_is pc_is mode_is supervisor_is = rw (regs_is, pc_is, mode_is, supervisor_is) refl
 
 module _ (state : MonitoredState) (kept : IsKept state) (stored : HostIsStored state.seat) (trap : Trap) where
   returned_turns : (outcome : StepOutcome) (h : Handled) → outcome.trap ≡ Some trap
-      → Turns (seat_after state.seat trap) (reason trap.cause state.seat.hart.regs) (value trap.cause state.seat.hart.regs) h → StaysOrSwitches state (returned state.other outcome h)
+      → Turns (seat_after state.seat trap) (reason trap.cause state.seat.hart.regs) (value trap.cause state.seat.hart.regs) h
+      → StaysOrSwitches state (returned state.other outcome h)
   returned_turns outcome h trapped_is (inl stays) = inl (record { world = stays.world; host = stays.host; entered = stays.entered })
   returned_turns outcome h trapped_is (inr (inl enters)) =
       inr (inl (record { slot = enters.slot; from_host = enters.from_host; world = enters.world; host = enters.host; entered = enters.entered }))

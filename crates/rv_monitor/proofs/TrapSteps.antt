@@ -47,7 +47,8 @@ pub same_outcome : (state : MonitoredState) → (monitored_step state).outcome.s
 same_outcome state =
     by_step state (λ after. after.outcome.step ≡ (step (bare state)).outcome) (λ none. refl) (λ trap is. refl)
 
-pub trapped_step : (state : MonitoredState) (trap : Trap) → (monitored_step state).outcome.step.trap ≡ Some trap → monitored_step state ≡ trapped_to state trap
+pub trapped_step : (state : MonitoredState) (trap : Trap) → (monitored_step state).outcome.step.trap ≡ Some trap
+    → monitored_step state ≡ trapped_to state trap
 trapped_step state trap =
     by_step state (λ after. after.outcome.step.trap ≡ Some trap → after ≡ trapped_to state trap)
     (λ none is. let never : None ≡ Some trap = sym none ∙ is in cc)

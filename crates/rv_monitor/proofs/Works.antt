@@ -116,7 +116,8 @@ module _ (seat : Seat) (trap : Trap) (table : Slots) (m n : List ℕ) (cs ds : C
     pub forwards : Both (λ shared. forwarded seat shared trap)
 
   module _ (pieces : Pieces) (size : length m ≡ length n) where
-    by-left : (world : World) (host : Option Context) → seat.world ≡ world → seat.host_context ≡ host → Both (λ shared. leaving trap.cause seat shared world host)
+    by-left : (world : World) (host : Option Context) → seat.world ≡ world → seat.host_context ≡ host
+        → Both (λ shared. leaving trap.cause seat shared world host)
     by-left Host host at is = pieces.stays
     by-left (Enclave k) None at is = pieces.stays
     by-left (Enclave k) (Some host) at is = pieces.leaves k host at is
@@ -124,7 +125,8 @@ module _ (seat : Seat) (trap : Trap) (table : Slots) (m n : List ℕ) (cs ds : C
     by-leaving : (cause : Cause) → trap.cause ≡ cause → Both (λ shared. leaving cause seat shared seat.world seat.host_context)
     by-leaving cause is = subst (λ (c : Cause). Both (λ shared. leaving c seat shared seat.world seat.host_context)) is (by-left seat.world seat.host_context refl refl)
 
-    by-asked : (call : Call) → AsksFor seat trap.cause call → first_refusal (call_refusals seat here call) ≡ None → Both (λ shared. performed seat shared call)
+    by-asked : (call : Call) → AsksFor seat trap.cause call → first_refusal (call_refusals seat here call) ≡ None
+        → Both (λ shared. performed seat shared call)
     unfolding performed left
     by-asked Create asks none = pieces.creates asks (may_create here (proposed seat.hart.regs) none)
     by-asked Destroy asks none = pieces.destroys asks (may_take table Destroy (a0 seat) none)

@@ -46,7 +46,8 @@ pub record SameAsked (seat : Seat) (cause : Cause) (one other : Shared) : Type 0
 pub record SameWhereSame (one other one_after other_after : Shared) : Type 0 where
   pub table : one_after.table ≡ other_after.table
   pub bytes : (i : ℕ) → slice_index one.memory i ≡ slice_index other.memory i → slice_index one_after.memory i ≡ slice_index other_after.memory i
-  pub contexts : (k : ℕ) → context_at one.contexts k ≡ context_at other.contexts k → context_at one_after.contexts k ≡ context_at other_after.contexts k
+  pub contexts : (k : ℕ) → context_at one.contexts k ≡ context_at other.contexts k
+      → context_at one_after.contexts k ≡ context_at other_after.contexts k
 
 pub record SameWork (one other : Shared) (one_left other_left : Handled) : Type 0 where
   pub seat : one_left.seat ≡ other_left.seat
