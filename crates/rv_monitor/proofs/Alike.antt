@@ -66,7 +66,8 @@ read_alike hidden m n address count agree seen = elim (cases_Bool (is_inside m a
 
 -- ---- a live slot
 
-module _ (e : ℕ) (table : Slots) (m n : List ℕ) (cs ds : Contexts) (agree : AgreeOutside (is_private table e) m n) (saved : SameContexts e cs ds) (live : is_live table e ≡ true) where
+module _ (e : ℕ) (table : Slots) (m n : List ℕ) (cs ds : Contexts) (agree : AgreeOutside (is_private table e) m n) (saved : SameContexts e cs ds)
+    (live : is_live table e ≡ true) where
   abbrev here : Shared
   here = record { memory = m; table = table; contexts = cs }
 
@@ -168,6 +169,10 @@ module _ (e : ℕ) (table : Slots) (m n : List ℕ) (cs ds : Contexts) (agree : 
       of_slot (Some info) = at_other table k e (Some (record info { state = state })) other
 
   pub switched_alike : (k : ℕ) (state : EnclaveState) (c : Option Context) → e ≢ k
-      → SharedButFor e (record here { table = with_state table k state; contexts = with_context cs k c }) (record there { table = with_state table k state; contexts = with_context ds k c })
+      → SharedButFor e (record here {
+        table =
+            with_state table k state;
+        contexts = with_context cs k c;
+      }) (record there { table = with_state table k state; contexts = with_context ds k c })
   switched_alike k state c other =
       still (with_state table k state) m n (with_context cs k c) (with_context ds k c) (state_other k state other) agree (contexts_with e cs ds k c saved)

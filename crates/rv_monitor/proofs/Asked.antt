@@ -88,7 +88,8 @@ module _ (table : Slots) (m n : List ℕ) (cs ds : Contexts) (size : length m �
     enters_same : context_at cs (a0 seat) ≡ context_at ds (a0 seat) → Works (with_layout (entering seat here)) (with_layout (entering seat there))
     unfolding entered
     enters_same own =
-        let contexts : kept_context cs (a0 seat) ≡ kept_context ds (a0 seat) = ap (λ (o : Option Context). option_case o exited_context (λ context. context)) own in
+        let contexts : kept_context cs (a0 seat) ≡ kept_context ds (a0 seat) =
+        ap (λ (o : Option Context). option_case o exited_context (λ context. context)) own in
         rw (← contexts) (record { seat = refl; next = refl; shared = with_kept (with_state table (a0 seat) Running) (a0 seat) None })
 
     entering_call : (call : Call) → is_entering (Some call) ≡ true → AsksFor seat trap.cause call → is_entering (asked_by trap.cause seat) ≡ true

@@ -28,7 +28,8 @@ module _ (e : ℕ) (state : MonitoredState) (kept : IsKept state) (other : is_wo
   same_in : (mode : Mode) (access : Access) (touched : Option Span) (n : List ℕ) → is_machine mode ≡ false → MayTouch before mode access touched
       → AgreeOutside hidden before.memory n → SameIn before.memory n touched
   same_in mode access None n below may agree = tt
-  same_in mode access (Some span) n below may agree = same_read hidden before.memory n span.addr (bytes_in span.len) agree may.0 (seen mode access span below may)
+  same_in mode access (Some span) n below may agree =
+      same_read hidden before.memory n span.addr (bytes_in span.len) agree may.0 (seen mode access span below may)
 
   data_below : is_machine (data_mode before.hart) ≡ false
   data_below = rw (clear_mode before.hart kept.layout.mprv) kept.layout.mode

@@ -94,7 +94,10 @@ module _ (seat : Seat) (shared : Shared) (valid : IsValid shared.memory shared.t
         }
 
     put_changes : (o : Option SlotInfo) → IfSome o (IsLawfulSlot shared.memory) → is_some o ≡ true
-        → Changes seat.world seat.hart.regs shared byte (record shared { memory = with_bytes shared.memory (a1 seat) (option_case o [] (λ info. info.measurement)) })
+        → Changes seat.world seat.hart.regs shared byte (record shared {
+          memory =
+              with_bytes shared.memory (a1 seat) (option_case o [] (λ info. info.measurement));
+        })
     put_changes None lawful is_there = cc
     put_changes (Some info) lawful is_there = elim (cases_lt byte (a1 seat)) [
       | inl below ↦ inl (put_by shared.memory (a1 seat) info.measurement byte (write shared.memory (a1 seat) info.measurement) refl (inl below))

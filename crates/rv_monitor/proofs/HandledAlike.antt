@@ -34,7 +34,8 @@ equal_work e shared = record {
 }
 
 -- where e is live
-module _ (e : ℕ) (table : Slots) (m n : List ℕ) (cs ds : Contexts) (agree : AgreeOutside (is_private table e) m n) (saved : SameContexts e cs ds) (live : is_live table e ≡ true) where
+module _ (e : ℕ) (table : Slots) (m n : List ℕ) (cs ds : Contexts) (agree : AgreeOutside (is_private table e) m n) (saved : SameContexts e cs ds)
+    (live : is_live table e ≡ true) where
   live_work : (worlds : List World) → IsSound (over table m cs) worlds → IsSound (over table n ds) worlds
       → WorksAlike e (over table m cs) (over table n ds)
   live_work worlds one other = record {
@@ -52,7 +53,8 @@ works_alike e one other worlds here there agree = elim (cases_Bool (is_live one.
   | inr dead ↦ subst (WorksAlike e one) (agree.gone dead) (equal_work e one)
   | inl live ↦
       let tables = agree.table in
-      let there' : IsSound (over one.table other.memory other.contexts) worlds = subst (λ (t : Slots). IsSound (over t other.memory other.contexts) worlds) (sym tables) there in
+      let there' : IsSound (over one.table other.memory other.contexts) worlds =
+      subst (λ (t : Slots). IsSound (over t other.memory other.contexts) worlds) (sym tables) there in
       subst (λ (t : Slots). WorksAlike e one (over t other.memory other.contexts)) tables
       (live_work e one.table one.memory other.memory one.contexts other.contexts agree.memory agree.contexts live worlds here there')
 ]
@@ -70,7 +72,13 @@ module _ (e : ℕ) (table : Slots) (m n : List ℕ) (cs ds : Contexts) (works : 
   answered_alike : (one other : Shared) (status result : ℕ) → SharedButFor e one other
       → HandledAlike e (with_layout (answered seat one status result)) (with_layout (answered seat other status result))
   answered_alike one other status result agree =
-      inr (record { seat = ap (λ (slots : Slots). seated slots (answered seat one status result).seat) agree.table; next = refl; rests = rests; shared = agree })
+      inr (record {
+        seat =
+            ap (λ (slots : Slots). seated slots (answered seat one status result).seat) agree.table;
+        next = refl;
+        rests = rests;
+        shared = agree;
+      })
 
   enters_alike : HandledAlike e (with_layout (entering seat here)) (with_layout (entering seat there))
   unfolding entered

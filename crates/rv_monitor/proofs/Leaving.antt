@@ -12,7 +12,8 @@ use Rattle.rv_monitor.proofs.Works.{by_work, kept_by, leaving, lowered_by}
 -- ---- the monitor's work
 
 -- of the seat after a trap of the enclave of slot k
-module _ (before : MonitoredState) (k : ℕ) (host : Context) (runs : before.seat.world ≡ Enclave k) (kept : before.seat.host_context ≡ Some host) (trap : Trap) where
+module _ (before : MonitoredState) (k : ℕ) (host : Context) (runs : before.seat.world ≡ Enclave k) (kept : before.seat.host_context ≡ Some host)
+    (trap : Trap) where
   abbrev seat : Seat
   seat = seat_after before.seat trap
 

@@ -31,7 +31,8 @@ returned_alike e beside outcome one other elsewhere (inr pass) =
 -- ---- after the bare step
 
 abbrev after_bare : Option Seat → StepOutcome → Seat → Shared → MonitoredStepped
-after_bare beside outcome seat shared = option_case outcome.trap (unhandled beside outcome seat shared) (λ trap. returned beside outcome (handled seat shared trap))
+after_bare beside outcome seat shared =
+    option_case outcome.trap (unhandled beside outcome seat shared) (λ trap. returned beside outcome (handled seat shared trap))
 
 trapped_alike : (e : ℕ) (beside : Option Seat) (outcome : StepOutcome) (o : Option Trap) (seat : Seat) (one other : Shared)
     → IsSound one (seat.world ∷ worlds_beside beside) → IsSound other (seat.world ∷ worlds_beside beside)

@@ -38,7 +38,8 @@ pub laid_beside : (seats after : Seats) (own : Seat) (shared : Shared) (table : 
     → (let mid : Seats = record seats { by_hart = slice_set seats.by_hart seats.turn own } in over after shared ≡ record (over mid shared) { other = seated_beside table (beside mid) })
     → over after shared ≡ record (with_own seats own shared) { other = seated_beside table (beside seats) }
 laid_beside seats after own shared table two has laid =
-    laid ∙ ap (λ (state : MonitoredState). let last : MonitoredState = record state { other = seated_beside table state.other } in last) (put_back seats own shared two has)
+    laid ∙ ap (λ (state : MonitoredState). let last : MonitoredState =
+    record state { other = seated_beside table state.other } in last) (put_back seats own shared two has)
 
 -- ---- another hart put on turn
 

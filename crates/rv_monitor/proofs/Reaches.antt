@@ -133,7 +133,8 @@ reach_cases : (memory : List ℕ) (t : Slots) (w : World) (access : Access) (byt
     ⊎ ((k : ℕ) × (w ≡ Enclave k) × ((list_all (has (region t k)) bytes ≡ true) ⊎ ((access ≢ Fetch) × (list_all (has (window t k)) bytes ≡ true))))
 unfolding in_reach
 reach_cases memory t Host access bytes reached = elim (or_cases _ _ reached) [ inl all ↦ inl (refl, all) | inr none ↦ absurd (false≢true none) ]
-reach_cases memory t (Enclave k) Fetch bytes reached = elim (or_cases _ _ reached) [ inl all ↦ inr (k, refl, inl all) | inr none ↦ absurd (false≢true none) ]
+reach_cases memory t (Enclave k) Fetch bytes reached =
+    elim (or_cases _ _ reached) [ inl all ↦ inr (k, refl, inl all) | inr none ↦ absurd (false≢true none) ]
 reach_cases memory t (Enclave k) Read bytes reached = elim (or_cases _ _ reached) [
   | inl all ↦ inr (k, refl, inl all)
   | inr window ↦ elim (or_cases _ _ window) [ inl all ↦ inr (k, refl, inr (λ e. cc, all)) | inr none ↦ absurd (false≢true none) ]
@@ -189,7 +190,8 @@ reached_apart memory t w access a n k valid other reached b low high =
           ]
     ]
 
-module _ (memory : List ℕ) (t : Slots) (w : World) (mode : Mode) (access : Access) (a n : ℕ) (ram_size : length memory ≤ 0x1000000) (valid : IsValid memory t) (below : mode ≢ M) (some : 0 < n) (inside : (ram_base ≤ a) × (a + n ≤ ram_base + length memory)) where
+module _ (memory : List ℕ) (t : Slots) (w : World) (mode : Mode) (access : Access) (a n : ℕ) (ram_size : length memory ≤ 0x1000000)
+    (valid : IsValid memory t) (below : mode ≢ M) (some : 0 < n) (inside : (ram_base ≤ a) × (a + n ≤ ram_base + length memory)) where
   abbrev entries : Entries
   entries = layout t w
 

@@ -19,7 +19,8 @@ pub layout_unlocked : (slots : Slots) (world : World) → HasNoLock (layout slot
 unfolding layout
 layout_unlocked slots world i = elim (cases_lt i 16) [
   | inl inside ↦
-      let is : cfg_of (layout slots world) i ≡ (entry_at slots world i).cfg = get_or-map-range_with_len (λ j. (entry_at slots world j).cfg) 0 16 i i 0 inside (omega arith) in
+      let is : cfg_of (layout slots world) i ≡ (entry_at slots world i).cfg =
+      get_or-map-range_with_len (λ j. (entry_at slots world j).cfg) 0 16 i i 0 inside (omega arith) in
       rw is (entry_is_plain slots world i).unlocked
   | inr past ↦
       let is : cfg_of (layout slots world) i ≡ 0 = get_or_past {X = ℕ} (layout slots world).cfgs i 0 past in
@@ -169,7 +170,12 @@ worlds_stay slots (Some other) = refl
 
 pub returned_kept : (before : Slots) (other : Option Seat) (h : Handled) → IsDone (worlds_beside other) h → IsLaidOut h.shared.table h.seat
     → IfSome other (IsSeated before)
-    → IsKept (record { seat = record h.seat { hart = returned_to h.seat.hart h.next.pc h.next.mode }; other = seated_beside h.shared.table other; shared = h.shared })
+    → IsKept (record {
+      seat =
+          record h.seat { hart = returned_to h.seat.hart h.next.pc h.next.mode };
+      other = seated_beside h.shared.table other;
+      shared = h.shared;
+    })
 returned_kept before other h done laid seated =
     let ready = done.ready in
     record {

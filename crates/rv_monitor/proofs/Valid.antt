@@ -15,7 +15,8 @@ pub record Fits (memory : List ℕ) (slots : Slots) (k : ℕ) (o : Option SlotIn
   pub region_free : meets monitor_block (region_of o) ≡ false
   pub window_free : meets monitor_block (window_of o) ≡ false
 
-module _ (memory : List ℕ) (slots : Slots) (k : ℕ) (o : Option SlotInfo) (valid : IsValid memory slots) (inside : k < 13) (fits : Fits memory slots k o) where
+module _ (memory : List ℕ) (slots : Slots) (k : ℕ) (o : Option SlotInfo) (valid : IsValid memory slots) (inside : k < 13)
+    (fits : Fits memory slots k o) where
   abbrev after : Slots
   after = with_slot slots k o
 
@@ -114,7 +115,8 @@ own_fits memory slots k info state valid is =
       lawful = record { region = law.region; window = law.window; aligned = law.aligned; entry = law.entry; measured = law.measured };
       regions = λ j other. ap (λ b. meets b (region slots j)) (sym region_is) ∙ valid.regions_apart k j (λ same. other (sym same));
       windows = λ j other. ap (λ b. meets b (window slots j)) (sym region_is) ∙ valid.windows_apart k j;
-      window = λ j other. ap (λ b. meets b (region slots j)) (sym window_is) ∙ meets_symmetric (window slots k) (region slots j) ∙ valid.windows_apart j k;
+      window =
+          λ j other. ap (λ b. meets b (region slots j)) (sym window_is) ∙ meets_symmetric (window slots k) (region slots j) ∙ valid.windows_apart j k;
       own = ap (λ b. meets b info.window) (sym region_is) ∙ ap (meets (region slots k)) (sym window_is) ∙ valid.windows_apart k k;
       region_free = ap (meets monitor_block) (sym region_is) ∙ valid.regions_free k;
       window_free = ap (meets monitor_block) (sym window_is) ∙ valid.windows_free k;

@@ -123,7 +123,8 @@ module _ (seat : Seat) (trap : Trap) (table : Slots) (m n : List ℕ) (cs ds : C
     by-left (Enclave k) (Some host) at is = pieces.leaves k host at is
 
     by-leaving : (cause : Cause) → trap.cause ≡ cause → Both (λ shared. leaving cause seat shared seat.world seat.host_context)
-    by-leaving cause is = subst (λ (c : Cause). Both (λ shared. leaving c seat shared seat.world seat.host_context)) is (by-left seat.world seat.host_context refl refl)
+    by-leaving cause is =
+        subst (λ (c : Cause). Both (λ shared. leaving c seat shared seat.world seat.host_context)) is (by-left seat.world seat.host_context refl refl)
 
     by-asked : (call : Call) → AsksFor seat trap.cause call → first_refusal (call_refusals seat here call) ≡ None
         → Both (λ shared. performed seat shared call)

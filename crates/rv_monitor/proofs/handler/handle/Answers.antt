@@ -15,8 +15,16 @@ lay_out-requires c =
     elim c.match-trap.branch [
       | in-Interrupt w ↦
           subst P (sym w.seat-is)
-          (subst HasNoLock (sym (work_entries seat shared (record { cause = causes.Interrupt MachineTimer; tval = 0 })) ∙ ap entries_of w.stop_by_timer-next.ensures.meaning) c.requires.unlocked)
+          (subst HasNoLock (sym (work_entries seat shared (record {
+            cause =
+                causes.Interrupt MachineTimer;
+            tval = 0;
+          })) ∙ ap entries_of w.stop_by_timer-next.ensures.meaning) c.requires.unlocked)
       | in-Exception-EnvironmentCallFromS w ↦
           subst P (sym w.seat-is)
-          (subst HasNoLock (sym (work_entries seat shared (record { cause = causes.Exception EnvironmentCallFromS; tval = 0 })) ∙ ap entries_of w.call-next.ensures.meaning) c.requires.unlocked)
+          (subst HasNoLock (sym (work_entries seat shared (record {
+            cause =
+                causes.Exception EnvironmentCallFromS;
+            tval = 0;
+          })) ∙ ap entries_of w.call-next.ensures.meaning) c.requires.unlocked)
     ]
