@@ -1,10 +1,11 @@
 -- What is told of a script's lines by two benches that are apart.
-use Rattle.std.proofs.Common.{◌≡◌, ℕ, ◌+◌, ◌<◌, ◌==◌, Bool, true, false, cond, List, [], ◌∷◌, ◌++◌, length, take, drop, get_or, refl, sym, ◌∙◌, ap, ap₂, subst, inl, inr, append_assoc, append-nil}
+use Rattle.std.proofs.Common.{◌≡◌, ℕ, ◌+◌, ◌<◌, ◌==◌, Bool, true, false, cond, List, [], ◌∷◌, ◌++◌, length, take, drop, get_or}
+use Rattle.std.proofs.Common.{refl, sym, ◌∙◌, ap, ap₂, subst, inl, inr, append_assoc, append-nil}
 use Rattle.std.proofs.lemmas.Bool.{false≢true}
 use Rattle.std.proofs.lemmas.List.{drop_more}
 use Rattle.rv_text.specs.Characters.{line_feed}
 use Rattle.rv_text.specs.Lines.{lines_of}
-use Rattle.rv_debug.proofs.Commands.{parse_of-cut}
+use Rattle.rv_debug.proofs.Answers.{both_line-front}
 use Rattle.rv_bench.specs.declared.apart.Apart.{Apart}
 use Rattle.rv_bench.specs.Apart.{apart_line, end_text, last_text, marked, script_text, told}
 use Rattle.rv_bench.specs.declared.device.Source.{Ghosts}
@@ -32,13 +33,11 @@ marked_step mark begins text k was joined now inside marks pushed =
 -- ---- a line
 
 -- lines that begin with the same 121 bytes are told the same
-apart_line-cut : (slot : ℕ) (apart : Apart) (line : List ℕ) → apart_line slot apart (take 121 line) ≡ apart_line slot apart line
+pub apart_line-front : (slot : ℕ) (apart : Apart) (other line : List ℕ) → take 121 other ≡ take 121 line
+    → apart_line slot apart other ≡ apart_line slot apart line
 unfolding apart_line
-apart_line-cut slot apart line = ap (λ parsed. cond apart.entered (record { state = apart; reply = [] }) (told slot apart parsed)) (parse_of-cut line)
-
-pub apart_line-front : (slot : ℕ) (apart : Apart) (other line : List ℕ) → take 121 other ≡ take 121 line → apart_line slot apart other ≡ apart_line slot apart line
 apart_line-front slot apart other line same =
-    sym (apart_line-cut slot apart other) ∙ (ap (apart_line slot apart) same ∙ apart_line-cut slot apart line)
+    ap (λ both. cond apart.entered (record { state = apart; reply = [] }) (told apart both)) (both_line-front slot apart.first apart.second other line same)
 
 -- once the slot was entered nothing is told
 silent : (slot : ℕ) (apart : Apart) (line : List ℕ) → apart.entered ≡ true → apart_line slot apart line ≡ record { state = apart; reply = [] }
@@ -62,16 +61,19 @@ entered_script slot start now lines others unread is over all =
     let mid = state_after (apart_line slot) start lines in
     let over' : mid.entered ≡ true = ap (λ (apart : Apart). apart.entered) (sym is) ∙ over in
     let texts : replies (apart_line slot) start (lines ++ others) ≡ replies (apart_line slot) start lines =
-    replies-append (apart_line slot) start lines others ∙ (ap (λ t. replies (apart_line slot) start lines ++ t) (silent_replies slot mid others over') ∙ append-nil (replies (apart_line slot) start lines)) in
+    replies-append (apart_line slot) start lines others
+    ∙ (ap (λ t. replies (apart_line slot) start lines ++ t) (silent_replies slot mid others over') ∙ append-nil (replies (apart_line slot) start lines)) in
     let last : last_text (state_after (apart_line slot) start (lines ++ others)) ≡ [] =
-    ap last_text (state_after-append (apart_line slot) start lines others ∙ silent_state slot mid others over') ∙ ap (λ b. cond b [] (end_text mid.ran)) over' in
+    ap last_text (state_after-append (apart_line slot) start lines others ∙ silent_state slot mid others over')
+    ∙ ap (λ b. cond b [] (end_text mid.ran)) over' in
     ap (script_text slot start) all
     ∙ (ap (λ t. t ++ last_text (state_after (apart_line slot) start (lines ++ others))) texts
     ∙ (ap (λ t. replies (apart_line slot) start lines ++ t) last ∙ append-nil (replies (apart_line slot) start lines)))
 
 -- the text of one to its end
 pub ended_script : (slot : ℕ) (start now : Apart) (lines : List (List ℕ)) (unread : List ℕ) → now ≡ state_after (apart_line slot) start lines
-    → now.entered ≡ false → lines_of unread ≡ lines → script_text slot start (lines_of unread) ≡ replies (apart_line slot) start lines ++ end_text now.ran
+    → now.entered ≡ false → lines_of unread ≡ lines
+    → script_text slot start (lines_of unread) ≡ replies (apart_line slot) start lines ++ end_text now.ran
 ended_script slot start now lines unread is going all =
     ap (script_text slot start) all
     ∙ ap (λ t. replies (apart_line slot) start lines ++ t)
@@ -93,15 +95,23 @@ front_more old new text more (rest, (front, wrote, split)) =
 
 -- a front of what follows a text that is written
 pub front_after : (old mid new text more : List ℕ) → mid ≡ old ++ text → WritesFront mid new more → WritesFront old new (text ++ more)
-front_after old mid new text more is (rest, (front, wrote, split)) =
-    (rest, (text ++ front, wrote ∙ (ap (λ t. t ++ front) is ∙ append_assoc old text front), ap (λ t. text ++ t) split ∙ sym (append_assoc text front rest)))
+front_after old mid new text more is (rest, (front, wrote, split)) = (
+  rest,
+  (
+    text ++ front,
+    wrote ∙ (ap (λ t. t ++ front) is ∙ append_assoc old text front),
+    ap (λ t. text ++ t) split
+        ∙ sym (append_assoc text front rest),
+  ),
+)
 
 -- all of a text
 pub front_all : (old new text : List ℕ) → new ≡ old ++ text → WritesFront old new text
 front_all old new text is = ([], (text, is, sym (append-nil text)))
 
 -- the end of the input is told, once all lines of the script are
-pub ended_all : (slot : ℕ) (start now : Apart) (lines : List (List ℕ)) (unread old mid last : List ℕ) → now ≡ state_after (apart_line slot) start lines
+pub ended_all : (slot : ℕ) (start now : Apart) (lines : List (List ℕ)) (unread old mid last : List ℕ)
+    → now ≡ state_after (apart_line slot) start lines
     → now.entered ≡ false → lines_of unread ≡ lines → mid ≡ old ++ replies (apart_line slot) start lines → last ≡ end_text now.ran
     → mid ++ last ≡ old ++ script_text slot start (lines_of unread)
 ended_all slot start now lines unread old mid last is going all wrote tells =
@@ -109,7 +119,8 @@ ended_all slot start now lines unread old mid last is going all wrote tells =
     ∙ (append_assoc old (replies (apart_line slot) start lines) (end_text now.ran)
     ∙ ap (λ t. old ++ t) (sym (ended_script slot start now lines unread is going all)))
 
-pub ended_front : (slot : ℕ) (start now : Apart) (lines : List (List ℕ)) (unread old mid new last : List ℕ) → now ≡ state_after (apart_line slot) start lines
+pub ended_front : (slot : ℕ) (start now : Apart) (lines : List (List ℕ)) (unread old mid new last : List ℕ)
+    → now ≡ state_after (apart_line slot) start lines
     → now.entered ≡ false → lines_of unread ≡ lines → mid ≡ old ++ replies (apart_line slot) start lines → last ≡ end_text now.ran
     → WritesFront mid new last → WritesFront old new (script_text slot start (lines_of unread))
 ended_front slot start now lines unread old mid new last is going all wrote tells stops =

@@ -1,5 +1,6 @@
 -- Scripts conceal: by the law of one command, over the lines of a part; and from one input to another.
-use Rattle.std.proofs.Common.{◌≡◌, ℕ, suc, ◌+◌, List, [], ◌∷◌, ◌++◌, length, Result, Ok, Err, IfOk, IsOkAnd, refl, sym, ◌∙◌, ap, ap₂, arith, subst, true}
+use Rattle.std.proofs.Common.{◌≡◌, ℕ, suc, ◌+◌, List, [], ◌∷◌, ◌++◌, length, Result, Ok, Err, IfOk, IsOkAnd, refl, sym, ◌∙◌, ap}
+use Rattle.std.proofs.Common.{ap₂, arith, subst, true}
 use Rattle.rv_word.specs.Cases.{result_case}
 use Rattle.rv_text.specs.Lines.{lines_of, through_last_feed}
 use Rattle.rv_text.proofs.LineLemmas.{lines_of-append}
@@ -12,7 +13,7 @@ use Rattle.rv_debug.specs.TwoBenches.{BenchesAgreeBut}
 use Rattle.rv_debug.specs.declared.command.Command.{Command}
 use Rattle.rv_debug.specs.declared.command.CommandFault.{CommandFault}
 use Rattle.rv_debug.proofs.AnswersAlike.{agree_again, confidentiality}
-use Rattle.rv_debug.proofs.Isolation.{keeps_monitor}
+use Rattle.rv_debug.proofs.DeedsKept.{keeps_monitor}
 use Rattle.rv_debug.proofs.PokesAlike.{agrees_with_itself, poke_law}
 use Rattle.rv_command_line.specs.declared.setup.Setup.{Setup}
 use Rattle.rv_bench.specs.declared.fault.BenchFault.{BenchFault}
@@ -49,13 +50,16 @@ module _ (e : ℕ) where
   lines_alike first second [] kept kept' agree over = record { text = refl; state = agree_again e first second agree }
   lines_alike first second (line ∷ lines) kept kept' agree (over, more) =
       let (reply, next) = line_alike first second line kept kept' agree over in
-      let rest = lines_alike (line_answer first line).state (line_answer second line).state lines (keeps_line first line kept) (keeps_line second line kept') next more in
+      let rest = lines_alike (line_answer first line).state (line_answer second line).state lines (keeps_line first line kept)
+      (keeps_line second line kept') next more in
       record { text = ap₂ (λ (one others : List ℕ). one ++ others) reply rest.text; state = rest.state }
 
   -- ---- lines that poke into its region
 
-  poke_alike : (first second : BenchState) (line line' : List ℕ) → KeepsMonitor first.target → KeepsMonitor second.target → BenchesAgreeBut e first second
-      → IsOkAnd (parse_of line) (PokesInto e first) → IsOkAnd (parse_of line') (PokesInto e second) → Alike (line_answer first line) (line_answer second line')
+  poke_alike : (first second : BenchState) (line line' : List ℕ) → KeepsMonitor first.target → KeepsMonitor second.target
+      → BenchesAgreeBut e first second
+      → IsOkAnd (parse_of line) (PokesInto e first) → IsOkAnd (parse_of line') (PokesInto e second)
+      → Alike (line_answer first line) (line_answer second line')
   unfolding line_answer
   poke_alike first second line line' kept kept' agree = go (parse_of line) (parse_of line') where
     go : (parsed parsed' : Result Command CommandFault) → IsOkAnd parsed (PokesInto e first) → IsOkAnd parsed' (PokesInto e second)
@@ -71,7 +75,8 @@ module _ (e : ℕ) where
     pub agree : BenchesAgreeBut e (state_after bench_line first lines) (state_after bench_line second lines')
 
   pokes_alike : (first second : BenchState) (lines lines' : List (List ℕ)) → KeepsMonitor first.target → KeepsMonitor second.target
-      → BenchesAgreeBut e first second → PokeInto e first lines → PokeInto e second lines' → length lines ≡ length lines' → PokedAlike first second lines lines'
+      → BenchesAgreeBut e first second → PokeInto e first lines → PokeInto e second lines' → length lines ≡ length lines'
+      → PokedAlike first second lines lines'
   pokes_alike first second [] [] kept kept' agree pokes pokes' many = record { text = refl; agree = agree }
   pokes_alike first second [] (line' ∷ lines') kept kept' agree pokes pokes' many = absurd (omega (arith, many))
   pokes_alike first second (line ∷ lines) [] kept kept' agree pokes pokes' many = absurd (omega (arith, many))
@@ -131,18 +136,22 @@ module _ (setup : Setup) (e : ℕ) (front secret another rest : List ℕ) (whole
   output_is text all =
       ap₂ (λ (bench : Result BenchState BenchFault) (lines : List (List ℕ)). replies_of bench lines)
       (bench_in-front front whole separated setup (text ++ rest))
-      (script_lines-front front whole separated (text ++ rest) ∙ ap (λ (lines : List (List ℕ)). lines_of (after_separator front) ++ lines) (lines_of-append text rest all))
+      (script_lines-front front whole separated (text ++ rest)
+      ∙ ap (λ (lines : List (List ℕ)). lines_of (after_separator front) ++ lines) (lines_of-append text rest all))
 
   abbrev Told : Result BenchState BenchFault → List ℕ → Result (List ℕ) BenchFault
   Told bench text = replies_of bench (lines_of (after_separator front) ++ (lines_of text ++ lines_of rest))
 
   told_alike : (bench : Result BenchState BenchFault) → IfOk bench (λ state. KeepsMonitor state.target)
-      → IfOk bench (λ bench. AreSecret e (state_after bench_line bench (lines_of (after_separator front))) (lines_of secret) (lines_of another) (lines_of rest))
+      → IfOk bench
+      (λ bench. AreSecret e (state_after bench_line bench (lines_of (after_separator front))) (lines_of secret) (lines_of another) (lines_of rest))
       → Told bench secret ≡ Told bench another
-  told_alike (Ok bench) kept are = ap Ok (script_alike e bench (lines_of (after_separator front)) (lines_of secret) (lines_of another) (lines_of rest) kept many are)
+  told_alike (Ok bench) kept are = ap Ok (script_alike e bench (lines_of (after_separator front)) (lines_of secret) (lines_of another)
+      (lines_of rest) kept many are)
   told_alike (Err fault) kept are = refl
 
-  outputs_alike : IfOk (bench_in setup front) (λ bench. AreSecret e (state_after bench_line bench (lines_of (after_separator front))) (lines_of secret) (lines_of another) (lines_of rest))
+  outputs_alike : IfOk (bench_in setup front)
+      (λ bench. AreSecret e (state_after bench_line bench (lines_of (after_separator front))) (lines_of secret) (lines_of another) (lines_of rest))
       → output setup (front ++ (secret ++ rest)) ≡ output setup (front ++ (another ++ rest))
   outputs_alike are =
       output_is secret whole_secret ∙ told_alike (bench_in setup front) (bench_keeps setup front) are ∙ sym (output_is another whole_another)

@@ -18,7 +18,8 @@ TellsEnd-none lines = record {
 }
 
 -- the source has just answered its end
-pub TellsEnd-ends : {S : Type 0} {g : Ghosts S} (old new : Lines S g) → old.is_at_end ≡ false → new.is_at_end ≡ true → g.ends new.source ≡ one_more (g.ends old.source) → TellsEnd old new
+pub TellsEnd-ends : {S : Type 0} {g : Ghosts S} (old new : Lines S g) → old.is_at_end ≡ false → new.is_at_end ≡ true
+    → g.ends new.source ≡ one_more (g.ends old.source) → TellsEnd old new
 TellsEnd-ends {S} {g} old new before after count =
     let risen : HasRisen (g.ends old.source) (g.ends new.source) = omega (arith, count) in record {
       stays = λ e. cc;
@@ -52,7 +53,8 @@ TellsEnd-more {S} {g} old mid new first next = record {
   ]
 
 -- what was read through a separator, and not to the end of the input, has one
-pub separator_read : {S : Type 0} {g : Ghosts S} (old mid new : Lines S g) → ReadsThroughSeparator old mid → TellsEnd mid new → new.is_at_end ≡ false → IsTrue g.tells → IsTrue (has_separator (unread old))
+pub separator_read : {S : Type 0} {g : Ghosts S} (old mid new : Lines S g) → ReadsThroughSeparator old mid → TellsEnd mid new → new.is_at_end ≡ false
+    → IsTrue g.tells → IsTrue (has_separator (unread old))
 separator_read old mid new reads end going tells = elim reads.ended [
   | inl at_end ↦ absurd (false≢true (sym going ∙ (end.stays at_end).0))
   | inr has ↦ has tells

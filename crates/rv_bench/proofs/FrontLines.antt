@@ -1,5 +1,6 @@
 -- Inputs that begin with the same whole lines, the separator among them.
-use Rattle.std.proofs.Common.{◌≡◌, ℕ, zero, suc, ◌+◌, ◌<◌, ◌≤◌, Bool, true, false, cond, not, ◌||◌, List, [], ◌∷◌, ◌++◌, length, drop, Result, Ok, Err, refl, sym, ◌∙◌, ap, arith, subst, lit≤, nat_eq}
+use Rattle.std.proofs.Common.{◌≡◌, ℕ, zero, suc, ◌+◌, ◌<◌, ◌≤◌, Bool, true, false, cond, not, ◌||◌, List, [], ◌∷◌, ◌++◌}
+use Rattle.std.proofs.Common.{length, drop, Result, Ok, Err, refl, sym, ◌∙◌, ap, arith, subst, lit≤, nat_eq}
 use Rattle.std.proofs.lemmas.List.Sums.{take_while-cons}
 use Rattle.std.specs.List.{list_any, take_while}
 use Rattle.rv_text.specs.Lines.{has_feed, lines_of, through_last_feed, after_line, after_lines}
@@ -20,7 +21,8 @@ module _ (found : List ℕ → Bool) where
   before-append : (xs ys : List (List ℕ)) → list_any found xs ≡ true → before (xs ++ ys) ≡ before xs
   before-append [] ys is = cc
   before-append (x ∷ xs) ys is =
-      take_while-cons (λ line. not (found line)) x (xs ++ ys) ∙ (go (found x) is (before-append xs ys) ∙ sym (take_while-cons (λ line. not (found line)) x xs)) where
+      take_while-cons (λ line. not (found line)) x (xs ++ ys)
+      ∙ (go (found x) is (before-append xs ys) ∙ sym (take_while-cons (λ line. not (found line)) x xs)) where
         go : (b : Bool) → b || list_any found xs ≡ true → (list_any found xs ≡ true → before (xs ++ ys) ≡ before xs)
             → cond (not b) (x ∷ before (xs ++ ys)) [] ≡ cond (not b) (x ∷ before xs) []
         go true is more = refl
@@ -29,7 +31,8 @@ module _ (found : List ℕ → Bool) where
   before-shorter : (xs : List (List ℕ)) → list_any found xs ≡ true → length (before xs) + 1 ≤ length xs
   before-shorter [] is = cc
   before-shorter (x ∷ xs) is =
-      subst (λ (t : List (List ℕ)). length t + 1 ≤ length (x ∷ xs)) (sym (take_while-cons (λ line. not (found line)) x xs)) (go (found x) is (before-shorter xs)) where
+      subst (λ (t : List (List ℕ)). length t + 1 ≤ length (x ∷ xs)) (sym (take_while-cons (λ line. not (found line)) x xs))
+      (go (found x) is (before-shorter xs)) where
         go : (b : Bool) → b || list_any found xs ≡ true → (list_any found xs ≡ true → length (before xs) + 1 ≤ length xs)
             → length (cond (not b) (x ∷ before xs) []) + 1 ≤ length (x ∷ xs)
         go true is more = omega arith
@@ -71,7 +74,8 @@ one_less : (lines : List (List ℕ)) (n : ℕ) → suc n ≤ length lines → n 
 one_less [] n some = absurd (omega (arith, some))
 one_less (line ∷ lines) n some = omega (arith, some)
 
-after_lines-append : (n : ℕ) (xs ys : List ℕ) → through_last_feed xs ≡ xs → n ≤ length (lines_of xs) → after_lines n (xs ++ ys) ≡ after_lines n xs ++ ys
+after_lines-append : (n : ℕ) (xs ys : List ℕ) → through_last_feed xs ≡ xs → n ≤ length (lines_of xs)
+    → after_lines n (xs ++ ys) ≡ after_lines n xs ++ ys
 after_lines-append zero xs ys whole some = refl
 after_lines-append (suc n) xs ys whole some =
     let feed = has_line xs n whole (omega (arith, some)) in

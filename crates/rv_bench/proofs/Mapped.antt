@@ -4,12 +4,14 @@ use Rattle.std.specs.Result.{MatchResult, IsOkAnd, IsErrAnd, OnOk, OnErr}
 use Rattle.std.proofs.lemmas.Result.{err_from_is_err_and}
 
 -- an `Ok` was one
-pub ok_mapped : {A E F : Type 0} (Q : E → F → Type 0) (r : Result A E) (s : Result A F) (x : A) → MatchResult r (λ y. s ≡ Ok y) (λ e. IsErrAnd s (Q e)) → s ≡ Ok x → r ≡ Ok x
+pub ok_mapped : {A E F : Type 0} (Q : E → F → Type 0) (r : Result A E) (s : Result A F) (x : A)
+    → MatchResult r (λ y. s ≡ Ok y) (λ e. IsErrAnd s (Q e)) → s ≡ Ok x → r ≡ Ok x
 ok_mapped Q (Ok y) s x cases is = let same : y ≡ x = cc in ap Ok same
 ok_mapped Q (Err e) s x cases is = let bad = err_from_is_err_and s cases in let e : s ≡ Err bad.0 = bad.1 in cc
 
 -- an `Err` was one
-pub err_mapped : {A E F : Type 0} (Q : E → F → Type 0) (r : Result A E) (s : Result A F) (f : F) → MatchResult r (λ y. s ≡ Ok y) (λ e. IsErrAnd s (Q e)) → s ≡ Err f → (e : E) × (r ≡ Err e)
+pub err_mapped : {A E F : Type 0} (Q : E → F → Type 0) (r : Result A E) (s : Result A F) (f : F)
+    → MatchResult r (λ y. s ≡ Ok y) (λ e. IsErrAnd s (Q e)) → s ≡ Err f → (e : E) × (r ≡ Err e)
 err_mapped Q (Ok y) s f cases is = let e : s ≡ Ok y = cases in cc
 err_mapped Q (Err e) s f cases is = (e, refl)
 
@@ -40,7 +42,8 @@ OnErr-always (Ok x) p = tt
 OnErr-always (Err e) p = p
 
 -- what follows from what an `Ok` has, once the error is mapped
-pub OnOk-mapped : {A E F P Q : Type 0} (R : E → F → Type 0) (r : Result A E) (s : Result A F) → MatchResult r (λ y. s ≡ Ok y) (λ e. IsErrAnd s (R e)) → (P → Q) → OnOk r P → OnOk s Q
+pub OnOk-mapped : {A E F P Q : Type 0} (R : E → F → Type 0) (r : Result A E) (s : Result A F) → MatchResult r (λ y. s ≡ Ok y) (λ e. IsErrAnd s (R e))
+    → (P → Q) → OnOk r P → OnOk s Q
 OnOk-mapped {Q = Q} R (Ok y) s cases then p = subst (λ s. OnOk s Q) (sym cases) (then p)
 OnOk-mapped {Q = Q} R (Err e) s cases then p = let bad = err_from_is_err_and s cases in subst (λ s. OnOk s Q) (sym bad.1) tt
 

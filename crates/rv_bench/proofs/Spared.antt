@@ -8,7 +8,8 @@ use Rattle.rv_debug.specs.Isolation.{after_commands, IsSparedIn}
 use Rattle.rv_debug.specs.Targets.{KeepsMonitor}
 use Rattle.rv_debug.specs.declared.command.Command.{Command}
 use Rattle.rv_debug.specs.declared.command.CommandFault.{CommandFault}
-use Rattle.rv_debug.proofs.Isolation.{integrity, keeps_monitor}
+use Rattle.rv_debug.proofs.DeedsKept.{keeps_monitor}
+use Rattle.rv_debug.proofs.Isolation.{integrity}
 use Rattle.rv_command_line.specs.declared.setup.Setup.{Setup}
 use Rattle.rv_bench.specs.declared.fault.BenchFault.{BenchFault}
 use Rattle.rv_bench.specs.Integrity.{commands_of, SparesThrough}

@@ -39,7 +39,9 @@ no_ram image setup unlawful = rw unlawful refl
 pub has_ram : (image : List ℕ) (setup : Setup) (bench : BenchState) → started image setup ≡ Ok bench → is_ram_size setup.ram ≡ true
 unfolding started
 has_ram image setup bench is = go (is_ram_size setup.ram) is where
-  go : (b : Bool) → cond b (result_case (planned image setup) (λ plan. Ok (reset_over setup (memory_loaded image setup plan) plan.entry)) (λ fault. Err (Image fault))) (Err (Ram BadSize)) ≡ Ok bench → b ≡ true
+  go : (b : Bool)
+      → cond b (result_case (planned image setup) (λ plan. Ok (reset_over setup (memory_loaded image setup plan) plan.entry)) (λ fault. Err (Image fault)))
+      (Err (Ram BadSize)) ≡ Ok bench → b ≡ true
   go true e = refl
   go false e = cc
 
@@ -47,7 +49,9 @@ has_ram image setup bench is = go (is_ram_size setup.ram) is where
 pub fault_has_ram : (image : List ℕ) (setup : Setup) (fault : ElfFault) → started image setup ≡ Err (Image fault) → is_ram_size setup.ram ≡ true
 unfolding started
 fault_has_ram image setup fault is = go (is_ram_size setup.ram) is where
-  go : (b : Bool) → cond b (result_case (planned image setup) (λ plan. Ok (reset_over setup (memory_loaded image setup plan) plan.entry)) (λ fault. Err (Image fault))) (Err (Ram BadSize)) ≡ Err (Image fault) → b ≡ true
+  go : (b : Bool)
+      → cond b (result_case (planned image setup) (λ plan. Ok (reset_over setup (memory_loaded image setup plan) plan.entry)) (λ fault. Err (Image fault)))
+      (Err (Ram BadSize)) ≡ Err (Image fault) → b ≡ true
   go true e = refl
   go false e = cc
 
@@ -68,7 +72,9 @@ pub started_keeps : (image : List ℕ) (setup : Setup) → IfOk (started image s
 unfolding started
 started_keeps image setup = go (is_ram_size setup.ram) refl (planned image setup) where
   go : (lawful : Bool) → is_ram_size setup.ram ≡ lawful → (plan : Result LoadPlan ElfFault)
-      → IfOk (cond lawful (result_case plan (λ plan. Ok (reset_over setup (memory_loaded image setup plan) plan.entry)) (λ fault. Err (Image fault))) (Err (Ram BadSize))) (λ state. KeepsMonitor state.target)
+      → IfOk
+      (cond lawful (result_case plan (λ plan. Ok (reset_over setup (memory_loaded image setup plan) plan.entry)) (λ fault. Err (Image fault)))
+      (Err (Ram BadSize))) (λ state. KeepsMonitor state.target)
   go false is plan = tt
   go true is (Err fault) = tt
   go true is (Ok plan) = reset_keeps setup (memory_loaded image setup plan) plan.entry (rw (loaded_size image setup plan) is)

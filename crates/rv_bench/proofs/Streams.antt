@@ -30,12 +30,14 @@ ok_and (Ok x) P h = (x, refl, h)
 ok_and (Err e) P h = absurd h
 
 module _ {S W : Type 0} {g : SourceGhosts S} (h : SinkGhosts W) (setup : Setup) (image : List ℕ) (old mid new : Lines S g) (before after : W)
-    (reads : ReadsThroughSeparator old mid) (is : IsTrue g.tells → image_in (unread old) ≡ Ok image) (image_end : TellsEnd old mid) (script_end : TellsEnd mid new) where
+    (reads : ReadsThroughSeparator old mid) (is : IsTrue g.tells → image_in (unread old) ≡ Ok image) (image_end : TellsEnd old mid)
+    (script_end : TellsEnd mid new) where
   -- the bench of the input is that of the image
   bench_is : (r : Result BenchState BenchFault) → started image setup ≡ r → IsTrue g.tells → bench_in setup (unread old) ≡ r
   bench_is r starts tells = rw (is tells) starts
 
-  output_is : (state : BenchState) → started image setup ≡ Ok state → IsTrue g.tells → output setup (unread old) ≡ Ok (replies bench_line state (lines_of (unread mid)))
+  output_is : (state : BenchState) → started image setup ≡ Ok state → IsTrue g.tells
+      → output setup (unread old) ≡ Ok (replies bench_line state (lines_of (unread mid)))
   output_is state starts tells =
       ap (λ m. replies_of m (lines_of (after_separator (unread old)))) (bench_is (Ok state) starts tells)
       ∙ ap (λ t. Ok (replies bench_line state (lines_of t))) (sym (reads.rest tells))
@@ -58,7 +60,8 @@ module _ {S W : Type 0} {g : SourceGhosts S} (h : SinkGhosts W) (setup : Setup) 
           source = run.source ∙ reads.source;
           sink = run.sink;
           used_up = run.used_up;
-          written = λ tells. subst (λ o. IsOkAnd o (λ text. IsTrue h.tells → h.taken after ≡ h.taken before ++ text)) (sym (output_is state starts tells)) (run.written tells);
+          written = λ tells. subst (λ o. IsOkAnd o (λ text. IsTrue h.tells → h.taken after ≡ h.taken before ++ text))
+              (sym (output_is state starts tells)) (run.written tells);
         },
       )
   streamed (Err Read) runs =
@@ -66,8 +69,10 @@ module _ {S W : Type 0} {g : SourceGhosts S} (h : SinkGhosts W) (setup : Setup) 
         record { source = failed run.0.source; sink = run.0.sink; going = run.0.going },
         λ tells. inr (
           separator_read old mid new reads script_end run.0.going tells,
-          subst (λ m. IsOkAnd m (λ state. StopsAtRead bench_line Input state h.tells (after_separator (unread old)) (g.remaining new.source) (held new) (h.taken before) (h.taken after))) (sym (bench_is (Ok state) starts tells))
-              (subst (λ t. StopsAtRead bench_line Input state h.tells t (g.remaining new.source) (held new) (h.taken before) (h.taken after)) (reads.rest tells) (run.1 tells)),
+          subst (λ m. IsOkAnd m (λ state. StopsAtRead bench_line Input state h.tells (after_separator (unread old)) (g.remaining new.source) (held new)
+              (h.taken before) (h.taken after))) (sym (bench_is (Ok state) starts tells))
+              (subst (λ t. StopsAtRead bench_line Input state h.tells t (g.remaining new.source) (held new) (h.taken before) (h.taken after))
+              (reads.rest tells) (run.1 tells)),
         ),
       )
   streamed (Err Write) runs =
@@ -77,10 +82,12 @@ module _ {S W : Type 0} {g : SourceGhosts S} (h : SinkGhosts W) (setup : Setup) 
           source = run.0.source ∙ reads.source;
           sink = run.0.sink;
           emptied = run.0.emptied;
-          front = λ tells. subst (λ o. IsOkAnd o (λ text. IsTrue h.tells → WritesFront (h.taken before) (h.taken after) text)) (sym (output_is state starts tells)) (run.0.front tells);
+          front = λ tells. subst (λ o. IsOkAnd o (λ text. IsTrue h.tells → WritesFront (h.taken before) (h.taken after) text))
+              (sym (output_is state starts tells)) (run.0.front tells);
         },
         λ tells.
-            subst (λ m. IsOkAnd m (λ state. StopsAtWrite bench_line Input state h.tells (after_separator (unread old)) (unread new) (h.taken before) (h.taken after))) (sym (bench_is (Ok state) starts tells))
+            subst (λ m. IsOkAnd m (λ state. StopsAtWrite bench_line Input state h.tells (after_separator (unread old)) (unread new) (h.taken before)
+            (h.taken after))) (sym (bench_is (Ok state) starts tells))
             (subst (λ t. StopsAtWrite bench_line Input state h.tells t (unread new) (h.taken before) (h.taken after)) (reads.rest tells) (run.1 tells)),
       )
   streamed (Err (Ram BadSize)) (none, same, unwritten) =

@@ -8,7 +8,8 @@ use Rattle.std.specs.List.{list_all, take_while}
 take_while-append : (p : List ℕ → Bool) (xs ys : List (List ℕ)) → list_all p xs ≡ true → take_while p (xs ++ ys) ≡ xs ++ take_while p ys
 take_while-append p [] ys h = refl
 take_while-append p (x ∷ xs) ys h = take_while-cons p x (xs ++ ys) ∙ go (p x) h (λ all. take_while-append p xs ys all) where
-  go : (b : Bool) → b && list_all p xs ≡ true → (list_all p xs ≡ true → take_while p (xs ++ ys) ≡ xs ++ take_while p ys) → cond b (x ∷ take_while p (xs ++ ys)) [] ≡ x ∷ (xs ++ take_while p ys)
+  go : (b : Bool) → b && list_all p xs ≡ true → (list_all p xs ≡ true → take_while p (xs ++ ys) ≡ xs ++ take_while p ys)
+      → cond b (x ∷ take_while p (xs ++ ys)) [] ≡ x ∷ (xs ++ take_while p ys)
   go true all more = ap (λ t. x ∷ t) (more all)
   go false all more = cc
 
@@ -21,20 +22,25 @@ take_while-cons_no p x xs e = take_while-cons p x xs ∙ ap (λ b. cond b (x ∷
 pub take_while-all : (p : List ℕ → Bool) (xs : List (List ℕ)) → list_all p xs ≡ true → take_while p xs ≡ xs
 take_while-all p xs all = ap (take_while p) (sym (append-nil xs)) ∙ (take_while-append p xs [] all ∙ append-nil xs)
 
-pub take_while-stop : (p : List ℕ → Bool) (xs : List (List ℕ)) (x : List ℕ) (ys : List (List ℕ)) → list_all p xs ≡ true → p x ≡ false → take_while p (xs ++ x ∷ ys) ≡ xs
+pub take_while-stop : (p : List ℕ → Bool) (xs : List (List ℕ)) (x : List ℕ) (ys : List (List ℕ)) → list_all p xs ≡ true → p x ≡ false
+    → take_while p (xs ++ x ∷ ys) ≡ xs
 take_while-stop p xs x ys all e = take_while-append p xs (x ∷ ys) all ∙ (ap (λ t. xs ++ t) (take_while-cons_no p x ys e) ∙ append-nil xs)
 
-pub take_while-pass : (p : List ℕ → Bool) (xs : List (List ℕ)) (x : List ℕ) (ys : List (List ℕ)) → list_all p xs ≡ true → p x ≡ true → take_while p (xs ++ x ∷ ys) ≡ xs ++ x ∷ take_while p ys
+pub take_while-pass : (p : List ℕ → Bool) (xs : List (List ℕ)) (x : List ℕ) (ys : List (List ℕ)) → list_all p xs ≡ true → p x ≡ true
+    → take_while p (xs ++ x ∷ ys) ≡ xs ++ x ∷ take_while p ys
 take_while-pass p xs x ys all e = take_while-append p xs (x ∷ ys) all ∙ ap (λ t. xs ++ t) (take_while-cons_yes p x ys e)
 
-pub list_all-push : (p : List ℕ → Bool) (xs : List (List ℕ)) (x : List ℕ) → list_all p xs ≡ true → p x ≡ true → list_all p (xs ++ x ∷ []) ≡ true
+pub list_all-push : (p : List ℕ → Bool) (xs : List (List ℕ)) (x : List ℕ) → list_all p xs ≡ true → p x ≡ true
+    → list_all p (xs ++ x ∷ []) ≡ true
 list_all-push p xs x all e = list_all-append p xs (x ∷ []) ∙ (rw (all, e) refl)
 
-pub list_all-stop : (p : List ℕ → Bool) (xs : List (List ℕ)) (x : List ℕ) (ys : List (List ℕ)) → list_all p xs ≡ true → p x ≡ false → list_all p (xs ++ x ∷ ys) ≡ false
+pub list_all-stop : (p : List ℕ → Bool) (xs : List (List ℕ)) (x : List ℕ) (ys : List (List ℕ)) → list_all p xs ≡ true → p x ≡ false
+    → list_all p (xs ++ x ∷ ys) ≡ false
 list_all-stop p xs x ys all e = list_all-append p xs (x ∷ ys) ∙ (rw (all, e) refl)
 
 -- those of a front are a front of those of all
-pub take_while-front : (p : List ℕ → Bool) (xs ys : List (List ℕ)) → (others : List (List ℕ)) × (take_while p (xs ++ ys) ≡ take_while p xs ++ others)
+pub take_while-front : (p : List ℕ → Bool) (xs ys : List (List ℕ))
+    → (others : List (List ℕ)) × (take_while p (xs ++ ys) ≡ take_while p xs ++ others)
 take_while-front p [] ys = (take_while p ys, refl)
 take_while-front p (x ∷ xs) ys =
     let (others, more) = take_while-front p xs ys in

@@ -1,5 +1,6 @@
 -- Two benches with one script stay alike, and each spares what rests: by the laws of one command, over the lines.
-use Rattle.std.proofs.Common.{◌≡◌, ℕ, Bool, true, false, List, [], ◌∷◌, ◌++◌, Option, Some, None, IfSome, Result, Ok, Err, IfOk, refl, sym, ◌∙◌, ap, subst}
+use Rattle.std.proofs.Common.{◌≡◌, ℕ, Bool, true, false, List, [], ◌∷◌, ◌++◌, Option, Some, None, IfSome, Result, Ok, Err, IfOk, refl, sym}
+use Rattle.std.proofs.Common.{◌∙◌, ap, subst}
 use Rattle.std.specs.Prelude.{◌&&◌, ◌||◌, if◌then◌else◌}
 use Rattle.rv_word.specs.Cases.{result_case}
 use Rattle.rv_monitor.proofs.Scrambled.{scramble_agrees, scramble_kept}
@@ -9,7 +10,10 @@ use Rattle.rv_debug.specs.Command.{parse_of}
 use Rattle.rv_debug.specs.Confidentiality.{AlikeBy, StayAlike}
 use Rattle.rv_debug.specs.Isolation.{IsSparedIn, RestsUnderAll, after_commands}
 use Rattle.rv_debug.specs.Targets.{KeepsMonitor}
-use Rattle.rv_debug.specs.TwoBenches.{BenchesAgreeBut, BothAnswered, TargetsAgreeBut, both_answer, both_do, can_scramble, can_scramble_in, is_blind, scrambled, scrambled_in}
+use Rattle.rv_debug.specs.TwoBenches.{BenchesAgreeBut, BothAnswered, BothTold, TargetsAgreeBut, both_answer, both_do, both_line_answer, both_told, can_scramble}
+use Rattle.rv_debug.specs.TwoBenches.{can_scramble_in, is_blank, is_blind, scrambled, scrambled_in}
+use Rattle.rv_debug.specs.declared.both.BothLine.{BothLine}
+use Rattle.rv_debug.specs.declared.both.BothLine.TheVariants.{Given}
 use Rattle.rv_debug.specs.declared.both.BothWhy.{BothWhy}
 use Rattle.rv_debug.specs.declared.both.BothWhy.TheVariants.{All, Entered, NotBlind}
 use Rattle.rv_debug.specs.declared.command.Command.{Command}
@@ -17,7 +21,8 @@ use Rattle.rv_debug.specs.declared.command.CommandFault.{CommandFault}
 use Rattle.rv_debug.specs.declared.target.Target.{Target}
 use Rattle.rv_debug.specs.declared.target.Target.TheVariants.{Bare, Monitored}
 use Rattle.rv_debug.proofs.BothAlike.{both_alike}
-use Rattle.rv_debug.proofs.Isolation.{integrity, keeps_monitor}
+use Rattle.rv_debug.proofs.DeedsKept.{keeps_monitor}
+use Rattle.rv_debug.proofs.Isolation.{integrity}
 use Rattle.rv_command_line.specs.declared.setup.Setup.{Setup}
 use Rattle.rv_bench.specs.declared.apart.Apart.{Apart}
 use Rattle.rv_bench.specs.declared.fault.BenchFault.{BenchFault}
@@ -31,6 +36,11 @@ use Rattle.rv_bench.specs.TwinLaws.{BothSpare, IsToldAlike, OfApart, StayTogethe
 use Rattle.rv_bench.proofs.Concealed.{bench_keeps}
 use Rattle.rv_bench.proofs.RepliesLemmas.{state_after-append}
 use Rattle.rv_bench.proofs.Spared.{keeps_lines, stream_spares}
+
+-- both benches after a command, as they are told of a line
+abbrev with_line : BothAnswered → BothLine → BothTold
+with_line after line =
+    record { first = after.first; second = after.second; first_reply = after.first_reply; second_reply = after.second_reply; line = line }
 
 module _ (slot : ℕ) where
   -- ---- one command
@@ -67,7 +77,8 @@ module _ (slot : ℕ) where
     go true alike = record {
       first_kept = keeps_monitor a c kept;
       second_kept = keeps_monitor b c kept';
-      all = λ is. let passed = subst (λ (why : BothWhy). AlikeBy slot a b c (done a b c) why) is (alike agree) in (passed.reply, (let state = passed.state in state.but));
+      all = λ is. let passed = subst (λ (why : BothWhy). AlikeBy slot a b c (done a b c) why) is (alike agree) in
+          (passed.reply, (let state = passed.state in state.but));
       blind = λ is. absurd (never_blind _ is);
       first = ended _ a c;
       second = ended _ b c;
@@ -89,22 +100,28 @@ module _ (slot : ℕ) where
     pub first : KeepsMonitor apart.first.target
     pub second : KeepsMonitor apart.second.target
 
+  -- what both did with a line of this command
+  abbrev of_command : Command → BothAnswered → BothWhy → Apart → Replied Apart
+  of_command command after why apart = done_by (Given why (is_blank command)) (with_line after (Given after.why (is_blank command))) apart.ran
+
   done_going : (apart : Apart) (command : Command) (after : BothAnswered) (why : BothWhy) → after.why ≡ why
-      → Becomes apart.first apart.second command after → Going (done_by why after command apart.ran).state
+      → Becomes apart.first apart.second command after → Going (of_command command after why apart).state
   done_going apart command after All is both = record { agree = λ going. (both.all is).1; first = both.first_kept; second = both.second_kept }
   done_going apart command after Entered is both = record { agree = λ never. cc; first = both.first_kept; second = both.second_kept }
   done_going apart command after NotBlind is both = record { agree = λ going. both.blind is; first = both.first_kept; second = both.second_kept }
 
-  told_going : (apart : Apart) (parsed : Result Command CommandFault) → apart.entered ≡ false → Going apart → Going (told slot apart parsed).state
+  told_going : (apart : Apart) (parsed : Result Command CommandFault) → apart.entered ≡ false → Going apart
+      → Going (told apart (both_told slot apart.first apart.second parsed)).state
   told_going apart (Ok command) is going =
       done_going apart command (both_answer slot apart.first apart.second command) _ refl
       (becomes apart.first apart.second command going.first going.second (going.agree is))
-  told_going apart (Err fault) is going = going
+  told_going apart (Err fault) is going = record { agree = λ still. going.agree is; first = going.first; second = going.second }
 
   line_going : (apart : Apart) (line : List ℕ) → Going apart → Going (apart_line slot apart line).state
   unfolding apart_line
   line_going apart line going = go apart.entered refl where
-    go : (entered : Bool) → apart.entered ≡ entered → Going (if entered then record { state = apart; reply = [] } else told slot apart (parse_of line)).state
+    go : (entered : Bool) → apart.entered ≡ entered
+        → Going (if entered then record { state = apart; reply = [] } else told apart (both_line_answer slot apart.first apart.second line)).state
     go true is = going
     go false is = told_going apart (parse_of line) is going
 
@@ -135,20 +152,33 @@ module _ (slot : ℕ) where
     pub second : end.second ≡ after_commands apart.second commands
 
   done_follows : (apart : Apart) (command : Command) (after : BothAnswered) (why : BothWhy) → after.why ≡ why
-      → Becomes apart.first apart.second command after → Follows apart (done_by_both why command) (done_by why after command apart.ran).state
+      → Becomes apart.first apart.second command after → Follows apart (done_by_both why command) (of_command command after why apart).state
   done_follows apart command after All is both =
-      record { first = both.first ∙ ap (λ (why : BothWhy). after_commands apart.first (done_by_both why command)) is; second = both.second ∙ ap (λ (why : BothWhy). after_commands apart.second (done_by_both why command)) is }
+      record {
+        first = both.first ∙ ap (λ (why : BothWhy). after_commands apart.first (done_by_both why command)) is;
+        second = both.second
+            ∙ ap (λ (why : BothWhy). after_commands apart.second (done_by_both why command)) is;
+      }
   done_follows apart command after Entered is both =
-      record { first = both.first ∙ ap (λ (why : BothWhy). after_commands apart.first (done_by_both why command)) is; second = both.second ∙ ap (λ (why : BothWhy). after_commands apart.second (done_by_both why command)) is }
+      record {
+        first = both.first ∙ ap (λ (why : BothWhy). after_commands apart.first (done_by_both why command)) is;
+        second = both.second
+            ∙ ap (λ (why : BothWhy). after_commands apart.second (done_by_both why command)) is;
+      }
   done_follows apart command after NotBlind is both =
-      record { first = both.first ∙ ap (λ (why : BothWhy). after_commands apart.first (done_by_both why command)) is; second = both.second ∙ ap (λ (why : BothWhy). after_commands apart.second (done_by_both why command)) is }
+      record {
+        first = both.first ∙ ap (λ (why : BothWhy). after_commands apart.first (done_by_both why command)) is;
+        second = both.second
+            ∙ ap (λ (why : BothWhy). after_commands apart.second (done_by_both why command)) is;
+      }
 
   line_follows : (apart : Apart) (line : List ℕ) → Going apart → Follows apart (done_in_line slot apart line) (apart_line slot apart line).state
   unfolding apart_line
   line_follows apart line going = go apart.entered refl (parse_of line) where
     go : (entered : Bool) → apart.entered ≡ entered → (parsed : Result Command CommandFault)
-        → Follows apart (if entered then [] else result_case parsed (λ command. done_by_both (both_answer slot apart.first apart.second command).why command) (λ _. []))
-        (if entered then record { state = apart; reply = [] } else told slot apart parsed).state
+        → Follows apart
+        (if entered then [] else result_case parsed (λ command. done_by_both (both_answer slot apart.first apart.second command).why command) (λ _. []))
+        (if entered then record { state = apart; reply = [] } else told apart (both_told slot apart.first apart.second parsed)).state
     go true is parsed = record { first = refl; second = refl }
     go false is (Ok command) =
         done_follows apart command (both_answer slot apart.first apart.second command) _ refl
@@ -159,7 +189,8 @@ module _ (slot : ℕ) where
   commands-append bench [] ys = refl
   commands-append bench (x ∷ xs) ys = commands-append (answer bench x).state xs ys
 
-  lines_follow : (apart : Apart) (lines : List (List ℕ)) → Going apart → Follows apart (commands_done slot apart lines) (state_after (apart_line slot) apart lines)
+  lines_follow : (apart : Apart) (lines : List (List ℕ)) → Going apart
+      → Follows apart (commands_done slot apart lines) (state_after (apart_line slot) apart lines)
   lines_follow apart [] going = record { first = refl; second = refl }
   lines_follow apart (line ∷ lines) going =
       let one = line_follows apart line going in
@@ -167,8 +198,10 @@ module _ (slot : ℕ) where
       let rest = lines_follow next lines (line_going apart line going) in
       let commands = commands_done slot next lines in
       record {
-        first = rest.first ∙ ap (λ (bench : BenchState). after_commands bench commands) one.first ∙ sym (commands-append apart.first (done_in_line slot apart line) commands);
-        second = rest.second ∙ ap (λ (bench : BenchState). after_commands bench commands) one.second ∙ sym (commands-append apart.second (done_in_line slot apart line) commands);
+        first = rest.first ∙ ap (λ (bench : BenchState). after_commands bench commands) one.first
+            ∙ sym (commands-append apart.first (done_in_line slot apart line) commands);
+        second = rest.second ∙ ap (λ (bench : BenchState). after_commands bench commands) one.second
+            ∙ sym (commands-append apart.second (done_in_line slot apart line) commands);
       }
 
   both_spare : (start : Apart) → Going start → BothSpare slot start
@@ -178,8 +211,10 @@ module _ (slot : ℕ) where
       let follows = lines_follow apart part there in
       let commands = commands_done slot apart part in
       let whole = state_after-append (apart_line slot) start before part in (
-        λ rests. subst (λ (bench : BenchState). IsSparedIn k apart.first.target bench.target) (sym (ap (λ (end : Apart). end.first) whole ∙ follows.first)) (integrity k apart.first commands there.first rests),
-        λ rests. subst (λ (bench : BenchState). IsSparedIn k apart.second.target bench.target) (sym (ap (λ (end : Apart). end.second) whole ∙ follows.second)) (integrity k apart.second commands there.second rests),
+        λ rests. subst (λ (bench : BenchState). IsSparedIn k apart.first.target bench.target) (sym (ap (λ (end : Apart). end.first) whole
+            ∙ follows.first)) (integrity k apart.first commands there.first rests),
+        λ rests. subst (λ (bench : BenchState). IsSparedIn k apart.second.target bench.target) (sym (ap (λ (end : Apart). end.second) whole
+            ∙ follows.second)) (integrity k apart.second commands there.second rests),
       )
 
   -- ---- the two benches at the start of the second script
@@ -201,7 +236,8 @@ module _ (slot : ℕ) where
 
 -- ---- whole inputs
 
-of_apart : (Law : Apart → Type 0) (slot : ℕ) → ((apart : Apart) → Going slot apart → Law apart) → (setup : Setup) (input : List ℕ) → OfApart setup slot input Law
+of_apart : (Law : Apart → Type 0) (slot : ℕ) → ((apart : Apart) → Going slot apart → Law apart) → (setup : Setup) (input : List ℕ)
+    → OfApart setup slot input Law
 of_apart Law slot law setup input = go (bench_in (monitored setup) input) (bench_keeps (monitored setup) input) where
   some : (apart : Option Apart) → IfSome apart (Going slot) → IfSome apart Law
   some (Some apart) going = law apart going

@@ -1,5 +1,6 @@
 -- A twin run over an input, by its image and by its two scripts.
-use Rattle.std.proofs.Common.{◌≡◌, ℕ, true, false, List, ◌++◌, inl, inr, IsTrue, Option, Some, None, Result, Ok, Err, refl, sym, ◌∙◌, ap, subst, arith, append_assoc}
+use Rattle.std.proofs.Common.{◌≡◌, ℕ, true, false, List, ◌++◌, inl, inr, IsTrue, Option, Some, None, Result, Ok, Err, refl, sym, ◌∙◌, ap}
+use Rattle.std.proofs.Common.{subst, arith, append_assoc}
 use Rattle.std.specs.Option.{IsSomeAnd}
 use Rattle.std.specs.Result.{IsOkAnd}
 use Rattle.rv_debug.specs.BenchState.{BenchState}
@@ -25,7 +26,8 @@ use Rattle.rv_bench.specs.Run.{Outcome, RunsLines, StopsAtRead, StopsAtWrite}
 use Rattle.rv_bench.specs.Script.{ReadsThroughSeparator}
 use Rattle.rv_bench.specs.Separator.{after_separator}
 use Rattle.rv_bench.specs.Transfer.{WritesFront}
-use Rattle.rv_bench.specs.Twin.{IsNeverEntered, IsOver, RunsSecond, RunsTwin, StopsInScripts, StopsInScriptsAtWrite, StopsSecondAtWrite, StopsUnentered, after_first, first_text, monitored, scripts_text, second_text, twin_output}
+use Rattle.rv_bench.specs.Twin.{IsNeverEntered, IsOver, RunsSecond, RunsTwin, StopsInScripts, StopsInScriptsAtWrite, StopsSecondAtWrite, StopsUnentered}
+use Rattle.rv_bench.specs.Twin.{after_first, first_text, monitored, scripts_text, second_text, twin_output}
 use Rattle.rv_bench.specs.Unread.{held, unread, TellsEnd}
 use Rattle.rv_bench.proofs.ApartLemmas.{front_after, front_more}
 use Rattle.rv_bench.proofs.Ends.{TellsEnd-more, separator_read}
@@ -48,11 +50,14 @@ module _ {S W : Type 0} {g : SourceGhosts S} (h : SinkGhosts W) (setup : Setup) 
 
   fault_is : (fault : BenchFault) → started image (monitored setup) ≡ Err fault → IsTrue g.tells → twin_output setup slot (unread old) ≡ Err fault
   fault_is fault starts tells =
-      ap (λ (m : Result BenchState BenchFault). result_case m (λ bench. Ok (scripts_text slot bench (after_separator (unread old)))) Err) (bench_is (Err fault) starts tells)
+      ap (λ (m : Result BenchState BenchFault). result_case m (λ bench. Ok (scripts_text slot bench (after_separator (unread old)))) Err)
+      (bench_is (Err fault) starts tells)
 
-  output_is : (bench : BenchState) → started image (monitored setup) ≡ Ok bench → IsTrue g.tells → twin_output setup slot (unread old) ≡ Ok (scripts_text slot bench (unread mid))
+  output_is : (bench : BenchState) → started image (monitored setup) ≡ Ok bench → IsTrue g.tells
+      → twin_output setup slot (unread old) ≡ Ok (scripts_text slot bench (unread mid))
   output_is bench starts tells =
-      ap (λ (m : Result BenchState BenchFault). result_case m (λ bench. Ok (scripts_text slot bench (after_separator (unread old)))) Err) (bench_is (Ok bench) starts tells)
+      ap (λ (m : Result BenchState BenchFault). result_case m (λ bench. Ok (scripts_text slot bench (after_separator (unread old)))) Err)
+      (bench_is (Ok bench) starts tells)
       ∙ ap (λ (t : List ℕ). Ok (scripts_text slot bench t)) (sym (reads.rest tells))
 
   -- the benches do not start
@@ -76,7 +81,8 @@ module _ {S W : Type 0} {g : SourceGhosts S} (h : SinkGhosts W) (setup : Setup) 
             record { source = failed; sink = run.0.sink; going = run.0.going },
             λ tells. inr (
               separator_read old mid new reads script_end run.0.going tells,
-              subst (λ (m : Result BenchState BenchFault). IsOkAnd m (StopsInScripts h setup slot old new before after (after_separator (unread old)))) (sym (bench_is (Ok bench) starts tells))
+              subst (λ (m : Result BenchState BenchFault). IsOkAnd m (StopsInScripts h setup slot old new before after (after_separator (unread old))))
+                  (sym (bench_is (Ok bench) starts tells))
                   (inl (subst (λ (t : List ℕ). StopsAtRead bench_line Separator bench h.tells t (g.remaining new.source) (held new) (h.taken before) (h.taken after)) (reads.rest tells) (run.1 tells))),
             ),
           )
@@ -89,15 +95,19 @@ module _ {S W : Type 0} {g : SourceGhosts S} (h : SinkGhosts W) (setup : Setup) 
           source = run.0.source ∙ reads.source;
           sink = run.0.sink;
           emptied = run.0.emptied;
-          front = λ tells. subst (λ o. IsOkAnd o (λ text. IsTrue h.tells → WritesFront (h.taken before) (h.taken after) text)) (sym (output_is bench starts tells))
+          front = λ tells. subst (λ o. IsOkAnd o (λ text. IsTrue h.tells → WritesFront (h.taken before) (h.taken after) text))
+              (sym (output_is bench starts tells))
               (λ told. front_more (h.taken before) (h.taken after) (first_text bench (unread mid)) _ (run.0.front tells told));
         },
         λ tells.
-            subst (λ (m : Result BenchState BenchFault). IsOkAnd m (StopsInScriptsAtWrite h setup slot old new before after (after_separator (unread old)))) (sym (bench_is (Ok bench) starts tells))
-            (inl (subst (λ (t : List ℕ). StopsAtWrite bench_line Separator bench h.tells t (unread new) (h.taken before) (h.taken after)) (reads.rest tells) (run.1 tells))),
+            subst (λ (m : Result BenchState BenchFault). IsOkAnd m (StopsInScriptsAtWrite h setup slot old new before after (after_separator (unread old))))
+            (sym (bench_is (Ok bench) starts tells))
+            (inl (subst (λ (t : List ℕ). StopsAtWrite bench_line Separator bench h.tells t (unread new) (h.taken before) (h.taken after)) (reads.rest tells)
+            (run.1 tells))),
       )
 
-      pub first_fails : (fault : BenchFault) → RunsLines h Separator bench mid new before after (Err fault) → RunsTwin h setup slot old new before after (Err fault)
+      pub first_fails : (fault : BenchFault) → RunsLines h Separator bench mid new before after (Err fault)
+          → RunsTwin h setup slot old new before after (Err fault)
       first_fails Read run = first_read run
       first_fails Write run = first_write run
       first_fails _ run = absurd run
@@ -123,18 +133,23 @@ module _ {S W : Type 0} {g : SourceGhosts S} (h : SinkGhosts W) (setup : Setup) 
       rest_end = TellsEnd-more mid next new first_end second_end
 
       -- what holds of the second script and the benches that are set apart, of both scripts,
-      of_rest : IsTrue g.tells → (P : Option Apart → List ℕ → Type 0) → P (set_apart slot then) (unread next) → P (apart_at (unread mid)) (after_separator (unread mid))
+      of_rest : IsTrue g.tells → (P : Option Apart → List ℕ → Type 0) → P (set_apart slot then) (unread next)
+          → P (apart_at (unread mid)) (after_separator (unread mid))
       of_rest tells P holds =
           subst (P (apart_at (unread mid))) (first.reads.rest tells) (subst (λ (apart : Option Apart). P apart (unread next)) (apart_is tells) holds)
 
       -- and of the whole input
       of_scripts : IsTrue g.tells → (P : Option Apart → List ℕ → Type 0) → P (set_apart slot then) (unread next)
-          → IsOkAnd (bench_in (monitored setup) (unread old)) (λ bench. P (set_apart slot (after_first bench (after_separator (unread old)))) (after_separator (after_separator (unread old))))
+          → IsOkAnd (bench_in (monitored setup) (unread old))
+          (λ bench. P (set_apart slot (after_first bench (after_separator (unread old)))) (after_separator (after_separator (unread old))))
       of_scripts tells P holds =
-          subst (λ (m : Result BenchState BenchFault). IsOkAnd m (λ bench. P (set_apart slot (after_first bench (after_separator (unread old)))) (after_separator (after_separator (unread old))))) (sym (bench_is (Ok bench) starts tells))
+          subst (λ (m : Result BenchState BenchFault). IsOkAnd m
+          (λ bench. P (set_apart slot (after_first bench (after_separator (unread old)))) (after_separator (after_separator (unread old))))) (sym
+          (bench_is (Ok bench) starts tells))
           (subst (λ (t : List ℕ). P (apart_at t) (after_separator t)) (reads.rest tells) (of_rest tells P holds))
 
-      pub second_part : (outcome : Outcome) → RunsSecond h slot (set_apart slot then) next new between after outcome → RunsTwin h setup slot old new before after outcome
+      pub second_part : (outcome : Outcome) → RunsSecond h slot (set_apart slot then) next new between after outcome
+          → RunsTwin h setup slot old new before after outcome
       second_part (Ok done) run = (
         has_size,
         record {
@@ -151,7 +166,8 @@ module _ {S W : Type 0} {g : SourceGhosts S} (h : SinkGhosts W) (setup : Setup) 
             })
             | inr (over, told) ↦ inr (λ tells. of_scripts tells (λ apart script. IsOver slot apart script (unread new) new.is_at_end) (over tells), told)
           ];
-          written = λ tells. subst (λ o. IsOkAnd o (λ text. IsTrue h.tells → h.taken after ≡ h.taken before ++ text)) (sym (output_is bench starts tells))
+          written = λ tells. subst (λ o. IsOkAnd o (λ text. IsTrue h.tells → h.taken after ≡ h.taken before ++ text))
+              (sym (output_is bench starts tells))
               (λ told. run.written tells told
               ∙ (ap (λ (t : List ℕ). t ++ second_text slot (set_apart slot then) (unread next)) (first.written tells told)
               ∙ (append_assoc (h.taken before) (first_text bench (unread mid)) (second_text slot (set_apart slot then) (unread next))
@@ -165,25 +181,35 @@ module _ {S W : Type 0} {g : SourceGhosts S} (h : SinkGhosts W) (setup : Setup) 
             record { source = failed; sink = (run.0.sink.0 ∙ first.sink.0, run.0.sink.1 ∙ first.sink.1); going = run.0.going },
             λ tells. inr (
               separator_read old mid new reads rest_end run.0.going tells,
-              subst (λ (m : Result BenchState BenchFault). IsOkAnd m (StopsInScripts h setup slot old new before after (after_separator (unread old)))) (sym (bench_is (Ok bench) starts tells))
+              subst (λ (m : Result BenchState BenchFault). IsOkAnd m (StopsInScripts h setup slot old new before after (after_separator (unread old))))
+                  (sym (bench_is (Ok bench) starts tells))
                   (subst (λ (scripts : List ℕ). StopsInScripts h setup slot old new before after scripts bench) (reads.rest tells)
-                  (inr (separator_read mid next new first.reads second_end run.0.going tells, of_rest tells Stops (unentered_after slot (set_apart slot then) h.tells _ _ _ _ _ _ (first.written tells) (run.1 tells))))),
+                  (inr (
+                    separator_read mid next new first.reads second_end run.0.going tells,
+                    of_rest tells Stops
+                        (unentered_after slot (set_apart slot then) h.tells _ _ _ _ _ _ (first.written tells) (run.1 tells)),
+                  ))),
             ),
           ) where
             Stops : Option Apart → List ℕ → Type 0
-            Stops apart script = IsSomeAnd apart (λ apart. StopsUnentered slot apart h.tells script (g.remaining new.source) (held new) (h.taken before ++ first_text bench (unread mid)) (h.taken after))
+            Stops apart script = IsSomeAnd apart
+                (λ apart. StopsUnentered slot apart h.tells script (g.remaining new.source) (held new) (h.taken before ++ first_text bench (unread mid))
+                (h.taken after))
       second_part (Err Write) run = (
         has_size,
         record {
           source = run.0.source ∙ (first.reads.source ∙ reads.source);
           sink = sink_failed run.0.sink;
           emptied = run.0.emptied;
-          front = λ tells. subst (λ o. IsOkAnd o (λ text. IsTrue h.tells → WritesFront (h.taken before) (h.taken after) text)) (sym (output_is bench starts tells))
+          front = λ tells. subst (λ o. IsOkAnd o (λ text. IsTrue h.tells → WritesFront (h.taken before) (h.taken after) text))
+              (sym (output_is bench starts tells))
               (λ told. subst (WritesFront (h.taken before) (h.taken after)) (text_is _ tells refl)
-              (front_after (h.taken before) (h.taken between) (h.taken after) (first_text bench (unread mid)) _ (first.written tells told) (run.0.front tells told)));
+              (front_after (h.taken before) (h.taken between) (h.taken after) (first_text bench (unread mid)) _ (first.written tells told)
+              (run.0.front tells told)));
         },
         λ tells.
-            subst (λ (m : Result BenchState BenchFault). IsOkAnd m (StopsInScriptsAtWrite h setup slot old new before after (after_separator (unread old)))) (sym (bench_is (Ok bench) starts tells))
+            subst (λ (m : Result BenchState BenchFault). IsOkAnd m (StopsInScriptsAtWrite h setup slot old new before after (after_separator (unread old))))
+            (sym (bench_is (Ok bench) starts tells))
             (subst (λ (scripts : List ℕ). StopsInScriptsAtWrite h setup slot old new before after scripts bench) (reads.rest tells)
             (inr (of_rest tells Stops (second_after slot (set_apart slot then) h.tells _ _ _ _ _ (first.written tells) (run.1 tells))))),
       ) where

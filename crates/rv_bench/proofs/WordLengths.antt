@@ -1,5 +1,6 @@
 -- No word is longer than its line.
-use Rattle.std.proofs.Common.{◌≡◌, ℕ, ◌+◌, ◌≤◌, leb, Bool, true, false, cond, ◌&&◌, List, [], ◌∷◌, length, Some, None, filter, arith, refl, subst}
+use Rattle.std.proofs.Common.{◌≡◌, ℕ, ◌+◌, ◌≤◌, leb, Bool, true, false, cond, ◌&&◌, List, [], ◌∷◌, length, Some, None, filter}
+use Rattle.std.proofs.Common.{arith, refl, subst}
 use Rattle.std.proofs.lemmas.Bool.Decides.{nat_tests}
 use Rattle.std.specs.List.{slice_split, onto_first, list_all}
 use Rattle.rv_text.specs.GoodLines.{is_blank, is_text, is_good_line}
@@ -25,9 +26,11 @@ within_split : (p : ℕ → Bool) (xs : List ℕ) → AllWithin (length xs) (sli
 unfolding AllWithin
 within_split p [] = (omega arith, tt)
 within_split p (x ∷ xs) = go (p x) (within_split p xs) where
-  go : (b : Bool) → AllWithin (length xs) (slice_split p xs) → AllWithin (length (x ∷ xs)) (cond b ([] ∷ slice_split p xs) (onto_first x (slice_split p xs)))
+  go : (b : Bool) → AllWithin (length xs) (slice_split p xs)
+      → AllWithin (length (x ∷ xs)) (cond b ([] ∷ slice_split p xs) (onto_first x (slice_split p xs)))
   go true more = (omega arith, within_more (length xs) (length (x ∷ xs)) (slice_split p xs) (omega arith) more)
-  go false more = within_more (length xs + 1) (length (x ∷ xs)) (onto_first x (slice_split p xs)) (omega arith) (within_onto (length xs) x (slice_split p xs) more)
+  go false more = within_more (length xs + 1) (length (x ∷ xs)) (onto_first x (slice_split p xs)) (omega arith)
+      (within_onto (length xs) x (slice_split p xs) more)
 
 within_filter : (q : List ℕ → Bool) (n : ℕ) (parts : List (List ℕ)) → AllWithin n parts → AllWithin n (filter q parts)
 unfolding AllWithin
@@ -55,7 +58,8 @@ unfolding line_word words_of
 length-line_word line word e = go (is_good_line line) refl e where
   go : (b : Bool) → is_good_line line ≡ b → cond b (only_word (words_of line)) None ≡ Some word → length word ≤ 120
   go true good h =
-      let one = only_within (length line) (words_of line) word (within_filter is_filled (length line) (slice_split is_blank line) (within_split is_blank line)) h in
+      let one = only_within (length line) (words_of line) word
+      (within_filter is_filled (length line) (slice_split is_blank line) (within_split is_blank line)) h in
       let short = good_is_short line good in
       omega (arith, one, short)
   go false good h = cc

@@ -8,7 +8,8 @@ pub WritesUpTo-none : (old text : List ℕ) → WritesUpTo old old text text
 WritesUpTo-none old text = ([], grind (arith, common_steps), refl)
 
 -- the next n bytes are written
-pub WritesUpTo-more : (old mid new text rest left : List ℕ) (n : ℕ) → WritesUpTo old mid text rest → new ≡ mid ++ take n rest → left ≡ drop n rest → WritesUpTo old new text left
+pub WritesUpTo-more : (old mid new text rest left : List ℕ) (n : ℕ) → WritesUpTo old mid text rest → new ≡ mid ++ take n rest → left ≡ drop n rest
+    → WritesUpTo old new text left
 WritesUpTo-more old mid new text rest left n (front, was, split) wrote is_left =
     (front ++ take n rest, grind (arith, common_steps), grind (arith, common_steps))
 
@@ -17,7 +18,8 @@ pub WritesFront-all : (old new text : List ℕ) → new ≡ old ++ text → Writ
 WritesFront-all old new text wrote = ([], (text, wrote, sym (append-nil text)))
 
 -- a front of a text is written after what was written before, and others were to follow
-pub WritesFront-after : (old mid new done text others : List ℕ) → mid ≡ old ++ done → WritesFront mid new text → WritesFront old new (done ++ (text ++ others))
+pub WritesFront-after : (old mid new done text others : List ℕ) → mid ≡ old ++ done → WritesFront mid new text
+    → WritesFront old new (done ++ (text ++ others))
 WritesFront-after old mid new done text others was (rest, (front, wrote, split)) = (
   rest ++ others,
   (
@@ -36,7 +38,8 @@ WritesUpTo-on old mid new text rest left (front, was, split) (more, wrote, other
 )
 
 -- one more line is gathered
-pub WritesUpTo-line : (old new text rest line whole gathered : List ℕ) → WritesUpTo old new text rest → whole ≡ text ++ line → gathered ≡ rest ++ line → WritesUpTo old new whole gathered
+pub WritesUpTo-line : (old new text rest line whole gathered : List ℕ) → WritesUpTo old new text rest → whole ≡ text ++ line
+    → gathered ≡ rest ++ line → WritesUpTo old new whole gathered
 WritesUpTo-line old new text rest line whole gathered (front, was, split) is_whole is_gathered = (
   front,
   was,
@@ -44,7 +47,8 @@ WritesUpTo-line old new text rest line whole gathered (front, was, split) is_who
 )
 
 -- the sink stops within what is gathered, and others were to follow
-pub WritesUpTo-stopped : (old mid new text rest others whole : List ℕ) → WritesUpTo old mid text rest → WritesFront mid new rest → whole ≡ text ++ others → WritesFront old new whole
+pub WritesUpTo-stopped : (old mid new text rest others whole : List ℕ) → WritesUpTo old mid text rest → WritesFront mid new rest
+    → whole ≡ text ++ others → WritesFront old new whole
 WritesUpTo-stopped old mid new text rest others whole (front, was, split) stops is_whole =
     subst (λ t. WritesFront old new t) (sym (is_whole ∙ (ap (λ t. t ++ others) split ∙ append_assoc front rest others)))
     (WritesFront-after old mid new front rest others was stops)

@@ -1,15 +1,11 @@
 -- What two benches reply that differ in what is private to the enclave of a slot, line by line. (This project's own commands.)
-use Rattle.std.specs.Prelude.{ℕ, ◌==◌, Bool, true, false, List, [], ◌∷◌, ◌++◌, codes, decimal, Option, None, Some, Result, Ok, Err, if◌then◌else◌}
+use Rattle.std.specs.Prelude.{ℕ, ◌==◌, Bool, true, false, List, [], ◌∷◌, ◌++◌, codes, decimal, Option, None, Some, if◌then◌else◌}
 use Rattle.rv_text.specs.Characters.{line_feed}
 use Rattle.rv_debug.specs.BenchState.{BenchState}
-use Rattle.rv_debug.specs.Command.{parse_of}
-use Rattle.rv_debug.specs.ReplyText.{fault_text}
-use Rattle.rv_debug.specs.TwoBenches.{BothAnswered, both_answer, can_scramble, scrambled}
-use Rattle.rv_debug.specs.declared.both.BothWhy.{BothWhy}
+use Rattle.rv_debug.specs.TwoBenches.{BothTold, both_line_answer, can_scramble, scrambled}
+use Rattle.rv_debug.specs.declared.both.BothLine.{BothLine}
+use Rattle.rv_debug.specs.declared.both.BothLine.TheVariants.{Faulty, Given}
 use Rattle.rv_debug.specs.declared.both.BothWhy.TheVariants.{All, Entered, NotBlind}
-use Rattle.rv_debug.specs.declared.command.Command.{Command}
-use Rattle.rv_debug.specs.declared.command.Command.TheVariants.{Blank}
-use Rattle.rv_debug.specs.declared.command.CommandFault.{CommandFault}
 use Rattle.rv_bench.specs.Device.{one_more}
 use Rattle.rv_bench.specs.Replies.{Replied, replies, state_after}
 use Rattle.rv_bench.specs.declared.apart.Apart.{Apart}
@@ -39,33 +35,36 @@ end_text ran = codes "twin end " ++ (decimal ran ++ codes "\n")
 
 -- ---- one line
 
--- the commands that were run, and this one; a line without a command is none
-abbrev pub with_command : Command → ℕ → ℕ
-with_command Blank ran = ran
-with_command _ ran = one_more ran
+-- the commands that were run, and that of this line; a blank one has none
+abbrev pub with_line : Bool → ℕ → ℕ
+with_line is_blank ran = if is_blank then ran else one_more ran
 
--- what both did with a command
-abbrev pub done_by : BothWhy → BothAnswered → Command → ℕ → Replied Apart
-done_by All after command ran = record {
-  state = record { first = after.first; second = after.second; ran = with_command command ran; entered = false };
-  reply = both_text after.first_reply after.second_reply;
+-- what both did with it
+abbrev pub done_by : BothLine → BothTold → ℕ → Replied Apart
+done_by Faulty both ran = record {
+  state = record { first = both.first; second = both.second; ran = ran; entered = false };
+  reply = both.first_reply;
 }
-done_by Entered after command ran = record {
-  state = record { first = after.first; second = after.second; ran = one_more ran; entered = true };
+done_by (Given All is_blank) both ran = record {
+  state = record { first = both.first; second = both.second; ran = with_line is_blank ran; entered = false };
+  reply = both_text both.first_reply both.second_reply;
+}
+done_by (Given Entered is_blank) both ran = record {
+  state = record { first = both.first; second = both.second; ran = one_more ran; entered = true };
   reply = entered_text (one_more ran);
 }
-done_by NotBlind after command ran = record {
-  state = record { first = after.first; second = after.second; ran = ran; entered = false };
+done_by (Given NotBlind is_blank) both ran = record {
+  state = record { first = both.first; second = both.second; ran = ran; entered = false };
   reply = blind_text;
 }
 
-abbrev pub told : ℕ → Apart → Result Command CommandFault → Replied Apart
-told slot apart (Ok command) = let after = both_answer slot apart.first apart.second command in done_by after.why after command apart.ran
-told slot apart (Err fault) = record { state = apart; reply = fault_text fault }
+abbrev pub told : Apart → BothTold → Replied Apart
+told apart both = done_by both.line both apart.ran
 
 -- once the slot was entered no line is told anything
 unfoldable pub apart_line : ℕ → Apart → List ℕ → Replied Apart
-apart_line slot apart line = if apart.entered then record { state = apart; reply = [] } else told slot apart (parse_of line)
+apart_line slot apart line =
+    if apart.entered then record { state = apart; reply = [] } else told apart (both_line_answer slot apart.first apart.second line)
 
 -- ---- a script
 

@@ -1,5 +1,6 @@
 -- What assembling a source does, result by result. (This project's own streams.)
-use Rattle.std.specs.Prelude.{◌≡◌, ◌≢◌, ℕ, ◌+◌, ◌-◌, ◌<◌, ◌≤◌, List, [], ◌++◌, length, take, None, IsTrue, IsOkAnd, Result, Ok, Err, Vec}
+use Rattle.std.specs.Prelude.{◌≡◌, ◌≢◌, ℕ, ◌+◌, ◌-◌, ◌<◌, ◌≤◌, List, [], ◌++◌, length, take, None, IsTrue, IsOkAnd, Result}
+use Rattle.std.specs.Prelude.{Ok, Err, Vec}
 use Rattle.rv_text.specs.Lines.{lines_of}
 use Rattle.rv_asm.specs.Program.{first_fault, own_fault, readings}
 use Rattle.rv_asm.specs.declared.fault.AsmFaultKind.TheVariants as asm

@@ -1,5 +1,7 @@
 -- The image in a text of hexadecimal lines. (This project's own format; the text is ASCII, ISO/IEC 646.)
-use Rattle.std.specs.Prelude.{◌≡◌, ℕ, ◌+◌, ◌*◌, ◌%◌, ◌<◌, ◌++◌, ◌==◌, ◌&&◌, nat_lt, Bool, false, List, [], ◌∷◌, length, flat_map, take_while, is_some, unwrap_or, option_and_then, Option, IsSomeAnd, ◌≤◌, Some, None, Result, Ok, Err, if◌then◌else◌}
+use Rattle.std.specs.Prelude.{◌≡◌, ℕ, ◌+◌, ◌*◌, ◌%◌, ◌<◌, ◌++◌, ◌==◌, ◌&&◌, nat_lt, Bool, false, List, [], ◌∷◌}
+use Rattle.std.specs.Prelude.{length, flat_map, take_while, is_some, unwrap_or, option_and_then, Option, IsSomeAnd, ◌≤◌, Some, None, Result, Ok, Err}
+use Rattle.std.specs.Prelude.{if◌then◌else◌}
 use Rattle.std.specs.List.{list_all}
 use Rattle.std.specs.Char.{is_digit, digit_value}
 use Rattle.rv_bench.specs.declared.fault.BenchFault.{BenchFault}

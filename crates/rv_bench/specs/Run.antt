@@ -85,7 +85,8 @@ module _ {S W : Type 0} {g : SourceGhosts S} (h : SinkGhosts W) where
 
   -- what each result of a run over the lines of a script means, from the state of the bench before it
   abbrev pub RunsLines : ScriptEnd → BenchState → Lines S g → Lines S g → W → W → Outcome → Type 0
-  RunsLines end bench old new before after (Ok _) = RunsScript end (Ok (replies bench_line bench (script_lines end (lines_of (unread old))))) old new before after
+  RunsLines end bench old new before after (Ok _) =
+      RunsScript end (Ok (replies bench_line bench (script_lines end (lines_of (unread old))))) old new before after
   RunsLines end bench old new before after (Err Read) =
       FailsToRead old new before after
       × (IsTrue g.tells → StopsAtRead bench_line end bench h.tells (unread old) (g.remaining new.source) (held new) (h.taken before) (h.taken after))

@@ -1,11 +1,11 @@
 //! Two benches that differ in what is private to the enclave of a slot.
 
-ghost use Rattle.std.specs.Prelude.{◌≡◌, ◌+◌, ◌*◌, ◌≤◌, ◌++◌, ℕ, List, false, [], true, take, length, Ok};
+ghost use Rattle.std.specs.Prelude.{◌≡◌, ◌+◌, ◌*◌, ◌≤◌, ◌++◌, ℕ, List, false, [], true, take, length};
 ghost use Rattle.arrayvec.specs.ArrayVec.{array_vec_len};
 ghost use Rattle.rv_bench.specs.Apart.{apart_line, end_text, entered_text, marked, told};
 
 use arrayvec::ArrayVec;
-use rv_debug::{Bench, BothWhy, Command, both_command, parse, push_fault};
+use rv_debug::{Bench, BothLine, BothWhy, both_line};
 use rv_text::{Reply, push_count, push_text};
 
 /// The most bytes that are told of one line: each byte of two replies may begin a line, which has a mark of three bytes.
@@ -85,34 +85,32 @@ impl Apart {
         ensures front { (other : List ℕ) → take 121 other ≡ take 121 line.now → apart_line slot self.old other ≡ apart_line slot self.old line.now }
     {
         out.clear();
-        match parse(line) {
-            Ok(command) => self.answer(slot, &command, out),
-            Err(fault) => {
-                let mut reply = Reply::new();
-                push_fault(&mut reply, fault);
-                push_all(out, reply.as_slice());
-            }
-        }
-    }
-
-    /// Gives a command to both benches.
-    fn answer(&mut self, slot: u8, command: &Command, out: &mut Told)
-        requires empty { out.old.items ≡ [] }
-        requires going { self.old.entered ≡ false }
-        ensures { told slot self.old (Ok command.now) ≡ record { state = self.new; reply = out.new.items } }
-    {
         let mut first = Reply::new();
         let mut second = Reply::new();
-        match both_command(
+        let line = both_line(
             &mut self.first,
             &mut self.second,
             slot,
-            command,
+            line,
             &mut first,
             &mut second,
-        ) {
+        );
+        self.tell(line, &first, &second, out);
+    }
+
+    /// Tells what both did with a line, and counts its command.
+    fn tell(&mut self, line: BothLine, first: &Reply, second: &Reply, out: &mut Told)
+        requires empty { out.old.items ≡ [] }
+        requires going { self.old.entered ≡ false }
+        ensures { told self.old (record { first = self.old.first; second = self.old.second; first_reply = first.now.items; second_reply = second.now.items; line = line })
+            ≡ record { state = self.new; reply = out.new.items } }
+    {
+        let BothLine::Given { why, is_blank } = line else {
+            return push_all(out, first.as_slice());
+        };
+        match why {
             BothWhy::All => {
-                if *command != Command::Blank {
+                if !is_blank {
                     self.ran = self.ran.saturating_add(1);
                 }
                 push_marked(out, b"a: ", first.as_slice());

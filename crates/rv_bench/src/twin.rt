@@ -111,7 +111,7 @@ fn run_second<S: Source, W: Sink>(
 
 /// Reads an image, gives the lines up to the next `--` to two equal benches of the setup, which are monitored whatever it says, and writes
 /// the replies of the first. Then it scrambles the slot in the second bench; where no live enclave is there, or it runs on a hart, it
-/// writes `twin no slot` and is done. It gives each further line to both, by `both_command`: the lines of the first bench's reply are
+/// writes `twin no slot` and is done. It gives each further line to both, by `both_line`: the lines of the first bench's reply are
 /// written after `a: `, and then those of the second's after `b: `. A command that is not blind is skipped and told as `error blind`; a
 /// faulty line is told its fault once. The run ends with `twin entered N` once a command enters the slot, or with `twin end N` at the end
 /// of the input, where N counts the commands that were run (it stays at 2^64 - 1). The line that enters the slot is the last that is read.

@@ -1,5 +1,7 @@
 -- Sets of addresses as lists that rise.
-use Rattle.std.proofs.Common.{◌≡◌, ◌≢◌, ℕ, zero, suc, ◌+◌, ◌<◌, ◌≤◌, ◌==◌, ltb, Bool, true, false, cond, ◌||◌, List, [], ◌∷◌, ◌++◌, length, take, drop, filter, get_or, Option, Some, None, Result, Ok, Err, MatchResult, refl, sym, ◌∙◌, ap, arith, inl, inr}
+use Rattle.std.proofs.Common.{◌≡◌, ◌≢◌, ℕ, zero, suc, ◌+◌, ◌<◌, ◌≤◌, ◌==◌, ltb, Bool, true, false, cond, ◌||◌, List, []}
+use Rattle.std.proofs.Common.{◌∷◌, ◌++◌, length, take, drop, filter, get_or, Option, Some, None, Result, Ok, Err, MatchResult, refl, sym, ◌∙◌}
+use Rattle.std.proofs.Common.{ap, arith, inl, inr}
 use Rattle.std.specs.Prelude.{min}
 use Rattle.std.proofs.lemmas.Bool.{cases_lt}
 use Rattle.std.proofs.lemmas.Bool.Decides.{nat_tests}
@@ -46,7 +48,9 @@ rises-le xs all i j le inside = elim (cases_lt i j) [
 pub searched-place : (xs : List ℕ) (x : ℕ) (r : Result ℕ ℕ) → Rises xs → IsBinarySearchResult (λ y. nat_cmp y x) xs r
     → MatchResult r (λ i. (i < length xs) × (get_or xs i 0 ≡ x)) (HasPlace xs x)
 searched-place xs x r all is = go r (searched xs x r is (rises-le xs all)) where
-  go : (r : Result ℕ ℕ) → MatchResult r (λ i. (i < length xs) × (get_or xs i 0 ≡ x)) (λ i. (i ≤ length xs) × ((k : ℕ) → k < i → get_or xs k 0 < x) × ((k : ℕ) → i ≤ k → k < length xs → x < get_or xs k 0))
+  go : (r : Result ℕ ℕ)
+      → MatchResult r (λ i. (i < length xs) × (get_or xs i 0 ≡ x))
+      (λ i. (i ≤ length xs) × ((k : ℕ) → k < i → get_or xs k 0 < x) × ((k : ℕ) → i ≤ k → k < length xs → x < get_or xs k 0))
       → MatchResult r (λ i. (i < length xs) × (get_or xs i 0 ≡ x)) (HasPlace xs x)
   go (Ok i) found = found
   go (Err i) (within, below, above) = record { within = within; below = below; above = above }
@@ -73,13 +77,15 @@ pub among-not : (x : ℕ) (xs : List ℕ) (i : ℕ) → HasPlace xs x i → is_a
 among-not x xs i place = among-absent x xs (not_there x xs i place)
 
 -- what a search of them tells
-pub found-is : (x : ℕ) (xs : List ℕ) (r : Result ℕ ℕ) → MatchResult r (λ i. (i < length xs) × (get_or xs i 0 ≡ x)) (HasPlace xs x) → is_ok r ≡ is_among x xs
+pub found-is : (x : ℕ) (xs : List ℕ) (r : Result ℕ ℕ) → MatchResult r (λ i. (i < length xs) × (get_or xs i 0 ≡ x)) (HasPlace xs x)
+    → is_ok r ≡ is_among x xs
 found-is x xs (Ok i) found = sym (among-found x xs i found.0 found.1)
 found-is x xs (Err i) place = sym (among-not x xs i place)
 
 -- ---- an address put in at its place: these below it, those above it
 
-filter_below : (x : ℕ) (xs : List ℕ) (i : ℕ) → i ≤ length xs → ((k : ℕ) → k < i → get_or xs k 0 < x) → ((k : ℕ) → i ≤ k → k < length xs → x < get_or xs k 0) → filter (λ a. ltb a x) xs ≡ take i xs
+filter_below : (x : ℕ) (xs : List ℕ) (i : ℕ) → i ≤ length xs → ((k : ℕ) → k < i → get_or xs k 0 < x)
+    → ((k : ℕ) → i ≤ k → k < length xs → x < get_or xs k 0) → filter (λ a. ltb a x) xs ≡ take i xs
 filter_below x [] zero within below above = refl
 filter_below x [] (suc i) within below above = absurd (omega arith)
 filter_below x (y ∷ ys) zero within below above =
@@ -89,15 +95,18 @@ filter_below x (y ∷ ys) zero within below above =
 filter_below x (y ∷ ys) (suc i) within below above =
     let down : y < x = below 0 (omega arith) in
     let yes : ltb y x ≡ true = grind (arith, nat_tests) in
-    rw yes (ap (λ t. y ∷ t) (filter_below x ys i (omega arith) (λ k lt. below (suc k) (omega arith)) (λ k le inside. above (suc k) (omega arith) (omega arith))))
+    rw yes (ap (λ t. y ∷ t) (filter_below x ys i (omega arith) (λ k lt. below (suc k) (omega arith))
+    (λ k le inside. above (suc k) (omega arith) (omega arith))))
 
-filter_above : (x : ℕ) (xs : List ℕ) (i : ℕ) → i ≤ length xs → ((k : ℕ) → k < i → get_or xs k 0 < x) → ((k : ℕ) → i ≤ k → k < length xs → x < get_or xs k 0) → filter (λ a. ltb x a) xs ≡ drop i xs
+filter_above : (x : ℕ) (xs : List ℕ) (i : ℕ) → i ≤ length xs → ((k : ℕ) → k < i → get_or xs k 0 < x)
+    → ((k : ℕ) → i ≤ k → k < length xs → x < get_or xs k 0) → filter (λ a. ltb x a) xs ≡ drop i xs
 filter_above x [] zero within below above = refl
 filter_above x [] (suc i) within below above = absurd (omega arith)
 filter_above x (y ∷ ys) zero within below above =
     let up : x < y = above 0 (omega arith) (omega arith) in
     let yes : ltb x y ≡ true = grind (arith, nat_tests) in
-    rw yes (ap (λ t. y ∷ t) (filter_above x ys zero (omega arith) (λ k lt. absurd (omega arith)) (λ k le inside. above (suc k) (omega arith) (omega arith))))
+    rw yes (ap (λ t. y ∷ t) (filter_above x ys zero (omega arith) (λ k lt. absurd (omega arith))
+    (λ k le inside. above (suc k) (omega arith) (omega arith))))
 filter_above x (y ∷ ys) (suc i) within below above =
     let down : y < x = below 0 (omega arith) in
     let no : ltb x y ≡ false = grind (arith, nat_tests) in
@@ -105,21 +114,28 @@ filter_above x (y ∷ ys) (suc i) within below above =
 
 pub insert-is : (x : ℕ) (xs : List ℕ) (i : ℕ) → HasPlace xs x i → insert xs i x ≡ with_address x xs
 insert-is x xs i place =
-    ap (λ t. t ++ x ∷ drop i xs) (sym (filter_below x xs i place.within place.below place.above)) ∙ ap (λ t. filter (λ a. ltb a x) xs ++ x ∷ t) (sym (filter_above x xs i place.within place.below place.above))
+    ap (λ t. t ++ x ∷ drop i xs) (sym (filter_below x xs i place.within place.below place.above))
+    ∙ ap (λ t. filter (λ a. ltb a x) xs ++ x ∷ t) (sym (filter_above x xs i place.within place.below place.above))
 
-rises_above-insert : (low x : ℕ) (xs : List ℕ) (i : ℕ) → RisesAbove low xs → low < x → i ≤ length xs → ((k : ℕ) → k < i → get_or xs k 0 < x) → ((k : ℕ) → i ≤ k → k < length xs → x < get_or xs k 0) → RisesAbove low (insert xs i x)
+rises_above-insert : (low x : ℕ) (xs : List ℕ) (i : ℕ) → RisesAbove low xs → low < x → i ≤ length xs
+    → ((k : ℕ) → k < i → get_or xs k 0 < x) → ((k : ℕ) → i ≤ k → k < length xs → x < get_or xs k 0) → RisesAbove low (insert xs i x)
 rises_above-insert low x [] zero all up within below above = (up, tt)
 rises_above-insert low x [] (suc i) all up within below above = absurd (omega arith)
 rises_above-insert low x (y ∷ ys) zero all up within below above = (up, (above 0 (omega arith) (omega arith), all.1))
-rises_above-insert low x (y ∷ ys) (suc i) all up within below above =
-    (all.0, rises_above-insert y x ys i all.1 (below 0 (omega arith)) (omega arith) (λ k lt. below (suc k) (omega arith)) (λ k le inside. above (suc k) (omega arith) (omega arith)))
+rises_above-insert low x (y ∷ ys) (suc i) all up within below above = (
+  all.0,
+  rises_above-insert y x ys i all.1 (below 0 (omega arith)) (omega arith) (λ k lt. below (suc k) (omega arith))
+      (λ k le inside. above (suc k) (omega arith) (omega arith)),
+)
 
-rises-inserted : (x : ℕ) (xs : List ℕ) (i : ℕ) → Rises xs → i ≤ length xs → ((k : ℕ) → k < i → get_or xs k 0 < x) → ((k : ℕ) → i ≤ k → k < length xs → x < get_or xs k 0) → Rises (insert xs i x)
+rises-inserted : (x : ℕ) (xs : List ℕ) (i : ℕ) → Rises xs → i ≤ length xs → ((k : ℕ) → k < i → get_or xs k 0 < x)
+    → ((k : ℕ) → i ≤ k → k < length xs → x < get_or xs k 0) → Rises (insert xs i x)
 rises-inserted x [] zero all within below above = tt
 rises-inserted x [] (suc i) all within below above = absurd (omega arith)
 rises-inserted x (y ∷ ys) zero all within below above = (above 0 (omega arith) (omega arith), all)
 rises-inserted x (y ∷ ys) (suc i) all within below above =
-    rises_above-insert y x ys i all (below 0 (omega arith)) (omega arith) (λ k lt. below (suc k) (omega arith)) (λ k le inside. above (suc k) (omega arith) (omega arith))
+    rises_above-insert y x ys i all (below 0 (omega arith)) (omega arith) (λ k lt. below (suc k) (omega arith))
+    (λ k le inside. above (suc k) (omega arith) (omega arith))
 
 pub rises-insert : (x : ℕ) (xs : List ℕ) (i : ℕ) → Rises xs → HasPlace xs x i → Rises (insert xs i x)
 rises-insert x xs i all place = rises-inserted x xs i all place.within place.below place.above
@@ -144,7 +160,8 @@ pub remove-is : (x : ℕ) (xs : List ℕ) (i : ℕ) → Rises xs → i < length 
 remove-is x [] i all inside is = absurd (omega arith)
 remove-is x (y ∷ ys) zero all inside is =
     let yes : (y == x) ≡ true = grind arith in
-    let others = λ (k : ℕ) (h : k < length ys) (same : get_or ys k 0 ≡ x). let up : y < get_or ys k 0 = rises_above-at y ys k all h in let e : y ≡ x = is in absurd (omega arith) in
+    let others = λ (k : ℕ) (h : k < length ys) (same : get_or ys k 0 ≡ x). let up : y < get_or ys k 0 = rises_above-at y ys k all h in
+    let e : y ≡ x = is in absurd (omega arith) in
     rw yes (sym (without-absent x ys others))
 remove-is x (y ∷ ys) (suc i) all inside is =
     let up : y < get_or ys i 0 = rises_above-at y ys i all (omega arith) in
@@ -171,7 +188,8 @@ rises-filter p (x ∷ xs) all = go (p x) (rises_above-filter p x xs all) where
 
 -- ---- the first address that passes a test
 
-find-first : (p : ℕ → Bool) (xs : List ℕ) (i : ℕ) → ((k : ℕ) → k < i → p (get_or xs k 0) ≡ false) → i < length xs → p (get_or xs i 0) ≡ true → find p xs ≡ Some (get_or xs i 0)
+find-first : (p : ℕ → Bool) (xs : List ℕ) (i : ℕ) → ((k : ℕ) → k < i → p (get_or xs k 0) ≡ false) → i < length xs
+    → p (get_or xs i 0) ≡ true → find p xs ≡ Some (get_or xs i 0)
 find-first p [] i none inside is = absurd (omega arith)
 find-first p (x ∷ xs) zero none inside is = rw is refl
 find-first p (x ∷ xs) (suc i) none inside is = rw (none 0 (omega arith)) (find-first p xs i (λ k lt. none (suc k) (omega arith)) (omega arith) is)
@@ -215,26 +233,32 @@ lowest-is p (x ∷ xs) all = go (p x) (lowest-is p xs (rises_above-is x xs all))
   go false more = more
 
 -- the first of so many addresses from one on: that one,
-pub find-here : (x count : ℕ) (xs : List ℕ) (i : ℕ) → Rises xs → 0 < count → i < length xs → get_or xs i 0 ≡ x → Some x ≡ find (is_between x count) xs
+pub find-here : (x count : ℕ) (xs : List ℕ) (i : ℕ) → Rises xs → 0 < count → i < length xs → get_or xs i 0 ≡ x
+    → Some x ≡ find (is_between x count) xs
 find-here x count xs i all some inside is =
     let yes : is_between x count (get_or xs i 0) ≡ true = grind (arith, nat_tests) in
-    let before = λ (k : ℕ) (lt : k < i). let down : get_or xs k 0 < get_or xs i 0 = rises-at xs all k i lt inside in let no : is_between x count (get_or xs k 0) ≡ false = grind (arith, nat_tests) in no in
+    let before = λ (k : ℕ) (lt : k < i). let down : get_or xs k 0 < get_or xs i 0 = rises-at xs all k i lt inside in
+    let no : is_between x count (get_or xs k 0) ≡ false = grind (arith, nat_tests) in no in
     ap Some (sym is) ∙ sym (find-first (is_between x count) xs i before inside yes)
 
 -- or the one at its place, where that is near enough
-pub find-near : (x count : ℕ) (xs : List ℕ) (i : ℕ) → HasPlace xs x i → i < length xs → get_or xs i 0 < x + count → Some (get_or xs i 0) ≡ find (is_between x count) xs
+pub find-near : (x count : ℕ) (xs : List ℕ) (i : ℕ) → HasPlace xs x i → i < length xs → get_or xs i 0 < x + count
+    → Some (get_or xs i 0) ≡ find (is_between x count) xs
 find-near x count xs i place inside near =
     let here : x < get_or xs i 0 = place.above i (omega arith) inside in
     let yes : is_between x count (get_or xs i 0) ≡ true = grind (arith, nat_tests) in
-    let before = λ (k : ℕ) (lt : k < i). let down : get_or xs k 0 < x = place.below k lt in let no : is_between x count (get_or xs k 0) ≡ false = grind (arith, nat_tests) in no in
+    let before = λ (k : ℕ) (lt : k < i). let down : get_or xs k 0 < x = place.below k lt in
+    let no : is_between x count (get_or xs k 0) ≡ false = grind (arith, nat_tests) in no in
     sym (find-first (is_between x count) xs i before inside yes)
 
-pub find-far : (x count : ℕ) (xs : List ℕ) (i : ℕ) → Rises xs → HasPlace xs x i → (i < length xs → x + count ≤ get_or xs i 0) → None ≡ find (is_between x count) xs
+pub find-far : (x count : ℕ) (xs : List ℕ) (i : ℕ) → Rises xs → HasPlace xs x i → (i < length xs → x + count ≤ get_or xs i 0)
+    → None ≡ find (is_between x count) xs
 find-far x count xs i all place far = sym (find-none (is_between x count) xs each) where
   each : (k : ℕ) → k < length xs → is_between x count (get_or xs k 0) ≡ false
   each k inside = elim (cases_lt k i) [
     | inl lt ↦ let down : get_or xs k 0 < x = place.below k lt in grind (arith, nat_tests)
-    | inr ge ↦ let first : x + count ≤ get_or xs i 0 = far (omega arith) in let up : get_or xs i 0 ≤ get_or xs k 0 = rises-le xs all i k ge inside in grind (arith, nat_tests)
+    | inr ge ↦ let first : x + count ≤ get_or xs i 0 = far (omega arith) in let up : get_or xs i 0 ≤ get_or xs k 0 = rises-le xs all i k ge inside in
+        grind (arith, nat_tests)
   ]
 
 -- no address is in no span

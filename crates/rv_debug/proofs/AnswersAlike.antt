@@ -1,5 +1,5 @@
 -- The law of confidentiality of a command: two benches that agree but for an enclave show and leave the same, where they do not enter it.
-use Rattle.std.proofs.Common.{◌≡◌, ℕ, ◌-◌, Bool, true, false, List, [], ◌∷◌, Option, Some, None, refl, sym, ◌∙◌, ap, ap₂, subst, inl, inr, not}
+use Rattle.std.proofs.Common.{◌≡◌, ℕ, ◌-◌, Bool, true, false, List, [], ◌∷◌, Option, refl, sym, ◌∙◌, ap, ap₂, subst, inl, inr, not}
 use Rattle.std.specs.Option.{option_map}
 use Rattle.std.proofs.lemmas.Bool.{cases_Bool}
 use Rattle.rv_word.specs.Cases.{option_case}
@@ -22,27 +22,29 @@ use Rattle.rv_monitor.specs.declared.shared.Shared.{Shared}
 use Rattle.rv_monitor.proofs.Agreement.{same_read, read-none, write-none, write-some, same_write}
 use Rattle.rv_monitor.proofs.Alike.{seen_block}
 use Rattle.rv_monitor.proofs.MonitoredAlike.{gone_equal}
-use Rattle.rv_debug.specs.Addresses.{with_room_for, without_address}
-use Rattle.rv_debug.specs.Answer.{Answered, SchedAnswered, TargetAnswered, access_reply, answer, break_set, hart_told, harts_told, steps_answer, steps_of, watch_set}
+use Rattle.rv_debug.specs.Answer.{Answered, access_reply, answer, hart_told, harts_told, told as steps_told}
 use Rattle.rv_debug.specs.BenchState.{BenchState}
 use Rattle.rv_debug.specs.Confidentiality.{AgreeAgain, AnswerAlike, ConfidentialityLaw}
+use Rattle.rv_debug.specs.Deeds.{Deed, Nothing, Steps, deed, done, entered_by, run_deed, steps_of}
 use Rattle.rv_debug.specs.EnclaveText.{table_text}
-use Rattle.rv_debug.specs.ReplyText.{ok_text, full_text, outside_text, memory_text, dis_text, hart_text, no_hart_text, ran_text}
+use Rattle.rv_debug.specs.ReplyText.{ok_text, outside_text, memory_text, dis_text, hart_text, no_hart_text, ran_text}
 use Rattle.rv_debug.specs.Schedules.{AfterTurns, harts_in, has_all, no_turns, turns}
 use Rattle.rv_debug.specs.Steps.{AfterRun, no_steps, run}
-use Rattle.rv_debug.specs.Targets.{chosen_at, IsBare, KeepsMonitor, harts_of, monitored_stepped, over_memory, turned_to, world_name}
+use Rattle.rv_debug.specs.Targets.{chosen_at, IsBare, KeepsMonitor, monitored_stepped, over_memory, turned_to, world_name}
 use Rattle.rv_debug.specs.TwoBenches.{BenchesAgreeBut, ChosenAgreeBut, TargetsAgreeBut, is_blind, is_entered}
 use Rattle.rv_debug.specs.declared.command.Command.{Command}
-use Rattle.rv_debug.specs.declared.command.Command.TheVariants.{Step, Run, Break, Clear, Watch, Unwatch, SetReg, Mem, Poke, Dis, Enclaves, Access, Timer, Hart, Sched}
+use Rattle.rv_debug.specs.declared.command.Command.TheVariants.{Step, Run, SetReg, Mem, Poke, Dis, Enclaves, Access, Timer, Hart, Sched}
+use Rattle.rv_debug.specs.declared.scheduled.HartRan.{HartRan}
+use Rattle.rv_debug.specs.declared.scheduled.Scheduled.{Scheduled}
 use Rattle.rv_debug.specs.declared.steps.Ran.{Ran}
 use Rattle.rv_debug.specs.declared.target.Target.{Target}
 use Rattle.rv_debug.specs.declared.target.Target.TheVariants.{Bare, Monitored}
-use Rattle.rv_debug.proofs.StepsAlike.{RunAlike, run-alike}
-use Rattle.rv_debug.specs.declared.scheduled.HartRan.{HartRan}
-use Rattle.rv_debug.specs.declared.scheduled.Scheduled.{Scheduled}
+use Rattle.rv_debug.proofs.DeedsKept.{bare_done, poke_of}
+use Rattle.rv_debug.proofs.RunTurns.{run_done, run_entered}
 use Rattle.rv_debug.proofs.SchedAlike.{BothPast, turned_agree, turns_alike}
-use Rattle.rv_debug.proofs.TargetRuns.{monitored_pc, target_of, run_bare, run_monitored}
-use Rattle.rv_debug.proofs.Turns.{after_turns, stays_bare, turned_bare}
+use Rattle.rv_debug.proofs.StepsAlike.{RunAlike, run-alike}
+use Rattle.rv_debug.proofs.TargetRuns.{monitored_pc, target_of, run_monitored}
+use Rattle.rv_debug.proofs.Turns.{after_turns}
 
 -- ---- benches that agree
 
@@ -58,7 +60,8 @@ again e (Bare one) (Bare other) breaks watches agree = record {
 }
 again e (Monitored one) (Monitored other) breaks watches agree = record {
   but = record { target = agree; breaks = refl; watches = refl };
-  gone = λ none. ap₂ (λ (hart : ℕ) (machine : MonitoredState). over (chosen_at hart machine) breaks watches) agree.hart (gone_equal e one.state other.state agree.state none);
+  gone = λ none. ap₂ (λ (hart : ℕ) (machine : MonitoredState). over (chosen_at hart machine) breaks watches) agree.hart
+      (gone_equal e one.state other.state agree.state none);
 }
 again e (Bare one) (Monitored other) breaks watches agree = absurd agree
 again e (Monitored one) (Bare other) breaks watches agree = absurd agree
@@ -80,7 +83,8 @@ passes e one other breaks watches reply reply' agree same =
 
 -- ---- steps of named harts, of which the same is told of both
 
-same_line : (e hart : ℕ) (ran : HartRan) (one other : OnTurn) → ChosenAgreeBut e one other → hart_told (Monitored one) hart ran ≡ hart_told (Monitored other) hart ran
+same_line : (e hart : ℕ) (ran : HartRan) (one other : OnTurn) → ChosenAgreeBut e one other
+    → hart_told (Monitored one) hart ran ≡ hart_told (Monitored other) hart ran
 same_line e hart ran one other agree =
     let seen = turned_agree e hart one other agree in
     ap (λ (seat : Seat). hart_text hart seat.hart.pc seat.hart.mode (world_name seat.world) ran) seen.state.seat
@@ -93,14 +97,16 @@ same_lines e did one other agree =
     ap₂ (λ (line lines : List ℕ). line ++ lines) (same_line e 0 did.first one other agree)
     (ap₂ (λ (n : ℕ) (line : List ℕ). if nat_lt 1 n then line else []) count (same_line e 1 did.second one other agree))
 
--- the answer that is told after them
+-- the answer that tells of them
 abbrev told_turns : ℕ → List ℕ → List ℕ → AfterTurns → Answered
-told_turns hart breaks watches after = record { state = over (turned_to hart after.state) breaks watches; reply = harts_told after; entered = after.did.entered }
+told_turns hart breaks watches after =
+    record { state = over (turned_to hart after.state) breaks watches; reply = harts_told after; entered = after.did.entered }
 
 past_alike : (e hart : ℕ) (breaks watches : List ℕ) (did did' : Scheduled) (one other : OnTurn) → did ≡ did' → ChosenAgreeBut e one other
     → AnswerAlike e (told_turns hart breaks watches (after_turns (Monitored one) did)) (told_turns hart breaks watches (after_turns (Monitored other) did'))
 past_alike e hart breaks watches did did' one other same agree =
-    subst (λ (d : Scheduled). AnswerAlike e (told_turns hart breaks watches (after_turns (Monitored one) did)) (told_turns hart breaks watches (after_turns (Monitored other) d))) same
+    subst (λ (d : Scheduled). AnswerAlike e (told_turns hart breaks watches (after_turns (Monitored one) did))
+    (told_turns hart breaks watches (after_turns (Monitored other) d))) same
     (record {
       entered = refl;
       passed = λ none. record {
@@ -113,13 +119,34 @@ past_alike e hart breaks watches did did' one other same agree =
 both_past : (e hart : ℕ) (breaks watches : List ℕ) (one other : AfterTurns) → BothPast e one other
     → AnswerAlike e (told_turns hart breaks watches one) (told_turns hart breaks watches other)
 both_past e hart breaks watches one other past =
-    subst (λ (target : Target). AnswerAlike e (told_turns hart breaks watches (after_turns target one.did)) (told_turns hart breaks watches other)) (sym past.here_is)
-    (subst (λ (target : Target). AnswerAlike e (told_turns hart breaks watches (after_turns (Monitored past.here) one.did)) (told_turns hart breaks watches (after_turns target other.did))) (sym past.there_is)
+    subst (λ (target : Target). AnswerAlike e (told_turns hart breaks watches (after_turns target one.did)) (told_turns hart breaks watches other))
+    (sym past.here_is)
+    (subst (λ (target : Target). AnswerAlike e (told_turns hart breaks watches (after_turns (Monitored past.here) one.did))
+    (told_turns hart breaks watches (after_turns target other.did))) (sym past.there_is)
     (past_alike e hart breaks watches one.did other.did past.here past.there past.did past.state))
+
+-- ---- a run
+
+abbrev steps_answer : List ℕ → List ℕ → AfterRun Target → Answered
+steps_answer breaks watches after = record { state = over after.state breaks watches; reply = steps_told after; entered = after.ran.entered }
+
+abbrev run_answer : Target → List ℕ → List ℕ → List ℕ → List ℕ → ℕ → Answered
+run_answer target breaks watches at_breaks at_watches count =
+    let d = run_deed target at_breaks at_watches count in
+    record { state = over (done target d) breaks watches; reply = steps_told (steps_of target at_breaks at_watches count); entered = entered_by target d }
+
+-- it is told of where the run ends
+run_told : (target : Target) (breaks watches at_breaks at_watches : List ℕ) (count : ℕ)
+    → run_answer target breaks watches at_breaks at_watches count ≡ steps_answer breaks watches (steps_of target at_breaks at_watches count)
+run_told target breaks watches at_breaks at_watches count =
+    let reply = steps_told (steps_of target at_breaks at_watches count) in
+    ap₂ (λ (after : Target) (entered : ℕ). record { state = over after breaks watches; reply = reply; entered = entered })
+    (run_done target at_breaks at_watches count) (run_entered target at_breaks at_watches count)
 
 -- ---- machines under the monitor, with the same seats
 
-module _ (e hart : ℕ) (seat : Seat) (beside : Option Seat) (rests : is_world_of e seat.world ≡ false) (elsewhere : list_any (is_world_of e) (worlds_beside beside) ≡ false) where
+module _ (e hart : ℕ) (seat : Seat) (beside : Option Seat) (rests : is_world_of e seat.world ≡ false)
+    (elsewhere : list_any (is_world_of e) (worlds_beside beside) ≡ false) where
   abbrev machine_of : Shared → MonitoredState
   machine_of shared = record { seat = seat; other = beside; shared = shared }
 
@@ -133,8 +160,13 @@ module _ (e hart : ℕ) (seat : Seat) (beside : Option Seat) (rests : is_world_o
     abbrev there : BenchState
     there = over (at other) breaks watches
 
+    both_with : (own : Seat) → is_world_of e own.world ≡ false
+        → TargetsAgreeBut e (chosen_at hart (record { seat = own; other = beside; shared = one }))
+        (chosen_at hart (record { seat = own; other = beside; shared = other }))
+    both_with own apart = record { hart = refl; state = record { seat = refl; beside = refl; rests = apart; rests_beside = elsewhere; shared = agree } }
+
     both : TargetsAgreeBut e (at one) (at other)
-    both = record { hart = refl; state = record { seat = refl; beside = refl; rests = rests; rests_beside = elsewhere; shared = agree } }
+    both = both_with seat rests
 
     -- a command that leaves both as they are
     shown : (reply reply' : List ℕ) → reply ≡ reply' → AnswerAlike e (told (at one) breaks watches reply) (told (at other) breaks watches reply')
@@ -166,10 +198,8 @@ module _ (e hart : ℕ) (seat : Seat) (beside : Option Seat) (rests : is_world_o
     -- ---- a byte that is poked
 
     abbrev poke_answer : Shared → Option (List ℕ) → Answered
-    poke_answer shared after =
-        let poked = option_case {B = TargetAnswered} (option_map (over_memory (at shared)) after)
-        (record { target = at shared; reply = outside_text }) (λ target. record { target = target; reply = ok_text }) in
-        told poked.target breaks watches poked.reply
+    poke_answer shared memory =
+        told (poke_of (at shared) memory) breaks watches (option_case (option_map (over_memory (at shared)) memory) outside_text (λ after. ok_text))
 
     poke-alike : (address byte : ℕ)
         → AnswerAlike e (poke_answer one (write one.memory address (byte ∷ []))) (poke_answer other (write other.memory address (byte ∷ [])))
@@ -192,7 +222,8 @@ module _ (e hart : ℕ) (seat : Seat) (beside : Option Seat) (rests : is_world_o
                     table = agree.table;
                     memory = memory;
                     contexts = agree.contexts;
-                    gone = λ none. ap (λ (shared : Shared). record shared { memory = write_bytes shared.memory (address - ram_base) bytes }) (agree.gone none);
+                    gone = λ none. ap (λ (shared : Shared). record shared { memory = write_bytes shared.memory (address - ram_base) bytes })
+                        (agree.gone none);
                   };
                 };
               }) refl)
@@ -202,20 +233,10 @@ module _ (e hart : ℕ) (seat : Seat) (beside : Option Seat) (rests : is_world_o
               rw (first, second) (shown outside_text outside_text refl)
         ]
 
-    -- ---- what sets breaks and watches
-
-    break-alike : (set : Option (List ℕ)) → AnswerAlike e (break_set here set) (break_set there set)
-    break-alike None = passes e (at one) (at other) breaks watches full_text full_text both refl
-    break-alike (Some more) = passes e (at one) (at other) more watches ok_text ok_text both refl
-
-    watch-alike : (set : Option (List ℕ)) → AnswerAlike e (watch_set here set) (watch_set there set)
-    watch-alike None = passes e (at one) (at other) breaks watches full_text full_text both refl
-    watch-alike (Some more) = passes e (at one) (at other) breaks more ok_text ok_text both refl
-
     -- ---- steps
 
     steps-alike : (first second : AfterRun MonitoredState) → RunAlike e first second
-        → AnswerAlike e (steps_answer here (target_of (chosen_at hart) first)) (steps_answer there (target_of (chosen_at hart) second))
+        → AnswerAlike e (steps_answer breaks watches (target_of (chosen_at hart) first)) (steps_answer breaks watches (target_of (chosen_at hart) second))
     steps-alike first second (inl both_in) = record {
       entered = both_in.here ∙ sym both_in.there;
       passed = λ none. let never : true ≡ false = sym both_in.here ∙ none in cc;
@@ -229,33 +250,50 @@ module _ (e hart : ℕ) (seat : Seat) (beside : Option Seat) (rests : is_world_o
       };
     }
 
+    -- what is told of a run, said of the machine
+    run-is : (shared : Shared) (at_breaks at_watches : List ℕ) (count : ℕ)
+        → (let ran = run monitored_stepped monitored_pc at_breaks at_watches count (no_steps (machine_of shared)) in
+        run_answer (at shared) breaks watches at_breaks at_watches count ≡ steps_answer breaks watches (target_of (chosen_at hart) ran))
+    run-is shared at_breaks at_watches count =
+        run_told (at shared) breaks watches at_breaks at_watches count
+        ∙ ap (steps_answer breaks watches) (run_monitored hart at_breaks at_watches count (no_steps (machine_of shared)))
+
     run-answers : (at_breaks at_watches : List ℕ) (count : ℕ) → IsKept (machine_of one) → IsKept (machine_of other)
-        → AnswerAlike e (steps_answer here (steps_of (at one) at_breaks at_watches count)) (steps_answer there (steps_of (at other) at_breaks at_watches count))
+        → AnswerAlike e (run_answer (at one) breaks watches at_breaks at_watches count) (run_answer (at other) breaks watches at_breaks at_watches count)
     run-answers at_breaks at_watches count kept kept' =
-        subst (λ (first : AfterRun Target). AnswerAlike e (steps_answer here first) (steps_answer there (steps_of (at other) at_breaks at_watches count)))
-        (sym (run_monitored hart at_breaks at_watches count (no_steps (machine_of one))))
-        (subst (λ (second : AfterRun Target). AnswerAlike e (steps_answer here (target_of (chosen_at hart) (run monitored_stepped monitored_pc at_breaks at_watches count (no_steps (machine_of one))))) (steps_answer there second))
-        (sym (run_monitored hart at_breaks at_watches count (no_steps (machine_of other))))
-        (steps-alike _ _ (run-alike e at_breaks at_watches count (no_steps (machine_of one)) (machine_of other) kept kept' (let agreed = both in agreed.state))))
+        subst (λ (first : Answered). AnswerAlike e first (run_answer (at other) breaks watches at_breaks at_watches count))
+        (sym (run-is one at_breaks at_watches count))
+        (subst (AnswerAlike e (steps_answer breaks watches _)) (sym (run-is other at_breaks at_watches count))
+        (steps-alike _ _ (run-alike e at_breaks at_watches count (no_steps (machine_of one)) (machine_of other) kept kept'
+        (let agreed = both in agreed.state))))
 
     -- ---- harts
 
-    hart-answers : (number : ℕ) (has : Bool)
-        → AnswerAlike e (let after : TargetAnswered = (if has then record { target = turned_to number (at one); reply = ok_text } else record { target = at one; reply = no_hart_text }) in told after.target breaks watches after.reply)
-        (let after : TargetAnswered = (if has then record { target = turned_to number (at other); reply = ok_text } else record { target = at other; reply = no_hart_text }) in told after.target breaks watches after.reply)
-    hart-answers number true = passes e _ _ breaks watches ok_text ok_text (turned_agree e number (record { hart = hart; state = machine_of one }) (record { hart = hart; state = machine_of other }) both) refl
-    hart-answers number false = shown no_hart_text no_hart_text refl
+    hart-answers : (number : ℕ) (has : Bool) (reply : List ℕ)
+        → (let d : Deed = (if has then Steps [] number else Nothing) in
+        let answers : Shared → Answered =
+        λ shared. record { state = over (done (at shared) d) breaks watches; reply = reply; entered = entered_by (at shared) d } in
+        AnswerAlike e (answers one) (answers other))
+    unfolding turns
+    hart-answers number true reply =
+        let on : Shared → OnTurn = λ shared. record { hart = hart; state = machine_of shared } in
+        passes e _ _ breaks watches reply reply (turned_agree e number (on one) (on other) both) refl
+    hart-answers number false reply = shown reply reply refl
 
     abbrev sched-told : Shared → List ℕ → Bool → Answered
     sched-told shared harts has =
-        let all = turns harts (no_turns (at shared)) in
-        let after : SchedAnswered = (if has then record { target = turned_to hart all.state; reply = harts_told all; entered = all.did.entered } else record { target = at shared; reply = no_hart_text; entered = 0 }) in
-        record { state = over after.target breaks watches; reply = after.reply; entered = after.entered }
+        let d : Deed = (if has then Steps harts hart else Nothing) in
+        record {
+          state = over (done (at shared) d) breaks watches;
+          reply = if has then harts_told (turns harts (no_turns (at shared))) else no_hart_text;
+          entered = entered_by (at shared) d;
+        }
 
     sched-answers : (harts : List ℕ) (has : Bool) → IsKept (machine_of one) → IsKept (machine_of other)
         → AnswerAlike e (sched-told one harts has) (sched-told other harts has)
     sched-answers harts true kept kept' =
-        elim (turns_alike e harts (record { hart = hart; state = machine_of one }) (record { hart = hart; state = machine_of other }) _ kept kept' both) [
+        let on : Shared → OnTurn = λ shared. record { hart = hart; state = machine_of shared } in
+        elim (turns_alike e harts (on one) (on other) _ kept kept' both) [
           | inl both_in ↦ record {
             entered = both_in.here ∙ sym both_in.there;
             passed = λ none. let never : true ≡ false = sym both_in.here ∙ none in cc;
@@ -275,12 +313,8 @@ module _ (e hart : ℕ) (seat : Seat) (beside : Option Seat) (rests : is_world_o
     unfolding answer is_blind
     alike (Step count) kept kept' blind = run-answers [] [] count kept kept'
     alike (Run count) kept kept' blind = run-answers breaks watches count kept kept'
-    alike (Break address) kept kept' blind = break-alike (with_room_for address breaks)
-    alike (Clear address) kept kept' blind = passes e (at one) (at other) (without_address address breaks) watches ok_text ok_text both refl
-    alike (Watch address) kept kept' blind = watch-alike (with_room_for address watches)
-    alike (Unwatch address) kept kept' blind = passes e (at one) (at other) breaks (without_address address watches) ok_text ok_text both refl
-    alike (SetReg number value) kept kept' blind = passes e _ _ breaks watches ok_text ok_text (record { hart = refl; state = record { seat = refl; beside = refl; rests = rests; rests_beside = elsewhere; shared = agree } }) refl
-    alike (Timer raised) kept kept' blind = passes e _ _ breaks watches ok_text ok_text (record { hart = refl; state = record { seat = refl; beside = refl; rests = rests; rests_beside = elsewhere; shared = agree } }) refl
+    alike (SetReg number value) kept kept' blind = passes e _ _ breaks watches ok_text ok_text (both_with _ rests) refl
+    alike (Timer raised) kept kept' blind = passes e _ _ breaks watches ok_text ok_text (both_with _ rests) refl
     alike (Mem address count) kept kept' blind =
         shown _ _ (ap (λ (bytes : Option (List ℕ)). option_case bytes outside_text (memory_text address))
         (seen-read (record { base = address; size = count }) (not-true _ blind)))
@@ -288,77 +322,50 @@ module _ (e hart : ℕ) (seat : Seat) (beside : Option Seat) (rests : is_world_o
         shown _ _ (ap (λ (bytes : Option (List ℕ)). option_case bytes outside_text (λ bytes. dis_text address (number_of_bytes bytes)))
         (seen-read (record { base = address; size = 4 }) (not-true _ blind)))
     alike (Poke address byte) kept kept' blind = poke-alike address byte
-    alike (Hart number) kept kept' blind = hart-answers number (nat_lt number (count_of (machine_of one)))
-    alike (Sched schedule) kept kept' blind = sched-answers (harts_in schedule) (has_all (count_of (machine_of one)) (harts_in schedule)) kept kept'
+    alike (Hart number) kept kept' blind = hart-answers number (nat_lt number (count_of (machine_of one))) _
+    alike (Sched schedule) kept kept' blind =
+        sched-answers (harts_in schedule) (has_all (count_of (machine_of one)) (harts_in schedule)) kept kept'
     alike (Access mode access address width) kept kept' blind = shown _ _ (same-access seat.hart.csrs.pmp mode access address width)
     alike Enclaves kept kept' blind = shown _ _ (ap (λ (slots : Slots). table_text slots) agree.table)
-    alike _ kept kept' blind = shown _ _ refl
+    alike _ kept kept' blind = passes e _ _ _ _ _ _ both refl
 
 -- ---- any two benches
 
 seats-alike : (e hart : ℕ) (seat : Seat) (beside : Option Seat) (one : MonitoredState) (shared : Shared) (breaks watches : List ℕ) (command : Command)
-    → one.seat ≡ seat → one.other ≡ beside → IsKept one → IsKept (record { seat = seat; other = beside; shared = shared }) → is_world_of e one.seat.world ≡ false
+    → one.seat ≡ seat → one.other ≡ beside → IsKept one → IsKept (record { seat = seat; other = beside; shared = shared })
+    → is_world_of e one.seat.world ≡ false
     → list_any (is_world_of e) (worlds_beside one.other) ≡ false → SharedButFor e one.shared shared
     → is_blind e (over (chosen_at hart one) breaks watches) command ≡ true
-    → AnswerAlike e (answer (over (chosen_at hart one) breaks watches) command) (answer (over (chosen_at hart (record { seat = seat; other = beside; shared = shared })) breaks watches) command)
+    → AnswerAlike e (answer (over (chosen_at hart one) breaks watches) command)
+    (answer (over (chosen_at hart (record { seat = seat; other = beside; shared = shared })) breaks watches) command)
 seats-alike e hart seat beside one shared breaks watches command seats besides kept kept' rests elsewhere agree blind =
     let make : Seat → Option Seat → MonitoredState = λ s o. record { seat = s; other = o; shared = shared } in
     let same : IsKept (make one.seat one.other) =
     subst (λ (s : Seat). IsKept (make s one.other)) (sym seats) (subst (λ (o : Option Seat). IsKept (make seat o)) (sym besides) kept') in
-    let P : Seat → Option Seat → Type 0 = λ s o. AnswerAlike e (answer (over (chosen_at hart one) breaks watches) command) (answer (over (chosen_at hart (make s o)) breaks watches) command) in
+    let P : Seat → Option Seat → Type 0 =
+    λ s o. AnswerAlike e (answer (over (chosen_at hart one) breaks watches) command) (answer (over (chosen_at hart (make s o)) breaks watches) command) in
     subst (λ (o : Option Seat). P seat o) besides (subst (λ (s : Seat). P s one.other) seats
     (alike e hart one.seat one.other rests elsewhere one.shared shared agree breaks watches command kept same blind))
 
-monitored-alike : (e : ℕ) (one other : OnTurn) (breaks watches : List ℕ) (command : Command) → IsKept one.state → IsKept other.state → ChosenAgreeBut e one other
+monitored-alike : (e : ℕ) (one other : OnTurn) (breaks watches : List ℕ) (command : Command) → IsKept one.state → IsKept other.state
+    → ChosenAgreeBut e one other
     → is_blind e (over (Monitored one) breaks watches) command ≡ true
     → AnswerAlike e (answer (over (Monitored one) breaks watches) command) (answer (over (Monitored other) breaks watches) command)
 monitored-alike e one other breaks watches command kept kept' agree blind =
     let state = agree.state in
-    subst (λ (hart : ℕ). AnswerAlike e (answer (over (Monitored one) breaks watches) command) (answer (over (chosen_at hart other.state) breaks watches) command)) agree.hart
-    (seats-alike e one.hart other.state.seat other.state.other one.state other.state.shared breaks watches command state.seat state.beside kept kept' state.rests state.rests_beside state.shared blind)
+    subst (λ (hart : ℕ). AnswerAlike e (answer (over (Monitored one) breaks watches) command)
+    (answer (over (chosen_at hart other.state) breaks watches) command)) agree.hart
+    (seats-alike e one.hart other.state.seat other.state.other one.state other.state.shared breaks watches command
+    state.seat state.beside kept kept' state.rests state.rests_beside state.shared blind)
 
 -- a machine alone stays one
 bare-itself : (e : ℕ) (target : Target) → IsBare target → TargetsAgreeBut e target target
 bare-itself e (Bare machine) bare = refl
 bare-itself e (Monitored machine) bare = absurd bare
 
-bare-poked : (machine : State) (after : Option (List ℕ))
-    → IsBare (option_case {B = TargetAnswered} (option_map (over_memory (Bare machine)) after)
-    (record { target = Bare machine; reply = outside_text }) (λ target. record { target = target; reply = ok_text })).target
-bare-poked machine None = tt
-bare-poked machine (Some memory) = tt
-
-bare-set : (machine : State) (breaks watches : List ℕ) (set : Option (List ℕ)) → IsBare (break_set (over (Bare machine) breaks watches) set).state.target
-bare-set machine breaks watches None = tt
-bare-set machine breaks watches (Some more) = tt
-
-bare-watched : (machine : State) (breaks watches : List ℕ) (set : Option (List ℕ)) → IsBare (watch_set (over (Bare machine) breaks watches) set).state.target
-bare-watched machine breaks watches None = tt
-bare-watched machine breaks watches (Some more) = tt
-
-bare-turned : (machine : State) (number : ℕ) (has : Bool)
-    → IsBare (let after : TargetAnswered = (if has then record { target = turned_to number (Bare machine); reply = ok_text } else record { target = Bare machine; reply = no_hart_text }) in after.target)
-bare-turned machine number true = tt
-bare-turned machine number false = tt
-
-bare-turns : (machine : State) (harts : List ℕ) (has : Bool)
-    → IsBare (let all = turns harts (no_turns (Bare machine)) in
-    let after : SchedAnswered = (if has then record { target = turned_to 0 all.state; reply = harts_told all; entered = all.did.entered } else record { target = Bare machine; reply = no_hart_text; entered = 0 }) in after.target)
-bare-turns machine harts true = turned_bare 0 _ (stays_bare harts (no_turns (Bare machine)) tt)
-bare-turns machine harts false = tt
-
-pub bare-stays : (machine : State) (breaks watches : List ℕ) (command : Command) → IsBare (answer (over (Bare machine) breaks watches) command).state.target
+bare-stays : (machine : State) (breaks watches : List ℕ) (command : Command) → IsBare (answer (over (Bare machine) breaks watches) command).state.target
 unfolding answer
-bare-stays machine breaks watches (Step count) =
-    subst (λ (after : AfterRun Target). IsBare after.state) (sym (run_bare [] [] count (no_steps machine))) tt
-bare-stays machine breaks watches (Run count) =
-    subst (λ (after : AfterRun Target). IsBare after.state) (sym (run_bare breaks watches count (no_steps machine))) tt
-bare-stays machine breaks watches (Break address) = bare-set machine breaks watches (with_room_for address breaks)
-bare-stays machine breaks watches (Watch address) = bare-watched machine breaks watches (with_room_for address watches)
-bare-stays machine breaks watches (Poke address byte) = bare-poked machine (write machine.memory address (byte ∷ []))
-bare-stays machine breaks watches (Hart number) = bare-turned machine number (nat_lt number 1)
-bare-stays machine breaks watches (Sched schedule) = bare-turns machine (harts_in schedule) (has_all 1 (harts_in schedule))
-bare-stays machine breaks watches _ = tt
+bare-stays machine breaks watches command = bare_done machine (deed (over (Bare machine) breaks watches) command)
 
 -- what is said of itself
 alike-itself : (e : ℕ) (after : Answered) → IsBare after.state.target → AnswerAlike e after after
@@ -371,7 +378,8 @@ alike-itself e after bare = record {
   };
 }
 
-targets-alike : (e : ℕ) (one other : Target) (breaks watches : List ℕ) (command : Command) → KeepsMonitor one → KeepsMonitor other → TargetsAgreeBut e one other
+targets-alike : (e : ℕ) (one other : Target) (breaks watches : List ℕ) (command : Command) → KeepsMonitor one → KeepsMonitor other
+    → TargetsAgreeBut e one other
     → is_blind e (over one breaks watches) command ≡ true
     → AnswerAlike e (answer (over one breaks watches) command) (answer (over other breaks watches) command)
 targets-alike e (Monitored one) (Monitored other) breaks watches command kept kept' agree blind =

@@ -1,53 +1,37 @@
 -- The hart that a command does nothing to keeps all but the entries and mie.
-use Rattle.std.proofs.Common.{◌≡◌, ℕ, zero, suc, ◌==◌, Bool, true, false, List, [], ◌∷◌, Option, Some, None, refl, sym, ◌∙◌, ap, subst, inl, inr}
+use Rattle.std.proofs.Common.{◌≡◌, ℕ, zero, suc, ◌==◌, Bool, true, false, List, [], ◌∷◌, Option, Some, None, refl, sym, ◌∙◌, ap, subst}
 use Rattle.std.specs.List.{list_all}
-use Rattle.std.specs.Option.{option_map}
-use Rattle.std.specs.Prelude.{◌&&◌, nat_lt, if◌then◌else◌}
+use Rattle.std.specs.Prelude.{◌&&◌}
 use Rattle.std.proofs.lemmas.Bool.{eqb-true}
 use Rattle.rv_memory.specs.Memory.{write}
 use Rattle.rv_hart.specs.State.{State}
+use Rattle.rv_monitor.specs.Debugger.{with_reg, with_timer}
 use Rattle.rv_monitor.specs.HartLaws.{sched}
-use Rattle.rv_monitor.specs.Runs.{run as steps_on}
-use Rattle.rv_monitor.specs.State.{MonitoredState, OnTurn, IsKept, IsSeated, machine_of, seated_beside, seen_by, seen_from}
-use Rattle.rv_monitor.specs.Step.{MonitoredStepped, monitored_step, step_of}
+use Rattle.rv_monitor.specs.State.{MonitoredState, OnTurn, IsKept, machine_of, seated_beside, seen_by}
+use Rattle.rv_monitor.specs.Step.{monitored_step, step_of}
 use Rattle.rv_monitor.specs.Table.{Slots}
 use Rattle.rv_monitor.specs.declared.seat.Seat.{Seat}
 use Rattle.rv_monitor.specs.declared.shared.Shared.{Shared}
 use Rattle.rv_monitor.proofs.HartsAlike.{step_kept}
 use Rattle.rv_monitor.proofs.HartsSpare.{seated_after, seen_shared}
 use Rattle.rv_monitor.proofs.LastAct.{beside_as_is}
-use Rattle.rv_monitor.proofs.RunsAlike.{kept_law}
 use Rattle.rv_monitor.proofs.Turned.{seen_kept, seen_twice}
-use Rattle.rv_debug.specs.Addresses.{with_room_for}
-use Rattle.rv_debug.specs.Answer.{SchedAnswered, TargetAnswered, answer, harts_told, steps_of}
+use Rattle.rv_debug.specs.Answer.{answer}
 use Rattle.rv_debug.specs.BenchState.{BenchState}
+use Rattle.rv_debug.specs.Deeds.{Deed, Nothing, Steps, Register, TimerLine, OneByte, deed, done}
 use Rattle.rv_debug.specs.Isolation.{KeepsOther, LeavesOther, SparesOther}
-use Rattle.rv_debug.specs.ReplyText.{no_hart_text, ok_text, outside_text}
-use Rattle.rv_debug.specs.Schedules.{harts_in, has_all, no_turns, turns}
-use Rattle.rv_debug.specs.Steps.{AfterRun, no_steps, run}
-use Rattle.rv_debug.specs.Targets.{IsBare, KeepsMonitor, chosen_at, chosen_of, harts_of, monitored_stepped, over_memory, turned_to}
+use Rattle.rv_debug.specs.Targets.{IsBare, KeepsMonitor, chosen_at}
 use Rattle.rv_debug.specs.declared.command.Command.{Command}
-use Rattle.rv_debug.specs.declared.command.Command.TheVariants.{Step, Run, Break, Watch, Poke, SetReg, Timer, Hart, Sched}
 use Rattle.rv_debug.specs.declared.target.Target.{Target}
 use Rattle.rv_debug.specs.declared.target.Target.TheVariants.{Bare, Monitored}
-use Rattle.rv_debug.proofs.AnswersAlike.{bare-stays}
-use Rattle.rv_debug.proofs.Isolation.{IsRunOf, after_sched, break_target, is-run, over, poke_of, turned_by, watch_target}
-use Rattle.rv_debug.proofs.TargetRuns.{monitored_pc, run_monitored}
+use Rattle.rv_debug.proofs.DeedsKept.{bare_done, poke_of}
 use Rattle.rv_debug.proofs.Turns.{turns_are_sched}
 
--- ---- steps of one hart
+-- ---- steps of a hart that is named
 
 seated_twice : (first last : Slots) (other : Option Seat) → seated_beside last (seated_beside first other) ≡ seated_beside last other
 seated_twice first last None = refl
 seated_twice first last (Some seat) = refl
-
-steps_leave : (n : ℕ) (machine : MonitoredState) → IsKept machine
-    → (steps_on n machine).state.other ≡ seated_beside (steps_on n machine).state.shared.table machine.other
-steps_leave zero machine kept = sym (beside_as_is machine.shared.table machine.other kept.other)
-steps_leave (suc n) machine kept =
-    let next = (monitored_step machine).state in
-    let last = (steps_on n next).state.shared.table in
-    steps_leave n next (kept_law machine kept) ∙ ap (seated_beside last) (seated_after machine kept) ∙ seated_twice next.shared.table last machine.other
 
 -- ---- steps of a hart that is named
 
@@ -96,16 +80,6 @@ seen_from_own hart chosen before after slots is keeps =
     ap (λ (h : ℕ). (seen_by h (seen_by chosen state)).other) is ∙ ap at (seen_twice chosen state) in
     own after ∙ keeps ∙ ap (seated_beside slots) (sym (own before))
 
-run_leaves : (hart chosen : ℕ) (breaks watches : List ℕ) (count : ℕ) (machine : MonitoredState) → IsKept machine → hart ≡ chosen
-    → KeepsOther hart (chosen_at chosen machine) (steps_of (chosen_at chosen machine) breaks watches count).state
-run_leaves hart chosen breaks watches count machine kept is =
-    let ran = is-run chosen breaks watches count (no_steps machine) in
-    let end = run monitored_stepped monitored_pc breaks watches count (no_steps machine) in
-    let keeps : end.state.other ≡ seated_beside end.state.shared.table machine.other =
-    subst (λ (state : MonitoredState). state.other ≡ seated_beside state.shared.table machine.other) (sym ran.state) (steps_leave ran.count machine kept) in
-    subst (λ (after : AfterRun Target). KeepsOther hart (chosen_at chosen machine) after.state) (sym (run_monitored chosen breaks watches count (no_steps machine)))
-    (seen_from_own hart chosen machine end.state end.state.shared.table is keeps)
-
 -- it is as it was, where the machine is
 itself : (hart : ℕ) (machine : OnTurn) → IsKept machine.state → KeepsOther hart (Monitored machine) (Monitored machine)
 itself hart machine kept =
@@ -113,82 +87,67 @@ itself hart machine kept =
     as_is hart state (seen_kept machine.hart machine.state kept)
     ∙ ap (λ (shared : Shared). seated_beside shared.table (seen_by hart state).other) (seen_shared machine.hart machine.state)
 
-hart_leaves : (hart number : ℕ) (has : Bool) (machine : OnTurn) → IsKept machine.state → KeepsOther hart (Monitored machine) (turned_by number has (Monitored machine))
-hart_leaves hart number true machine kept =
-    let state = machine_of machine in
-    ap (λ (after : MonitoredState). (seen_by hart after).other) (seen_twice number state)
-    ∙ as_is hart state (seen_kept machine.hart machine.state kept)
-    ∙ ap (λ (shared : Shared). seated_beside shared.table (seen_by hart state).other) (sym (seen_shared number state))
-hart_leaves hart number false machine kept = itself hart machine kept
-
-turns_leave : (hart : ℕ) (harts : List ℕ) (has : Bool) (machine : OnTurn) → IsKept machine.state → list_all (λ named. named == hart) harts ≡ true
-    → KeepsOther hart (Monitored machine) (after_sched harts has (Monitored machine))
-turns_leave hart harts true machine kept all =
+turns_leave : (hart chosen : ℕ) (harts : List ℕ) (machine : OnTurn) → IsKept machine.state → list_all (λ named. named == hart) harts ≡ true
+    → KeepsOther hart (Monitored machine) (done (Monitored machine) (Steps harts chosen))
+turns_leave hart chosen harts machine kept all =
     let state = machine_of machine in
     let after = (sched harts state).state in
-    subst (λ (target : Target). KeepsOther hart (Monitored machine) target) (sym (turns_are_sched harts machine machine.hart))
-    (ap (λ (seen : MonitoredState). (seen_by hart seen).other) (seen_twice machine.hart after)
+    subst (KeepsOther hart (Monitored machine)) (sym (turns_are_sched harts machine chosen))
+    (ap (λ (seen : MonitoredState). (seen_by hart seen).other) (seen_twice chosen after)
     ∙ sched_leaves hart harts state (seen_kept machine.hart machine.state kept) all
-    ∙ ap (λ (shared : Shared). seated_beside shared.table (seen_by hart state).other) (sym (seen_shared machine.hart after)))
-turns_leave hart harts false machine kept all = itself hart machine kept
+    ∙ ap (λ (shared : Shared). seated_beside shared.table (seen_by hart state).other) (sym (seen_shared chosen after)))
 
 poke_leaves : (hart : ℕ) (machine : OnTurn) (after : Option (List ℕ)) → IsKept machine.state
     → KeepsOther hart (Monitored machine) (poke_of (Monitored machine) after)
 poke_leaves hart machine None kept = itself hart machine kept
-poke_leaves hart machine (Some memory) kept = poked hart machine.hart machine.state.seat machine.state.other machine.state.shared memory (itself hart machine kept) where
-  by_own : (seat : Seat) (other : Option Seat) (shared : Shared) (memory : List ℕ)
-      → (let before : MonitoredState = record { seat = seat; other = other; shared = shared } in
-      let after : MonitoredState = record { seat = seat; other = other; shared = record shared { memory = memory } } in
-      (h g : ℕ) → (seen_by h (seen_by g after)).other ≡ (seen_by h (seen_by g before)).other)
-  by_own seat None shared memory zero zero = refl
-  by_own seat None shared memory zero (suc g) = refl
-  by_own seat None shared memory (suc h) zero = refl
-  by_own seat None shared memory (suc h) (suc g) = refl
-  by_own seat (Some other) shared memory zero zero = refl
-  by_own seat (Some other) shared memory zero (suc g) = refl
-  by_own seat (Some other) shared memory (suc h) zero = refl
-  by_own seat (Some other) shared memory (suc h) (suc g) = refl
+poke_leaves hart machine (Some memory) kept =
+    poked hart machine.hart machine.state.seat machine.state.other machine.state.shared memory (itself hart machine kept) where
+      by_own : (seat : Seat) (other : Option Seat) (shared : Shared) (memory : List ℕ)
+          → (let before : MonitoredState = record { seat = seat; other = other; shared = shared } in
+          let after : MonitoredState = record { seat = seat; other = other; shared = record shared { memory = memory } } in
+          (h g : ℕ) → (seen_by h (seen_by g after)).other ≡ (seen_by h (seen_by g before)).other)
+      by_own seat None shared memory zero zero = refl
+      by_own seat None shared memory zero (suc g) = refl
+      by_own seat None shared memory (suc h) zero = refl
+      by_own seat None shared memory (suc h) (suc g) = refl
+      by_own seat (Some other) shared memory zero zero = refl
+      by_own seat (Some other) shared memory zero (suc g) = refl
+      by_own seat (Some other) shared memory (suc h) zero = refl
+      by_own seat (Some other) shared memory (suc h) (suc g) = refl
 
-  poked : (h g : ℕ) (seat : Seat) (other : Option Seat) (shared : Shared) (memory : List ℕ)
-      → (let before : MonitoredState = record { seat = seat; other = other; shared = shared } in
-      let after : MonitoredState = record { seat = seat; other = other; shared = record shared { memory = memory } } in
-      (seen_by h (seen_by g before)).other ≡ seated_beside shared.table (seen_by h (seen_by g before)).other
-      → (seen_by h (seen_by g after)).other ≡ seated_beside shared.table (seen_by h (seen_by g before)).other)
-  poked h g seat other shared memory is = by_own seat other shared memory h g ∙ is
+      poked : (h g : ℕ) (seat : Seat) (other : Option Seat) (shared : Shared) (memory : List ℕ)
+          → (let before : MonitoredState = record { seat = seat; other = other; shared = shared } in
+          let after : MonitoredState = record { seat = seat; other = other; shared = record shared { memory = memory } } in
+          (seen_by h (seen_by g before)).other ≡ seated_beside shared.table (seen_by h (seen_by g before)).other
+          → (seen_by h (seen_by g after)).other ≡ seated_beside shared.table (seen_by h (seen_by g before)).other)
+      poked h g seat other shared memory is = by_own seat other shared memory h g ∙ is
 
-keeps_itself : (hart : ℕ) (target : Target) → KeepsMonitor target → KeepsOther hart target target
-keeps_itself hart (Bare machine) kept = tt
-keeps_itself hart (Monitored machine) kept = itself hart machine kept
+-- a register or the line of the hart is set, which is no part of the hart beside it
+own_leaves : (hart : ℕ) (machine : OnTurn) (after : MonitoredState) → IsKept machine.state → hart ≡ machine.hart → after.other ≡ machine.state.other
+    → after.shared ≡ machine.state.shared → KeepsOther hart (Monitored machine) (chosen_at machine.hart after)
+own_leaves hart machine after kept is beside shared =
+    let slots = machine.state.shared.table in
+    let keeps = beside ∙ sym (beside_as_is slots machine.state.other kept.other) in
+    seen_from_own hart machine.hart machine.state after slots is keeps
+    ∙ ap (λ (s : Shared). seated_beside s.table (seen_by hart (machine_of machine)).other) (sym shared)
 
-monitored_leaves : (machine : OnTurn) (breaks watches : List ℕ) (command : Command) → IsKept machine.state
-    → SparesOther (over (Monitored machine) breaks watches) command (answer (over (Monitored machine) breaks watches) command).state
-unfolding answer
-monitored_leaves machine breaks watches (Step count) kept hart leaves = run_leaves hart machine.hart [] [] count machine.state kept leaves
-monitored_leaves machine breaks watches (Run count) kept hart leaves = run_leaves hart machine.hart breaks watches count machine.state kept leaves
-monitored_leaves machine breaks watches (SetReg number value) kept hart leaves =
-    seen_from_own hart machine.hart machine.state _ machine.state.shared.table leaves (sym (beside_as_is machine.state.shared.table machine.state.other kept.other))
-monitored_leaves machine breaks watches (Timer raised) kept hart leaves =
-    seen_from_own hart machine.hart machine.state _ machine.state.shared.table leaves (sym (beside_as_is machine.state.shared.table machine.state.other kept.other))
-monitored_leaves machine breaks watches (Poke address byte) kept hart leaves =
+monitored_leaves : (hart : ℕ) (machine : OnTurn) (d : Deed) → IsKept machine.state → LeavesOther hart (Monitored machine) d
+    → KeepsOther hart (Monitored machine) (done (Monitored machine) d)
+monitored_leaves hart machine Nothing kept leaves = itself hart machine kept
+monitored_leaves hart machine (Steps harts chosen) kept leaves = turns_leave hart chosen harts machine kept leaves
+monitored_leaves hart machine (Register number value) kept leaves = own_leaves hart machine (with_reg machine.state number value) kept leaves refl refl
+monitored_leaves hart machine (TimerLine raised) kept leaves = own_leaves hart machine (with_timer machine.state raised) kept leaves refl refl
+monitored_leaves hart machine (OneByte address byte) kept leaves =
     poke_leaves hart machine (write machine.state.shared.memory address (byte ∷ [])) kept
-monitored_leaves machine breaks watches (Break address) kept hart leaves =
-    subst (KeepsOther hart (Monitored machine)) (break_target (over (Monitored machine) breaks watches) (with_room_for address breaks)) (itself hart machine kept)
-monitored_leaves machine breaks watches (Watch address) kept hart leaves =
-    subst (KeepsOther hart (Monitored machine)) (watch_target (over (Monitored machine) breaks watches) (with_room_for address watches)) (itself hart machine kept)
-monitored_leaves machine breaks watches (Hart number) kept hart leaves =
-    hart_leaves hart number (nat_lt number (harts_of (Monitored machine))) machine kept
-monitored_leaves machine breaks watches (Sched schedule) kept hart leaves =
-    turns_leave hart (harts_in schedule) (has_all (harts_of (Monitored machine)) (harts_in schedule)) machine kept leaves
-monitored_leaves machine breaks watches _ kept hart leaves = itself hart machine kept
 
 bare_leaves : (hart : ℕ) (before : State) (after : Target) → IsBare after → KeepsOther hart (Bare before) after
 bare_leaves hart before (Bare after) bare = tt
 bare_leaves hart before (Monitored after) bare = absurd bare
 
-leaves_over : (target : Target) (breaks watches : List ℕ) (command : Command) → KeepsMonitor target
-    → SparesOther (over target breaks watches) command (answer (over target breaks watches) command).state
-leaves_over (Monitored machine) breaks watches command kept hart leaves = monitored_leaves machine breaks watches command kept hart leaves
-leaves_over (Bare machine) breaks watches command kept hart leaves = bare_leaves hart machine _ (bare-stays machine breaks watches command)
+leaves : (hart : ℕ) (target : Target) (d : Deed) → KeepsMonitor target → LeavesOther hart target d → KeepsOther hart target (done target d)
+leaves hart (Monitored machine) d kept none = monitored_leaves hart machine d kept none
+leaves hart (Bare machine) d kept none = bare_leaves hart machine _ (bare_done machine d)
 
 pub spares_other : (bench : BenchState) (command : Command) → KeepsMonitor bench.target → SparesOther bench command (answer bench command).state
-spares_other bench command kept = leaves_over bench.target bench.breaks bench.watches command kept
+unfolding answer
+spares_other bench command kept hart none = leaves hart bench.target (deed bench command) kept none

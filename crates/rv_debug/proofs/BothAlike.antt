@@ -1,5 +1,6 @@
 -- Commands given to two benches, one after another: what becomes of each, and what they have in common.
-use Rattle.std.proofs.Common.{◌≡◌, ℕ, suc, ◌+◌, ◌<◌, Bool, true, false, List, [], ◌∷◌, length, take, drop, get_or, ◌⊎◌, refl, sym, ◌∙◌, ap, ap₂, subst, inl, inr, arith, not}
+use Rattle.std.proofs.Common.{◌≡◌, ℕ, suc, ◌+◌, ◌<◌, Bool, true, false, List, [], ◌∷◌, length, take, drop, get_or, ◌⊎◌, refl, sym}
+use Rattle.std.proofs.Common.{◌∙◌, ap, ap₂, subst, inl, inr, arith, not}
 use Rattle.std.specs.Prelude.{◌&&◌, ◌||◌, if◌then◌else◌}
 use Rattle.std.proofs.lemmas.List.{drop_more, drop_all}
 use Rattle.std.proofs.lemmas.Bool.{cases_Bool, and_parts}
@@ -10,14 +11,15 @@ use Rattle.rv_debug.specs.BenchState.{BenchState}
 use Rattle.rv_debug.specs.Confidentiality.{AlikeBy, AnswerAlike, PassAll, PassBy, StayAlike}
 use Rattle.rv_debug.specs.Isolation.{after_commands}
 use Rattle.rv_debug.specs.Targets.{KeepsMonitor}
-use Rattle.rv_debug.specs.TwoBenches.{BenchesAgreeBut, BothAnswered, BothRan, TargetsAgreeBut, both_answer, both_do, both_run, go_on, is_blind, is_entered, named, region_of}
+use Rattle.rv_debug.specs.TwoBenches.{BenchesAgreeBut, BothAnswered, BothRan, TargetsAgreeBut, both_answer, both_do, both_run, go_on, is_blind, is_entered}
+use Rattle.rv_debug.specs.TwoBenches.{named, region_of}
 use Rattle.rv_debug.specs.declared.both.BothWhy.{BothWhy}
 use Rattle.rv_debug.specs.declared.both.BothWhy.TheVariants.{All, Entered, NotBlind}
 use Rattle.rv_debug.specs.declared.command.Command.{Command}
 use Rattle.rv_debug.specs.declared.target.Target.{Target}
 use Rattle.rv_debug.specs.declared.target.Target.TheVariants.{Bare, Monitored}
 use Rattle.rv_debug.proofs.AnswersAlike.{agree_again, confidentiality}
-use Rattle.rv_debug.proofs.Isolation.{keeps_monitor}
+use Rattle.rv_debug.proofs.DeedsKept.{keeps_monitor}
 
 module _ (e : ℕ) where
   abbrev pub stopped : BenchState → BenchState → BothAnswered
@@ -39,7 +41,8 @@ module _ (e : ℕ) where
   ]
 
   same_region : (c : Command) (one other : Target) → TargetsAgreeBut e one other → meets (named c) (region_of e one) ≡ meets (named c) (region_of e other)
-  same_region c (Monitored one) (Monitored other) agree = ap (λ (slots : Slots). meets (named c) (region slots e)) (let state = agree.state in state.shared.table)
+  same_region c (Monitored one) (Monitored other) agree =
+      ap (λ (slots : Slots). meets (named c) (region slots e)) (let state = agree.state in state.shared.table)
   same_region c (Bare one) (Bare other) agree = refl
   same_region c (Bare one) (Monitored other) agree = absurd agree
   same_region c (Monitored one) (Bare other) agree = absurd agree
@@ -166,7 +169,8 @@ module _ (e : ℕ) where
   next_command : (cs : List Command) (n : ℕ) (c : Command) → n < length cs → c ≡ get_or cs n c → drop n cs ≡ c ∷ drop (n + 1) cs
   next_command cs n c inside is = drop_more cs n c inside ∙ ap (λ (first : Command). first ∷ drop (n + 1) cs) (sym is)
 
-  module _ (a b : BenchState) (cs : List Command) (n : ℕ) (c : Command) (all : BothRan) (after : BothAnswered) (inside : n < length cs) (is : c ≡ get_or cs n c)
+  module _ (a b : BenchState) (cs : List Command) (n : ℕ) (c : Command) (all : BothRan) (after : BothAnswered)
+      (inside : n < length cs) (is : c ≡ get_or cs n c)
       (so_far : later n (both_run e a b (drop n cs)) ≡ all) (answered : both_answer e a b c ≡ after) where
     goes_at : (why : BothWhy) → after.why ≡ why → all ≡ later n (go_on why after (both_run e after.first after.second (drop (n + 1) cs)))
     goes_at why because =

@@ -6,7 +6,8 @@ use Rattle.rv_text.specs.Words.{words_of}
 use Rattle.rv_debug.specs.Numbers.{decimal_of, hexadecimal_of, csr_number_of, byte_of_text}
 use Rattle.rv_text.specs.Numbers.{number_of_digits}
 use Rattle.rv_debug.specs.declared.command.Command.{Command}
-use Rattle.rv_debug.specs.declared.command.Command.TheVariants.{Blank, Step, Run, Break, Clear, Watch, Unwatch, Reg, Regs, SetReg, Csr, Mem, Poke, Dis, Pmp, Enclaves, Access, Timer}
+use Rattle.rv_debug.specs.declared.command.Command.TheVariants.{Blank, Step, Run, Break, Clear, Watch, Unwatch, Reg, Regs, SetReg, Csr, Mem, Poke, Dis, Pmp}
+use Rattle.rv_debug.specs.declared.command.Command.TheVariants.{Enclaves, Access, Timer}
 use Rattle.rv_pmp.specs.declared.access.Access.TheVariants.{Fetch, Read, Write}
 use Rattle.rv_pmp.specs.declared.mode.Mode.TheVariants.{U, S, M}
 use Rattle.rv_word.specs.declared.width.Width.TheVariants.{Byte, Half, Word}

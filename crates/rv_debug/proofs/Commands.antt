@@ -5,7 +5,8 @@ use Rattle.std.specs.List.{starts_with}
 use Rattle.rv_debug.specs.declared.command.Command.{Command}
 use Rattle.rv_debug.specs.declared.command.Command.TheVariants.{Blank}
 use Rattle.rv_debug.specs.declared.keyword.Keyword.{Keyword}
-use Rattle.rv_debug.specs.declared.keyword.Keyword.TheVariants.{Step, Run, Break, Clear, Watch, Unwatch, Reg, Regs, SetReg, Csr, Mem, Poke, Dis, Pmp, Enclaves, Access, Timer, Hart, Sched}
+use Rattle.rv_debug.specs.declared.keyword.Keyword.TheVariants.{Step, Run, Break, Clear, Watch, Unwatch, Reg, Regs, SetReg, Csr, Mem, Poke, Dis, Pmp, Enclaves}
+use Rattle.rv_debug.specs.declared.keyword.Keyword.TheVariants.{Access, Timer, Hart, Sched}
 use Rattle.rv_debug.specs.Command.{none, one, two, four, operands_of, keyword_of, named, meaning_of, parse_of}
 use Rattle.rv_text.specs.Words.{words_of}
 use Rattle.rv_debug.specs.declared.command.CommandFault.TheVariants.{BadLine}
@@ -15,18 +16,22 @@ none-take : (command : Command) (operands : List (List ℕ)) → none command (t
 none-take command [] = refl
 none-take command (u ∷ more) = refl
 
-one-take : {A : Type 0} (read : List ℕ → Option A) (command : A → Command) (operands : List (List ℕ)) → one read command (take 5 operands) ≡ one read command operands
+one-take : {A : Type 0} (read : List ℕ → Option A) (command : A → Command) (operands : List (List ℕ))
+    → one read command (take 5 operands) ≡ one read command operands
 one-take read command [] = refl
 one-take read command (u ∷ []) = refl
 one-take read command (u ∷ v ∷ more) = refl
 
-two-take : {A B : Type 0} (read : List ℕ → Option A) (read_next : List ℕ → Option B) (command : A → B → Command) (operands : List (List ℕ)) → two read read_next command (take 5 operands) ≡ two read read_next command operands
+two-take : {A B : Type 0} (read : List ℕ → Option A) (read_next : List ℕ → Option B) (command : A → B → Command) (operands : List (List ℕ))
+    → two read read_next command (take 5 operands) ≡ two read read_next command operands
 two-take read read_next command [] = refl
 two-take read read_next command (u ∷ []) = refl
 two-take read read_next command (u ∷ v ∷ []) = refl
 two-take read read_next command (u ∷ v ∷ w ∷ more) = refl
 
-four-take : {A B C D : Type 0} (first : List ℕ → Option A) (second : List ℕ → Option B) (third : List ℕ → Option C) (fourth : List ℕ → Option D) (command : A → B → C → D → Command) (operands : List (List ℕ)) → four first second third fourth command (take 5 operands) ≡ four first second third fourth command operands
+four-take : {A B C D : Type 0} (first : List ℕ → Option A) (second : List ℕ → Option B) (third : List ℕ → Option C) (fourth : List ℕ → Option D)
+    (command : A → B → C → D → Command) (operands : List (List ℕ)) → four first second third fourth command
+    (take 5 operands) ≡ four first second third fourth command operands
 four-take first second third fourth command [] = refl
 four-take first second third fourth command (t ∷ []) = refl
 four-take first second third fourth command (t ∷ u ∷ []) = refl

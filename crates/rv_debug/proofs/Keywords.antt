@@ -4,10 +4,12 @@ use Rattle.std.specs.List.{find}
 use Rattle.std.specs.Option.{option_map}
 use Rattle.std.specs.Str.{bytes_eq}
 use Rattle.rv_debug.specs.declared.keyword.Keyword.{Keyword}
-use Rattle.rv_debug.specs.declared.keyword.Keyword.TheVariants.{Step, Run, Break, Clear, Watch, Unwatch, Reg, Regs, SetReg, Csr, Mem, Poke, Dis, Pmp, Enclaves, Access, Timer, Hart, Sched}
+use Rattle.rv_debug.specs.declared.keyword.Keyword.TheVariants.{Step, Run, Break, Clear, Watch, Unwatch, Reg, Regs, SetReg, Csr, Mem, Poke, Dis, Pmp, Enclaves}
+use Rattle.rv_debug.specs.declared.keyword.Keyword.TheVariants.{Access, Timer, Hart, Sched}
 use Rattle.rv_debug.specs.Command.{spelling_of, keywords, keyword_of}
 
-mapped_if : {A B : Type 0} (f : A → B) (b : Bool) (x : A) (o : Option A) (p : Option B) → option_map f o ≡ p → option_map f (cond b (Some x) o) ≡ cond b (Some (f x)) p
+mapped_if : {A B : Type 0} (f : A → B) (b : Bool) (x : A) (o : Option A) (p : Option B) → option_map f o ≡ p
+    → option_map f (cond b (Some x) o) ≡ cond b (Some (f x)) p
 mapped_if f true x o p is = refl
 mapped_if f false x o p is = is
 
@@ -19,21 +21,24 @@ found_in_map f test (x ∷ xs) = mapped_if f (test (f x)) x (find (λ x. test (f
 abbrev row_of : Bor (List ℕ) × Keyword → List ℕ × Keyword
 row_of row = (row.0.now, row.1)
 
-values : (r : Option (Bor (Bor (List ℕ) × Keyword))) → option_map (λ x. x.now.1) r ≡ option_map (λ (x : List ℕ × Keyword). x.1) (option_map row_of (option_map (λ x. x.now) r))
+values : (r : Option (Bor (Bor (List ℕ) × Keyword)))
+    → option_map (λ x. x.now.1) r ≡ option_map (λ (x : List ℕ × Keyword). x.1) (option_map row_of (option_map (λ x. x.now) r))
 values None = refl
 values (Some x) = refl
 
 pub row-found : (word : List ℕ) (rows : List (Bor (List ℕ) × Keyword)) (r : Option (Bor (Bor (List ℕ) × Keyword)))
     → option_map (λ x. x.now) r ≡ find (λ row. bytes_eq word row.0.now) rows
     → option_map (λ x. x.now.1) r ≡ option_map (λ (row : List ℕ × Keyword). row.1) (find (λ row. bytes_eq word row.0) (map row_of rows))
-row-found word rows r is = values r ∙ ap (λ o. option_map (λ x. x.1) (option_map row_of o)) is ∙ ap (option_map (λ x. x.1)) (found_in_map row_of (λ x. bytes_eq word x.0) rows)
+row-found word rows r is = values r ∙ ap (λ o. option_map (λ x. x.1) (option_map row_of o)) is
+    ∙ ap (option_map (λ x. x.1)) (found_in_map row_of (λ x. bytes_eq word x.0) rows)
 
 -- the keyword in the row of a word
 second : (r : Option Keyword) → option_map (λ (row : List ℕ × Keyword). row.1) (option_map (λ k. (spelling_of k, k)) r) ≡ r
 second None = refl
 second (Some k) = refl
 
-pub keyword_of-rows : (word : List ℕ) → option_map (λ (row : List ℕ × Keyword). row.1) (find (λ row. bytes_eq word row.0) (map (λ k. (spelling_of k, k)) keywords)) ≡ keyword_of word
+pub keyword_of-rows : (word : List ℕ)
+    → option_map (λ (row : List ℕ × Keyword). row.1) (find (λ row. bytes_eq word row.0) (map (λ k. (spelling_of k, k)) keywords)) ≡ keyword_of word
 unfolding keyword_of
 keyword_of-rows word =
     ap (option_map (λ (row : List ℕ × Keyword). row.1)) (sym (found_in_map (λ k. (spelling_of k, k)) (λ row. bytes_eq word row.0) keywords))

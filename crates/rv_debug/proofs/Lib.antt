@@ -1,6 +1,6 @@
 mod AddressLaws
 pub mod AddressLemmas
-mod Answers
+pub mod Answers
 pub mod AnswersAlike
 pub mod BothAlike
 mod CommandExamples
@@ -19,3 +19,5 @@ mod SchedAlike
 mod Turns
 mod Beside
 mod ScheduleLoop
+mod RunTurns
+pub mod DeedsKept

@@ -1,25 +1,23 @@
 -- Bytes that are poked into the region of an enclave: two benches that agree but for it do so again, whatever the bytes are.
-use Rattle.std.proofs.Common.{◌≡◌, ℕ, ◌+◌, ◌-◌, ◌≤◌, Bool, true, false, List, [], ◌∷◌, length, Option, Some, None, IfSome, refl, sym, ◌∙◌, ap, subst, inl, inr, arith}
-use Rattle.std.specs.Prelude.{is_some, nat_le, nat_lt, ◌&&◌, ◌==◌, ◌%◌}
+use Rattle.std.proofs.Common.{◌≡◌, ℕ, ◌+◌, ◌-◌, ◌≤◌, Bool, true, false, List, [], ◌∷◌, length, Option, Some, None, IfSome, refl}
+use Rattle.std.proofs.Common.{sym, ◌∙◌, ap, subst, inl, inr, arith}
+use Rattle.std.specs.Prelude.{is_some, nat_le, nat_lt, ◌==◌, ◌%◌}
 use Rattle.std.proofs.lemmas.Bool.{cases_lt, and_parts, and_from, leb-true, ltb-true, le-leb}
 use Rattle.rv_memory.specs.Memory.{ram_base, is_inside, write, write_bytes}
 use Rattle.rv_memory.proofs.MemoryLaws.{length-write, index-below, index-above, write-is}
-use Rattle.rv_monitor.specs.AgreeBut.{AgreeBut, AgreeOutside, SharedButFor, is_private}
-use Rattle.rv_monitor.specs.Blocks.{has, is_block_size, is_lawful, no_block}
+use Rattle.rv_monitor.specs.AgreeBut.{AgreeOutside, is_private}
+use Rattle.rv_monitor.specs.Blocks.{has, is_block_size, is_lawful}
 use Rattle.rv_monitor.specs.Debugger.{with_memory}
 use Rattle.rv_monitor.specs.State.{MonitoredState, OnTurn, IsKept}
-use Rattle.rv_monitor.specs.Table.{Slots, IsLawfulSlot, is_live, region, region_of as region_in, slot_at}
-use Rattle.rv_monitor.specs.declared.block.Block.{Block}
+use Rattle.rv_monitor.specs.Table.{Slots, IsLawfulSlot, region, region_of as region_in, slot_at}
 use Rattle.rv_monitor.specs.declared.slot_info.SlotInfo.{SlotInfo}
 use Rattle.rv_monitor.proofs.Agreement.{inside-is, write-some}
 use Rattle.rv_monitor.proofs.Scrambled.{done_rests, itself_agrees}
 use Rattle.rv_debug.specs.Answer.{answer}
 use Rattle.rv_debug.specs.BenchState.{BenchState}
-use Rattle.rv_debug.specs.Confidentiality.{PassAlike, PokeLaw, PokesInto}
-use Rattle.rv_debug.specs.ReplyText.{ok_text}
-use Rattle.rv_debug.specs.Targets.{KeepsMonitor, chosen_at}
+use Rattle.rv_debug.specs.Confidentiality.{PassAlike, PokeLaw}
+use Rattle.rv_debug.specs.Targets.{KeepsMonitor}
 use Rattle.rv_debug.specs.TwoBenches.{BenchesAgreeBut, ChosenAgreeBut, TargetsAgreeBut, can_scramble, can_scramble_in, region_of}
-use Rattle.rv_debug.specs.declared.command.Command.{Command}
 use Rattle.rv_debug.specs.declared.command.Command.TheVariants.{Poke}
 use Rattle.rv_debug.specs.declared.target.Target.{Target}
 use Rattle.rv_debug.specs.declared.target.Target.TheVariants.{Bare, Monitored}
@@ -49,7 +47,8 @@ hidden_write hidden m n address byte m' agree written secret =
 
 -- and a hidden byte of the second
 hidden_writes : (hidden : ℕ → Bool) (m n : List ℕ) (here there byte other : ℕ) (m' n' : List ℕ) → AgreeOutside hidden m n
-    → write m here (byte ∷ []) ≡ Some m' → write n there (other ∷ []) ≡ Some n' → hidden here ≡ true → hidden there ≡ true → AgreeOutside hidden m' n'
+    → write m here (byte ∷ []) ≡ Some m' → write n there (other ∷ []) ≡ Some n' → hidden here ≡ true → hidden there ≡ true
+    → AgreeOutside hidden m' n'
 hidden_writes hidden m n here there byte other m' n' agree first second secret secret' =
     turn (hidden_write hidden n m' there other n' (turn (hidden_write hidden m n here byte m' agree first secret)) second secret') where
       turn : {a b : List ℕ} → AgreeOutside hidden a b → AgreeOutside hidden b a
@@ -59,7 +58,8 @@ hidden_writes hidden m n here there byte other m' n' agree first second secret s
 
 -- it has a byte: its enclave is live, and the byte is in memory
 has_live : (o : Option SlotInfo) (address : ℕ) → has (region_in o) address ≡ true → is_some o ≡ true
-has_live None address is = let parts = and_parts (nat_le 0 address) (nat_lt address 0) is in let never = ltb-true address 0 parts.1 in absurd (omega (arith, never))
+has_live None address is = let parts = and_parts (nat_le 0 address) (nat_lt address 0) is in let never = ltb-true address 0 parts.1 in
+    absurd (omega (arith, never))
 has_live (Some info) address is = refl
 
 has_inside : (memory : List ℕ) (o : Option SlotInfo) (address : ℕ) → IfSome o (IsLawfulSlot memory) → has (region_in o) address ≡ true
@@ -98,7 +98,8 @@ module _ (e : ℕ) (one other : OnTurn) (here there byte byte' : ℕ) (agree : C
           rests_beside = state.rests_beside;
           shared = record {
             table = shared.table;
-            memory = hidden_writes (is_private one.state.shared.table e) one.state.shared.memory other.state.shared.memory here there byte byte' m n shared.memory first second secret secret';
+            memory = hidden_writes (is_private one.state.shared.table e) one.state.shared.memory other.state.shared.memory here there byte byte' m n
+                shared.memory first second secret secret';
             contexts = shared.contexts;
             gone = λ free. let never : true ≡ false = sym (has_live (slot_at one.state.shared.table e) here secret) ∙ free in cc;
           };
@@ -107,7 +108,8 @@ module _ (e : ℕ) (one other : OnTurn) (here there byte byte' : ℕ) (agree : C
 
 -- ---- benches
 
-targets_alike : (e : ℕ) (one other : Target) (breaks watches : List ℕ) (here there byte byte' : ℕ) → KeepsMonitor one → KeepsMonitor other → TargetsAgreeBut e one other
+targets_alike : (e : ℕ) (one other : Target) (breaks watches : List ℕ) (here there byte byte' : ℕ) → KeepsMonitor one → KeepsMonitor other
+    → TargetsAgreeBut e one other
     → has (region_of e one) here ≡ true → has (region_of e other) there ≡ true
     → PassAlike e (answer (record { target = one; breaks = breaks; watches = watches }) (Poke here byte))
     (answer (record { target = other; breaks = breaks; watches = watches }) (Poke there byte'))
@@ -116,7 +118,8 @@ targets_alike e (Monitored one) (Monitored other) breaks watches here there byte
     let first = written one.state e here byte kept secret in
     let second = written other.state e there byte' kept' secret' in
     let tables = (let state = agree.state in state.shared.table) in
-    let both = machines_agree e one other here there byte byte' agree _ _ first second secret (ap (λ (slots : Slots). has (region slots e) there) tables ∙ secret') in
+    let both = machines_agree e one other here there byte byte' agree _ _ first second secret (ap (λ (slots : Slots). has (region slots e) there) tables
+    ∙ secret') in
     rw (first, second) (record {
       reply = refl;
       entered = refl;
@@ -128,7 +131,8 @@ targets_alike e (Monitored one) (Bare other) breaks watches here there byte byte
 pub poke_law : PokeLaw
 poke_law e first second (Poke here byte) (Poke there byte') kept kept' agree secret secret' =
     subst (λ (breaks : List ℕ). PassAlike e (answer first (Poke here byte)) (answer (record second { breaks = breaks }) (Poke there byte'))) agree.breaks
-    (subst (λ (watches : List ℕ). PassAlike e (answer first (Poke here byte)) (answer (record second { breaks = first.breaks; watches = watches }) (Poke there byte'))) agree.watches
+    (subst (λ (watches : List ℕ). PassAlike e (answer first (Poke here byte))
+    (answer (record second { breaks = first.breaks; watches = watches }) (Poke there byte'))) agree.watches
     (targets_alike e first.target second.target first.breaks first.watches here there byte byte' kept kept' agree.target secret secret'))
 poke_law e first second (Poke here byte) _ kept kept' agree secret secret' = absurd secret'
 poke_law e first second _ there kept kept' agree secret secret' = absurd secret

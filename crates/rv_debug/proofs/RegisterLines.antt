@@ -1,5 +1,6 @@
 -- The lines that show registers: one more of them, and how long they are.
-use Rattle.std.proofs.Common.{◌≡◌, ℕ, zero, suc, ◌+◌, ◌-◌, ◌*◌, ◌<◌, ◌≤◌, List, [], ◌∷◌, ◌++◌, length, ap, sym, ◌∙◌, arith, add-one, length-append}
+use Rattle.std.proofs.Common.{◌≡◌, ℕ, zero, suc, ◌+◌, ◌-◌, ◌*◌, ◌<◌, ◌≤◌, List, [], ◌∷◌, ◌++◌, length, ap, sym}
+use Rattle.std.proofs.Common.{◌∙◌, arith, add-one, length-append}
 use Rattle.std.specs.Prelude.{decimal}
 use Rattle.std.specs.List.{flat_map, range_with_len}
 use Rattle.std.proofs.lemmas.Fmt.{length-decimal-le}
@@ -13,13 +14,15 @@ range_with_len-suc a zero last is = ap (λ k. k ∷ []) (omega arith)
 range_with_len-suc a (suc n) last is = ap (λ t. a ∷ t) (range_with_len-suc (a + 1) n last (omega arith))
 
 -- the text of one more number
-pub flat_map-range_more : (f : ℕ → List ℕ) (old : List ℕ) (n : ℕ) → (old ++ flat_map f (range_with_len 0 n)) ++ f n ≡ old ++ flat_map f (range_with_len 0 (n + 1))
+pub flat_map-range_more : (f : ℕ → List ℕ) (old : List ℕ) (n : ℕ)
+    → (old ++ flat_map f (range_with_len 0 n)) ++ f n ≡ old ++ flat_map f (range_with_len 0 (n + 1))
 flat_map-range_more f old n =
     let more : range_with_len 0 (n + 1) ≡ range_with_len 0 n ++ n ∷ [] = rw add-one (range_with_len-suc 0 n n (omega arith)) in
     flat_map_more f old (range_with_len 0 n) n ∙ ap (λ ns. old ++ flat_map f ns) (sym more)
 
 -- twelve bytes for a number of one digit, and thirteen for one of two
-pub length-register_text : (number value : ℕ) → number < 100 → 12 * number + (number - 10) + length (register_text number value) ≤ 12 * (number + 1) + (number + 1 - 10)
+pub length-register_text : (number value : ℕ) → number < 100
+    → 12 * number + (number - 10) + length (register_text number value) ≤ 12 * (number + 1) + (number + 1 - 10)
 unfolding register_text
 length-register_text number value small =
     let one : number < 10 → length (decimal number) ≤ 1 = λ few. length-decimal-le 1 number (omega arith) few (omega arith) in

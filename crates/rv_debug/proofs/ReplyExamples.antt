@@ -24,7 +24,8 @@ use Rattle.rv_state.specs.declared.cause.Exception.TheVariants.{IllegalInstructi
 use Rattle.rv_debug.specs.declared.steps.Stop.TheVariants.{Done, Break, Watch}
 use Rattle.rv_debug.specs.declared.target.Target.{Target}
 use Rattle.rv_debug.specs.declared.target.Target.TheVariants.{Bare}
-use Rattle.rv_debug.specs.ReplyText.{trap_text, stop_text, ran_text, register_text, registers_text, pc_text, ok_text, csr_text, memory_text, dis_text, entry_text, pmp_text, verdict_text, denied_outside_text, full_text, no_csr_text, outside_text}
+use Rattle.rv_debug.specs.ReplyText.{trap_text, stop_text, ran_text, register_text, registers_text, pc_text, ok_text, csr_text, memory_text, dis_text}
+use Rattle.rv_debug.specs.ReplyText.{entry_text, pmp_text, verdict_text, denied_outside_text, full_text, no_csr_text, outside_text}
 
 -- a number of one digit or two, written so that it computes
 abbrev shown : ℕ → List ℕ
@@ -33,12 +34,15 @@ shown n = if nat_lt n 10 then (48 + n) ∷ [] else (if nat_lt n 100 then (48 + n
 decimal-shown : (n : ℕ) → decimal n ≡ shown n
 decimal-shown n =
     let one : n < 10 → decimal n ≡ (48 + n) ∷ [] = decimal_digit n in
-    let two : 10 ≤ n → n < 100 → decimal n ≡ (48 + n / 10) ∷ (48 + n % 10) ∷ [] = λ low high. rw (decimal_step n low (omega arith), decimal_digit (n / 10) (omega arith)) in
+    let two : 10 ≤ n → n < 100 → decimal n ≡ (48 + n / 10) ∷ (48 + n % 10) ∷ [] =
+    λ low high. rw (decimal_step n low (omega arith), decimal_digit (n / 10) (omega arith)) in
     grind (arith, nat_tests, one, two)
 
 pub ran_text-examples :
-    ran_text 0x80000010 M (codes "bare") (record { steps = 4; trap = None; stop = Done; entered = 0 }) ++ ran_text 0 M (codes "bare") (record { steps = 30; trap = Some (record { cause = Exception IllegalInstruction; tval = 0xffffffff }); stop = Done; entered = 0 })
-    ++ ran_text 0x80000004 U (codes "bare") (record { steps = 2; trap = None; stop = Break; entered = 0 }) ++ ran_text 0x80000004 S (codes "bare") (record { steps = 1; trap = None; stop = Watch 0x8000010a; entered = 0 }) ≡
+    ran_text 0x80000010 M (codes "bare") (record { steps = 4; trap = None; stop = Done; entered = 0 })
+    ++ ran_text 0 M (codes "bare") (record { steps = 30; trap = Some (record { cause = Exception IllegalInstruction; tval = 0xffffffff }); stop = Done; entered = 0 })
+    ++ ran_text 0x80000004 U (codes "bare") (record { steps = 2; trap = None; stop = Break; entered = 0 })
+    ++ ran_text 0x80000004 S (codes "bare") (record { steps = 1; trap = None; stop = Watch 0x8000010a; entered = 0 }) ≡
     codes "ran 4 pc=80000010 mode=M world=bare why=done trap=-\nran 30 pc=00000000 mode=M world=bare why=done trap=00000002:ffffffff\n"
     ++ codes "ran 2 pc=80000004 mode=U world=bare why=break trap=-\nran 1 pc=80000004 mode=S world=bare why=watch:8000010a trap=-\n"
 unfolding ran_text stop_text trap_text hex_digits
@@ -76,7 +80,8 @@ dis_text-examples = refl
 -- what `dis` answers over six bytes of memory: at any alignment, and outside where one of the four bytes is
 pub dis_reply-examples :
     dis_reply (0 ∷ 0 ∷ 0x93 ∷ 0x80 ∷ 0xf0 ∷ 0xff ∷ []) 0x80000000 ++ dis_reply (0 ∷ 0 ∷ 0x93 ∷ 0x80 ∷ 0xf0 ∷ 0xff ∷ []) 0x80000002
-    ++ dis_reply (0 ∷ 0 ∷ 0x93 ∷ 0x80 ∷ 0xf0 ∷ 0xff ∷ []) 0x80000003 ++ dis_reply (0 ∷ 0 ∷ 0x93 ∷ 0x80 ∷ 0xf0 ∷ 0xff ∷ []) 0x7fffffff ≡
+    ++ dis_reply (0 ∷ 0 ∷ 0x93 ∷ 0x80 ∷ 0xf0 ∷ 0xff ∷ []) 0x80000003
+    ++ dis_reply (0 ∷ 0 ∷ 0x93 ∷ 0x80 ∷ 0xf0 ∷ 0xff ∷ []) 0x7fffffff ≡
     codes "80000000: 80930000 .word 0x80930000\n80000002: fff08093 addi x1, x1, -1\nerror outside\nerror outside\n"
 unfolding read dis_text outside_text spelling instr_text line_text word_text decoded digits hex_digits by_bits
 dis_reply-examples = refl
@@ -90,7 +95,8 @@ unfolding pmp_text entry_text hex_digits
 pmp_text-example = simp decimal-shown
 
 pub verdict_text-examples :
-    verdict_text (Allowed 0) ++ verdict_text AllowedFree ++ verdict_text (Denied 15) ++ verdict_text (DeniedPartial 9) ++ verdict_text DeniedFree ++ denied_outside_text ≡
+    verdict_text (Allowed 0) ++ verdict_text AllowedFree ++ verdict_text (Denied 15)
+    ++ verdict_text (DeniedPartial 9) ++ verdict_text DeniedFree ++ denied_outside_text ≡
     codes "allowed entry 0\nallowed free\ndenied entry 15\ndenied partial 9\ndenied free\ndenied outside\n"
 unfolding verdict_text denied_outside_text
 verdict_text-examples = simp decimal-shown

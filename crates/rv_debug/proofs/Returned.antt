@@ -1,6 +1,5 @@
 -- What is kept of the host while an enclave runs on a hart is as it was, whatever commands are given.
-use Rattle.std.proofs.Common.{◌≡◌, ℕ, zero, suc, Bool, true, false, List, [], ◌∷◌, ◌++◌, replicate, Option, Some, None, IfSome, refl, sym, ◌∙◌, ap, subst, arith}
-use Rattle.std.specs.Prelude.{nat_lt, if◌then◌else◌}
+use Rattle.std.proofs.Common.{◌≡◌, ℕ, zero, suc, false, List, [], ◌∷◌, ◌++◌, Option, Some, None, IfSome, refl, sym, ◌∙◌, ap, subst}
 use Rattle.rv_word.specs.Cases.{option_case}
 use Rattle.rv_memory.specs.Memory.{write}
 use Rattle.rv_pmp.specs.declared.mode.Mode.TheVariants.{S}
@@ -9,7 +8,6 @@ use Rattle.rv_monitor.specs.Debugger.{with_memory, with_reg, with_timer}
 use Rattle.rv_monitor.specs.HartLaws.{sched}
 use Rattle.rv_monitor.specs.Refused.{past_ecall}
 use Rattle.rv_monitor.specs.Returns.{ComesBack}
-use Rattle.rv_monitor.specs.Runs.{run as steps_on}
 use Rattle.rv_monitor.specs.State.{MonitoredState, OnTurn, IsKept, is_host, machine_of, seated_beside, seen_by, turned}
 use Rattle.rv_monitor.specs.Step.{monitored_step, step_of}
 use Rattle.rv_monitor.specs.declared.context.Context.{Context}
@@ -19,20 +17,16 @@ use Rattle.rv_monitor.proofs.HartsSpare.{seated_after}
 use Rattle.rv_monitor.proofs.Returned.{back_from, entered_from, host_stored}
 use Rattle.rv_monitor.proofs.Switched.{kept_between, switch_law}
 use Rattle.rv_monitor.proofs.Turned.{seen_kept, seen_stored, seen_twice}
-use Rattle.rv_debug.specs.Addresses.{with_room_for}
-use Rattle.rv_debug.specs.Answer.{answer, steps_of}
+use Rattle.rv_debug.specs.Answer.{answer}
 use Rattle.rv_debug.specs.BenchState.{BenchState}
+use Rattle.rv_debug.specs.Deeds.{Deed, Nothing, Steps, Register, TimerLine, OneByte, deed, done, harts_stepped}
 use Rattle.rv_debug.specs.Isolation.{after_commands}
-use Rattle.rv_debug.specs.Returns.{EntersUnder, EntersWithin, IsStoredIn, LeavesUnder, LeavesWithin, ReturnLaw, RunsOn, RunsUnder, RunsUnderAll, harts_stepped}
-use Rattle.rv_debug.specs.Schedules.{harts_in, has_all}
-use Rattle.rv_debug.specs.Steps.{AfterRun, no_steps, run}
-use Rattle.rv_debug.specs.Targets.{KeepsMonitor, chosen_at, harts_of, monitored_stepped}
+use Rattle.rv_debug.specs.Returns.{EntersUnder, EntersWithin, IsStoredIn, LeavesUnder, LeavesWithin, ReturnLaw, RunsOn, RunsUnder, RunsUnderAll}
+use Rattle.rv_debug.specs.Targets.{KeepsMonitor}
 use Rattle.rv_debug.specs.declared.command.Command.{Command}
-use Rattle.rv_debug.specs.declared.command.Command.TheVariants.{Step, Run, Break, Watch, SetReg, Poke, Timer, Hart, Sched}
 use Rattle.rv_debug.specs.declared.target.Target.{Target}
 use Rattle.rv_debug.specs.declared.target.Target.TheVariants.{Bare, Monitored}
-use Rattle.rv_debug.proofs.Isolation.{after_sched, break_target, is-run, keeps_monitor, over, poke_of, turned_by, watch_target}
-use Rattle.rv_debug.proofs.TargetRuns.{monitored_pc, run_monitored}
+use Rattle.rv_debug.proofs.DeedsKept.{keeps_monitor, poke_of}
 use Rattle.rv_debug.proofs.Turns.{turns_are_sched}
 
 abbrev KeptStored : Option Context → Type 0
@@ -67,13 +61,15 @@ beside_by machine (Some seat) is kept runs still =
     let after = seated_after machine kept ∙ ap (seated_beside (next machine).shared.table) is in
     ap (λ (s : Seat). s.host_context) (turned_some (next machine) _ after) ∙ ap (λ (s : Seat). s.host_context) (sym (turned_some machine seat is))
 
-beside_keeps : (machine : MonitoredState) → IsKept machine → is_host (turned machine).seat.world ≡ false → is_host (turned (next machine)).seat.world ≡ false
+beside_keeps : (machine : MonitoredState) → IsKept machine → is_host (turned machine).seat.world ≡ false
+    → is_host (turned (next machine)).seat.world ≡ false
     → (turned (next machine)).seat.host_context ≡ (turned machine).seat.host_context
 beside_keeps machine = beside_by machine machine.other refl
 
 -- ---- a step of either hart
 
-own_keeps : (hart : ℕ) (machine : MonitoredState) → is_host (seen_by hart machine).seat.world ≡ false → is_host (seen_by hart (step_of hart machine).state).seat.world ≡ false
+own_keeps : (hart : ℕ) (machine : MonitoredState) → is_host (seen_by hart machine).seat.world ≡ false
+    → is_host (seen_by hart (step_of hart machine).state).seat.world ≡ false
     → host_on hart (step_of hart machine).state ≡ host_on hart machine
 unfolding step_of
 own_keeps hart machine runs still =
@@ -82,7 +78,8 @@ own_keeps hart machine runs still =
     ap (λ (m : MonitoredState). m.seat.host_context) twice
     ∙ kept_between seen runs (ap (λ (m : MonitoredState). is_host m.seat.world) (sym twice) ∙ still)
 
-step_keeps : (hart named : ℕ) (machine : MonitoredState) → IsKept machine → is_host (seen_by hart machine).seat.world ≡ false → is_host (seen_by hart (step_of named machine).state).seat.world ≡ false
+step_keeps : (hart named : ℕ) (machine : MonitoredState) → IsKept machine → is_host (seen_by hart machine).seat.world ≡ false
+    → is_host (seen_by hart (step_of named machine).state).seat.world ≡ false
     → host_on hart (step_of named machine).state ≡ host_on hart machine
 unfolding step_of
 step_keeps zero zero machine kept runs still = own_keeps zero machine runs still
@@ -106,7 +103,8 @@ steps_keep hart (named ∷ harts) machine kept runs =
     let after = (step_of named machine).state in
     steps_keep hart harts after (step_kept named machine kept) runs.1 ∙ step_keeps hart named machine kept runs.0 (first_runs hart harts after runs.1)
 
-last_runs : (hart : ℕ) (harts : List ℕ) (machine : MonitoredState) → RunsOn hart harts machine → is_host (seen_by hart (sched harts machine).state).seat.world ≡ false
+last_runs : (hart : ℕ) (harts : List ℕ) (machine : MonitoredState) → RunsOn hart harts machine
+    → is_host (seen_by hart (sched harts machine).state).seat.world ≡ false
 last_runs hart [] machine runs = runs
 last_runs hart (named ∷ harts) machine runs = last_runs hart harts (step_of named machine).state runs.1
 
@@ -118,13 +116,7 @@ step_seen : (hart : ℕ) (machine : MonitoredState) → seen_by hart (step_of ha
 unfolding step_of
 step_seen hart machine = seen_twice hart (next (seen_by hart machine))
 
--- so many steps of one hart
-runs_are_sched : (n hart : ℕ) (machine : MonitoredState) → (sched (replicate n hart) machine).state ≡ seen_by hart (steps_on n (seen_by hart machine)).state
-runs_are_sched zero hart machine = sym (seen_twice hart machine)
-runs_are_sched (suc n) hart machine =
-    runs_are_sched n hart (step_of hart machine).state ∙ ap (λ (m : MonitoredState). seen_by hart (steps_on n m).state) (step_seen hart machine)
-
--- ---- a command
+-- ---- what is done
 
 abbrev host_in : ℕ → Target → Option Context
 host_in hart (Bare machine) = None
@@ -143,68 +135,43 @@ alike_on : (hart chosen : ℕ) (one other : MonitoredState) → other.seat.host_
     → host_on hart (seen_by chosen other) ≡ host_on hart (seen_by chosen one)
 alike_on zero zero one other same beside = same
 alike_on (suc n) (suc i) one other same beside =
-    ap (λ (m : MonitoredState). m.seat.host_context) (seen_twice 1 other) ∙ same ∙ ap (λ (m : MonitoredState). m.seat.host_context) (sym (seen_twice 1 one))
+    ap (λ (m : MonitoredState). m.seat.host_context) (seen_twice 1 other) ∙ same
+    ∙ ap (λ (m : MonitoredState). m.seat.host_context) (sym (seen_twice 1 one))
 alike_on zero (suc i) one other same beside = ap (beside_of other) beside ∙ turned_alike one other one.other same
 alike_on (suc n) zero one other same beside = ap (beside_of other) beside ∙ turned_alike one other one.other same
 
-module _ (hart chosen : ℕ) (breaks watches : List ℕ) where
-  run_host : (count : ℕ) (machine : MonitoredState)
-      → (let after = steps_of (chosen_at chosen machine) breaks watches count in
-      host_in hart after.state ≡ host_on hart (sched (replicate after.ran.steps chosen) (seen_by chosen machine)).state)
-  run_host count machine =
-      let ran = is-run chosen breaks watches count (no_steps machine) in
-      let end = run monitored_stepped monitored_pc breaks watches count (no_steps machine) in
-      let is : ran.count ≡ end.ran.steps = omega (arith, ran.steps) in
-      let steps = runs_are_sched ran.count chosen (seen_by chosen machine)
-      ∙ ap (λ (m : MonitoredState). seen_by chosen (steps_on ran.count m).state) (seen_twice chosen machine) in
-      subst (λ (after : AfterRun Target). host_in hart after.state ≡ host_on hart (sched (replicate after.ran.steps chosen) (seen_by chosen machine)).state)
-      (sym (run_monitored chosen breaks watches count (no_steps machine)))
-      (subst (λ (n : ℕ). host_on hart (seen_by chosen end.state) ≡ host_on hart (sched (replicate n chosen) (seen_by chosen machine)).state) is
-      (ap (λ (m : MonitoredState). host_on hart (seen_by chosen m)) ran.state ∙ ap (host_on hart) (sym steps)))
+steps_host : (hart chosen : ℕ) (harts : List ℕ) (machine : OnTurn)
+    → host_in hart (done (Monitored machine) (Steps harts chosen)) ≡ host_on hart (sched harts (machine_of machine)).state
+steps_host hart chosen harts machine =
+    ap (host_in hart) (turns_are_sched harts machine chosen) ∙ ap (host_on hart) (seen_twice chosen (sched harts (machine_of machine)).state)
 
-sched_host : (hart : ℕ) (harts : List ℕ) (has : Bool) (machine : OnTurn)
-    → host_in hart (after_sched harts has (Monitored machine)) ≡ host_on hart (sched (if has then harts else []) (machine_of machine)).state
-sched_host hart harts true machine =
-    ap (host_in hart) (turns_are_sched harts machine machine.hart) ∙ ap (host_on hart) (seen_twice machine.hart (sched harts (machine_of machine)).state)
-sched_host hart harts false machine = refl
-
-hart_host : (hart named : ℕ) (has : Bool) (machine : OnTurn) → host_in hart (turned_by named has (Monitored machine)) ≡ host_on hart (machine_of machine)
-hart_host hart named true machine = ap (host_on hart) (seen_twice named (machine_of machine))
-hart_host hart named false machine = refl
-
-poke_host : (hart : ℕ) (machine : OnTurn) (after : Option (List ℕ)) → host_in hart (poke_of (Monitored machine) after) ≡ host_on hart (machine_of machine)
+poke_host : (hart : ℕ) (machine : OnTurn) (memory : Option (List ℕ))
+    → host_in hart (poke_of (Monitored machine) memory) ≡ host_on hart (machine_of machine)
 poke_host hart machine None = refl
 poke_host hart machine (Some memory) = alike_on hart machine.hart machine.state (with_memory machine.state memory) refl refl
 
--- what is kept after a command is what is kept after its steps
-host_after : (hart : ℕ) (machine : OnTurn) (breaks watches : List ℕ) (command : Command)
-    → (let bench = over (Monitored machine) breaks watches in
-    host_in hart (answer bench command).state.target ≡ host_on hart (sched (harts_stepped bench command) (machine_of machine)).state)
-unfolding answer
-host_after hart machine breaks watches (Step count) = run_host hart machine.hart [] [] count machine.state
-host_after hart machine breaks watches (Run count) = run_host hart machine.hart breaks watches count machine.state
-host_after hart machine breaks watches (Sched schedule) =
-    sched_host hart (harts_in schedule) (has_all (harts_of (Monitored machine)) (harts_in schedule)) machine
-host_after hart machine breaks watches (Hart named) = hart_host hart named (nat_lt named (harts_of (Monitored machine))) machine
-host_after hart machine breaks watches (SetReg number value) =
-    alike_on hart machine.hart machine.state (with_reg machine.state number value) refl refl
-host_after hart machine breaks watches (Timer raised) = alike_on hart machine.hart machine.state (with_timer machine.state raised) refl refl
-host_after hart machine breaks watches (Poke address byte) = poke_host hart machine (write machine.state.shared.memory address (byte ∷ []))
-host_after hart machine breaks watches (Break address) =
-    ap (host_in hart) (sym (break_target (over (Monitored machine) breaks watches) (with_room_for address breaks)))
-host_after hart machine breaks watches (Watch address) =
-    ap (host_in hart) (sym (watch_target (over (Monitored machine) breaks watches) (with_room_for address watches)))
-host_after hart machine breaks watches _ = refl
+-- what is kept behind it is what is kept behind its steps
+host_after : (hart : ℕ) (machine : OnTurn) (d : Deed)
+    → host_in hart (done (Monitored machine) d) ≡ host_on hart (sched (harts_stepped d) (machine_of machine)).state
+host_after hart machine Nothing = refl
+host_after hart machine (Steps harts chosen) = steps_host hart chosen harts machine
+host_after hart machine (Register number value) = alike_on hart machine.hart machine.state (with_reg machine.state number value) refl refl
+host_after hart machine (TimerLine raised) = alike_on hart machine.hart machine.state (with_timer machine.state raised) refl refl
+host_after hart machine (OneByte address byte) = poke_host hart machine (write machine.state.shared.memory address (byte ∷ []))
+
+deed_host : (hart : ℕ) (target : Target) (d : Deed) → KeepsMonitor target → RunsUnder hart (harts_stepped d) target
+    → host_in hart (done target d) ≡ host_in hart target
+deed_host hart (Bare machine) d kept runs = absurd runs
+deed_host hart (Monitored machine) d kept runs =
+    host_after hart machine d ∙ steps_keep hart (harts_stepped d) (machine_of machine) (seen_kept machine.hart machine.state kept) runs
 
 -- ---- commands
 
-command_keeps : (hart : ℕ) (target : Target) (breaks watches : List ℕ) (command : Command) → KeepsMonitor target
-    → RunsUnder hart (harts_stepped (over target breaks watches) command) target
-    → host_in hart (answer (over target breaks watches) command).state.target ≡ host_in hart target
-command_keeps hart (Bare machine) breaks watches command kept runs = absurd runs
-command_keeps hart (Monitored machine) breaks watches command kept runs =
-    host_after hart machine breaks watches command
-    ∙ steps_keep hart (harts_stepped (over (Monitored machine) breaks watches) command) (machine_of machine) (seen_kept machine.hart machine.state kept) runs
+command_keeps : (hart : ℕ) (bench : BenchState) (command : Command) → KeepsMonitor bench.target
+    → RunsUnder hart (harts_stepped (deed bench command)) bench.target
+    → host_in hart (answer bench command).state.target ≡ host_in hart bench.target
+unfolding answer
+command_keeps hart bench command kept runs = deed_host hart bench.target (deed bench command) kept runs
 
 -- through all commands the host is kept as it was
 commands_keep : (hart : ℕ) (bench : BenchState) (commands : List Command) → KeepsMonitor bench.target → RunsUnderAll hart bench commands
@@ -212,7 +179,7 @@ commands_keep : (hart : ℕ) (bench : BenchState) (commands : List Command) → 
 commands_keep hart bench [] kept runs = (kept, refl)
 commands_keep hart bench (command ∷ commands) kept runs =
     let rest = commands_keep hart (answer bench command).state commands (keeps_monitor bench command kept) runs.1 in
-    (rest.0, rest.1 ∙ command_keeps hart bench.target bench.breaks bench.watches command kept runs.0)
+    (rest.0, rest.1 ∙ command_keeps hart bench command kept runs.0)
 
 -- ---- from the first to the last
 
@@ -235,13 +202,16 @@ enters_within hart harts machine entry kept enters =
     ∙ steps_keep hart enters.rest (step_of hart here).state (step_kept hart here here_kept) enters.runs
     ∙ after_is
 
-enters_under : (hart : ℕ) (target : Target) (breaks watches : List ℕ) (command : Command) (entry : MonitoredState) → KeepsMonitor target
-    → EntersUnder hart (harts_stepped (over target breaks watches) command) target entry
-    → host_in hart (answer (over target breaks watches) command).state.target ≡ kept_at entry
-enters_under hart (Bare machine) breaks watches command entry kept enters = absurd enters
-enters_under hart (Monitored machine) breaks watches command entry kept enters =
-    host_after hart machine breaks watches command
-    ∙ enters_within hart (harts_stepped (over (Monitored machine) breaks watches) command) (machine_of machine) entry (seen_kept machine.hart machine.state kept) enters
+enters_under : (hart : ℕ) (target : Target) (d : Deed) (entry : MonitoredState) → KeepsMonitor target
+    → EntersUnder hart (harts_stepped d) target entry → host_in hart (done target d) ≡ kept_at entry
+enters_under hart (Bare machine) d entry kept enters = absurd enters
+enters_under hart (Monitored machine) d entry kept enters =
+    host_after hart machine d ∙ enters_within hart (harts_stepped d) (machine_of machine) entry (seen_kept machine.hart machine.state kept) enters
+
+command_enters : (hart : ℕ) (bench : BenchState) (command : Command) (entry : MonitoredState) → KeepsMonitor bench.target
+    → EntersUnder hart (harts_stepped (deed bench command)) bench.target entry → host_in hart (answer bench command).state.target ≡ kept_at entry
+unfolding answer
+command_enters hart bench command entry kept enters = enters_under hart bench.target (deed bench command) entry kept enters
 
 leaves_within : (hart : ℕ) (harts : List ℕ) (machine entry exit : MonitoredState) → IsKept machine → KeptStored (kept_at entry)
     → host_on hart machine ≡ kept_at entry → LeavesWithin hart harts machine exit → ComesBack entry exit (monitored_step exit)
@@ -250,7 +220,8 @@ leaves_within hart harts machine entry exit kept stored is leaves =
     let same : host_on hart here ≡ kept_at entry = steps_keep hart leaves.before machine kept leaves.runs ∙ is in
     let exit_kept : IsKept exit = subst IsKept (sym leaves.at) (seen_kept hart here (sched_kept leaves.before machine kept)) in
     let host_is : exit.seat.host_context ≡ kept_at entry = ap (λ (m : MonitoredState). m.seat.host_context) leaves.at ∙ same in
-    let runs : is_host exit.seat.world ≡ false = ap (λ (m : MonitoredState). is_host m.seat.world) leaves.at ∙ last_runs hart leaves.before machine leaves.runs in
+    let runs : is_host exit.seat.world ≡ false = ap (λ (m : MonitoredState). is_host m.seat.world) leaves.at
+    ∙ last_runs hart leaves.before machine leaves.runs in
     back_from entry exit (monitored_step exit) (switch_law exit exit_kept (subst KeptStored (sym host_is) stored)) host_is runs leaves.host
 
 leaves_under : (hart : ℕ) (harts : List ℕ) (target : Target) (entry exit : MonitoredState) → KeepsMonitor target → KeptStored (kept_at entry)
@@ -266,8 +237,8 @@ stored_on hart (Monitored machine) stored = (seen_stored hart (machine_of machin
 pub return_law : ReturnLaw
 return_law hart bench first last commands entry exit kept enters stored_between runs leaves =
     let between = (answer bench first).state in
-    let entered = enters_under hart bench.target bench.breaks bench.watches first entry kept enters in
+    let entered = command_enters hart bench first entry kept enters in
     let stored : KeptStored (kept_at entry) = subst KeptStored entered (stored_on hart between.target stored_between) in
     let all = commands_keep hart between commands (keeps_monitor bench first kept) runs in
     let end = after_commands between commands in
-    leaves_under hart (harts_stepped end last) end.target entry exit all.0 stored (all.1 ∙ entered) leaves
+    leaves_under hart (harts_stepped (deed end last)) end.target entry exit all.0 stored (all.1 ∙ entered) leaves

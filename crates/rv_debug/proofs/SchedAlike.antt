@@ -1,5 +1,5 @@
 -- Steps of named harts in two machines that agree but for an enclave: they show and leave the same, up to one that enters it.
-use Rattle.std.proofs.Common.{◌≡◌, ℕ, Bool, true, false, List, [], ◌∷◌, ◌⊎◌, Option, Some, refl, sym, ◌∙◌, ap, subst, inl, inr}
+use Rattle.std.proofs.Common.{◌≡◌, ℕ, true, List, [], ◌∷◌, ◌⊎◌, Some, refl, subst, inl, inr}
 use Rattle.rv_monitor.specs.AgreeBut.{AgreeBut}
 use Rattle.rv_monitor.specs.State.{MonitoredState, OnTurn, IsKept, machine_of, seen_by, seen_from}
 use Rattle.rv_monitor.specs.Step.{monitored_step}
@@ -10,9 +10,8 @@ use Rattle.rv_monitor.proofs.MonitoredAlike.{confidentiality}
 use Rattle.rv_monitor.proofs.Turned.{seen_kept}
 use Rattle.rv_debug.specs.Schedules.{AfterTurns, turns, with_turn}
 use Rattle.rv_debug.specs.Targets.{stepped, turned_to}
-use Rattle.rv_debug.specs.TwoBenches.{ChosenAgreeBut, TargetsAgreeBut, is_entered}
+use Rattle.rv_debug.specs.TwoBenches.{ChosenAgreeBut, is_entered}
 use Rattle.rv_debug.specs.declared.scheduled.Scheduled.{Scheduled}
-use Rattle.rv_debug.specs.declared.target.Target.{Target}
 use Rattle.rv_debug.specs.declared.target.Target.TheVariants.{Monitored}
 use Rattle.rv_debug.proofs.StepsAlike.{enters-with, enters-now}
 use Rattle.rv_debug.proofs.Turns.{after_turns}
@@ -33,7 +32,8 @@ turned_kept hart machine kept = seen_kept hart (machine_of machine) (seen_kept m
 
 -- ---- a slot that was entered stays so
 
-stays_entered : (e : ℕ) (harts : List ℕ) (before : AfterTurns) → is_entered e before.did.entered ≡ true → is_entered e (turns harts before).did.entered ≡ true
+stays_entered : (e : ℕ) (harts : List ℕ) (before : AfterTurns) → is_entered e before.did.entered ≡ true
+    → is_entered e (turns harts before).did.entered ≡ true
 unfolding turns
 stays_entered e [] before is = is
 stays_entered e (hart ∷ harts) before is =
@@ -92,7 +92,9 @@ turns_alike e (hart ∷ harts) one other did kept kept' agree =
           let a : OnTurn = record { hart = hart; state = first.state } in
           let b : OnTurn = record { hart = hart; state = second.state } in
           let after = (next hart did first.state first.outcome).did in
-          let alike = turns_alike e harts a b after (kept_law here.state kept_here) (kept_law there.state kept_there) (record { hart = refl; state = past.state }) in
-          subst (λ (outcome : Outcome). TurnsAlike e (turns harts (next hart did first.state first.outcome)) (turns harts (next hart did second.state outcome)))
+          let alike = turns_alike e harts a b after (kept_law here.state kept_here) (kept_law there.state kept_there)
+          (record { hart = refl; state = past.state }) in
+          subst (λ (outcome : Outcome). TurnsAlike e (turns harts (next hart did first.state first.outcome))
+          (turns harts (next hart did second.state outcome)))
           past.outcome alike
     ]

@@ -1,15 +1,15 @@
 -- The loop of a schedule: each turn of it is one step of the hart that its digit names.
-use Rattle.std.proofs.Common.{◌≡◌, ◌<◌, ◌≤◌, ℕ, suc, ◌+◌, ◌==◌, Bool, true, false, cond, bit_or, List, [], ◌∷◌, map, drop, get_or, length, Option, Some, None, refl, sym, ◌∙◌, ap, ap₂, subst, arith}
+use Rattle.std.proofs.Common.{◌≡◌, ◌<◌, ◌≤◌, ℕ, ◌+◌, ◌==◌, Bool, true, false, cond, bit_or, List, [], ◌∷◌, map, drop, get_or}
+use Rattle.std.proofs.Common.{length, Option, Some, None, refl, sym, ◌∙◌, ap, ap₂, subst, arith}
 use Rattle.std.specs.Int.Bits.{or_zero_r, or_zero_l}
 use Rattle.std.specs.Prelude.{◌^◌, ◌&&◌, nat_lt}
 use Rattle.std.specs.Option.{option_or}
 use Rattle.std.proofs.lemmas.Bool.Decides.{nat_tests}
 use Rattle.std.proofs.lemmas.List.{drop_all, drop_more}
 use Rattle.rv_hart.specs.declared.trap.Trap.{Trap}
-use Rattle.rv_monitor.specs.State.{OnTurn, machine_of, count_of, seen_by}
 use Rattle.rv_monitor.proofs.Turned.{count_step, count_turned}
 use Rattle.rv_debug.specs.Schedules.{AfterTurns, has_all, hart_of_digit, turns, with_own, with_turn}
-use Rattle.rv_debug.specs.Steps.{AfterRun, AfterSteps, Stepped, ended, no_steps, run, with_slot, with_step}
+use Rattle.rv_debug.specs.Steps.{AfterRun, ended, no_steps, run, with_slot, with_step}
 use Rattle.rv_debug.specs.Targets.{IsBare, harts_of, pc_of, stepped, turned_to}
 use Rattle.rv_debug.specs.declared.scheduled.HartRan.{HartRan}
 use Rattle.rv_debug.specs.declared.scheduled.Scheduled.{Scheduled}
@@ -63,22 +63,27 @@ turn_done hart before none seen after ran did nothing turned is first second ent
     sym (or_slot before.did.entered last.entered) ∙ ap (λ (r : AfterRun Target). bit_or before.did.entered r.ran.entered) end in
     let make : Target → HartRan → HartRan → ℕ → AfterTurns = λ t a b n. record { state = t; did = record { first = a; second = b; entered = n } } in
     let own : ℕ → HartRan → Option Trap → HartRan = λ h was t. with_own h hart t was in
-    ap (λ (t : Target). make t (own 0 before.did.first last.outcome.trap) (own 1 before.did.second last.outcome.trap) (with_slot before.did.entered last.entered)) (ap (λ (r : AfterRun Target). r.state) end)
-    ∙ (ap₂ (λ (a b : HartRan). make after a b (with_slot before.did.entered last.entered)) (ap (own 0 before.did.first) trap ∙ sym first) (ap (own 1 before.did.second) trap ∙ sym second)
+    ap (λ (t : Target). make t (own 0 before.did.first last.outcome.trap) (own 1 before.did.second last.outcome.trap)
+    (with_slot before.did.entered last.entered)) (ap (λ (r : AfterRun Target). r.state) end)
+    ∙ (ap₂ (λ (a b : HartRan). make after a b (with_slot before.did.entered last.entered)) (ap (own 0 before.did.first) trap ∙ sym first)
+    (ap (own 1 before.did.second) trap ∙ sym second)
     ∙ ap (make after did.first did.second) (slots ∙ sym entered))
 
 -- the target after it has as many harts, and stays a machine alone, if it is one
-pub harts_after : (hart : ℕ) (before after : AfterTurns) → with_turn hart before (stepped (turned_to hart before.state)) ≡ after → harts_of after.state ≡ harts_of before.state
+pub harts_after : (hart : ℕ) (before after : AfterTurns) → with_turn hart before (stepped (turned_to hart before.state)) ≡ after
+    → harts_of after.state ≡ harts_of before.state
 harts_after hart before after is =
     sym (ap (λ (a : AfterTurns). harts_of a.state) is) ∙ stepped_harts (turned_to hart before.state) ∙ turned_harts hart before.state
 
-pub bare_after : (hart : ℕ) (before after : AfterTurns) → with_turn hart before (stepped (turned_to hart before.state)) ≡ after → IsBare before.state → IsBare after.state
+pub bare_after : (hart : ℕ) (before after : AfterTurns) → with_turn hart before (stepped (turned_to hart before.state)) ≡ after → IsBare before.state
+    → IsBare after.state
 bare_after hart before after is bare = subst (λ (a : AfterTurns). IsBare a.state) is (step_bare hart before.state bare)
 
 -- one step more at the most
 pub one_more : (own hart n : ℕ) (trap : Option Trap) (was now : HartRan) → now ≡ with_own own hart trap was → was.steps ≤ n → now.steps ≤ n + 1
 one_more own hart n trap was now is few = let steps = ap (λ (r : HartRan). r.steps) is in go (own == hart) steps where
-  go : (b : Bool) → now.steps ≡ (let r : HartRan = cond b (record { steps = was.steps + 1; trap = option_or trap was.trap }) was in r.steps) → now.steps ≤ n + 1
+  go : (b : Bool) → now.steps ≡ (let r : HartRan = cond b (record { steps = was.steps + 1; trap = option_or trap was.trap }) was in r.steps)
+      → now.steps ≤ n + 1
   go true is = omega (arith, is, few)
   go false is = omega (arith, is, few)
 
@@ -87,15 +92,18 @@ one_more own hart n trap was now is few = let steps = ap (λ (r : HartRan). r.st
 abbrev pub rest : ℕ → List ℕ → List ℕ
 rest n digits = map hart_of_digit (drop n digits)
 
-next_digit : (digits : List ℕ) (n digit : ℕ) → n < length digits → digit ≡ get_or digits n 0 → rest n digits ≡ hart_of_digit digit ∷ rest (n + 1) digits
+next_digit : (digits : List ℕ) (n digit : ℕ) → n < length digits → digit ≡ get_or digits n 0
+    → rest n digits ≡ hart_of_digit digit ∷ rest (n + 1) digits
 next_digit digits n digit inside is =
     ap (map hart_of_digit) (drop_more digits n 0 inside ∙ ap (λ (first : ℕ). first ∷ drop (n + 1) digits) (sym is))
 
-unfold_turns : (hart : ℕ) (harts : List ℕ) (before : AfterTurns) → turns (hart ∷ harts) before ≡ turns harts (with_turn hart before (stepped (turned_to hart before.state)))
+unfold_turns : (hart : ℕ) (harts : List ℕ) (before : AfterTurns)
+    → turns (hart ∷ harts) before ≡ turns harts (with_turn hart before (stepped (turned_to hart before.state)))
 unfolding turns
 unfold_turns hart harts before = refl
 
-pub turn_more : (digits : List ℕ) (n digit hart : ℕ) (before after : AfterTurns) → n < length digits → digit ≡ get_or digits n 0 → hart ≡ hart_of_digit digit
+pub turn_more : (digits : List ℕ) (n digit hart : ℕ) (before after : AfterTurns) → n < length digits → digit ≡ get_or digits n 0
+    → hart ≡ hart_of_digit digit
     → with_turn hart before (stepped (turned_to hart before.state)) ≡ after → turns (rest n digits) before ≡ turns (rest (n + 1) digits) after
 turn_more digits n digit hart before after inside is names goes =
     ap (λ (harts : List ℕ). turns harts before) (next_digit digits n digit inside is ∙ ap (λ (h : ℕ). h ∷ rest (n + 1) digits) (sym names))
@@ -111,10 +119,12 @@ unfolding has_all
 unfold_all count hart harts = refl
 
 -- the next hart is there, and so are the others
-pub has_next : (count : ℕ) (digits : List ℕ) (n digit : ℕ) → n < length digits → digit ≡ get_or digits n 0 → has_all count (rest n digits) ≡ true
+pub has_next : (count : ℕ) (digits : List ℕ) (n digit : ℕ) → n < length digits → digit ≡ get_or digits n 0
+    → has_all count (rest n digits) ≡ true
     → (hart_of_digit digit < count) × (has_all count (rest (n + 1) digits) ≡ true)
 has_next count digits n digit inside is has =
-    let both = both_true (nat_lt (hart_of_digit digit) count) (has_all count (rest (n + 1) digits)) (sym (unfold_all count (hart_of_digit digit) (rest (n + 1) digits)) ∙ ap (has_all count) (sym (next_digit digits n digit inside is)) ∙ has) in
+    let both = both_true (nat_lt (hart_of_digit digit) count) (has_all count (rest (n + 1) digits))
+    (sym (unfold_all count (hart_of_digit digit) (rest (n + 1) digits)) ∙ ap (has_all count) (sym (next_digit digits n digit inside is)) ∙ has) in
     let here = both.0 in (grind (arith, nat_tests, here), both.1)
 
 -- behind the last

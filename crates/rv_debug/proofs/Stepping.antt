@@ -1,5 +1,6 @@
 -- Steps, one by one.
-use Rattle.std.proofs.Common.{◌≡◌, ℕ, zero, suc, ◌+◌, ◌-◌, ◌<◌, ◌≤◌, ◌==◌, true, false, cond, List, [], Option, Some, None, refl, ◌∙◌, ap, arith, inl, inr}
+use Rattle.std.proofs.Common.{◌≡◌, ℕ, zero, suc, ◌+◌, ◌-◌, ◌<◌, ◌≤◌, ◌==◌, true, false, cond, List, [], Option, Some, None, refl}
+use Rattle.std.proofs.Common.{◌∙◌, ap, arith, inl, inr}
 use Rattle.std.proofs.lemmas.Bool.{cases_eq}
 use Rattle.rv_word.specs.Cases.{option_case}
 use Rattle.std.specs.Option.{option_or}
@@ -81,7 +82,8 @@ module _ {A : Type 0} (step : A → Stepped A) (pc : A → ℕ) (breaks watches 
 
   -- or at a break, where steps are left
   pub stops-break : (count done : ℕ) (before : AfterSteps A) (last : Stepped A) (trap : Option Trap) (entered : ℕ)
-      → done + 1 < count → step before.state ≡ last → trap ≡ option_or last.outcome.trap before.trap → entered ≡ with_slot before.entered last.entered
+      → done + 1 < count → step before.state ≡ last → trap ≡ option_or last.outcome.trap before.trap
+      → entered ≡ with_slot before.entered last.entered
       → None ≡ lowest_accessed watches last.outcome.touched → true ≡ is_among (pc last.state) breaks
       → run step pc breaks watches (count - done) before ≡ ended (after_step before last trap entered) Break
   stops-break count done before last trap entered more is told enters none here =

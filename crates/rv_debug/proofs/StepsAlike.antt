@@ -1,5 +1,6 @@
 -- Runs of two monitored machines that agree but for an enclave: they do the same, up to the step that enters it.
-use Rattle.std.proofs.Common.{◌≡◌, ℕ, zero, suc, ◌⊎◌, ◌==◌, Bool, true, false, cond, List, Option, Some, None, refl, ◌∙◌, ap, subst, inl, inr, arith}
+use Rattle.std.proofs.Common.{◌≡◌, ℕ, zero, suc, ◌⊎◌, ◌==◌, Bool, true, false, cond, List, Option, Some, None, refl, ◌∙◌, ap, subst}
+use Rattle.std.proofs.Common.{inl, inr, arith}
 use Rattle.std.specs.Prelude.{bit_or, ◌^◌}
 use Rattle.std.proofs.lemmas.Bool.{cases_eq}
 use Rattle.std.proofs.lemmas.Nat.Bits.{bit_at_or, bit_at-lt, bit_at-pow_same}
@@ -127,6 +128,8 @@ module _ (e : ℕ) (breaks watches : List ℕ) where
             let more = run-alike left after two.state (kept_law before.state kept) (kept_law other kept') past.state in
             let alike = next-alike left after two.state hit (left == 0) (is_among one.state.seat.hart.pc breaks) past.state more in
             let place = ap (λ (seat : Seat). is_among seat.hart.pc breaks) past.state.seat in
-            subst (λ (outcome : Outcome). RunAlike e (next_run left before one.outcome one.state) (next_run left (with_state before other) outcome two.state)) past.outcome
-            (subst (λ (here : Bool). RunAlike e (next_run left before one.outcome one.state) (next left (with_state after two.state) hit (left == 0) here)) place alike)
+            subst (λ (outcome : Outcome). RunAlike e (next_run left before one.outcome one.state)
+            (next_run left (with_state before other) outcome two.state)) past.outcome
+            (subst (λ (here : Bool). RunAlike e (next_run left before one.outcome one.state)
+            (next left (with_state after two.state) hit (left == 0) here)) place alike)
       ]

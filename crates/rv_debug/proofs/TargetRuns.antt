@@ -45,7 +45,9 @@ module _ {A : Type 0} (target : A → Target) (step : A → Stepped A) (pc : A �
       ∙ go after (lowest_accessed watches last.outcome.touched) (left == 0) (is_among (pc last.state) breaks) (run-in left after)) where
         go : (after : AfterSteps A) (hit : Option ℕ) (last here : Bool)
             → run stepped pc_of breaks watches left (in_target target after) ≡ target_of target (run step pc breaks watches left after)
-            → option_case hit (cond last (ended (in_target target after) Done) (cond here (ended (in_target target after) Break) (run stepped pc_of breaks watches left (in_target target after))))
+            → option_case hit
+            (cond last (ended (in_target target after) Done)
+            (cond here (ended (in_target target after) Break) (run stepped pc_of breaks watches left (in_target target after))))
             (λ address. ended (in_target target after) (Watch address))
             ≡ target_of target (option_case hit (cond last (ended after Done) (cond here (ended after Break) (run step pc breaks watches left after)))
             (λ address. ended after (Watch address)))
@@ -71,18 +73,10 @@ pub runs_bare : (breaks watches : List ℕ) (count : ℕ) (machine after : State
     → run stepped pc_of breaks watches count (no_steps (Bare machine)) ≡ record { state = Bare after; ran = ran }
 runs_bare breaks watches = runs-in Bare machine_stepped machine_pc (λ machine. refl) (λ machine. refl) breaks watches
 
-pub run_bare : (breaks watches : List ℕ) (count : ℕ) (before : AfterSteps State)
-    → run stepped pc_of breaks watches count (in_target Bare before) ≡ target_of Bare (run machine_stepped machine_pc breaks watches count before)
-run_bare breaks watches = run-in Bare machine_stepped machine_pc (λ machine. refl) (λ machine. refl) breaks watches
-
 pub run_monitored : (hart : ℕ) (breaks watches : List ℕ) (count : ℕ) (before : AfterSteps MonitoredState)
-    → run stepped pc_of breaks watches count (in_target (chosen_at hart) before) ≡ target_of (chosen_at hart) (run monitored_stepped monitored_pc breaks watches count before)
+    → run stepped pc_of breaks watches count (in_target (chosen_at hart) before) ≡ target_of (chosen_at hart)
+    (run monitored_stepped monitored_pc breaks watches count before)
 run_monitored hart breaks watches = run-in (chosen_at hart) monitored_stepped monitored_pc (λ machine. refl) (λ machine. refl) breaks watches
-
-pub runs_monitored : (hart : ℕ) (breaks watches : List ℕ) (count : ℕ) (machine after : MonitoredState) (ran : Ran)
-    → run monitored_stepped monitored_pc breaks watches count (no_steps machine) ≡ record { state = after; ran = ran }
-    → run stepped pc_of breaks watches count (no_steps (chosen_at hart machine)) ≡ record { state = chosen_at hart after; ran = ran }
-runs_monitored hart breaks watches = runs-in (chosen_at hart) monitored_stepped monitored_pc (λ machine. refl) (λ machine. refl) breaks watches
 
 -- ---- a machine alone enters no enclave
 

@@ -1,9 +1,8 @@
 -- Steps of named harts: those of the machine that the target is, in the order of the harts.
-use Rattle.std.proofs.Common.{◌≡◌, ℕ, List, [], ◌∷◌, refl, sym, ◌∙◌, ap, subst}
+use Rattle.std.proofs.Common.{◌≡◌, ℕ, List, [], ◌∷◌, refl, ◌∙◌, ap}
 use Rattle.rv_monitor.specs.HartLaws.{sched}
 use Rattle.rv_monitor.specs.State.{MonitoredState, OnTurn, IsKept, machine_of, seen_from}
 use Rattle.rv_monitor.specs.Step.{step_of}
-use Rattle.rv_monitor.specs.declared.shared.Shared.{Shared}
 use Rattle.rv_monitor.proofs.HartsAlike.{sched_kept}
 use Rattle.rv_monitor.proofs.HartsSpare.{seen_shared}
 use Rattle.rv_monitor.proofs.Turned.{seen_kept}
@@ -24,7 +23,8 @@ machine_after : List ℕ → OnTurn → OnTurn
 machine_after [] machine = machine
 machine_after (hart ∷ harts) machine = machine_after harts (stepped_on hart machine)
 
-target_after : (harts : List ℕ) (machine : OnTurn) (did : Scheduled) → (turns harts (after_turns (Monitored machine) did)).state ≡ Monitored (machine_after harts machine)
+target_after : (harts : List ℕ) (machine : OnTurn) (did : Scheduled)
+    → (turns harts (after_turns (Monitored machine) did)).state ≡ Monitored (machine_after harts machine)
 unfolding turns machine_after
 target_after [] machine did = refl
 target_after (hart ∷ harts) machine did =
@@ -43,7 +43,8 @@ turns_are_sched harts machine chosen =
     ap (turned_to chosen) (target_after harts machine _) ∙ ap (λ (state : MonitoredState). Monitored (seen_from chosen state)) (seen_after harts machine)
 
 -- what is true in every state is so then
-pub sched_keeps : (harts : List ℕ) (machine : OnTurn) (chosen : ℕ) → IsKept machine.state → IsKept (seen_from chosen (sched harts (machine_of machine)).state).state
+pub sched_keeps : (harts : List ℕ) (machine : OnTurn) (chosen : ℕ) → IsKept machine.state
+    → IsKept (seen_from chosen (sched harts (machine_of machine)).state).state
 sched_keeps harts machine chosen kept = seen_kept chosen _ (sched_kept harts (machine_of machine) (seen_kept machine.hart machine.state kept))
 
 -- what the harts share is seen alike by both

@@ -1,5 +1,6 @@
 -- Sets of addresses: breaks and watches, each the list of its addresses in rising order. (This project's own debugger.)
-use Rattle.std.specs.Prelude.{ℕ, ◌<◌, ◌≤◌, ◌==◌, Bool, not, nat_lt, List, [], ◌∷◌, ◌++◌, length, slice_index, filter, Option, Some, None, if◌then◌else◌}
+use Rattle.std.specs.Prelude.{ℕ, ◌<◌, ◌≤◌, ◌==◌, Bool, not, nat_lt, List, [], ◌∷◌, ◌++◌, length, slice_index, filter, Option, Some}
+use Rattle.std.specs.Prelude.{None, if◌then◌else◌}
 use Rattle.std.specs.List.{list_any}
 
 -- the numbers rise, all of them above this one

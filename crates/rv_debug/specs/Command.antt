@@ -1,5 +1,6 @@
 -- The commands of this bench: how each is written, and what a line asks for. (This project's own commands.)
-use Rattle.std.specs.Prelude.{ℕ, Bool, true, false, List, [], ◌∷◌, codes, find, Option, Some, None, Result, Ok, Err, option_and_then, option_map, nat_eq, if◌then◌else◌}
+use Rattle.std.specs.Prelude.{ℕ, Bool, true, false, List, [], ◌∷◌, codes, find, Option, Some, None, Result, Ok, Err, option_and_then, option_map}
+use Rattle.std.specs.Prelude.{nat_eq, if◌then◌else◌}
 use Rattle.std.specs.Option.{ok_or}
 use Rattle.std.specs.List.{starts_with}
 use Rattle.std.specs.Str.{bytes_eq}
@@ -69,7 +70,8 @@ abbrev pub two : {A B : Type 0} → (List ℕ → Option A) → (List ℕ → Op
 two read read_next make (operand ∷ next ∷ []) = option_and_then (λ a. option_map (make a) (read_next next)) (read operand)
 two read read_next make _ = None
 
-abbrev pub four : {A B C D : Type 0} → (List ℕ → Option A) → (List ℕ → Option B) → (List ℕ → Option C) → (List ℕ → Option D) → (A → B → C → D → Command) → List (List ℕ) → Option Command
+abbrev pub four : {A B C D : Type 0} → (List ℕ → Option A) → (List ℕ → Option B) → (List ℕ → Option C) → (List ℕ → Option D)
+    → (A → B → C → D → Command) → List (List ℕ) → Option Command
 four first second third fourth make (t ∷ u ∷ v ∷ w ∷ []) =
     option_and_then (λ a. option_and_then (λ b. option_and_then (λ c. option_map (make a b c) (fourth w)) (third v)) (second u)) (first t)
 four first second third fourth make _ = None

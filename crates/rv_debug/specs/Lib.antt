@@ -3,6 +3,7 @@ pub mod Answer
 pub mod BenchState
 pub mod Command
 pub mod Confidentiality
+pub mod Deeds
 pub mod EnclaveText
 pub mod Isolation
 pub mod Returns

@@ -1,27 +1,19 @@
 -- From the command with which the host enters an enclave to the one with which the enclave leaves, whatever commands stand between them:
 -- the host goes on as it was before the step that entered, past its ecall, but for a0 and a1. (A law of this project's own debugger over
 -- its own monitor; Keystone, EuroSys 2020, in this project's profile.)
-use Rattle.std.specs.Prelude.{ℕ, ◌≡◌, true, false, List, [], ◌∷◌, ◌++◌, replicate, if◌then◌else◌}
+use Rattle.std.specs.Prelude.{ℕ, ◌≡◌, true, false, List, [], ◌∷◌, ◌++◌}
 use Rattle.rv_monitor.specs.HartLaws.{sched}
 use Rattle.rv_monitor.specs.Returns.{ComesBack}
 use Rattle.rv_monitor.specs.State.{MonitoredState, AreStored, is_host, machine_of, seen_by}
 use Rattle.rv_monitor.specs.Step.{monitored_step, step_of}
-use Rattle.rv_debug.specs.Answer.{answer, steps_of}
+use Rattle.rv_debug.specs.Answer.{answer}
 use Rattle.rv_debug.specs.BenchState.{BenchState}
+use Rattle.rv_debug.specs.Deeds.{deed, harts_stepped}
 use Rattle.rv_debug.specs.Isolation.{after_commands}
-use Rattle.rv_debug.specs.Schedules.{harts_in, has_all}
-use Rattle.rv_debug.specs.Targets.{KeepsMonitor, chosen_of, harts_of}
+use Rattle.rv_debug.specs.Targets.{KeepsMonitor}
 use Rattle.rv_debug.specs.declared.command.Command.{Command}
-use Rattle.rv_debug.specs.declared.command.Command.TheVariants.{Step, Run, Sched}
 use Rattle.rv_debug.specs.declared.target.Target.{Target}
 use Rattle.rv_debug.specs.declared.target.Target.TheVariants.{Bare, Monitored}
-
--- the harts whose steps a command does, one for each step, in their order
-abbrev pub harts_stepped : BenchState → Command → List ℕ
-harts_stepped bench (Step count) = replicate (steps_of bench.target [] [] count).ran.steps (chosen_of bench.target)
-harts_stepped bench (Run count) = replicate (steps_of bench.target bench.breaks bench.watches count).ran.steps (chosen_of bench.target)
-harts_stepped bench (Sched schedule) = if has_all (harts_of bench.target) (harts_in schedule) then harts_in schedule else []
-harts_stepped bench _ = []
 
 -- ---- steps
 
@@ -75,15 +67,15 @@ IsStoredIn (Monitored chosen) = AreStored chosen.state
 abbrev pub RunsUnderAll : ℕ → BenchState → List Command → Type 0
 RunsUnderAll hart bench [] = RunsUnder hart [] bench.target
 RunsUnderAll hart bench (command ∷ commands) =
-    RunsUnder hart (harts_stepped bench command) bench.target × RunsUnderAll hart (answer bench command).state commands
+    RunsUnder hart (harts_stepped (deed bench command)) bench.target × RunsUnderAll hart (answer bench command).state commands
 
 -- A step of the first command enters an enclave on a hart, which runs there through all commands between, and a step of the last one
 -- leaves it. The commands between may step either hart, set registers, raise and lower the line, and poke any byte.
 abbrev pub ReturnLaw : Type 0
 ReturnLaw =
     (hart : ℕ) (bench : BenchState) (first last : Command) (commands : List Command) (entry exit : MonitoredState)
-    → KeepsMonitor bench.target → EntersUnder hart (harts_stepped bench first) bench.target entry
+    → KeepsMonitor bench.target → EntersUnder hart (harts_stepped (deed bench first)) bench.target entry
     → (let between = (answer bench first).state in
     let end = after_commands between commands in
-    IsStoredIn between.target → RunsUnderAll hart between commands → LeavesUnder hart (harts_stepped end last) end.target exit
+    IsStoredIn between.target → RunsUnderAll hart between commands → LeavesUnder hart (harts_stepped (deed end last)) end.target exit
     → ComesBack entry exit (monitored_step exit))

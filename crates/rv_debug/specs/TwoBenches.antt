@@ -1,6 +1,7 @@
 -- Two benches that are given the same commands: what they agree in, which commands are blind to an enclave, and what both answer.
 -- (This project's own debugger over its own monitor.)
-use Rattle.std.specs.Prelude.{ℕ, ◌≡◌, suc, ◌==◌, Bool, false, not, ◌&&◌, ◌||◌, if◌then◌else◌, List, [], ◌∷◌}
+use Rattle.std.specs.Prelude.{ℕ, ◌≡◌, suc, ◌==◌, Bool, true, false, not, ◌&&◌, ◌||◌, if◌then◌else◌, List, [], ◌∷◌, Result, Ok}
+use Rattle.std.specs.Prelude.{Err}
 use Rattle.std.specs.Int.{bit_at}
 use Rattle.rv_monitor.specs.AgreeBut.{AgreeBut}
 use Rattle.rv_monitor.specs.Blocks.{no_block, meets}
@@ -9,12 +10,17 @@ use Rattle.rv_monitor.specs.Table.{region}
 use Rattle.rv_monitor.specs.declared.block.Block.{Block}
 use Rattle.rv_debug.specs.Answer.{Answered, answer}
 use Rattle.rv_debug.specs.BenchState.{BenchState}
+use Rattle.rv_debug.specs.Command.{parse_of}
+use Rattle.rv_debug.specs.ReplyText.{fault_text}
 use Rattle.rv_monitor.specs.State.{OnTurn}
 use Rattle.rv_debug.specs.Targets.{chosen_at}
+use Rattle.rv_debug.specs.declared.both.BothLine.{BothLine}
+use Rattle.rv_debug.specs.declared.both.BothLine.TheVariants.{Faulty, Given}
 use Rattle.rv_debug.specs.declared.both.BothWhy.{BothWhy}
 use Rattle.rv_debug.specs.declared.both.BothWhy.TheVariants.{All, Entered, NotBlind}
 use Rattle.rv_debug.specs.declared.command.Command.{Command}
-use Rattle.rv_debug.specs.declared.command.Command.TheVariants.{Mem, Poke, Dis}
+use Rattle.rv_debug.specs.declared.command.Command.TheVariants.{Blank, Mem, Poke, Dis}
+use Rattle.rv_debug.specs.declared.command.CommandFault.{CommandFault}
 use Rattle.rv_debug.specs.declared.target.Target.{Target}
 use Rattle.rv_debug.specs.declared.target.Target.TheVariants.{Bare, Monitored}
 
@@ -83,6 +89,38 @@ unfoldable pub both_answer : ℕ → BenchState → BenchState → Command → B
 both_answer e first second command =
     if is_blind e first command && is_blind e second command then both_do e (answer first command) (answer second command)
     else record { first = first; second = second; first_reply = []; second_reply = []; why = NotBlind }
+
+-- ---- one line for both
+
+-- a line without a command
+abbrev pub is_blank : Command → Bool
+is_blank Blank = true
+is_blank _ = false
+
+-- both benches after a line, what is told of it, and what it was
+pub record BothTold : Type 0 where
+  pub first : BenchState
+  pub second : BenchState
+  pub first_reply : List ℕ
+  pub second_reply : List ℕ
+  pub line : BothLine
+
+-- its command is given to both; a faulty line is told its fault once, and changes neither
+abbrev pub both_told : ℕ → BenchState → BenchState → Result Command CommandFault → BothTold
+both_told e first second (Ok command) =
+    let after = both_answer e first second command in
+    record {
+      first = after.first;
+      second = after.second;
+      first_reply = after.first_reply;
+      second_reply = after.second_reply;
+      line = Given after.why (is_blank command);
+    }
+both_told e first second (Err fault) =
+    record { first = first; second = second; first_reply = fault_text fault; second_reply = []; line = Faulty }
+
+abbrev pub both_line_answer : ℕ → BenchState → BenchState → List ℕ → BothTold
+both_line_answer e first second line = both_told e first second (parse_of line)
 
 -- ---- a second bench that agrees
 

@@ -2,7 +2,8 @@
 
 ghost use Rattle.std.specs.Prelude.{◌≡◌};
 ghost use Rattle.arrayvec.specs.ArrayVec.{array_vec_len};
-ghost use Rattle.rv_debug.specs.Answer.{told, steps_of, csr_reply, memory_reply, poke_reply, dis_reply, access_reply, hart_reply, harts_told, sched_answered};
+ghost use Rattle.rv_debug.specs.Answer.{told, csr_reply, memory_reply, poke_reply, dis_reply, access_reply, hart_reply, harts_told, sched_reply};
+ghost use Rattle.rv_debug.specs.Deeds.{OneByte, done, entered_by, hart_deed, run_deed, sched_deed, steps_of};
 ghost use Rattle.rv_debug.specs.Schedules.{harts_in};
 ghost use Rattle.rv_debug.specs.Addresses.{without_address};
 ghost use Rattle.rv_debug.specs.ReplyText.{ok_text};
@@ -24,6 +25,7 @@ use rv_word::{Reg, Width, le_word};
 
 /// Does so many steps, or fewer, where a watch or a break ends them, and tells what they did. Returns the slots of the enclaves
 /// that they entered.
+#[tactic(auto, using(crate::proofs::RunTurns::run_done, crate::proofs::RunTurns::run_entered))]
 pub(crate) fn answer_run(
     target: &mut Target,
     count: StepCount,
@@ -32,8 +34,8 @@ pub(crate) fn answer_run(
     reply: &mut Reply,
 ) -> u16
     requires { array_vec_len reply.old ≡ 0 }
-    ensures state { (steps_of target.old breaks.now watches.now count).state ≡ target.new }
-    ensures entered { (steps_of target.old breaks.now watches.now count).ran.entered ≡ result }
+    ensures target { done target.old (run_deed target.old breaks.now watches.now count) ≡ target.new }
+    ensures entered { entered_by target.old (run_deed target.old breaks.now watches.now count) ≡ result }
     ensures reply { told (steps_of target.old breaks.now watches.now count) ≡ reply.new.items }
     ensures bare { IsBare target.old → result ≡ 0 }
     ensures monitor { KeepsMonitor target.old → KeepsMonitor target.new }
@@ -78,7 +80,8 @@ pub(crate) fn answer_timer(target: &mut Target, raised: bool, reply: &mut Reply)
 /// Puts a byte into memory, where its address is in it.
 pub(crate) fn answer_poke(target: &mut Target, address: u32, byte: u8, reply: &mut Reply)
     requires { array_vec_len reply.old ≡ 0 }
-    ensures answer { poke_reply target.old address byte ≡ record { target = target.new; reply = reply.new.items } }
+    ensures target { done target.old (OneByte address byte) ≡ target.new }
+    ensures reply { poke_reply target.old address byte ≡ reply.new.items }
     ensures monitor { KeepsMonitor target.old → KeepsMonitor target.new }
 {
     if target.poke(address, byte) {
@@ -107,9 +110,12 @@ pub(crate) fn answer_csr(target: &Target, csr: CsrNumber, reply: &mut Reply)
 }
 
 /// Chooses a hart, where there is one of the number.
+#[tactic(auto, unfolding(crate::specs::Schedules::turns))]
 pub(crate) fn answer_hart(target: &mut Target, hart: u8, reply: &mut Reply)
     requires { array_vec_len reply.old ≡ 0 }
-    ensures answer { hart_reply target.old hart ≡ record { target = target.new; reply = reply.new.items } }
+    ensures target { done target.old (hart_deed target.old hart) ≡ target.new }
+    ensures reply { hart_reply target.old hart ≡ reply.new.items }
+    ensures entered { entered_by target.old (hart_deed target.old hart) ≡ 0 }
     ensures monitor { KeepsMonitor target.old → KeepsMonitor target.new }
 {
     if hart < target.harts() {
@@ -135,9 +141,9 @@ fn push_harts(reply: &mut Reply, target: &Target, did: &Scheduled)
 /// names, does nothing and tells that. The chosen hart stays. Returns the slots of the enclaves that the steps entered.
 pub(crate) fn answer_sched(target: &mut Target, schedule: &Schedule, reply: &mut Reply) -> u16
     requires { array_vec_len reply.old ≡ 0 }
-    ensures target { (sched_answered target.old (harts_in schedule.now)).target ≡ target.new }
-    ensures reply { (sched_answered target.old (harts_in schedule.now)).reply ≡ reply.new.items }
-    ensures entered { (sched_answered target.old (harts_in schedule.now)).entered ≡ result }
+    ensures target { done target.old (sched_deed target.old (harts_in schedule.now)) ≡ target.new }
+    ensures reply { sched_reply target.old (harts_in schedule.now) ≡ reply.new.items }
+    ensures entered { entered_by target.old (sched_deed target.old (harts_in schedule.now)) ≡ result }
     ensures bare { IsBare target.old → result ≡ 0 }
     ensures monitor { KeepsMonitor target.old → KeepsMonitor target.new }
 {

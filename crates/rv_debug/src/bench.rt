@@ -83,7 +83,10 @@ impl Bench {
     pub(crate) fn is_blind(&self, slot: u8, command: &Command) -> bool
         ensures { result ≡ is_blind slot self.now command.now }
     {
-        !command.named().meets(self.target.region(slot))
+        match (command.named(), self.target.region(slot)) {
+            (Some(named), Some(region)) => !named.meets(region),
+            _ => true,
+        }
     }
 
     /// Does one command, and puts its reply in place of what the buffer holds. A refused command changes nothing of the bench.

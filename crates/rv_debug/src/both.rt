@@ -1,12 +1,13 @@
-//! One list of commands for two benches, which shows whether they can be told apart without entering an enclave.
+//! One list of commands or of lines for two benches, which shows whether they can be told apart without entering an enclave.
 
-ghost use Rattle.std.specs.Prelude.{◌≡◌, ◌<◌, ◌^◌, ℕ, take};
+ghost use Rattle.std.specs.Prelude.{◌≡◌, ◌<◌, ◌^◌, ℕ, List, take};
 ghost use Rattle.rv_debug.specs.Confidentiality.{PassBy, StayAlike};
 ghost use Rattle.rv_debug.specs.Isolation.{IsSparedIn, RestsUnderAll, after_commands};
-ghost use Rattle.rv_debug.specs.TwoBenches.{BenchesAgreeBut, both_answer, both_run, is_entered as is_entered_in};
+ghost use Rattle.rv_debug.specs.TwoBenches.{BenchesAgreeBut, both_answer, both_line_answer, both_run, is_entered as is_entered_in};
 
 use crate::bench::Bench;
-use crate::command::Command;
+use crate::command::{Command, parse};
+use crate::reply::push_fault;
 use rv_text::Reply;
 
 /// Why commands for two benches ended.
@@ -18,6 +19,20 @@ pub enum BothWhy {
     Entered,
     /// The next is a mem, dis or poke with a byte in the region of the slot, in one of them or in both. It was not done.
     NotBlind,
+}
+
+/// What a line was that was given to two benches.
+#[derive(Clone, Copy, Debug, PartialEq, Eq)]
+pub enum BothLine {
+    /// It is faulty, and nothing was done.
+    Faulty,
+    /// Its command was given to both.
+    Given {
+        /// Whether there may be more.
+        why: BothWhy,
+        /// Whether the line has no command, so that nothing was done.
+        is_blank: bool,
+    },
 }
 
 /// How many commands two benches did, and why no more.
@@ -86,6 +101,35 @@ fn give_both(
         BothWhy::Entered
     } else {
         BothWhy::All
+    }
+}
+
+/// Gives a line to two benches, given without its ending, as `both_command` does its command. A faulty line is told its first fault once:
+/// in the first buffer, and nothing in the second; then neither bench changes. Every line that begins with the same 121 bytes has the same
+/// answer.
+pub fn both_line(
+    a: &mut Bench,
+    b: &mut Bench,
+    slot: u8,
+    line: &[u8],
+    out_a: &mut Reply,
+    out_b: &mut Reply,
+) -> BothLine
+    ensures meaning { both_line_answer slot a.old b.old line.now
+        ≡ record { first = a.new; second = b.new; first_reply = out_a.new.items; second_reply = out_b.new.items; line = result } }
+    ensures front { (other : List ℕ) → take 121 other ≡ take 121 line.now → both_line_answer slot a.old b.old other ≡ both_line_answer slot a.old b.old line.now }
+{
+    match parse(line) {
+        Ok(command) => BothLine::Given {
+            why: both_command(a, b, slot, &command, out_a, out_b),
+            is_blank: command == Command::Blank,
+        },
+        Err(fault) => {
+            out_a.clear();
+            out_b.clear();
+            push_fault(out_a, fault);
+            BothLine::Faulty
+        }
     }
 }
 

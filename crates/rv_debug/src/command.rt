@@ -1,13 +1,14 @@
 //! The commands, and how a line is read as one.
 
 ghost use Rattle.std.specs.Prelude.{◌≡◌, [], ◌∷◌, map};
+ghost use Rattle.rv_word.specs.Cases.{option_case};
+ghost use Rattle.rv_monitor.specs.Blocks.{no_block};
 ghost use Rattle.rv_debug.specs.TwoBenches.{named};
 ghost use Rattle.rv_debug.specs.Command.{decimal_within, register_of, switch_of, mode_of, access_of, width_of, operands_of, meaning_of, parse_of, number_of_fault};
 
 use crate::keyword::Keyword;
 use crate::numbers::{byte, csr_number, decimal, hexadecimal};
 use crate::schedule::{Schedule, hart_operand};
-use crate::target::NO_BLOCK;
 use crate::within::Within;
 use rv_encoding::CsrNumber;
 use rv_monitor::Block;
@@ -77,24 +78,24 @@ pub enum Command {
 }
 
 impl Command {
-    /// The bytes that a mem, dis or poke names by their addresses; none of another command.
-    pub(crate) fn named(&self) -> Block
-        ensures { result ≡ named self.now }
+    /// The bytes that a mem, dis or poke names by their addresses; no other command names any.
+    pub(crate) fn named(&self) -> Option<Block>
+        ensures { option_case result no_block (λ block. block) ≡ named self.now }
     {
         match *self {
-            Command::Mem(address, count) => Block {
+            Command::Mem(address, count) => Some(Block {
                 base: address,
                 size: count.get(),
-            },
-            Command::Dis(address) => Block {
+            }),
+            Command::Dis(address) => Some(Block {
                 base: address,
                 size: 4,
-            },
-            Command::Poke(address, _) => Block {
+            }),
+            Command::Poke(address, _) => Some(Block {
                 base: address,
                 size: 1,
-            },
-            _ => NO_BLOCK,
+            }),
+            _ => None,
         }
     }
 }

@@ -29,9 +29,8 @@ mod target;
 mod within;
 
 pub use bench::Bench;
-pub use both::{Both, BothWhy, both_command, run_both};
+pub use both::{Both, BothLine, BothWhy, both_command, both_line, run_both};
 pub use command::{ByteCount, Command, CommandFault, StepCount, parse};
-pub use reply::push_fault;
 pub use schedule::Schedule;
 pub use target::Target;
 pub use within::Within;

@@ -331,7 +331,7 @@ pub(crate) fn push_denied_outside(out: &mut Reply)
 }
 
 /// Writes the reply to a line that has a fault, at the end of one that has room for it.
-pub fn push_fault(out: &mut Reply, fault: CommandFault)
+pub(crate) fn push_fault(out: &mut Reply, fault: CommandFault)
     requires room { array_vec_len out.old + 14 ≤ 2048 }
     ensures items { out.new.items ≡ out.old.items ++ fault_text fault }
     ensures len { array_vec_len out.new ≤ array_vec_len out.old + 14 }

@@ -2,6 +2,8 @@
 
 ghost use Rattle.std.specs.Prelude.{◌≡◌, ◌<◌, Some, None};
 ghost use Rattle.std.specs.Bool.{OnTrue, OnFalse};
+ghost use Rattle.rv_word.specs.Cases.{option_case};
+ghost use Rattle.rv_monitor.specs.Blocks.{no_block};
 ghost use Rattle.rv_monitor.specs.State.{IsKept};
 ghost use Rattle.rv_debug.specs.Returns.{IsStoredIn};
 ghost use Rattle.rv_debug.specs.Steps.{no_steps, run};
@@ -16,9 +18,6 @@ use rv_monitor::{Block, Monitored};
 use rv_pmp::Mode;
 use rv_state::{Csrs, Regs};
 use rv_word::Reg;
-
-/// The block without bytes.
-pub(crate) const NO_BLOCK: Block = Block { base: 0, size: 0 };
 
 /// What a bench steps, shows and changes.
 #[derive(Drop, Debug)]
@@ -69,16 +68,13 @@ impl Target {
         }
     }
 
-    /// The region of a slot, without bytes where its enclave is not live.
-    pub(crate) fn region(&self, slot: u8) -> Block
-        ensures { result ≡ region_of slot self.now }
+    /// The region of a slot, where its enclave is live.
+    pub(crate) fn region(&self, slot: u8) -> Option<Block>
+        ensures { option_case result no_block (λ block. block) ≡ region_of slot self.now }
     {
         match self {
-            Target::Bare(_) => NO_BLOCK,
-            Target::Monitored(machine) => match machine.table().get(slot) {
-                None => NO_BLOCK,
-                Some(info) => info.region,
-            },
+            Target::Bare(_) => None,
+            Target::Monitored(machine) => machine.table().get(slot).map(|info| info.region),
         }
     }
 

@@ -1,4 +1,5 @@
-use Rattle.std.proofs.Common.{rules, ◌≡◌, ◌≢◌, ◌≤◌, ◌∙◌, ◌++◌, Global, IsTrue, List, ℕ, length, Ok, Err, refl, ap, sym, subst, arith}
+use Rattle.std.proofs.Common.{rules, ◌≡◌, ◌≢◌, ◌≤◌, ◌∙◌, ◌++◌, Global, IsTrue, List, ℕ, length, Ok, Err, refl, ap, sym, subst}
+use Rattle.std.proofs.Common.{arith}
 use Rattle.std.proofs.lemmas.List.{length-append}
 use Rattle.std.proofs.lemmas.Result.{IfOk-at_ok, IfErr-at_err}
 use Rattle.rv_text.specs.Lines.{lines_of}
@@ -53,18 +54,22 @@ returns-in-Ok g c =
     (λ _ wrote. (
       c.in_ok-text.ensures.0,
       IfOk-at_ok _ wrote c.write_words.ensures.ok,
-      λ tells. IsOkAnd-at _ _ _ (whole tells) (λ told. IfOk-at_ok _ wrote c.write_words.ensures.written told ∙ ap (λ ws. g.W.Sink.taken c.args.sink.now ++ asm_text ws) words),
+      λ tells. IsOkAnd-at _ _ _ (whole tells) (λ told. IfOk-at_ok _ wrote c.write_words.ensures.written told
+          ∙ ap (λ ws. g.W.Sink.taken c.args.sink.now ++ asm_text ws) words),
     ))
     (λ _ failed. (
       c.in_ok-text.ensures.0,
       IfErr-at_err _ failed c.write_words.ensures.err,
-      λ tells. IsOkAnd-at _ _ _ (whole tells) (λ told. subst (λ ws. WritesFront (g.W.Sink.taken c.args.sink.now) (g.W.Sink.taken c.write_words.new.sink) (asm_text ws)) words (c.write_words.ensures.front told)),
+      λ tells. IsOkAnd-at _ _ _ (whole tells)
+          (λ told. subst (λ ws. WritesFront (g.W.Sink.taken c.args.sink.now) (g.W.Sink.taken c.write_words.new.sink) (asm_text ws)) words
+          (c.write_words.ensures.front told)),
     ))
 
 -- a text that has a fault
 faulty : {S W : Type 0} (g : SourceGhosts S) (h : SinkGhosts W) (old new : S) (sink : W) (text : List ℕ) (fault : AsmFault)
     → ReadsWholeText g old new → (IsTrue g.tells → text ≡ g.remaining old) → length text ≤ 4194304
-    → (1 ≤ fault.line) × (fault.line ≤ length (lines_of text)) → IsFaultlessBefore fault.line text → (fault.kind ≢ asm.NoMemory → assembled text ≡ Err fault)
+    → (1 ≤ fault.line) × (fault.line ≤ length (lines_of text)) → IsFaultlessBefore fault.line text
+    → (fault.kind ≢ asm.NoMemory → assembled text ≡ Err fault)
     → RunsAsm g h old new sink sink (Err (Asm fault))
 faulty g h old new sink text fault reads is short line before told = (
   reads,

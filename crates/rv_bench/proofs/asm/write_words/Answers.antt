@@ -8,7 +8,8 @@ loop-word-preserved g c = record {
   failures = search rules;
   refusals = search rules;
   written = λ tells.
-      lines-more word_line c.args.words.now c.loop-word.word-index 0 _ _ _ _ _ _ (omega arith) (c.loop-word.invariant.written tells) (c.in_ok-make_room.ensures.written tells) c.push_word.ensures.items;
+      lines-more word_line c.args.words.now c.loop-word.word-index 0 _ _ _ _ _ _ (omega arith) (c.loop-word.invariant.written tells)
+      (c.in_ok-make_room.ensures.written tells) c.push_word.ensures.items;
 }
 
 pub returns-in_err-make_room-clause-front : goal.returns-in_err-make_room-clause-front

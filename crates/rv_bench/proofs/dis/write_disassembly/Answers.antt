@@ -20,16 +20,19 @@ loop-bytes-preserved g c = record {
 pub returns-in_err-make_room-clause-front : goal.returns-in_err-make_room-clause-front
 returns-in_err-make_room-clause-front g c = λ tells.
     subst (WritesFront _ _) (sym (flat_map-map dis_line word_of_bytes c.args.words.now))
-    (lines-stopped (λ bytes. dis_line (word_of_bytes bytes)) c.args.words.now c.loop-bytes.bytes-index _ _ _ _ (c.loop-bytes.invariant.written tells) (c.make_room.ensures.front tells))
+    (lines-stopped (λ bytes. dis_line (word_of_bytes bytes)) c.args.words.now c.loop-bytes.bytes-index _ _ _ _ (c.loop-bytes.invariant.written tells)
+    (c.make_room.ensures.front tells))
 
 pub returns-clause-front : goal.returns-clause-front
 returns-clause-front g c = λ tells.
     subst (WritesFront _ _) (sym (flat_map-map dis_line word_of_bytes c.args.words.now))
-    (lines-stopped (λ bytes. dis_line (word_of_bytes bytes)) c.args.words.now c.loop-bytes.bytes-index _ _ _ _ (c.loop-bytes.invariant.written tells) (c.write_last.ensures.front tells))
+    (lines-stopped (λ bytes. dis_line (word_of_bytes bytes)) c.args.words.now c.loop-bytes.bytes-index _ _ _ _ (c.loop-bytes.invariant.written tells)
+    (c.write_last.ensures.front tells))
 
 pub returns-clause-written : goal.returns-clause-written
 returns-clause-written g c =
     on_ok_weaker c.write_last.result
-    (λ wrote tells. lines-all (λ bytes. dis_line (word_of_bytes bytes)) c.args.words.now c.loop-bytes.bytes-index _ _ _ _ (omega arith) (c.loop-bytes.invariant.written tells) (wrote tells)
+    (λ wrote tells. lines-all (λ bytes. dis_line (word_of_bytes bytes)) c.args.words.now c.loop-bytes.bytes-index _ _ _ _ (omega arith)
+    (c.loop-bytes.invariant.written tells) (wrote tells)
     ∙ ap (λ t. g.W.Sink.taken c.args.sink.now ++ t) (sym (flat_map-map dis_line word_of_bytes c.args.words.now)))
     c.write_last.ensures.written

@@ -1,5 +1,6 @@
 -- What the crate hex decodes is what the pairs of digits write.
-use Rattle.std.proofs.Common.{rules, ◌≡◌, ℕ, ◌+◌, ◌*◌, ◌%◌, Bool, true, false, cond, ◌&&◌, inl, inr, List, [], ◌∷◌, length, Option, Some, None, Result, Ok, Err, refl, sym, ◌∙◌, ap, arith}
+use Rattle.std.proofs.Common.{rules, ◌≡◌, ℕ, ◌+◌, ◌*◌, ◌%◌, Bool, true, false, cond, ◌&&◌, inl, inr, List, [], ◌∷◌, length}
+use Rattle.std.proofs.Common.{Option, Some, None, Result, Ok, Err, refl, sym, ◌∙◌, ap, arith}
 use Rattle.std.proofs.lemmas.Grind.{common_steps}
 use Rattle.std.proofs.lemmas.Bool.{cases_eq}
 use Rattle.std.proofs.lemmas.Bool.Decides.{nat_tests}
@@ -23,7 +24,8 @@ byte_before (Some high) None bytes = None
 byte_before None low bytes = None
 
 read_pair : (a b i : ℕ) (high low : Option ℕ) (rest : Result (List ℕ) FromHexError)
-    → result_ok ((digit_or_error a i high >>= (λ h. digit_or_error b (i + 1) low >>= (λ l. Ok (h * 16 + l)))) >>= (λ byte. rest >>= (λ bytes. Ok (byte ∷ bytes))))
+    → result_ok
+    ((digit_or_error a i high >>= (λ h. digit_or_error b (i + 1) low >>= (λ l. Ok (h * 16 + l)))) >>= (λ byte. rest >>= (λ bytes. Ok (byte ∷ bytes))))
     ≡ byte_before high low (result_ok rest)
 unfolding byte_before
 read_pair a b i (Some high) (Some low) (Ok bytes) = refl
@@ -32,14 +34,16 @@ read_pair a b i (Some high) None rest = refl
 read_pair a b i None low rest = refl
 
 byte_before-tests : (p q all : Bool) (high low : ℕ) (bytes : List ℕ)
-    → byte_before (cond p (Some high) None) (cond q (Some low) None) (cond all (Some bytes) None) ≡ cond (p && (q && all)) (Some ((16 * high + low) ∷ bytes)) None
+    → byte_before (cond p (Some high) None) (cond q (Some low) None) (cond all (Some bytes) None) ≡ cond (p && (q && all))
+    (Some ((16 * high + low) ∷ bytes)) None
 unfolding byte_before
 byte_before-tests true true true high low bytes = let same : high * 16 + low ≡ 16 * high + low = omega arith in ap (λ n. Some (n ∷ bytes)) same
 byte_before-tests true true false high low bytes = refl
 byte_before-tests true false all high low bytes = refl
 byte_before-tests false q all high low bytes = refl
 
-decode_pairs-is : (i : ℕ) (word : List ℕ) → length word % 2 ≡ 0 → result_ok (decode_pairs i word) ≡ cond (list_all (λ c. is_digit c 16) word) (Some (pair_values word)) None
+decode_pairs-is : (i : ℕ) (word : List ℕ) → length word % 2 ≡ 0
+    → result_ok (decode_pairs i word) ≡ cond (list_all (λ c. is_digit c 16) word) (Some (pair_values word)) None
 unfolding decode_pairs
 decode_pairs-is i [] even = refl
 decode_pairs-is i (a ∷ []) even = absurd (omega arith)

@@ -12,7 +12,8 @@ use Rattle.rv_bench.specs.ReadImage.{FindsFault, ReadsImage}
 use Rattle.rv_bench.specs.Separator.{line_word, is_separator}
 use Rattle.rv_bench.specs.Unread.{held, unread}
 use Rattle.rv_bench.proofs.Ends.{TellsEnd-more}
-use Rattle.rv_bench.proofs.ImageLemmas.{TakesInImage, SpellsImage-going, SpellsImage-read, SpellsImage-more, SpellsImage-refused, SpellsImage-no_word, SpellsImage-no_digits, SpellsImage-many, SpellsImage-taken, SpellsImage-whole}
+use Rattle.rv_bench.proofs.ImageLemmas.{TakesInImage, SpellsImage-going, SpellsImage-read, SpellsImage-more, SpellsImage-refused, SpellsImage-no_word}
+use Rattle.rv_bench.proofs.ImageLemmas.{SpellsImage-no_digits, SpellsImage-many, SpellsImage-taken, SpellsImage-whole}
 use Rattle.rv_bench.proofs.Mapped.{ok_mapped, err_mapped, passed_on}
 use Rattle.rv_bench.proofs.ScriptLemmas.{FindsEnd-whole, FindsEnd-separator}
 use Rattle.rv_bench.proofs.WordLengths.{length-line_word}
@@ -21,7 +22,9 @@ use Rattle.rv_bench.proofs.image.read_image.Goals as goal
 use Rattle.rv_bench.proofs.image.read_image.Goals.{After-as_slice}
 
 -- the lines so far, and the one that was taken
-taken : (g : given.Over) (c : After-as_slice g) → IsTrue g.S.Source.tells → TakesInImage (unread c.args.lines.now) (unread c.loop-image.lines) (unread c.next_line_before.new.self) c.next_line_before.new.self.is_at_end c.loop-image.image.items c.as_slice.result.now
+taken : (g : given.Over) (c : After-as_slice g) → IsTrue g.S.Source.tells
+    → TakesInImage (unread c.args.lines.now) (unread c.loop-image.lines)
+    (unread c.next_line_before.new.self) c.next_line_before.new.self.is_at_end c.loop-image.image.items c.as_slice.result.now
 taken g c tells =
     let found = ok_mapped _ c.next_line_before.result c.map_err.result _ c.map_err.ensures.cases c.in_ok-line.was ∙ ap Ok c.in-Some.is in record {
       so_far = SpellsImage-going _ _ _ _ (c.loop-image.invariant.image tells) (IfOk-at_ok _ found c.next_line_before.ensures.going);
@@ -60,7 +63,8 @@ returns-in_err-line-clause-outcome g c =
     rw is (record {
       source = search rules;
       going = going.1;
-      reads = λ tells. SpellsImage-read _ _ _ _ _ (SpellsImage-going _ _ _ _ (c.loop-image.invariant.image tells) going.0) (omega arith) (IfErr-at_err _ failed.1 (c.next_line_before.ensures.kept tells));
+      reads = λ tells. SpellsImage-read _ _ _ _ _ (SpellsImage-going _ _ _ _ (c.loop-image.invariant.image tells) going.0) (omega arith)
+          (IfErr-at_err _ failed.1 (c.next_line_before.ensures.kept tells));
     })
 
 pub returns-in_default-only_word-clause-outcome : goal.returns-in_default-only_word-clause-outcome
@@ -99,7 +103,9 @@ returns-clause-outcome g c =
     let none = IfOk-at_ok _ found c.next_line_before.ensures.none in
     let image = c.loop-image.invariant.image in
     let taken = λ (tells : IsTrue g.S.Source.tells). SpellsImage-taken (image tells) in (
-      FindsEnd-separator c.args.lines.now c.loop-image.lines c.next_line_before.new.self (search rules) (search rules) none (λ tells. ((image tells).lines, taken tells)),
+      FindsEnd-separator c.args.lines.now c.loop-image.lines c.next_line_before.new.self (search rules) (search rules) none
+          (λ tells. ((image tells).lines, taken tells)),
       omega arith,
-      λ tells. SpellsImage-whole _ _ _ _ _ (image tells) (omega arith) (FindsEnd-whole c.args.lines.now c.loop-image.lines c.next_line_before.new.self Separator _ none (taken tells) tells),
+      λ tells. SpellsImage-whole _ _ _ _ _ (image tells) (omega arith)
+          (FindsEnd-whole c.args.lines.now c.loop-image.lines c.next_line_before.new.self Separator _ none (taken tells) tells),
     )

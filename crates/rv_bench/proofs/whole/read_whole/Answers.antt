@@ -22,6 +22,8 @@ pub returns-in_err-add_part : goal.returns-in_err-add_part
 returns-in_err-add_part g c =
     let found = ok_mapped _ c.read_some.result c.map_err.result _ c.map_err.ensures.cases c.in_ok-count.was in
     passed_on (ReadsText g.S.Source c.args.source.now c.read_some.new.self) c.from_residual-in_err-add_part.result _ c.from_residual-in_err-add_part.ensures.1
-    (refused Global g.S.Source c.args.source.now c.read_some.new.self c.loop-text.text.items (take c.in_ok-count.count c.read_some.new.buffer) _ _ (search rules) (search rules)
-    (λ tells. c.loop-text.invariant.front tells ∙ (ap (λ t. c.loop-text.text.items ++ t) (rw found at (c.read_some.ensures.bytes tells)) ∙ sym (append_assoc c.loop-text.text.items _ _)))
+    (refused Global g.S.Source c.args.source.now c.read_some.new.self c.loop-text.text.items (take c.in_ok-count.count c.read_some.new.buffer) _ _
+    (search rules) (search rules)
+    (λ tells. c.loop-text.invariant.front tells
+    ∙ (ap (λ t. c.loop-text.text.items ++ t) (rw found at (c.read_some.ensures.bytes tells)) ∙ sym (append_assoc c.loop-text.text.items _ _)))
     c.in_err-add_part.ensures)

@@ -8,5 +8,6 @@ use Rattle.rv_debug.proofs.command.parse.Goals as goal
 pub returns : goal.returns
 unfolding parse_of
 returns c =
-    let meaning : c.meaning.result ≡ meaning_of (words_of c.args.line.now) = rw (c.meaning.ensures, c.as_slice.ensures.value, c.first_words.ensures, meaning_of-take) in
+    let meaning : c.meaning.result ≡ meaning_of (words_of c.args.line.now) =
+    rw (c.meaning.ensures, c.as_slice.ensures.value, c.first_words.ensures, meaning_of-take) in
     grind (arith, nat_tests)

@@ -6,6 +6,7 @@ use Rattle.rv_debug.proofs.reply.push_memory.Given as goal
 
 abbrev pub invariant-loop-byte : goal.invariant-loop-byte
 invariant-loop-byte l = record {
-  items : l.out.items ≡ l.fn.out.items ++ hex_digits 8 l.address ++ codes ":" ++ flat_map (λ byte. codes " " ++ hex_digits 2 byte) (take l.byte-index l.bytes);
+  items : l.out.items ≡ l.fn.out.items ++ hex_digits 8 l.address ++ codes ":" ++ flat_map (λ byte. codes " " ++ hex_digits 2 byte)
+      (take l.byte-index l.bytes);
   len : length l.out.items ≡ length l.fn.out.items + (9 + 3 * l.byte-index);
 }

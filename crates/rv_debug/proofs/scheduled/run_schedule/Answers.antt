@@ -1,5 +1,4 @@
-use Rattle.std.proofs.Common.{◌≡◌, ◌<◌, ◌+◌, ◌∙◌, ℕ, bit_or, get_or, sym, ap, ap₂, subst, refl}
-use Rattle.std.specs.Prelude.{true}
+use Rattle.std.proofs.Common.{◌<◌, ◌+◌, ◌∙◌, ℕ, bit_or, get_or, sym, ap, ap₂, subst, refl}
 use Rattle.rv_debug.specs.Schedules.{AfterTurns, has_all, no_turns, turns}
 use Rattle.rv_debug.specs.Targets.{harts_of, IsBare}
 use Rattle.rv_debug.proofs.ScheduleLoop.{bare_after, harts_after, has_next, no_more, one_more, rest, turn_done, turn_more}
@@ -8,7 +7,8 @@ use Rattle.rv_debug.proofs.scheduled.run_schedule.Goals as goal
 
 pub turn_to-requires : goal.turn_to-requires
 turn_to-requires c =
-    let next = has_next (harts_of c.loop-digit.target) c.digits-digits.result.now c.loop-digit.digit-index (get_or c.digits-digits.result.now c.loop-digit.digit-index 0) c.loop-digit-test.true refl c.loop-digit.invariant.has in
+    let next = has_next (harts_of c.loop-digit.target) c.digits-digits.result.now c.loop-digit.digit-index
+    (get_or c.digits-digits.result.now c.loop-digit.digit-index 0) c.loop-digit-test.true refl c.loop-digit.invariant.has in
     subst (λ (hart : ℕ). hart < harts_of c.loop-digit.target) (sym c.hart-hart.ensures.which) next.0
 
 pub loop-digit-preserved : goal.loop-digit-preserved
@@ -39,4 +39,5 @@ loop-digit-preserved c =
 pub returns-clause-turns : goal.returns-clause-turns
 returns-clause-turns c =
     ap (λ harts. turns harts (no_turns c.args.target.now)) (sym c.digits-digits.ensures)
-    ∙ (c.loop-digit.invariant.turns ∙ no_more c.digits-digits.result.now c.loop-digit.digit-index (after_turns c.loop-digit.target c.loop-digit.did) c.loop-digit-test.false)
+    ∙ (c.loop-digit.invariant.turns ∙ no_more c.digits-digits.result.now c.loop-digit.digit-index
+    (after_turns c.loop-digit.target c.loop-digit.did) c.loop-digit-test.false)

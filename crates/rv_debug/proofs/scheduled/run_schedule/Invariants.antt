@@ -1,4 +1,4 @@
-use Rattle.std.proofs.Common.{◌≡◌, ◌≤◌, true, length}
+use Rattle.std.proofs.Common.{◌≡◌, ◌≤◌, true}
 use Rattle.rv_debug.specs.Schedules.{has_all, no_turns, turns}
 use Rattle.rv_debug.specs.Targets.{harts_of, IsBare, KeepsMonitor}
 use Rattle.rv_debug.proofs.ScheduleLoop.{rest}

@@ -16,7 +16,8 @@ pub returns-else-is_empty-clause-line : goal.returns-else-is_empty-clause-line
 returns-else-is_empty-clause-line g c = λ tells.
     let end = c.in_ok-read_text.ensures.end tells (ap Ok c.in-End.is) in
     rw (c.take_front-in-End.ensures.rest, end) (
-    TakesLine-end _ _ _ _ (rw c.in-End.is at (c.in_ok-read_text.ensures.bytes tells)) end (is_some _ _ c.is_empty.ensures c.if-is_empty.false) c.take_front-in-End.ensures.taken
+    TakesLine-end _ _ _ _ (rw c.in-End.is at (c.in_ok-read_text.ensures.bytes tells)) end
+    (is_some _ _ c.is_empty.ensures c.if-is_empty.false) c.take_front-in-End.ensures.taken
     )
 
 pub returns-then-is_empty-clause-end : goal.returns-then-is_empty-clause-end

@@ -5,4 +5,5 @@ use Rattle.rv_debug.proofs.addresses.Addresses.lowest_accessed.Goals as goal
 
 pub returns : goal.returns
 unfolding lowest_accessed
-returns c = rw (c.lower.ensures, c.lowest_in.ensures, c.lowest_in-2.ensures) (rw (← c.self.view_is) (find-either _ _ _ c.self.invariant ∙ lowest-is _ _ c.self.invariant))
+returns c = rw (c.lower.ensures, c.lowest_in.ensures, c.lowest_in-2.ensures)
+    (rw (← c.self.view_is) (find-either _ _ _ c.self.invariant ∙ lowest-is _ _ c.self.invariant))

@@ -1,7 +1,6 @@
-use Rattle.std.proofs.Common.{◌≡◌, ◌∙◌, ◌-◌, ℕ, true, List, ◌++◌, drop, length, replicate, Option, Some, sym, ap, ap₂}
+use Rattle.std.proofs.Common.{◌≡◌, ◌∙◌, ◌-◌, ℕ, List, ◌++◌, drop, length, replicate, Some, sym, ap, ap₂}
 use Rattle.std.proofs.lemmas.List.{drop-replicate}
-use Rattle.std.specs.Prelude.{if◌then◌else◌}
-use Rattle.rv_debug.specs.Schedules.{is_schedule, schedule_of}
+use Rattle.rv_debug.specs.Schedules.{schedule_of}
 use Rattle.rv_debug.specs.declared.schedule.Schedule.{Schedule}
 use Rattle.rv_debug.proofs.schedule.Schedule.new.Goals as goal
 
@@ -14,4 +13,5 @@ unfolding schedule_of
 returns c =
     let word = c.args.word.now in
     let is = sym c.is_schedule.ensures ∙ c.if-not-is_schedule.false in
-    rw is (ap (λ (digits : List ℕ). Some (let made : Schedule = record { digits = digits; steps = length word } in made)) (copied 64 word c.copy_from_slice.new.self c.copy_from_slice.ensures.after))
+    rw is (ap (λ (digits : List ℕ). Some (let made : Schedule = record { digits = digits; steps = length word } in made))
+    (copied 64 word c.copy_from_slice.new.self c.copy_from_slice.ensures.after))
