@@ -1,8 +1,9 @@
-/* A host's attempts at memory that it may not reach: each tells the cause of its trap, as host.s keeps it, or 0. */
+/* A host's attempts at memory that it may not reach: each tells the cause of its trap, as host.s keeps it, or NO_TRAP. */
 #ifndef MONITOR_ATTEMPTS_H
 #define MONITOR_ATTEMPTS_H
 
-enum { FETCH_FAULT = 1, LOAD_FAULT = 5, STORE_FAULT = 7 };
+/* Cause 0 is a trap as any other, that of a jump to no multiple of 4. */
+enum trap_cause { MISALIGNED_FETCH = 0, FETCH_FAULT = 1, LOAD_FAULT = 5, STORE_FAULT = 7, NO_TRAP = -1 };
 
 extern volatile struct {
     unsigned cause, value;
@@ -10,21 +11,28 @@ extern volatile struct {
 
 static inline unsigned attempt_load(unsigned address)
 {
-    trap.cause = 0;
+    trap.cause = NO_TRAP;
     __asm__ volatile("lw t0, 0(%0)" : : "r"(address) : "t0", "t1", "memory");
+    return trap.cause;
+}
+
+static inline unsigned attempt_load_byte(unsigned address)
+{
+    trap.cause = NO_TRAP;
+    __asm__ volatile("lbu t0, 0(%0)" : : "r"(address) : "t0", "t1", "memory");
     return trap.cause;
 }
 
 static inline unsigned attempt_store(unsigned address)
 {
-    trap.cause = 0;
+    trap.cause = NO_TRAP;
     __asm__ volatile("sw zero, 0(%0)" : : "r"(address) : "t0", "t1", "memory");
     return trap.cause;
 }
 
 static inline unsigned attempt_call(unsigned address)
 {
-    trap.cause = 0;
+    trap.cause = NO_TRAP;
     __asm__ volatile("jalr ra, 0(%0)" : : "r"(address) : "ra", "t0", "t1", "memory");
     return trap.cause;
 }

@@ -1,0 +1,23 @@
+// The runtime, in mode S: it gives the application the window, stops for it, and exits when it is done or has failed.
+#include "calls.h"
+#include "services.h"
+
+enum { ECALL_FROM_U = 8, FAILED = 0xe0 };
+
+unsigned runtime(unsigned base, unsigned size, unsigned window, unsigned window_size)
+{
+    (void)base, (void)size, (void)window_size;
+    return window;
+}
+
+unsigned served(unsigned value, unsigned service)
+{
+    unsigned cause;
+    __asm__ volatile("csrr %0, scause" : "=r"(cause));
+    if (cause != ECALL_FROM_U)
+        runtime_exit(FAILED + cause);
+    if (service == IS_DONE)
+        runtime_exit(value);
+    runtime_stop(value);
+    return 0;
+}

@@ -1,0 +1,2 @@
+/* The enclave lies where that of enclave_hmac does. */
+INCLUDE ../enclave_hmac/link.ld

@@ -1,0 +1,199 @@
+"""The words of the command line, and which of them does what."""
+import argparse
+import sys
+
+from .faults import Fault, WordsRefused
+from .image import image_of, script_of
+from .run import Setup, run_of
+from .show import Printer
+from .symbols import symbols_from
+
+WORDS = """words:
+  map          who may touch what, at each moment at which it changes
+  trace        each step: where, what, which registers, which address, which trap
+  touch        what each world read, wrote and executed, beside what it may
+  leak         two runs with two secrets in an enclave: where they part
+  timer        the timer before each step of an enclave: does it come to its end
+  measure      the digest that create records
+  explain      an input of the bench, read beside its faults
+  page         the run as one page for a browser
+  IMAGE alone  a prompt over the pipe
+`./rvlook WORD --help` tells more, and docs/LOOK.md all."""
+
+NAMES = ("map", "trace", "touch", "leak", "timer", "measure", "explain", "page")
+
+
+class Parser(argparse.ArgumentParser):
+    """A parser that tells what is refused in one line, and takes no option but as it is."""
+
+    def __init__(self, **words):
+        super().__init__(allow_abbrev=False, **words)
+
+    def error(self, message):
+        raise WordsRefused("%s; %s --help tells the words" % (message, self.prog))
+
+
+def image_options(parser):
+    """The image and how it is run."""
+    parser.add_argument("image", metavar="IMAGE", help="an ELF file, raw bytes, or the text of an image; a script may stand behind its --")
+    parser.add_argument("--script", metavar="FILE", help="commands that come before; their steps are shown too")
+    parser.add_argument("--monitor", action="store_true", help="run the image under the monitor")
+    parser.add_argument("--ram", metavar="BYTES", type=int, default=1 << 20, help="bytes of RAM (1048576)")
+    parser.add_argument("--kind", choices=("auto", "raw", "elf"), default="auto", help="what the image is (auto)")
+    parser.add_argument("--harts", type=int, choices=(1, 2), default=1, help="harts; 2 needs --monitor")
+    parser.add_argument("--symbols", metavar="FILE", help="an ELF file, or what nm prints; else the image's own")
+    parser.add_argument("--steps", metavar="N", type=int, default=1000000, help="steps behind the script, at most (1000000)")
+    parser.add_argument("--json", action="store_true", help="one object a line (docs/LOOK.md)")
+
+
+def setup_of(arguments):
+    """What is run."""
+    if arguments.harts > 1 and not arguments.monitor:
+        raise Fault("--harts 2 needs --monitor")
+    image = image_of(arguments.image, arguments.kind)
+    return Setup(image, image.script + script_of(arguments.script), arguments.monitor, arguments.ram, arguments.kind, arguments.harts,
+                 max(0, arguments.steps))
+
+
+def opened(arguments):
+    """The run, its symbols and the printer, for a word over an image."""
+    run = run_of(setup_of(arguments))
+    return run, symbols_from(arguments.symbols, run.setup.image), Printer(arguments.json)
+
+
+def do_map(arguments):
+    from .map_text import show_map
+    show_map(*opened(arguments))
+
+
+def do_trace(arguments):
+    from .trace_text import Filter, show_trace
+    run, symbols, printer = opened(arguments)
+    if arguments.function and not symbols:
+        raise Fault("--function needs symbols: an ELF file with them, or --symbols FILE")
+    show_trace(run, symbols, printer, Filter(arguments.first, arguments.last, arguments.world, arguments.function, arguments.traps))
+
+
+def do_touch(arguments):
+    from .touch import show_touch
+    show_touch(*opened(arguments))
+
+
+def do_leak(arguments):
+    from .leak import show_leak
+    try:
+        values = [bytes.fromhex(text) for text in (arguments.one, arguments.two)]
+    except ValueError:
+        raise Fault("BYTES are pairs of hexadecimal digits") from None
+    show_leak(*opened(arguments), arguments.slot, arguments.at, values)
+
+
+def do_timer(arguments):
+    from .timer import show_timer
+    show_timer(*opened(arguments), arguments.slot, max(1, arguments.every))
+
+
+def do_measure(arguments):
+    from .measure import show_measure
+    numbers = (arguments.base, arguments.size, arguments.window, arguments.window_size, arguments.entry)
+    show_measure(arguments.file, numbers, arguments.symbols, Printer(arguments.json))
+
+
+def do_prompt(arguments):
+    from .prompt import show_prompt
+    show_prompt(*opened(arguments))
+
+
+def do_explain(arguments):
+    from .explain import show_explain
+    show_explain(arguments.input, arguments.words, Printer(arguments.json))
+
+
+def do_page(arguments):
+    try:
+        from . import page
+    except ImportError as error:
+        raise Fault("the page cannot be made: %s" % error) from None
+    page.main(arguments)
+
+
+def add_word(words, name, do, about, *more):
+    """A word over an image; `more` add its own options."""
+    parser = words.add_parser(name, help=about, description=about + ".")
+    image_options(parser)
+    for options in more:
+        options(parser)
+    parser.set_defaults(do=do)
+    return parser
+
+
+def trace_options(parser):
+    parser.add_argument("--from", dest="first", metavar="N", type=int, default=1, help="the first step that is shown")
+    parser.add_argument("--to", dest="last", metavar="N", type=int, help="the last one")
+    parser.add_argument("--world", metavar="W", help="of this world alone: host, e0 to e12, bare")
+    parser.add_argument("--function", metavar="F", help="of this function alone")
+    parser.add_argument("--traps", action="store_true", help="those alone that trap")
+
+
+def slot_option(parser):
+    parser.add_argument("--slot", metavar="K", type=int, choices=range(13), default=0, help="the enclave's slot (0)")
+
+
+def leak_options(parser):
+    parser.add_argument("--at", metavar="PLACE", required=True, help="where the secret stands: hexadecimal, or a symbol")
+    parser.add_argument("one", metavar="BYTES", help="the one secret, in hexadecimal digits")
+    parser.add_argument("two", metavar="BYTES", help="the other one")
+
+
+def timer_options(parser):
+    parser.add_argument("--every", metavar="N", type=int, default=1, help="before every Nth step (1)")
+
+
+def measure_word(words):
+    parser = words.add_parser("measure", help="the digest that create records", description="The digest that create records.")
+    parser.add_argument("file", metavar="FILE", help="an ELF file, or the raw bytes of the region")
+    for name in ("BASE", "SIZE", "WINDOW", "WINDOW_SIZE", "ENTRY"):
+        parser.add_argument(name.lower(), metavar=name, help="hexadecimal, or a symbol")
+    parser.add_argument("--symbols", metavar="FILE", help="an ELF file, or what nm prints; else the file's own")
+    parser.add_argument("--json", action="store_true", help="one object (docs/LOOK.md)")
+    parser.set_defaults(do=do_measure)
+
+
+def explain_word(words):
+    parser = words.add_parser("explain", help="an input read beside its faults", description="An input of the bench, read beside its "
+                              "faults: which line, what is meant, what to write.", usage="rvlook explain [--json] INPUT [-- WORD...]")
+    parser.add_argument("--json", action="store_true", help="one object a line (docs/LOOK.md)")
+    parser.add_argument("input", metavar="INPUT", help="a file with an image, -- and a script; - for standard input")
+    parser.add_argument("words", metavar="WORD", nargs="*", help="the words of ./rvbench, behind --; none is run")
+    parser.set_defaults(do=do_explain)
+
+
+def parser_of():
+    """All words."""
+    parser = Parser(prog="rvlook", usage="rvlook [WORD] IMAGE [OPTIONS]", epilog=WORDS,
+                                     formatter_class=argparse.RawDescriptionHelpFormatter,
+                                     description="See what host and enclave can touch, and when: beside the bench, over a pipe.")
+    words = parser.add_subparsers(prog="rvlook", metavar="WORD", help=argparse.SUPPRESS)
+    add_word(words, "map", do_map, "Who may touch what, at each moment at which it changes")
+    add_word(words, "trace", do_trace, "Each step of a run", trace_options)
+    add_word(words, "touch", do_touch, "What each world read, wrote and executed, beside what it may")
+    add_word(words, "leak", do_leak, "Two runs with two secrets in an enclave: where they part", slot_option, leak_options)
+    add_word(words, "timer", do_timer, "The timer before each step of an enclave: does it come to its end", slot_option, timer_options)
+    measure_word(words)
+    explain_word(words)
+    add_word(words, "page", do_page, "The run as one page for a browser")
+    return parser
+
+
+def read(words):
+    """The arguments that the words give."""
+    parser = parser_of()
+    if not words:
+        parser.print_help()
+        sys.exit(2)
+    if words[0] in NAMES or words[0] in ("-h", "--help"):
+        return parser.parse_args(words)
+    alone = Parser(prog="rvlook", usage="rvlook [WORD] IMAGE [OPTIONS]")
+    image_options(alone)
+    alone.set_defaults(do=do_prompt)
+    return alone.parse_args(words)

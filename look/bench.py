@@ -1,0 +1,148 @@
+"""The bench, driven over a pipe by the commands of docs/COMMANDS.md.
+
+Lines are written while replies are read, so that neither pipe fills up and stops the other; a long list of commands costs one round
+trip, not one for each.
+"""
+import fcntl
+import os
+import select
+import subprocess
+import time
+
+from .faults import BenchEnded, Fault
+
+PIPE = 1 << 20
+SET_PIPE_SIZE = 1031  # F_SETPIPE_SZ of Linux
+MANY = 500  # lines of reply that are worth a pause, so that they are read together
+PAUSE = 0.001
+COUNTS = {"regs": 33, "pmp": 16}  # lines of reply; one for every other command
+MARK = "reg 0"  # stands behind `enclaves`, whose reply may have no line
+MARKED = b"x0=00000000"
+
+
+def program_path():
+    """The program: the one that RVBENCH names, or the one that ./prove has built."""
+    root = os.path.dirname(os.path.dirname(os.path.abspath(__file__)))
+    path = os.environ.get("RVBENCH") or os.path.join(root, "crates", "rvbench", "out", "rvbench")
+    if not os.path.exists(path):
+        raise Fault("there is no program at %s; ./prove builds it, or RVBENCH names another" % path)
+    return path
+
+
+def widen(*pipes):
+    """Makes pipes longer, where the system can: fewer exchanges then."""
+    for pipe in pipes:
+        try:
+            fcntl.fcntl(pipe.fileno(), SET_PIPE_SIZE, PIPE)
+        except OSError:
+            pass
+
+
+class Bench:
+    """One run of the program; `words` are those of its command line, `image` is the text of the image."""
+
+    def __init__(self, words, image, harts=1):
+        path = program_path()
+        try:
+            self.process = subprocess.Popen([path, *words], stdin=subprocess.PIPE, stdout=subprocess.PIPE, bufsize=0,
+                                            start_new_session=True)
+        except OSError as error:
+            raise Fault("%s: %s" % (path, error.strerror)) from None
+        os.set_blocking(self.process.stdin.fileno(), False)
+        widen(self.process.stdin, self.process.stdout)
+        self.harts = harts
+        self.pending = memoryview(b"")
+        self.parts = []  # what was read and not yet taken
+        self.lines = []  # complete lines that were read, the next one last
+        self.send(image + b"--\n")
+
+    def __enter__(self):
+        return self
+
+    def __exit__(self, *_):
+        self.close()
+
+    def close(self):
+        """Ends the program."""
+        for pipe in (self.process.stdin, self.process.stdout):
+            try:
+                pipe.close()
+            except OSError:
+                pass
+        if self.process.poll() is None:
+            self.process.kill()
+        self.process.wait()
+
+    def send(self, text):
+        """Gives the program more to read; it is written as replies are read."""
+        self.pending = memoryview(bytes(self.pending) + text)
+
+    def transfer(self):
+        """Writes what can be written, and reads what can be read; waits for either."""
+        reading, writing = self.process.stdout.fileno(), self.process.stdin.fileno()
+        readable, writable, _ = select.select([reading], [writing] if self.pending else [], [])
+        if writable:
+            try:
+                self.pending = self.pending[os.write(writing, self.pending[:PIPE]):]
+            except BlockingIOError:
+                pass
+            except BrokenPipeError:
+                self.pending = memoryview(b"")
+        if not readable:
+            return b""
+        part = os.read(reading, 1 << 20)
+        if not part:
+            raise BenchEnded(self.last_words())
+        return part
+
+    def last_words(self):
+        """What the program said where it ended."""
+        said = b"".join(self.parts).decode("ascii", "replace").splitlines()
+        self.process.wait()
+        faults = [line for line in said if line.startswith("rvbench: ")]
+        return faults[-1] if faults else "the bench ended with status %d" % self.process.returncode
+
+    def block(self, text, count):
+        """The replies to the commands of `text`, which have `count` lines, as they are."""
+        self.send(text)
+        found = sum(part.count(b"\n") for part in self.parts)
+        while found < count:
+            part = self.transfer()
+            self.parts.append(part)
+            found += part.count(b"\n")
+            if count - found > MANY and not self.pending:
+                time.sleep(PAUSE)
+        block, self.parts = b"".join(self.parts), []
+        return block
+
+    def line(self):
+        """The next line of the replies."""
+        while not self.lines:
+            self.parts.append(self.transfer())
+            if self.parts[-1].endswith(b"\n"):
+                self.lines = b"".join(self.parts).splitlines()[::-1]
+                self.parts = []
+        line = self.lines.pop()
+        if line.startswith(b"rvbench: "):
+            raise BenchEnded(line.decode("ascii", "replace"))
+        return line
+
+    def reply(self, word):
+        """The lines of one command's reply."""
+        if word == b"enclaves":
+            return list(iter(self.line, MARKED))
+        first = self.line()
+        if first.startswith(b"error "):
+            return [first]
+        count = self.harts if word == b"sched" else COUNTS.get(word.decode("ascii", "replace"), 1)
+        return [first] + [self.line() for _ in range(count - 1)]
+
+    def ask(self, *commands):
+        """The replies to commands that each have one: for each the list of its lines."""
+        text = "".join("%s\n%s\n" % (it, MARK) if it == "enclaves" else it + "\n" for it in commands)
+        self.send(text.encode("latin-1", "replace"))
+        return [[line.decode("latin-1") for line in self.reply(it.split()[0].encode("latin-1", "replace"))] for it in commands]
+
+    def one(self, command):
+        """The one line that answers a command."""
+        return self.ask(command)[0][0]

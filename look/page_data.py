@@ -1,0 +1,136 @@
+"""The objects of a run, packed for the page: what comes again and again is a number in a table, and numbers are bytes in base 64."""
+import base64
+import json
+import os
+import sys
+from array import array
+
+from .names import STATUSES
+
+GRANULE = 16  # bytes that are touched are kept by so many, which bounds the memory for them
+KINDS = {"r": 0, "w": 1}
+KINDS_OF_ARRAYS = "BHI"
+COMMON = ("stdin", "image", "program.elf")  # names that tell nothing
+MAP = ("enclaves", "columns", "rows")
+REFUSED = 2  # added to the kind of a touch that trapped
+
+
+class Table:
+    """Values with a number each, in the order in which they came."""
+
+    def __init__(self):
+        self.numbers = {}
+
+    def number(self, value):
+        return self.numbers.setdefault(value, len(self.numbers))
+
+    def rows(self, *names):
+        """The values, each as an object with these members."""
+        return [dict(zip(names, value)) for value in self.numbers]
+
+
+def packed(numbers):
+    """An array as text, in numbers of as few bytes as hold the largest, the lowest byte first."""
+    largest = max(numbers, default=0)
+    narrow = array(next(kind for kind in KINDS_OF_ARRAYS if largest < 256 ** array(kind).itemsize), numbers)
+    if sys.byteorder == "big":
+        narrow.byteswap()
+    return {"width": narrow.itemsize, "data": base64.b64encode(narrow.tobytes()).decode("ascii")}
+
+
+def refusal(step):
+    """The name of the status by which the monitor has refused a call, or None: a0, where no other world goes on."""
+    status = step["registers"].get("x10", next(iter(step["call"]["arguments"].values())))
+    return STATUSES.get(int(status, 16)) if step["next"]["world"] == step["world"] else None
+
+
+class Collector:
+    """Takes objects as a printer does, and keeps what the page shows of them."""
+
+    def __init__(self):
+        self.run = self.end = None
+        self.sites, self.places, self.traps, self.names = Table(), Table(), Table(), Table()
+        self.site, self.place, self.trap = array("I"), array("B"), array("I")
+        self.changes, self.registers, self.values = array("B"), array("B"), array("I")
+        self.touch = {"step": array("I"), "address": array("I"), "width": array("B"), "kind": array("B"), "name": array("I")}
+        self.calls, self.commands, self.moments = [], [], []
+        self.granules, self.labels = set(), {}
+        self.maps, self.borders = Table(), set()
+        self.points = self.rows = 0
+
+    @property
+    def title(self):
+        """The image's name: that of its folder, where the file has a common one."""
+        path = os.path.abspath(self.run["image"])
+        name = os.path.basename(path)
+        return os.path.basename(os.path.dirname(path)) if name in COMMON else name.removesuffix(".elf")
+
+    def object(self, name, **members):
+        getattr(self, "take_" + name)(members)
+
+    def take_run(self, it):
+        self.run = it
+
+    def take_end(self, it):
+        self.end = it
+
+    def take_command(self, it):
+        self.commands.append(it)
+
+    def take_moment(self, it):
+        """The map of a moment is that of others mostly, and stands once."""
+        self.rows += len(it["rows"])
+        self.borders.update(row["first"] for row in it["rows"])
+        shown = json.dumps({name: it[name] for name in MAP})
+        rest = {name: value for name, value in it.items() if name not in MAP}
+        self.moments.append({**rest, "map": self.maps.number(shown)})
+
+    def take_step(self, it):
+        self.site.append(self.sites.number((it["pc"], it["word"], it["abi"], it["symbol"], it["function"], it["source"])))
+        self.place.append(self.places.number((it["hart"], it["world"], it["mode"])))
+        trap = it["trap"]
+        self.trap.append(self.traps.number((trap["cause"], trap["value"], trap["name"])) + 1 if trap else 0)
+        self.changes.append(len(it["registers"]))
+        for name, value in it["registers"].items():
+            self.registers.append(int(name[1:]))
+            self.values.append(int(value, 16))
+        if it["call"]:
+            self.calls.append({"step": it["step"], **it["call"], "to": it["next"]["world"], "refused": refusal(it)})
+        self.take_points(it)
+
+    def take_points(self, it):
+        """What is drawn of a step: the instruction that was fetched, where no interrupt came, and what it loaded or stored."""
+        if not (it["trap"] and it["trap"]["cause"].startswith("8")):
+            self.add_point(int(it["pc"], 16), 4, it["symbol"])
+        touch = it["touch"]
+        if touch:
+            address = int(touch["address"], 16)
+            self.add_point(address, touch["width"], touch["symbol"])
+            kind = KINDS[touch["kind"]] + (0 if touch["done"] else REFUSED)
+            values = (it["step"], address, touch["width"], kind, self.names.number(touch["symbol"]))
+            for column, value in zip(self.touch.values(), values):
+                column.append(value)
+
+    def add_point(self, address, width, symbol):
+        self.points += 1
+        self.granules.update((address // GRANULE, (address + width - 1) // GRANULE))
+        name = symbol and symbol.split("+")[0]
+        if name and address < self.labels.get(name, 1 << 32):
+            self.labels[name] = address
+
+    def source_names(self):
+        """The files of which a line was executed."""
+        sources = [site[5] for site in self.sites.numbers if site[5]]
+        return {source.rsplit(":", 1)[0] for source in sources}
+
+    def data(self):
+        """All of it, as one object."""
+        return {
+            "title": self.title, "run": self.run, "end": self.end, "steps": len(self.site), "points": self.points,
+            "rows": self.rows, "maps": [json.loads(it) for it in self.maps.numbers],
+            "sites": self.sites.rows("pc", "word", "abi", "symbol", "function", "source"),
+            "places": self.places.rows("hart", "world", "mode"), "traps": self.traps.rows("cause", "value", "name"),
+            "names": list(self.names.numbers), "site": packed(self.site), "place": packed(self.place), "trap": packed(self.trap),
+            "changes": packed(self.changes), "registers": packed(self.registers), "values": packed(self.values),
+            "touch": {name: packed(column) for name, column in self.touch.items()}, "calls": self.calls,
+            "commands": self.commands, "moments": self.moments}

@@ -1,0 +1,146 @@
+// What stands beside the picture: a step, the map behind it, the registers, and the source.
+const BEFORE = 5, BEHIND = 6, STEP_COLUMNS = 4, MOST_LINES = 12, SOURCE_BEFORE = 6, SOURCE_BEHIND = 8;
+
+// An element with a class and what is in it.
+function element(tag, name, ...parts) {
+  const made = document.createElement(tag);
+  if (name) made.className = name;
+  made.append(...parts.filter(it => it !== null && it !== undefined && it !== ""));
+  return made;
+}
+
+function put(id, ...parts) {
+  document.getElementById(id).replaceChildren(...parts);
+}
+
+function table(heads, rows) {
+  const made = element("table", "");
+  if (heads.length) made.append(element("tr", "", ...heads.map(it => element("th", "", it))));
+  made.append(...rows);
+  return element("div", "wide", made);
+}
+
+const placeName = place => (hartCount > 1 ? "hart " + place.hart + ", " : "") + place.world + " in " + place.mode;
+
+function touchText(touch) {
+  const what = isWritten(touch.kind) ? "writes" : "reads";
+  const bytes = touch.width === 1 ? "1 byte" : touch.width + " bytes";
+  return `${what} ${bytes} at ${hex8(touch.address)}${touch.symbol ? " " + touch.symbol : ""}${isRefused(touch.kind) ? ": refused" : ""}`;
+}
+
+// What a step did, in a few words.
+function effectOf(step) {
+  const trap = trapOf(step), touch = touchOf(step), call = callAt.get(step);
+  const changes = changesOf(step).map(([number, value]) => ABI[number] + "=" + hex8(value));
+  const parts = [];
+  if (call) parts.push(callName(call));
+  else if (trap) parts.push(trap.name);
+  if (touch && !isRefused(touch.kind)) parts.push((isWritten(touch.kind) ? "w " : "r ") + hex8(touch.address));
+  if (!call && changes.length) parts.push(changes.length > 3 ? changes.length + " registers" : changes.join(" "));
+  return parts.join(", ");
+}
+
+function showWhere(step) {
+  if (!step) {
+    put("where", "At reset");
+    put("did", element("p", "mono", `pc ${data.run.pc}, ${data.run.world} in ${data.run.mode}`), ...commandsBehind(0));
+    return;
+  }
+  const site = siteOf(step), place = placeOf(step), trap = trapOf(step), touch = touchOf(step), call = callAt.get(step);
+  put("where", `Step ${step.toLocaleString("en")}: ${placeName(place)}`);
+  const lines = [element("p", "mono", site.pc, site.symbol ? "  " + site.symbol : "", site.source ? "  " + site.source : "")];
+  if (isInterrupt(trap)) lines.push(element("p", "refused", "the " + trap.name + ": no instruction is done"));
+  else lines.push(element("p", "mono here", site.abi || "no instruction"));
+  if (touch) lines.push(element("p", isRefused(touch.kind) ? "refused" : "", touchText(touch)));
+  if (call) lines.push(element("p", call.refused ? "refused" : "", callText(call)));
+  else if (trap && !isInterrupt(trap)) lines.push(element("p", "refused", `trap: ${trap.name}, value ${trap.value}`));
+  put("did", ...lines, ...commandsBehind(step));
+}
+
+function callText(call) {
+  const words = Object.entries(call.arguments).map(([name, value]) => name.replace("_", " ") + " " + value).join(", ");
+  const isSame = call.to === placeOf(call.step).world;
+  return `calls ${call.name} (${words}): ${call.refused ? "refused, " + call.refused : isSame ? "done" : call.to + " goes on"}`;
+}
+
+function commandsBehind(step) {
+  const lines = data.commands.filter(it => it.step === step);
+  const rest = lines.length > MOST_LINES ? [element("p", "aside", `and ${lines.length - MOST_LINES} lines more of the script`)] : [];
+  return lines.slice(0, MOST_LINES).map(it => element("p", "mono aside", "> " + it.line + (it.replies.length ? "  " + it.replies[0] : "") +
+    (it.replies.length > 1 ? ` (and ${it.replies.length - 1} lines)` : ""))).concat(rest);
+}
+
+function showSteps(step) {
+  const first = Math.max(1, step - BEFORE), last = Math.min(run.steps, step + BEHIND), rows = [];
+  let function_ = null, world = null;
+  for (let at = first; at <= last; at++) {
+    const site = siteOf(at), place = placeOf(at);
+    if (hartCount === 1 && (site.function !== function_ || place.world !== world)) {
+      [function_, world] = [site.function, place.world];
+      const head = element("td", "", element("span", "world", world), function_ ? "  " + function_ : "");
+      head.colSpan = STEP_COLUMNS - 1;
+      rows.push(element("tr", "aside", element("td", ""), head));
+    }
+    const text = isInterrupt(trapOf(at)) ? "(interrupt)" : site.abi || "";
+    const cells = [at, ...(hartCount > 1 ? [`${place.hart}: ${place.world}`] : []), site.pc, text, effectOf(at)];
+    const row = element("tr", at === step ? "here" : "", ...cells.map(it => element("td", "", String(it))));
+    row.addEventListener("click", () => show(at));
+    rows.push(row);
+  }
+  put("steps", element("h3", "", "Steps"), table([], rows));
+}
+
+function touchedAt(step) {
+  if (!step) return [];
+  const touch = touchOf(step);
+  return [pcs[run.site[step - 1]], ...(touch ? [touch.address] : [])];
+}
+
+// What the modes may do, once where they may do the same.
+function cellText(texts) {
+  const values = Object.values(texts);
+  return values.every(it => it === values[0]) ? values[0] : modesText(texts);
+}
+
+function showMap(step) {
+  const moment = data.moments[momentAt(step)], touched = touchedAt(step);
+  const heads = ["from", "to", ...moment.columns.map(it => it.derived ? `(${it.name})` : it.name), "what"];
+  const rows = [...moment.rows].reverse().map(row => {
+    const first = parseInt(row.first, 16), last = parseInt(row.last, 16);
+    const cells = moment.columns.map(it => element("td", it.derived ? "derived" : "", cellText(row.may[it.name])));
+    const isHere = touched.some(it => it >= first && it <= last);
+    const ends = [row.first, row.last].map(it => element("td", "", it));
+    return element("tr", isHere ? "here" : "", ...ends, ...cells, element("td", "", row.what));
+  });
+  const since = moment.step ? `since step ${moment.step}, ${moment.event}${moment.slot === null ? "" : " e" + moment.slot}` : "since reset";
+  const derived = moment.columns.some(it => it.derived) ? "; in brackets, derived: worlds that do not run" : "";
+  put("map", table(heads, rows), element("p", "aside", since + derived));
+  const lives = moment.enclaves.map(it => element("tr", "", ...[`e${it.slot}`, it.state, it.base, it.size.toString(16), it.window,
+    it.window_size.toString(16), it.entry, it.measurement.slice(0, 8) + "…"].map(text => element("td", "", text))));
+  put("enclaves", ...(lives.length ? [element("h3", "", "Enclaves"),
+    table(["", "state", "region", "size", "window", "size", "entry", "measured"], lives)] : []));
+}
+
+function showRegisters(step) {
+  const hart = step ? placeOf(step).hart : 0, values = registersAfter(step, hart);
+  const changed = new Set(step ? changesOf(step).map(([number]) => number) : []), grid = element("div", "grid");
+  for (let number = 0; number <= LAST_REGISTER; number++)
+    grid.append(element("span", changed.has(number) ? "changed" : "", element("span", "", ABI[number]), hex8(values[number])));
+  put("registers", grid);
+}
+
+function showSource(step) {
+  const source = step && siteOf(step).source, [name, line] = source ? source.split(":") : [null, 0], text = name && data.sources[name];
+  if (!text) return put("source");
+  const lines = text.split("\n"), first = Math.max(1, line - SOURCE_BEFORE), last = Math.min(lines.length, Number(line) + SOURCE_BEHIND);
+  const pre = element("pre", "");
+  for (let at = first; at <= last; at++)
+    pre.append(element("div", at === Number(line) ? "here" : "", String(at).padStart(4) + "  " + lines[at - 1]));
+  put("source", element("h3", "", name), pre);
+}
+
+function showAbout() {
+  const { run: setup, end } = data, last = end ? `${end.world} ${end.why === "stays" ? "stays at" : "has come to"} ${end.pc}` : "";
+  const harts = setup.harts > 1 ? ", two harts" : "";
+  put("about", `${run.steps.toLocaleString("en")} steps ${setup.monitor ? "under the monitor" : "on the bare bench"}${harts}; ${last}`);
+}

@@ -1,0 +1,83 @@
+"""Replies of the bench as values (docs/COMMANDS.md)."""
+import re
+from dataclasses import dataclass
+from typing import Optional
+
+RAN = re.compile(r"ran (\d+) pc=(\w+) mode=(\w) world=(\w+) why=(\S+) trap=(\S+)")
+STOPS = ("watch", "break")
+
+
+@dataclass(frozen=True)
+class Trap:
+    """A trap, by its cause and value."""
+    cause: str
+    value: str
+
+
+@dataclass(frozen=True)
+class Ran:
+    """The reply of `step` and `run`."""
+    steps: int
+    pc: str
+    mode: str
+    world: str
+    why: str
+    trap: Optional[Trap]
+
+
+@dataclass(frozen=True)
+class Enclave:
+    """A line of `enclaves`."""
+    slot: int
+    state: str
+    base: int
+    size: int
+    window: int
+    window_size: int
+    entry: int
+    measurement: str
+
+    @property
+    def world(self):
+        return "e%d" % self.slot
+
+
+@dataclass(frozen=True)
+class Entry:
+    """A line of `pmp`."""
+    cfg: int
+    addr: int
+
+
+def trap_of(text):
+    """The trap behind `trap=`, or None for a hyphen."""
+    return None if text == "-" else Trap(*text.split(":"))
+
+
+def ran_of(line):
+    """The reply of a step, or None where it is a fault."""
+    match = RAN.fullmatch(line)
+    return match and Ran(int(match[1]), match[2], match[3], match[4], match[5], trap_of(match[6]))
+
+
+def enclave_of(line):
+    """A live enclave."""
+    words = line.split()
+    numbers = [int(word, 16) for word in words[3:8]]
+    return Enclave(int(words[1]), words[2], *numbers, words[8])
+
+
+def entry_of(line):
+    """An entry of physical memory protection."""
+    cfg, addr = line.split()[2:]
+    return Entry(int(cfg[4:], 16), int(addr[5:], 16))
+
+
+def register_values(lines):
+    """The values of x0 to x31, and of pc, in the reply of `regs`."""
+    return [int(line.split("=")[1], 16) for line in lines]
+
+
+def bytes_of(line):
+    """The bytes that `mem` shows."""
+    return bytes.fromhex(line.split(":")[1])

@@ -1,0 +1,71 @@
+"""How things are written: lines for a person, objects for a program, and colours where a terminal has them."""
+import json
+import os
+import sys
+from enum import Enum
+
+
+class Style(Enum):
+    """What a part of a line is; on a terminal without colours it is plain, and tells as much."""
+    heading = "1"
+    good = "32"
+    bad = "31"
+    aside = "2"
+
+
+def has_colours(stream):
+    """Whether the stream is a terminal that takes them."""
+    return stream.isatty() and os.environ.get("TERM", "dumb") != "dumb" and "NO_COLOR" not in os.environ
+
+
+class Printer:
+    """Writes lines and objects to standard output."""
+
+    def __init__(self, as_json=False, stream=None):
+        self.as_json, self.stream = as_json, stream or sys.stdout
+        self.colours = not as_json and has_colours(self.stream)
+
+    def line(self, text=""):
+        self.stream.write(text.rstrip() + "\n")
+
+    def object(self, kind_of_object, **members):
+        self.stream.write(json.dumps({"object": kind_of_object, **members}, separators=(",", ":")) + "\n")
+
+    def styled(self, text, style):
+        return "\033[%sm%s\033[0m" % (style.value, text) if self.colours else text
+
+
+def hex8(number):
+    """A number as the replies write it, None as it is."""
+    return None if number is None else "%08x" % number
+
+
+def end_object(printer, end):
+    printer.object("end", steps=end.steps, why=end.why, pc=end.pc, mode=end.mode, world=end.world)
+
+
+def end_text(printer, end, symbols):
+    """The last line of a run."""
+    why = "stays at" if end.why == "stays" else "has come to"
+    count = "1 step" if end.steps == 1 else "%d steps" % end.steps
+    printer.line("%s: %s %s %s in %s" % (count, end.world, why, place_text(end.pc, symbols), end.mode))
+
+
+def place_text(pc, symbols):
+    """An address, with its symbol and source line where there are such."""
+    number = int(pc, 16)
+    return "  ".join(it for it in (pc, symbols.name(number), symbols.source(number)) if it)
+
+
+def run_object(printer, run, symbols):
+    """The first line of an output."""
+    setup = run.setup
+    printer.object("run", image=setup.image.name, monitor=setup.monitor, harts=setup.harts, ram=setup.ram, pc=run.pc, mode=run.mode,
+                   world=run.world, symbols=bool(symbols))
+
+
+def enclave_object(enclave):
+    """A line of `enclaves` as an object."""
+    return {"slot": enclave.slot, "state": enclave.state, "base": hex8(enclave.base), "size": enclave.size,
+            "window": hex8(enclave.window), "window_size": enclave.window_size, "entry": hex8(enclave.entry),
+            "measurement": enclave.measurement}

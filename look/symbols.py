@@ -1,0 +1,176 @@
+"""Names and source lines of addresses, from an ELF file by pyelftools, or from lines of text as nm prints them. All of it is derived:
+the bench knows no symbols."""
+import io
+import re
+import sys
+from bisect import bisect_right
+from dataclasses import dataclass
+
+from .faults import Fault, package_missing
+from .image import ELF_MAGIC, read_file
+
+NM_LINE = re.compile(r"([0-9a-fA-F]{8})\s+(?:[A-Za-z]\s+)?([A-Za-z_.$][\w.$]*)\s*\Z")
+PREFERRED = ("STT_FUNC", "STT_OBJECT")
+RAM_BASE = 0x80000000
+UNSIZED = 4096  # how far a symbol without a size goes at most
+
+
+@dataclass(frozen=True)
+class Symbol:
+    """A name at an address; size 0 where none is told."""
+    address: int
+    size: int
+    name: str
+    is_function: bool
+    rank: int = 0  # the lower one names the address where there are more
+
+
+class Symbols:
+    """`symbols` in any order; `lines` are pairs of an address and the source line from there on, None where one ends."""
+
+    def __init__(self, symbols=(), lines=()):
+        best = {it.address: it for it in sorted(symbols, key=lambda it: (it.rank, it.name), reverse=True)}
+        self.ordered = [best[address] for address in sorted(best) if address >= RAM_BASE]
+        self.addresses = [symbol.address for symbol in self.ordered]
+        self.by_name = {it.name: it for it in reversed(symbols)}
+        self.lines = sorted(lines, key=lambda it: (it[0], it[1] is not None))
+        self.line_starts = [address for address, _ in self.lines]
+
+    def __bool__(self):
+        return bool(self.ordered)
+
+    def at(self, address):
+        """The symbol that an address belongs to, or None: that with the nearest address at or below it, as far as its size goes."""
+        place = bisect_right(self.addresses, address) - 1
+        symbol = self.ordered[place] if place >= 0 else None
+        return symbol if symbol and address < symbol.address + (symbol.size or UNSIZED) else None
+
+    def size_of(self, symbol):
+        """The bytes of a symbol: those that are told, or else those up to the next one."""
+        place = bisect_right(self.addresses, symbol.address)
+        following = self.addresses[place] - symbol.address if place < len(self.addresses) else UNSIZED
+        return symbol.size or min(following, UNSIZED)
+
+    def name(self, address):
+        """The address as a symbol, and how far behind it, or None."""
+        symbol = self.at(address)
+        if symbol is None:
+            return None
+        offset = address - symbol.address
+        return "%s+%x" % (symbol.name, offset) if offset else symbol.name
+
+    def function(self, address):
+        """The symbol without how far behind it, or None."""
+        symbol = self.at(address)
+        return symbol and symbol.name
+
+    def source(self, address):
+        """The file and line of an instruction, or None."""
+        place = bisect_right(self.line_starts, address) - 1
+        return self.lines[place][1] if place >= 0 else None
+
+    def address(self, text):
+        """The address that a name, a name+offset or hexadecimal digits say, or None."""
+        name, plus, offset = text.partition("+")
+        try:
+            if name in self.by_name:
+                return self.by_name[name].address + (int(offset, 16) if plus else 0)
+            return int(text, 16) & 0xFFFFFFFF
+        except ValueError:
+            return None
+
+
+def symbols_of(path, data):
+    """The symbols of an ELF file's bytes or of an nm's lines; `path` names them in a fault."""
+    if data is None:
+        return Symbols()
+    if data.startswith(ELF_MAGIC):
+        return elf_symbols(path, data)
+    matches = [NM_LINE.match(line) for line in data.decode("latin-1").splitlines()]
+    return Symbols([Symbol(int(it[1], 16), 0, it[2], False) for it in matches if it])
+
+
+def symbols_from(path, image):
+    """The symbols in the file that is named, or else in the image itself where it is an ELF file."""
+    if path:
+        found = symbols_of(path, read_file(path))
+        if not found:
+            raise Fault("%s: there are no symbols in it" % path)
+        return found
+    return symbols_of(image.name, image.data if image.is_elf else None)
+
+
+def elf_symbols(path, data):
+    """The symbols and source lines of an ELF file."""
+    try:
+        from elftools.elf.elffile import ELFFile
+    except ImportError:
+        told(package_missing("pyelftools", "python3-pyelftools", "there are addresses in place of symbols"))
+        return Symbols()
+    file = readable(path, "no symbols", lambda: ELFFile(io.BytesIO(data)))
+    if file is None:
+        return Symbols()
+    knows_all_forms()
+    return Symbols(readable(path, "no symbols", lambda: list(named(file))) or (),
+                   readable(path, "no source lines", lambda: list(source_lines(file))) or ())
+
+
+def readable(path, without, read):
+    """What `read` gives; where the file is not as it should be, that is told, and what there is then none of."""
+    from elftools.common.exceptions import ELFError
+    try:
+        return read()
+    except (ELFError, ValueError, KeyError, TypeError, AttributeError) as error:
+        told("%s: %s, for it is no file that pyelftools reads (%s)" % (path, without, error))
+        return None
+
+
+def told(line):
+    print("rvlook: " + line, file=sys.stderr)
+
+
+def knows_all_forms():
+    """pyelftools before 0.30 does not know the form in which clang keeps the MD5 of a source file."""
+    from elftools.construct import Array
+    from elftools.dwarf.structs import DWARFStructs
+    create = DWARFStructs._create_dw_form
+
+    def create_more(structs):
+        create(structs)
+        structs.Dwarf_dw_form.setdefault("DW_FORM_data16", Array(16, structs.Dwarf_uint8("")))
+
+    DWARFStructs._create_dw_form = create_more
+
+
+def named(file):
+    """The symbols of functions, objects and labels."""
+    table = file.get_section_by_name(".symtab")
+    sections = {number for number, section in enumerate(file.iter_sections()) if section["sh_flags"] & 2}
+    for symbol in table.iter_symbols() if table else ():
+        kind, index = symbol["st_info"]["type"], symbol["st_shndx"]
+        if symbol.name and not symbol.name.startswith(("$", ".L")) and (index in sections) \
+                and kind in (*PREFERRED, "STT_NOTYPE"):
+            rank = 0 if kind in PREFERRED else 1 if symbol["st_info"]["bind"] == "STB_GLOBAL" else 2
+            yield Symbol(symbol["st_value"], symbol["st_size"], symbol.name, kind == "STT_FUNC", rank)
+        elif symbol.name and index == "SHN_ABS" and kind == "STT_NOTYPE":
+            yield Symbol(symbol["st_value"], 0, symbol.name, False, 3)
+
+
+def source_lines(file):
+    """The rows of all line tables: the address of each and its file and line, or None where a sequence ends."""
+    if not file.has_dwarf_info():
+        return
+    dwarf = file.get_dwarf_info()
+    for unit in dwarf.iter_CUs():
+        program = dwarf.line_program_for_CU(unit)
+        names = file_names(program) if program else {}
+        states = [entry.state for entry in program.get_entries() if entry.state] if program else []
+        yield from ((it.address, None if it.end_sequence or not it.line else "%s:%d" % (names.get(it.file, "?"), it.line))
+                    for it in states)
+
+
+def file_names(program):
+    """The names of a line table's files by their numbers: from 1 on up to DWARF 4, from 0 on in DWARF 5."""
+    first = 0 if program["version"] >= 5 else 1
+    return {first + place: entry.name.decode("utf-8", "replace").split("/")[-1]
+            for place, entry in enumerate(program["file_entry"])}
