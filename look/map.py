@@ -16,6 +16,7 @@ from .run import End, Stretch
 
 CALLED = re.compile(rb"trap=(?:00000009|80000007):")
 ENTRY_WRITTEN = re.compile(rb" csrr\w+ x\d+, 0x3[ab][0-9a-f],")  # pmpcfg0 to pmpaddr15, by the text of dis
+CSR_TEXT = b" csrr"  # of each instruction on such a register: most parts of a run have none
 PC = re.compile(rb"pc=(\w+)")
 
 
@@ -113,7 +114,7 @@ def changed_entries(run):
                 replay.bench.ask(*(replay.lines_to(item.first - 1) + replay.lines_up_to_next() or ["reg 0"]))
                 replay.lines_to(item.first - 1 + item.count)
                 block = replay.bench.block(b"".join([b"dis %s\nstep 1\n" % it for it in pcs]), 2 * item.count)
-                for number in places_of(ENTRY_WRITTEN, block):
+                for number in places_of(ENTRY_WRITTEN, block) if CSR_TEXT in block else ():
                     yield item.first + number // 2, item.hart
 
 
