@@ -13,6 +13,8 @@ import time
 from look_checks import PROGRAM, ROOT, expect, has_package, report
 
 LOOK = os.path.join(ROOT, "rvlook")
+# an input without an ELF file, which wants no package
+RAW = "examples/primes/stdin"
 TIMER = ["--monitor", "examples/enclave_timer/image", "--symbols", "examples/enclave_timer/listing"]
 LIMIT = 20  # seconds until a terminal is given up
 
@@ -138,7 +140,7 @@ def check_ends():
         with open(short, "w") as file:
             file.write('#!/bin/bash\nstdbuf -oL head -n 60 | "%s" "$@"\n' % PROGRAM)
         os.chmod(short, 0o755)
-        status, told = failure(["trace", image, "--monitor"], RVBENCH=short)
+        status, told = failure(["trace", RAW], RVBENCH=short)
         expect("a program that ends in the midst", (1, True), (status, bool(re.fullmatch(r"rvlook: [^\n]*\n", told))))
 
 
@@ -169,9 +171,9 @@ def check_packages():
 
 def check_closed():
     """Who reads the output goes away."""
-    shell = '"%s" trace --monitor examples/enclave_timer/image | head -n 1' % LOOK
+    shell = '"%s" trace %s | head -n 1' % (LOOK, RAW)
     done = subprocess.run(["bash", "-o", "pipefail", "-c", shell], cwd=ROOT, capture_output=True, text=True, check=False)
-    expect("a closed pipe", (141, "host  S\n", "rvlook: who reads the output has gone\n"), (done.returncode, done.stdout, done.stderr))
+    expect("a closed pipe", (141, "bare  M\n", "rvlook: who reads the output has gone\n"), (done.returncode, done.stdout, done.stderr))
 
 
 def main():
