@@ -15,6 +15,7 @@ mod address_matching;
 mod cache;
 mod cfg_byte;
 mod entry_ranges;
+mod kept_entries;
 mod matched_range;
 mod mode;
 mod open_range;
