@@ -2,7 +2,7 @@
 //! call or two: tables and benches in a test would make its proof long.
 
 use crate::benches::{expect_text, poke_words, with_words};
-use rv_debug::{Bench, Both, BothWhy, Command, both_command, parse, run_both};
+use rv_debug::{Bench, Both, BothLine, BothWhy, Command, both_command, both_line, parse, run_both};
 use rv_memory::Ram;
 use rv_monitor::{Harts, Monitored};
 use rv_text::Reply;
@@ -566,4 +566,58 @@ const RUNNING_BESIDE: &[After] = &[
 fn scramble_refuses_the_slot_that_runs_on_the_other_hart(rt: HostRuntime) {
     let made = (Made::Two, ENTER_BESIDE);
     expect_scrambled(&rt, rt.alloc(), made, 0, (1, false), RUNNING_BESIDE);
+}
+
+/// A line, what it was, and what either bench is told to reply.
+type LineRow = (&'static [u8], BothLine, &'static [u8], &'static [u8]);
+
+const DONE: BothLine = BothLine::Given {
+    why: BothWhy::All,
+    is_blank: false,
+};
+
+const BLANK: BothLine = BothLine::Given {
+    why: BothWhy::All,
+    is_blank: true,
+};
+
+const SKIPPED: BothLine = BothLine::Given {
+    why: BothWhy::NotBlind,
+    is_blank: false,
+};
+
+const LINES: &[LineRow] = &[
+    (b"fly", BothLine::Faulty, b"error command\n", b""),
+    (b"reg 99", BothLine::Faulty, b"error operand\n", b""),
+    (b"", BLANK, b"", b""),
+    (b"# regs", BLANK, b"", b""),
+    (b"setreg 5 7", DONE, b"ok\n", b"ok\n"),
+    (b"csr 7a0", DONE, b"error csr\n", b"error csr\n"),
+    (b"mem 80020000 1", SKIPPED, b"", b""),
+    (b"reg 5", DONE, b"x5=00000007\n", b"x5=00000007\n"),
+];
+
+/// Gives a line to two benches.
+fn expect_line(rt: &impl Abort, a: &mut Bench, b: &mut Bench, row: &LineRow) {
+    let (line, what, first_want, second_want) = *row;
+    // what the buffers hold before is replaced
+    let mut first = Reply::new();
+    let mut second = Reply::new();
+    first.push(b'?');
+    second.push(b'?');
+    let found = both_line(a, b, 0, line, &mut first, &mut second);
+    assert!(rt; found == what);
+    expect_text(rt, &first, first_want);
+    expect_text(rt, &second, second_want);
+}
+
+/// A fault is told once, a line without a command is no command, and one that is not blind is skipped.
+#[test]
+fn a_line_is_given_to_both(rt: HostRuntime) {
+    let mut a = bench_of(&rt, rt.alloc(), PAIR.0, &[]);
+    let mut b = bench_of(&rt, rt.alloc(), PAIR.1, &[]);
+    for row in LINES {
+        expect_line(&rt, &mut a, &mut b, row);
+    }
+    expect_after(&rt, &mut a, &mut b, SECRETS);
 }
