@@ -3,7 +3,10 @@ use Rattle.std.proofs.Common.{◌≡◌, ℕ, zero, suc, ◌+◌, ◌<◌, ◌�
 use Rattle.std.specs.List.{range_with_len, find}
 use Rattle.std.specs.Option.{option_eq}
 use Rattle.std.proofs.lemmas.Bool.{both_ways, eqb-true}
-use Rattle.rv_pmp.specs.Segments.{owner}
+use Rattle.rv_pmp.specs.declared.entry_ranges.EntryRanges.{EntryRanges}
+use Rattle.rv_pmp.specs.Entries.{Entries}
+use Rattle.rv_pmp.specs.Covers.{covers}
+use Rattle.rv_pmp.specs.Segments.{owner, is_within, AreRanges}
 use Rattle.rv_pmp.proofs.VerdictLemmas.{find_at, find_none, find_cases}
 
 -- two tests that agree find the same
@@ -53,6 +56,10 @@ unowned p b is j below = elim (find_cases (λ i. p i b) 0 16) [
   | inl found ↦ cc
   | inr nothing ↦ nothing.1 j (omega arith) (omega arith)
 ]
+
+-- the owner by the ranges of the entries
+pub owner_by_ranges : (e : Entries) (ranges : EntryRanges) (b : ℕ) → AreRanges e ranges → owner (is_within ranges) b ≡ owner (covers e) b
+owner_by_ranges e ranges b are = owner_alike (is_within ranges) (covers e) b b (λ i in_range. sym (are i b in_range))
 
 -- two options that compare equal are the same
 pub option_same : (x y : Option ℕ) → option_eq (λ a b. a == b) x y ≡ true → x ≡ y

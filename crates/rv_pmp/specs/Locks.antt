@@ -1,6 +1,6 @@
 -- Writes of entries, and the locks that refuse them: RISC-V Privileged Architecture 20211203, section 3.7.1, Locking and
 -- Privilege Mode.
-use Rattle.std.specs.Prelude.{ℕ, ◌+◌, ◌/◌, ◌%◌, ◌==◌, nat_lt, Bool, not, ◌&&◌, ◌||◌, if◌then◌else◌, List, map, slice_set, [], ◌∷◌, ◌*◌}
+use Rattle.std.specs.Prelude.{ℕ, ◌+◌, ◌/◌, ◌%◌, ◌<◌, ◌==◌, ◌≡◌, nat_lt, Bool, false, not, ◌&&◌, ◌||◌, if◌then◌else◌, List, map, slice_set, [], ◌∷◌, ◌*◌}
 use Rattle.std.specs.List.{range_with_len}
 use Rattle.rv_word.specs.ByteOrder.{word_of_bytes, byte_of}
 use Rattle.rv_pmp.specs.Cfg.{is_tor, is_locked, stored_cfg}
@@ -10,12 +10,15 @@ use Rattle.rv_pmp.specs.Entries.{Entries, cfg_of}
 abbrev pub is_cfg_locked : Entries → ℕ → Bool
 is_cfg_locked entries i = is_locked (cfg_of entries i)
 
+-- no entry is locked
+abbrev pub HasNoLock : Entries → Type 0
+HasNoLock entries = (i : ℕ) → i < 16 → is_cfg_locked entries i ≡ false
+
 -- whether entry i is a locked TOR entry, also where it covers nothing
 abbrev pub is_locked_tor : Entries → ℕ → Bool
 is_locked_tor entries i = is_locked (cfg_of entries i) && is_tor (cfg_of entries i)
 
--- Whether the pmpaddr of entry i takes no write: the entry is locked, or the next one, which the last has not, is a locked TOR
--- entry.
+-- Whether a write to the pmpaddr of entry i is ignored: the entry is locked, or there is a next one and that is a locked TOR entry.
 abbrev pub is_addr_locked : Entries → ℕ → Bool
 is_addr_locked entries i = is_cfg_locked entries i || (nat_lt i 15 && is_locked_tor entries (i + 1))
 

@@ -1,6 +1,7 @@
 //! The fields of a cfg byte, and its stored form (Privileged Architecture, section 3.7.1).
 
-ghost use Rattle.std.specs.Prelude.{◌≡◌, map};
+ghost use Rattle.std.specs.Prelude.{◌≡◌, map, not};
+ghost use Rattle.std.specs.List.{list_all};
 ghost use Rattle.rv_pmp.specs.Cfg as spec;
 
 use crate::access::Access;
@@ -48,6 +49,13 @@ pub(crate) fn stored(cfg: u8) -> u8
 {
     let kept = cfg & 0x9f;
     if kept & 3 == 2 { kept & 0xfd } else { kept }
+}
+
+/// Whether L is clear in each cfg byte.
+pub(crate) fn is_none_locked(cfgs: &[u8; 16]) -> bool
+    ensures { result ≡ list_all (λ cfg. not (spec.is_locked cfg)) cfgs.now }
+{
+    cfgs.iter().all(|cfg| !is_locked(*cfg))
 }
 
 /// The bytes that are stored for written ones.

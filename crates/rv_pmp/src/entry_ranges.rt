@@ -41,6 +41,16 @@ fn range_or_none(cfgs: &[u8; 16], addrs: &[u32; 16], index: PmpIndex) -> (u64, u
     }
 }
 
+/// The least entry that covers a byte, by the entries alone.
+#[cold]
+#[inline(never)]
+#[tactic(auto, using(crate::proofs::OwnerLemmas::owner_by_ranges))]
+pub(crate) fn entry_over(cfgs: &[u8; 16], addrs: &[u32; 16], byte: u64) -> Option<PmpIndex>
+    ensures { result ≡ owner (covers (record { cfgs = cfgs.now; addrs = addrs.now })) byte }
+{
+    EntryRanges::of(cfgs, addrs).owner(byte)
+}
+
 impl EntryRanges {
     /// The ranges of the entries with these cfg bytes and pmpaddr values.
     pub(crate) fn of(cfgs: &[u8; 16], addrs: &[u32; 16]) -> EntryRanges

@@ -7,7 +7,7 @@ use crate::entry_ranges::EntryRanges;
 use crate::pmp_index::PmpIndex;
 
 /// The first address past all that an entry can cover.
-const END: u64 = 0x8_0000_0000;
+pub(crate) const END: u64 = 0x8_0000_0000;
 
 /// The addresses from 0 on in segments that follow one another. At most 33 are used, the first `count`: sixteen ranges have
 /// 32 ends.

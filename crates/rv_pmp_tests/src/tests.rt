@@ -228,3 +228,30 @@ fn set_entry(rt: HostRuntime) {
     let across = pmp.judge(Mode::M, Access::Read, 0x8000_0ffe, Width::Word);
     assert!(rt; numbered(across) == Expected::DeniedPartial(7));
 }
+
+/// What accesses leave remembered is told for their mode alone, and until an entry is written.
+#[test]
+fn remembered_segments(rt: HostRuntime) {
+    let mut pmp = Pmp::new();
+    pmp.set_entry(PmpIndex::new(0), 0x1b, 0x2000_01ff);
+    expect_open(&rt, &mut pmp, 0x8000_0000, true);
+    assert!(rt; pmp.check(Mode::S, Access::Write, 0x8000_0000, Width::Byte));
+    assert_eq!(rt; pmp.remembered_reads(Mode::U), (0x8000_0000, 0x8000_1000));
+    assert_eq!(rt; pmp.remembered_reads(Mode::S), (0, 0));
+    assert_eq!(rt; pmp.remembered_writes(Mode::S), (0x8000_0000, 0x8000_1000));
+    pmp.write_addr(index(15), 1);
+    assert_eq!(rt; pmp.remembered_reads(Mode::U), (0, 0));
+}
+
+/// In mode M all addresses are remembered for fetches where no entry is locked, of aligned words alone.
+#[test]
+fn remembered_fetches(rt: HostRuntime) {
+    let mut pmp = Pmp::new();
+    pmp.write_addr(index(0), 0x2000_01ff);
+    pmp.write_cfg(index(0), 0x18);
+    assert!(rt; pmp.check(Mode::M, Access::Fetch, 0x8000_0ffc, Width::Word));
+    assert_eq!(rt; pmp.remembered_fetches(Mode::M), (0, 1 << 35));
+    assert!(rt; !pmp.check(Mode::M, Access::Fetch, 0x8000_0ffe, Width::Word));
+    pmp.write_cfg(index(0), 0x98);
+    assert!(rt; !pmp.check(Mode::M, Access::Fetch, 0x8000_0ffc, Width::Word));
+}

@@ -1,4 +1,4 @@
-//! Verdicts at the borders of a few sets of entries, worked out byte by byte. Written by tests/pmp_verdicts.py.
+//! Verdicts at the borders of a few sets of entries, worked out byte by byte. Written by tests/generators/pmp_verdicts.py.
 
 use crate::tests::Expected::{Allowed, AllowedFree, Denied, DeniedFree, DeniedPartial};
 use crate::tests::Row;
