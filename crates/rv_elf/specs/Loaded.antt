@@ -13,7 +13,8 @@ byte_in image address segment =
     let k = address - segment.address in
     if nat_lt k segment.file_size then slice_index image (segment.offset + k) else 0
 
--- the byte at an address after the segments were loaded: that of the segment which has the address, else the one before
+-- the byte at an address after the segments were loaded: that of the segment which has the address (no two share one), and where none has
+-- it the byte that was there
 abbrev pub byte_after : List ℕ → List Segment → List ℕ → ℕ → ℕ
 byte_after image segments memory address =
     option_case (find (has_address address) segments) (slice_index memory (address - ram_base)) (byte_in image address)

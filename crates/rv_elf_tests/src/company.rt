@@ -1,4 +1,4 @@
-//! Files with two faults each. Written by tests/elf.py.
+//! Files with two faults each. Written by tests/generators/elf.py.
 
 /// An ELF file of three segments, which loads; those with faults are made of it.
 pub(crate) const FILE: [u8; 160] = [

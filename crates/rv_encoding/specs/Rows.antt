@@ -9,8 +9,8 @@ use Rattle.rv_encoding.specs.declared.encoder.codes.Functs.{Functs}
 use Rattle.rv_encoding.specs.declared.instr.Instr.{Instr}
 use Rattle.rv_encoding.specs.declared.instr.Instr.TheVariants.{Lui, Auipc, Jal, Jalr, Branch, Load, Store, OpImm, ShiftImm, Op, Fence, Csr, CsrImm, Ecall, Ebreak, Sret, Mret, Wfi, SfenceVma}
 
--- A row with the fields of one of its words: under the mask the word is the match, and it is the match and each field
--- at its places.
+-- A row of the listings, and the fields of one of its words. Under the mask every word of the row is the match; this one is the
+-- match with each of these fields at its places.
 pub record InstrRow : Type 0 where
   pub mask : ℕ
   pub match : ℕ

@@ -1,5 +1,6 @@
 -- Laws of the accesses: what is done lies in RAM and is permitted, and two memories of one size do and refuse the same accesses.
 use Rattle.std.proofs.Common.{◌≡◌, ℕ, ◌-◌, List, length, Option, Some, None, Result, Ok, Err, Bool, true, false, refl}
+use Rattle.std.specs.Option.{option_map}
 use Rattle.std.specs.Prelude.{if◌then◌else◌}
 use Rattle.rv_word.specs.Cases.{option_case}
 use Rattle.rv_word.specs.Widths.{bytes_in}
@@ -11,7 +12,7 @@ use Rattle.rv_pmp.specs.declared.access.Access.TheVariants.{Fetch, Read, Write}
 use Rattle.rv_pmp.specs.declared.mode.Mode.{Mode}
 use Rattle.rv_pmp.specs.declared.verdict.Verdict.{Verdict}
 use Rattle.rv_memory.specs.Accesses.{loaded, fetched, stored, where_permitted, verdict_on}
-use Rattle.rv_memory.specs.Memory.{ram_base, is_inside, read, write, write_bytes, number_of_bytes, bytes_of}
+use Rattle.rv_memory.specs.Memory.{ram_base, is_inside, read, write, write_bytes, number_of_bytes, number_at, bytes_of}
 use Rattle.rv_memory.specs.declared.access_fault.AccessFault.{AccessFault}
 use Rattle.rv_memory.specs.declared.access_fault.AccessFault.TheVariants.{Outside, Refused}
 use Rattle.rv_memory.proofs.MemoryLaws.{length-bytes_of}
@@ -52,6 +53,28 @@ store_done m entries mode address width value after is =
     let bytes = bytes_of (bytes_in width) value in
     let done = judged-done (is_inside m address (length bytes)) _ (verdict_on entries mode Write address width) (λ (x : List ℕ). x) after is in
     (rw length-bytes_of at done.0, done.1, done.2)
+
+-- ---- what is in RAM and permitted is done
+
+number-judged : (bytes : Option (List ℕ)) (verdict : Verdict) (number : ℕ) → option_map number_of_bytes bytes ≡ Some number → permits verdict ≡ true
+    → judged bytes verdict number_of_bytes ≡ Ok number
+number-judged None verdict number is may = cc
+number-judged (Some bytes) verdict number is may = let same : number_of_bytes bytes ≡ number = cc in rw (may, same) refl
+
+pub fetch_permitted : (m : List ℕ) (entries : Entries) (mode : Mode) (address word : ℕ) → number_at m address (bytes_in Word) ≡ Some word
+    → permits (verdict_on entries mode Fetch address Word) ≡ true → fetched m entries mode address ≡ Ok word
+fetch_permitted m entries mode address word is may = number-judged (read m address (bytes_in Word)) (verdict_on entries mode Fetch address Word) word is may
+
+pub load_permitted : (m : List ℕ) (entries : Entries) (mode : Mode) (address : ℕ) (width : Width) (number : ℕ)
+    → number_at m address (bytes_in width) ≡ Some number → permits (verdict_on entries mode Read address width) ≡ true
+    → loaded m entries mode address width ≡ Ok number
+load_permitted m entries mode address width number is may =
+    number-judged (read m address (bytes_in width)) (verdict_on entries mode Read address width) number is may
+
+pub store_permitted : (m : List ℕ) (entries : Entries) (mode : Mode) (address : ℕ) (width : Width) (value : ℕ) (after : List ℕ)
+    → write m address (bytes_of (bytes_in width) value) ≡ Some after → permits (verdict_on entries mode Write address width) ≡ true
+    → stored m entries mode address width value ≡ Ok after
+store_permitted m entries mode address width value after is may = rw (is, may) refl
 
 -- ---- what one memory refuses, every other of its size refuses, and what one takes the other takes
 

@@ -39,6 +39,10 @@ abbrev pub number_of_bytes : List ℕ → ℕ
 number_of_bytes [] = 0
 number_of_bytes (byte ∷ bytes) = byte + 2 ^ 8 * number_of_bytes bytes
 
+-- the number that so many bytes from an address on spell, where all of them are in the memory
+abbrev pub number_at : List ℕ → ℕ → ℕ → Option ℕ
+number_at memory address count = option_map number_of_bytes (read memory address count)
+
 -- so many of the lowest bytes of a word, the lowest first
 abbrev pub bytes_of : ℕ → ℕ → List ℕ
 bytes_of count word = take count (byte_of word 0 ∷ byte_of word 1 ∷ byte_of word 2 ∷ byte_of word 3 ∷ [])

@@ -2,7 +2,7 @@
 
 ghost use Rattle.std.specs.Prelude.{◌≡◌, ℕ, ◌+◌, ◌-◌, ◌%◌, ◌^◌, ◌<◌, ◌*◌, ◌≤◌, List, [], ◌∷◌, length, map, replicate, take, drop, IfOk, OnOk, OnErr, MatchResult, Some, None, Ok, Err, true, false, if◌then◌else◌};
 ghost use Rattle.rv_word.specs.Widths.{bytes_in};
-ghost use Rattle.rv_memory.specs.Memory.{is_ram_size, ram_base, is_inside, read, write, write_bytes, byte_at, number_of_bytes, bytes_of};
+ghost use Rattle.rv_memory.specs.Memory.{is_ram_size, ram_base, is_inside, read, write, write_bytes, byte_at, number_of_bytes, number_at, bytes_of};
 ghost use Rattle.rv_memory.specs.Complement.{complement_of, complemented};
 ghost use Rattle.rv_memory.specs.Accesses.{loaded, stored, fetched, verdict_on};
 ghost use Rattle.rv_memory.specs.Changes.{ChangesOnly};
@@ -227,6 +227,31 @@ impl Ram {
         }
         self.put_number((addr - RAM_BASE) as usize, width, value);
         Ok(())
+    }
+
+    /// The number that the bytes at an address spell, the lowest first, all of which are in the memory. No entries are asked.
+    #[inline(always)]
+    #[tactic(auto, unfolding(crate::specs::Memory::read))]
+    pub fn number(&self, addr: u32, width: Width) -> u32
+        requires { is_inside self.now addr (bytes_in width) ≡ true }
+        ensures { number_at self.now addr (bytes_in width) ≡ Some result }
+    {
+        let start = addr as usize - RAM_BASE as usize;
+        match width {
+            Width::Byte => self.number_at(start, 1),
+            Width::Half => self.number_at(start, 2),
+            Width::Word => self.number_at(start, 4),
+        }
+    }
+
+    /// Puts the lowest bytes of a word at an address, the lowest first, where all of them are in the memory. No entries are asked.
+    #[inline(always)]
+    #[tactic(auto, unfolding(crate::specs::Memory::write))]
+    pub fn put(&mut self, addr: u32, width: Width, value: u32)
+        requires { is_inside self.old addr (bytes_in width) ≡ true }
+        ensures { write self.old addr (bytes_of (bytes_in width) value) ≡ Some self.new }
+    {
+        self.put_number(addr as usize - RAM_BASE as usize, width, value);
     }
 
     /// Puts the lowest bytes of a word at an index, the lowest first.

@@ -1,3 +1,4 @@
+pub mod CountedLemmas
 pub mod MaskLemmas
 pub mod ReadBackLemmas
 pub mod RaisedLemmas

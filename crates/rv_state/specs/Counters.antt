@@ -1,6 +1,6 @@
 -- The counters of 64 bits, their halves, and what a step adds: RISC-V Privileged Architecture 20211203, sections 3.1.10 and
 -- 3.1.12; Unprivileged ISA 20191213, section 9.1 (a write is done instead of the increment).
-use Rattle.std.specs.Prelude.{ℕ, ◌+◌, ◌*◌, ◌%◌, ◌^◌, Bool, false, ◌||◌, not, ◌==◌, if◌then◌else◌, Option, Some, None}
+use Rattle.std.specs.Prelude.{ℕ, zero, suc, ◌+◌, ◌*◌, ◌%◌, ◌^◌, Bool, true, false, ◌||◌, not, ◌==◌, if◌then◌else◌, Option, Some, None}
 use Rattle.rv_word.specs.BitFields.{bits, is_set}
 use Rattle.rv_state.specs.CsrState.{CsrState}
 
@@ -27,3 +27,8 @@ ticked c retired inhibit written = record c {
   mcycle = incremented c.mcycle (is_set inhibit 0 || wrote written 0xB00 0xB80);
   minstret = incremented c.minstret (not retired || is_set inhibit 2 || wrote written 0xB02 0xB82);
 }
+
+-- the registers after so many steps that each retired an instruction and wrote no register
+abbrev pub counted : ℕ → CsrState → CsrState
+counted zero c = c
+counted (suc count) c = ticked (counted count c) true c.mcountinhibit None

@@ -6,7 +6,7 @@ use rv_pmp::Mode;
 /// The fields of mstatus that this machine has (Privileged Architecture, section 3.1.6).
 #[derive(Clone, Copy, Debug, PartialEq, Eq)]
 pub struct Mstatus {
-    /// Interrupts are enabled in mode S.
+    /// Interrupts that are delegated are enabled in mode S: kept, and without effect here, where none is.
     pub sie: bool,
     /// Interrupts are enabled in mode M.
     pub mie: bool,
