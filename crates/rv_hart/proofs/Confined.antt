@@ -17,7 +17,7 @@ use Rattle.rv_hart.specs.Step.{step, from_fetch, from_decode, from_access, retir
 use Rattle.rv_hart.specs.declared.request.Request.{Request}
 use Rattle.rv_hart.specs.declared.request.Request.TheVariants.{Nothing, Load, Store}
 use Rattle.rv_hart.specs.declared.trap.Trap.{Trap}
-use Rattle.rv_hart.proofs.StepCases.{Fetches, Decodes, Asks, Loads, Stores, by_ways}
+use Rattle.rv_hart.proofs.StepCases.{Fetches, Decodes, Asks, Loads, Stores, asked_step, by_ways}
 
 -- the same hart over another memory
 abbrev with_memory : State → List ℕ → State
@@ -39,11 +39,6 @@ decodes-too state n word given same here = record { fetch = fetches-too state n 
 asks-too : (state : State) (n : List ℕ) (word : ℕ) (instr : Instr) (access : Request) → SameIn state.memory n (span state.hart.pc Word) → Asks state word instr access
     → Asks (with_memory state n) word instr access
 asks-too state n word instr access same here = record { decode = decodes-too state n word (Some instr) same here.decode; request = here.request }
-
-asked-step : (state : State) (word : ℕ) (instr : Instr) (access : Request) → Asks state word instr access
-    → step state ≡ from_access state.hart state.memory word instr access
-unfolding step from_fetch from_decode
-asked-step state word instr access here = rw (here.decode.fetch.pending, here.decode.fetch.fetched, here.decode.decoded, here.request) refl
 
 -- ---- the ends
 
@@ -99,13 +94,13 @@ confined state = by_ways state (IsConfined state) (record {
     bytes = [];
     alike = λ n agree.
         let reads : AgreeOn state.memory n (fetch_of state.hart) = rw touched-ended at agree in
-        unchanged state n _ (none-stored state.hart (fetch_of state.hart) _ _ refl) (asked-step _ word instr Nothing (asks-too state n word instr Nothing reads.fetched here));
+        unchanged state n _ (none-stored state.hart (fetch_of state.hart) _ _ refl) (asked_step _ word instr Nothing (asks-too state n word instr Nothing reads.fetched here));
   };
   load = λ word instr address width number here is. record {
     bytes = [];
     alike = λ n agree.
         let reads : AgreeOn state.memory n (load_of state.hart address width) = rw touched-ended at agree in
-        let there = asked-step _ word instr (Load address width) (asks-too state n word instr (Load address width) reads.fetched here) in
+        let there = asked_step _ word instr (Load address width) (asks-too state n word instr (Load address width) reads.fetched here) in
         let loads : Loads (with_memory state n) address width (Ok number) =
         sym (load_same state.memory n state.hart.csrs.pmp (data_mode state.hart) address width reads.loaded) ∙ is in
         unchanged state n _ (none-stored state.hart (load_of state.hart address width) _ _ refl) (rw loads at there);
@@ -113,7 +108,7 @@ confined state = by_ways state (IsConfined state) (record {
   load_refused = λ word instr address width fault here is. record {
     bytes = [];
     alike = λ n agree.
-        let there = asked-step _ word instr (Load address width) (asks-too state n word instr (Load address width) agree.fetched here) in
+        let there = asked_step _ word instr (Load address width) (asks-too state n word instr (Load address width) agree.fetched here) in
         let refused = load_refused_too state.memory n state.hart.csrs.pmp (data_mode state.hart) address width fault agree.size is in
         unchanged state n _ refl (rw refused at there);
   };
@@ -121,14 +116,14 @@ confined state = by_ways state (IsConfined state) (record {
     bytes = bytes_of (bytes_in width) value;
     alike = λ n agree.
         let reads : AgreeOn state.memory n (store_of state.hart address width) = rw touched-ended at agree in
-        let there = asked-step _ word instr (Store address width value) (asks-too state n word instr (Store address width value) reads.fetched here) in
+        let there = asked_step _ word instr (Store address width value) (asks-too state n word instr (Store address width value) reads.fetched here) in
         let stores = store_done_too state.memory n state.hart.csrs.pmp (data_mode state.hart) address width value memory reads.size is in
         stored-alike state n word instr address width value memory reads.size is (rw stores at there);
   };
   store_refused = λ word instr address width value fault here is. record {
     bytes = [];
     alike = λ n agree.
-        let there = asked-step _ word instr (Store address width value) (asks-too state n word instr (Store address width value) agree.fetched here) in
+        let there = asked_step _ word instr (Store address width value) (asks-too state n word instr (Store address width value) agree.fetched here) in
         let refused = store_refused_too state.memory n state.hart.csrs.pmp (data_mode state.hart) address width value fault agree.size is in
         unchanged state n _ refl (rw refused at there);
   };

@@ -111,6 +111,12 @@ pub by_ways : (state : State) (P : Stepped → Type 0) → Ways state P → P (s
 unfolding step
 by_ways state P ways = by-interrupt state P ways _ refl
 
+-- the step of an instruction that asks for an access
+pub asked_step : (state : State) (word : ℕ) (instr : Instr) (access : Request) → Asks state word instr access
+    → step state ≡ from_access state.hart state.memory word instr access
+unfolding step from_fetch from_decode
+asked_step state word instr access here = rw (here.decode.fetch.pending, here.decode.fetch.fetched, here.decode.decoded, here.request) refl
+
 -- ---- in four cases
 
 -- It ends in a trap; or an instruction retires that asked for no access, that loaded, or that stored. In each the entries permit

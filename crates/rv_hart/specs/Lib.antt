@@ -1,7 +1,9 @@
 pub mod Arithmetic
 pub mod Confinement
 pub mod CsrInstructions
+pub mod Decoded
 pub mod Exceptions
+pub mod FastSteps
 pub mod Hart
 pub mod HartState
 pub mod Instructions
@@ -10,3 +12,5 @@ pub mod Permitted
 pub mod State
 pub mod Step
 pub mod StepLaws
+pub mod Quick
+pub mod Windows

@@ -257,7 +257,7 @@ impl Hart {
 
     /// The mode in which loads and stores are judged: that of MPP where MPRV is set (Privileged Architecture, section 3.1.6.3).
     #[inline(always)]
-    fn data_mode(&self) -> Mode
+    pub(crate) fn data_mode(&self) -> Mode
         ensures { result ≡ data_mode self.now }
     {
         let status = self.csrs.mstatus();

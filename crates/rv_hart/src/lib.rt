@@ -5,6 +5,9 @@
 //! in whatever state, is a clause of `Hart::step` and a lemma of `StepLaws` or `Confined` in the proofs, where `by_cases` in
 //! `StepCases` is the principle for more such laws.
 //!
+//! `Hart::run_fast` does many steps at once of those that end in no trap, and its contract says that they are steps; it stops before any
+//! other.
+//!
 //! ```text
 //! let mut machine = Machine::new(ram, 0x8000_0000, Mode::M);
 //! let outcome = machine.step();
@@ -14,12 +17,20 @@
 
 mod arithmetic;
 mod csr_instructions;
+mod decoded;
+mod fast;
 mod hart;
+mod limits;
 mod machine;
+mod memo;
+mod quick;
 mod request;
 mod returns;
 mod trap;
+mod windows;
 
 pub use hart::Hart;
+pub use limits::{Interval, Limits};
 pub use machine::Machine;
+pub use memo::Memo;
 pub use trap::{StepOutcome, Trap};

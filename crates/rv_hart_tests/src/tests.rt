@@ -296,3 +296,66 @@ fn judges_by_the_entries(rt: HostRuntime) -> Result<(), Fail> {
     }
     Ok(())
 }
+
+/// No address is past this one.
+const END: u64 = 0x1_0000_0000;
+
+const COUNTED: [Line; 17] = [
+    Line::Set(2, RAM_BASE),
+    Line::Step,
+    Line::Step,
+    Line::Step,
+    Line::Step,
+    Line::Fast(40, END, 40),
+    Line::X(1, 11),
+    Line::X(3, 11),
+    Line::Byte(RAM_BASE + 256, 11),
+    Line::Csr(0xb00, 44),
+    Line::Csr(0xb02, 44),
+    Line::Pc(RAM_BASE),
+    Line::Fast(40, RAM_BASE as u64 + 12, 3),
+    Line::Pc(RAM_BASE + 12),
+    Line::X(3, 12),
+    Line::Csr(0xb02, 47),
+    Line::Fast(0, END, 0),
+];
+
+/// addi x1, x1, 1; sw x1, 256(x2); lw x3, 256(x2); bne x1, x0, -12: what steps have shown to be permitted is done many at once, as far
+/// as the limits go.
+#[test]
+fn goes_on_fast(rt: HostRuntime) -> Result<(), Fail> {
+    run(
+        rt,
+        &[0x0010_8093, 0x1011_2023, 0x1001_2183, 0xfe00_9ae3],
+        &COUNTED,
+    )
+}
+
+const STOPPED: [Line; 14] = [
+    Line::Step,
+    Line::Set(1, 6),
+    // a write of a control and status register is left to the step, and so is what traps
+    Line::Fast(9, END, 1),
+    Line::X(1, 7),
+    Line::Pc(RAM_BASE + 8),
+    Line::Trap(None),
+    Line::Fast(9, END, 0),
+    Line::Csr(0xb02, 3),
+    Line::Enter(Mode::M),
+    Line::Fast(1, END, 1),
+    // an interrupt is taken by the step
+    Line::Write(0x300, 8),
+    Line::Mie(0x80),
+    Line::Timer(true),
+    Line::Fast(9, END, 0),
+];
+
+/// addi x1, x0, 0; addi x1, x1, 1; csrrw x0, mscratch, x1; ebreak
+#[test]
+fn leaves_to_the_step_what_may_trap(rt: HostRuntime) -> Result<(), Fail> {
+    run(
+        rt,
+        &[0x0000_0093, 0x0010_8093, 0x3400_9073, 0x0010_0073],
+        &STOPPED,
+    )
+}

@@ -1,6 +1,6 @@
 //! What a test does with a machine, as lines.
 
-use rv_hart::{Machine, StepOutcome, Trap};
+use rv_hart::{Interval, Limits, Machine, StepOutcome, Trap};
 use rv_memory::{RAM_BASE, Ram};
 use rv_pmp::Mode;
 use rv_word::{Reg, le_bytes};
@@ -22,6 +22,8 @@ pub enum Line {
     Patch([u8; 4]),
     /// A step, of which nothing is asked.
     Step,
+    /// Fast steps, at most so many, fetched below an address, and how many were done.
+    Fast(u32, u64, u32),
     /// A step, and its trap.
     Trap(Option<Trap>),
     /// A step, and all that it shows.
@@ -77,6 +79,7 @@ fn holds(machine: &mut Machine, line: Line) -> bool {
         Line::Step => {
             step(machine);
         }
+        Line::Fast(count, below, done) => return run_fast(machine, count, below) == done,
         Line::Trap(trap) => return step(machine).trap == trap,
         Line::Outcome(outcome) => return step(machine) == outcome,
         Line::Pc(address) => return machine.pc() == address,
@@ -90,6 +93,20 @@ fn holds(machine: &mut Machine, line: Line) -> bool {
 
 fn step(machine: &mut Machine) -> StepOutcome {
     machine.step()
+}
+
+fn run_fast(machine: &mut Machine, count: u32, below: u64) -> u32 {
+    let all = Interval {
+        from: 0,
+        to: 0x1_0000_0000,
+    };
+    let fetch = Interval { from: 0, to: below };
+    let limits = Limits {
+        fetch,
+        read: all,
+        write: all,
+    };
+    machine.run_fast(&limits, count)
 }
 
 fn set(machine: &mut Machine, register: u8, word: u32) {
