@@ -8,11 +8,10 @@ use Rattle.rv_pmp.proofs.VerdictLemmas.{each_from_all}
 use Rattle.rv_memory.proofs.MemoryLaws.{byte_at-write}
 use Rattle.rv_hart.specs.Confinement.{IsConfined}
 use Rattle.rv_hart.specs.Permitted.{TouchesPermitted}
-use Rattle.rv_hart.specs.StepLaws.{TrapKeeps}
 use Rattle.rv_monitor.specs.Asked.{is_call}
 use Rattle.rv_monitor.specs.Changes.{IsStoredInReach, IsMeasured, ByMonitor, IsChanged, IsChangedWithin, ChangeLaw, RunsChangeLaw}
 use Rattle.rv_monitor.specs.Measure.{measure_refusals, may_store, may_store_all}
-use Rattle.rv_monitor.proofs.Prelude.{AgreeOn, Block, Call, Destroy, Entries, Handled, Hart, IsKept, IsLawfulSlot, IsValid, M, MayTouch, Measure, MonitoredState, MonitoredStepped, S, Seat, Shared, SlotInfo, Span, State, Stepped, Stores, Trap, World, Write, a0, a1, asked_in, bare, byte_at, bytes_from, bytes_in, confined, created, data_mode, destroyed, entered, first_refusal, handled, has, is_inside, is_live, layout, left_slot, measured, measured_slot, monitored_step, option_case, permits, region, returned, slot_at, step, step_counted, touches_permitted, trap_keeps, trapped, unhandled, verdict, with_bytes, with_slot, worlds_beside, write, zeroed}
+use Rattle.rv_monitor.proofs.Prelude.{AgreeOn, Block, Call, Destroy, Entries, IsKept, IsLawfulSlot, IsValid, M, MayTouch, Measure, MonitoredState, S, Seat, Shared, SlotInfo, Span, Stepped, Stores, Trap, World, Write, a0, a1, asked_in, bare, byte_at, bytes_from, bytes_in, confined, created, data_mode, destroyed, entered, first_refusal, handled, has, is_inside, is_live, layout, left_slot, measured, measured_slot, monitored_step, option_case, permits, region, slot_at, step, touches_permitted, verdict, with_bytes, with_slot, worlds_beside, write, zeroed}
 use Rattle.rv_monitor.proofs.KeptReaches.{kept_reach, below_M, clear_mode}
 use Rattle.rv_monitor.proofs.Ready.{IsTrapped}
 use Rattle.rv_monitor.proofs.Reaches.{reach_law}

@@ -32,6 +32,7 @@ pub mod Asked
 pub mod Switched
 pub mod Returned
 pub mod TrapSteps
+pub mod FastSteps
 pub mod Refused
 pub mod Leaving
 pub mod Integrity

@@ -1,8 +1,8 @@
 -- So many steps, by the laws of one.
-use Rattle.std.proofs.Common.{◌≡◌, ℕ, zero, suc, ◌⊎◌, List, [], ◌∷◌, Option, Some, None, refl, sym, ap, ap₂, inl, inr}
+use Rattle.std.proofs.Common.{◌≡◌, ℕ, zero, suc, ◌⊎◌, List, [], ◌∷◌, Some, refl, sym, ap, ap₂, inl, inr}
 use Rattle.rv_hart.proofs.StepLaws.{keeps_mprv_clear, keeps_machine_parts}
 use Rattle.rv_monitor.specs.Runs.{Ran, after_one, BothRunIn, BothRunPast, RunLaw, KeptLaw}
-use Rattle.rv_monitor.proofs.Prelude.{IsKept, MonitoredState, Outcome, Seat, Shared, Stepped, Trap, bare, confined, handled, monitored_step, option_case, returned, run, step, trap_keeps, unhandled, worlds_beside}
+use Rattle.rv_monitor.proofs.Prelude.{IsKept, Outcome, bare, confined, handled, monitored_step, run, step, worlds_beside}
 use Rattle.rv_monitor.proofs.MonitoredAlike.{confidentiality}
 use Rattle.rv_monitor.proofs.Ready.{handled_done, handled_laid_out}
 use Rattle.rv_monitor.proofs.StepKept.{after_none, trapped_here, returned_kept}

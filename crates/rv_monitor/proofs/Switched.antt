@@ -1,13 +1,13 @@
 -- What a step does to the world and to what is kept of the host.
-use Rattle.std.proofs.Common.{◌≡◌, ℕ, ◌==◌, ◌⊎◌, true, false, List, Option, Some, None, Result, Ok, Err, IfSome, refl, sym, ap, ◌∙◌, subst, inl, inr, arith}
-use Rattle.std.specs.Prelude.{◌%◌, ◌&&◌, not, if◌then◌else◌}
+use Rattle.std.proofs.Common.{◌≡◌, ℕ, ◌==◌, ◌⊎◌, true, false, List, Option, Some, None, IfSome, refl, sym, ap, ◌∙◌, subst, inl, inr, arith}
+use Rattle.std.specs.Prelude.{◌%◌, ◌&&◌, not}
 use Rattle.std.proofs.lemmas.Bool.{and_parts, both_ways}
 use Rattle.std.proofs.lemmas.Bool.Decides.{nat_tests}
 use Rattle.rv_state.specs.SContexts.{s_context, with_s_context, KeepsOwn}
 use Rattle.rv_state.specs.declared.s_context.SContext.{SContext}
 use Rattle.rv_monitor.specs.Contexts.{IsStored, with_answer}
 use Rattle.rv_monitor.specs.SwitchLaws.{SwitchLaw}
-use Rattle.rv_monitor.proofs.Prelude.{Context, CsrState, Enclave, Handled, Hart, Host, HostIsStored, IsKept, Mode, MonitoredState, S, Seat, Shared, StaysOrSwitches, StepOutcome, Trap, World, a0, aligned_to_4, bare, can_go_on, entered, handled, is_host, is_machine, left_slot, monitored_step, option_case, past_call, reason, returned, saved, step, trap_keeps, unhandled, value}
+use Rattle.rv_monitor.proofs.Prelude.{Context, CsrState, Enclave, Handled, Host, HostIsStored, IsKept, Mode, MonitoredState, S, Seat, Shared, StaysOrSwitches, StepOutcome, Trap, a0, aligned_to_4, bare, can_go_on, entered, handled, is_host, is_machine, left_slot, monitored_step, past_call, reason, returned, saved, step, value}
 use Rattle.rv_monitor.proofs.TrapSteps.{by_step, seat_after}
 use Rattle.rv_monitor.proofs.Works.{by_work}
 

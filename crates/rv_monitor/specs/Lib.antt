@@ -14,6 +14,7 @@ pub mod State
 pub mod Turns
 pub mod HartLaws
 pub mod Step
+pub mod FastSteps
 pub mod Switches
 pub mod SwitchLaws
 pub mod Leaving
