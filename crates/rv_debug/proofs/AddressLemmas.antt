@@ -1,5 +1,5 @@
 -- Sets of addresses as lists that rise.
-use Rattle.std.proofs.Common.{◌≡◌, ◌≢◌, ℕ, zero, suc, ◌+◌, ◌<◌, ◌≤◌, ◌==◌, ltb, Bool, true, false, cond, ◌||◌, List, []}
+use Rattle.std.proofs.Common.{◌≡◌, ◌≢◌, ℕ, zero, suc, ◌+◌, ◌-◌, ◌<◌, ◌≤◌, ◌==◌, ltb, Bool, true, false, cond, ◌||◌, List, []}
 use Rattle.std.proofs.Common.{◌∷◌, ◌++◌, length, take, drop, filter, get_or, Option, Some, None, Result, Ok, Err, MatchResult, refl, sym, ◌∙◌}
 use Rattle.std.proofs.Common.{ap, arith, inl, inr}
 use Rattle.std.specs.Prelude.{min}
@@ -264,3 +264,19 @@ find-far x count xs i all place far = sym (find-none (is_between x count) xs eac
 -- no address is in no span
 pub find-no_span : (xs : List ℕ) → None ≡ find (is_in None) xs
 find-no_span xs = sym (find-none (is_in None) xs (λ k inside. refl))
+
+-- ---- the gap around a place: none of these is from past the one before it up to the one at it
+pub gap-free : (xs : List ℕ) (i from to x : ℕ) → Rises xs → i ≤ length xs → (0 < i → get_or xs (i - 1) 0 < from)
+    → (i < length xs → to ≤ get_or xs i 0) → from ≤ x → x < to → is_among x xs ≡ false
+gap-free xs i from to x all within below above low high = among-absent x xs each where
+  each : (k : ℕ) → k < length xs → get_or xs k 0 ≢ x
+  each k inside same = elim (cases_lt k i) [
+    | inl lt ↦
+        let last : get_or xs (i - 1) 0 < from = below (omega arith) in
+        let up : get_or xs k 0 ≤ get_or xs (i - 1) 0 = rises-le xs all k (i - 1) (omega arith) (omega arith) in
+        absurd (omega arith)
+    | inr ge ↦
+        let first : to ≤ get_or xs i 0 = above (omega arith) in
+        let up : get_or xs i 0 ≤ get_or xs k 0 = rises-le xs all i k ge inside in
+        absurd (omega arith)
+  ]

@@ -6,6 +6,8 @@ pub mod BothAlike
 mod CommandExamples
 pub mod Commands
 mod EnteredSlots
+mod FastRuns
+mod FastTargets
 pub mod Isolation
 mod Returned
 mod Keywords

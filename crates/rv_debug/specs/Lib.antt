@@ -5,6 +5,7 @@ pub mod Command
 pub mod Confidentiality
 pub mod Deeds
 pub mod EnclaveText
+pub mod FastSteps
 pub mod Isolation
 pub mod Returns
 pub mod Numbers

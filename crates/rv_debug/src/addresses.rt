@@ -3,9 +3,11 @@
 ghost use Rattle.std.specs.Prelude.{◌≡◌, ℕ, ◌<◌, List, [], true, false, length, slice_index, MatchResult, None, Some, if◌then◌else◌};
 ghost use Rattle.std.specs.List.{find};
 ghost use Rattle.rv_debug.specs.Addresses.{Rises, HasPlace, is_among, with_room_for, without_address};
+ghost use Rattle.rv_debug.specs.FastSteps.{IsFreeOf};
 ghost use Rattle.rv_debug.specs.Stops.{is_between, is_in, lower, lowest_accessed};
 
 use arrayvec::ArrayVec;
+use rv_hart::Interval;
 use rv_memory::{Span, Touched};
 use std::marker::Model;
 
@@ -135,6 +137,30 @@ impl Addresses {
             return None;
         }
         Some(found)
+    }
+
+    /// The widest interval around an address that has no address of the set in it. It is empty where the address is in the set.
+    #[cold]
+    #[inline(never)]
+    pub(crate) fn gap(&self, address: u32) -> Interval
+        ensures { IsFreeOf self.now result }
+    {
+        let rising = self.rising.as_slice();
+        let place = match place_of(rising, address) {
+            Ok(_) => return Interval { from: 0, to: 0 },
+            Err(place) => place,
+        };
+        let from = if place == 0 {
+            0
+        } else {
+            u64::from(rising[place - 1]) + 1
+        };
+        let to = if place == rising.len() {
+            1 << 32
+        } else {
+            u64::from(rising[place])
+        };
+        Interval { from, to }
     }
 }
 
