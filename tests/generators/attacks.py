@@ -1,0 +1,109 @@
+#!/usr/bin/env python3
+"""Builds the attacks of examples/attacks, and examples/race: victim.s, or runner.s where no twin is run, and behind it a folder's
+attack.s, or the folder's program.s, are assembled by assembly_model.py to the folder's image and listing, the image is put before the
+script of its stdin, and the model of monitor_bench.py writes its stdout.
+
+    tests/generators/attacks.py            builds all of them
+    tests/generators/attacks.py --check    tells whether they are as it builds them, and whether each attack fails: both benches answer
+                                           each line alike, or the enclave that runs comes to its end and has counted to 32
+
+Nothing here comes from the bench.
+"""
+import os
+import sys
+
+sys.dont_write_bytecode = True
+sys.path.append(sys.path[0] + "/../models")
+from assembly_model import assembled, disassembled, lines_of, read_line, words_of
+from monitor_bench import cut_at, wanted
+from monitor_model import HOST_ENTRY
+
+ROOT = os.path.dirname(os.path.dirname(os.path.dirname(os.path.abspath(__file__))))
+EXAMPLES = os.path.join(ROOT, "examples")
+
+
+def text_of(*names):
+    try:
+        with open(os.path.join(EXAMPLES, *names), encoding="ascii") as file:
+            return file.read()
+    except (FileNotFoundError, NotADirectoryError):
+        return ""
+
+
+def folders():
+    attacks = (os.path.join("attacks", name) for name in os.listdir(os.path.join(EXAMPLES, "attacks")))
+    return [*sorted(name for name in attacks if text_of(name, "attack.s")), "race"]
+
+
+def listing_of(source, words):
+    """Each word with its address, its bytes and its instruction; labels and comments stand as in the source."""
+    told, at = [], 0
+    for line in lines_of(source):
+        label, name, read = read_line(line)
+        comment = "# " + line.split("#", 1)[1].strip() if "#" in line else ""
+        count = len(words_of(name, [0 if isinstance(it, str) else it for it in read])) if name else 0
+        told += ["%s:" % label] if label else []
+        if not count:
+            told.append(comment)
+        for i, word in enumerate(words[at:at + count]):
+            bytes_of = word.to_bytes(4, "little").hex()
+            row = "%08x  %s  %s" % (HOST_ENTRY + 4 * (at + i), bytes_of, disassembled(word))
+            told.append("%-48s%s" % (row, comment if i == 0 else ""))
+        at += count
+    return "".join(it.rstrip() + "\n" for it in told)
+
+
+def is_twin(name):
+    return text_of(name, "words").split()[:1] == ["twin"]
+
+
+def source_of(name):
+    attack = text_of(name, "attack.s")
+    return text_of("attacks", "victim.s" if is_twin(name) else "runner.s") + attack if attack else text_of(name, "program.s")
+
+
+def built(name):
+    """The texts of a folder's files, by their names."""
+    source = source_of(name)
+    words = assembled(source)
+    assert isinstance(words, list), (name, words)
+    image = "".join(word.to_bytes(4, "little").hex() + "\n" for word in words)
+    script = cut_at(lines_of(text_of(name, "stdin")))[1]
+    stdin = image + "".join(line + "\n" for line in ["--", *script])
+    stdout, status = wanted(stdin, text_of(name, "words").split())
+    assert status == 0, (name, stdout)
+    return {"image": image, "listing": listing_of(source, words), "stdin": stdin, "stdout": stdout}
+
+
+def are_alike(stdout):
+    """Whether the replies of the two benches are the same, and there are some."""
+    one, other = ([it[3:] for it in stdout.splitlines() if it.startswith(mark)] for mark in ("a: ", "b: "))
+    return one == other != []
+
+
+def has_counted(stdout):
+    """Whether the last that is shown is the exit of the enclave, with 32."""
+    return stdout.endswith("\nx10=00000000\nx11=00000020\n")
+
+
+def main(arguments):
+    if arguments not in ([], ["--check"]):
+        print(__doc__)
+        return 2
+    wrong, count = [], 0
+    for name in folders():
+        for part, text in built(name).items():
+            count += 1
+            if not arguments:
+                with open(os.path.join(EXAMPLES, name, part), "w", encoding="ascii") as file:
+                    file.write(text)
+            elif text_of(name, part) != text:
+                wrong.append("%s/%s" % (name, part))
+        if name != "race" and not (are_alike if is_twin(name) else has_counted)(text_of(name, "stdout")):
+            wrong.append(name + (": the benches differ" if is_twin(name) else ": the enclave has not counted to 32"))
+    print("\n".join(["differs: " + it for it in wrong] + ["%d compared, %d differ" % (count, len(wrong))]))
+    return 1 if wrong else 0
+
+
+if __name__ == "__main__":
+    sys.exit(main(sys.argv[1:]))

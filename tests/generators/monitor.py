@@ -1,0 +1,31 @@
+#!/usr/bin/env python3
+"""Writes the cases of the monitored profile, tests/cases/monitor_*.cases: every refusal of every call at its border and in
+company of the next one, the entries, the switches, the timer, the traps that are passed on, the debugger over it, and images.
+
+    tests/generators/monitor.py                      writes the files anew
+    tests/generators/monitor.py --check              tells whether they are what this script writes
+    tests/generators/monitor.py --check-with-llvm    tells whether llvm-mc gives the same word for each assembly text
+
+Nothing here comes from the bench: replies are those of the model of monitor_bench.py, and what each call answers is written out
+by hand beside it.
+"""
+import sys
+
+sys.dont_write_bytecode = True
+sys.path.append(sys.path[0] + "/../models")
+import case_files
+import monitor_bench_cases
+import monitor_call_cases
+import monitor_create_cases
+import monitor_switch_cases
+from monitor_case import Case
+
+
+def main(arguments):
+    for topic in (monitor_create_cases, monitor_call_cases, monitor_switch_cases, monitor_bench_cases):
+        topic.parts()
+    return case_files.main(arguments, Case.all, Case.words, __doc__)
+
+
+if __name__ == "__main__":
+    sys.exit(main(sys.argv[1:]))
