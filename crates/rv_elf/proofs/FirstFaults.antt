@@ -1,5 +1,6 @@
 -- The first of the faults whose condition holds, in parts of the table.
-use Rattle.std.proofs.Common.{◌≡◌, ℕ, suc, ◌≤◌, ◌&&◌, nat_lt, length, map, Bool, true, false, List, [], ◌∷◌, ◌++◌, Option, Some, None, Result, Ok, Err, refl, arith}
+use Rattle.std.proofs.Common.{◌≡◌, ℕ, suc, ◌≤◌, ◌&&◌, nat_lt, length, map, Bool, true, false, List, [], ◌∷◌}
+use Rattle.std.proofs.Common.{◌++◌, Option, Some, None, Result, Ok, Err, refl, arith}
 use Rattle.std.proofs.lemmas.Grind.{common_steps}
 use Rattle.rv_elf.specs.declared.elf_fault.ElfFault.{ElfFault}
 use Rattle.std.specs.List.{list_any, range_with_len}
@@ -7,7 +8,8 @@ use Rattle.std.specs.Result.{IfErr}
 use Rattle.rv_word.specs.Cases.{option_case}
 use Rattle.rv_elf.specs.Plans.{LoadPlan, file_plan, raw_plan}
 use Rattle.rv_elf.specs.declared.segment.Segment.{Segment}
-use Rattle.rv_elf.specs.Faults.{first_fault, IsLeast, elf_fault_number, header_faults, segment_faults, place_faults, file_fault, file_faults, raw_fault, raw_faults}
+use Rattle.rv_elf.specs.Faults.{first_fault, IsLeast, elf_fault_number, header_faults, segment_faults, place_faults}
+use Rattle.rv_elf.specs.Faults.{file_fault, file_faults, raw_fault, raw_faults}
 use Rattle.rv_elf.specs.Fields.{e_entry}
 use Rattle.rv_elf.specs.Places.{first_address}
 use Rattle.rv_elf.specs.Segments.{segments_of, occupying, raw_segments}
@@ -29,7 +31,8 @@ pub first_is_false : (condition : Bool) (fault : ElfFault) (rows : List (Bool ×
 first_is_false true fault rows none = absurd (grind arith)
 first_is_false false fault rows none = refl
 
-pub rest_has_none : (condition : Bool) (fault : ElfFault) (rows : List (Bool × ElfFault)) → first_fault ((condition, fault) ∷ rows) ≡ None → first_fault rows ≡ None
+pub rest_has_none : (condition : Bool) (fault : ElfFault) (rows : List (Bool × ElfFault)) → first_fault ((condition, fault) ∷ rows) ≡ None
+    → first_fault rows ≡ None
 rest_has_none true fault rows none = absurd (grind arith)
 rest_has_none false fault rows none = none
 
@@ -68,13 +71,15 @@ unfolding place_faults
 places_in_order ram_size entry monitored segments = refl
 
 -- the fault with which an ELF file, or a raw image, is refused has the least number
-file_least : (file : List ℕ) (ram_size : ℕ) (monitored : Bool) (fault : ElfFault) → file_fault file ram_size monitored ≡ Some fault → IsLeast (file_faults file ram_size monitored) fault
+file_least : (file : List ℕ) (ram_size : ℕ) (monitored : Bool) (fault : ElfFault) → file_fault file ram_size monitored ≡ Some fault
+    → IsLeast (file_faults file ram_size monitored) fault
 file_least file ram_size monitored fault some =
     least_first (file_faults file ram_size monitored) 1 fault
     (in_order file ram_size (length file) (e_entry file) monitored (segments_of file) (occupying (segments_of file)))
     some
 
-raw_least : (len ram_size : ℕ) (monitored : Bool) (fault : ElfFault) → raw_fault len ram_size monitored ≡ Some fault → IsLeast (raw_faults len ram_size monitored) fault
+raw_least : (len ram_size : ℕ) (monitored : Bool) (fault : ElfFault) → raw_fault len ram_size monitored ≡ Some fault
+    → IsLeast (raw_faults len ram_size monitored) fault
 raw_least len ram_size monitored fault some =
     least_first (raw_faults len ram_size monitored) 9 fault (places_in_order ram_size (first_address monitored) monitored (raw_segments len monitored)) some
 
@@ -86,8 +91,10 @@ refused_least rows (Some fault) plan result least is = rw is (least fault refl)
 
 pub file_plan_least : (file : List ℕ) (ram_size : ℕ) (monitored : Bool) (result : Result LoadPlan ElfFault) → result ≡ file_plan file ram_size monitored
     → IfErr result (λ fault. IsLeast (file_faults file ram_size monitored) fault)
-file_plan_least file ram_size monitored result is = refused_least (file_faults file ram_size monitored) (file_fault file ram_size monitored) _ result (file_least file ram_size monitored) is
+file_plan_least file ram_size monitored result is =
+    refused_least (file_faults file ram_size monitored) (file_fault file ram_size monitored) _ result (file_least file ram_size monitored) is
 
 pub raw_plan_least : (len ram_size : ℕ) (monitored : Bool) (result : Result LoadPlan ElfFault) → result ≡ raw_plan len ram_size monitored
     → IfErr result (λ fault. IsLeast (raw_faults len ram_size monitored) fault)
-raw_plan_least len ram_size monitored result is = refused_least (raw_faults len ram_size monitored) (raw_fault len ram_size monitored) _ result (raw_least len ram_size monitored) is
+raw_plan_least len ram_size monitored result is =
+    refused_least (raw_faults len ram_size monitored) (raw_fault len ram_size monitored) _ result (raw_least len ram_size monitored) is

@@ -82,3 +82,6 @@ loads_end image plan before now i past loads =
     let none : drop i plan.segments ≡ [] = drop_of_length-le plan.segments past in
     let same = rw none at loads.0 in
     sym (load_none image now) ∙ same
+
+-- each step of the loop over the segments
+pub ruleset loading = (loads_begin, loads_fits, loads_inside, loads_more, loads_end, loads_size)

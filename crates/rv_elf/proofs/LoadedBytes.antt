@@ -1,5 +1,6 @@
 -- The memory after segments were loaded, by its bytes.
-use Rattle.std.proofs.Common.{◌≡◌, ◌∙◌, sym, ℕ, zero, suc, ◌+◌, ◌-◌, ◌<◌, ◌≤◌, Bool, true, false, not, ◌&&◌, List, [], ◌∷◌, length, map, slice_index, Option, Some, None, refl, ap, inl, inr, true≢false, arith}
+use Rattle.std.proofs.Common.{◌≡◌, ◌∙◌, sym, ℕ, zero, suc, ◌+◌, ◌-◌, ◌<◌, ◌≤◌, Bool, true, false, not, ◌&&◌, List, [], ◌∷◌, length}
+use Rattle.std.proofs.Common.{map, slice_index, Option, Some, None, refl, ap, inl, inr, true≢false, arith}
 use Rattle.std.specs.List.{range_with_len, find, list_any, list_all, Contains}
 use Rattle.std.proofs.lemmas.Bool.{or_parts, or_from, and_parts, cases_Bool}
 use Rattle.std.proofs.lemmas.Grind.{common_steps, same_number_lists}
@@ -30,7 +31,8 @@ pub loaded_at : (image : List ℕ) (segments : List Segment) (memory : List ℕ)
     → slice_index (loaded_memory image segments memory) (address - ram_base) ≡ byte_after image segments memory address
 unfolding loaded_memory
 loaded_at image segments memory address low high =
-    get_or-map-range_with_len (byte_after image segments memory) ram_base (length memory) (address - ram_base) address 0 (omega (arith, low, high)) (omega (arith, low))
+    get_or-map-range_with_len (byte_after image segments memory) ram_base (length memory) (address - ram_base) address 0 (omega (arith, low, high))
+    (omega (arith, low))
 
 none_some : (segment : Segment) (answer : Option Segment) → answer ≡ None → answer ≡ Some segment → ⊥
 none_some segment answer none some = grind arith
@@ -50,12 +52,14 @@ none_covers segment (other ∷ others) address none inside =
     let parts = or_parts (share_a_byte segment other) (list_any (share_a_byte segment) others) none in
     rw (not_in_other segment other address parts.0 inside) (none_covers segment others address parts.1 inside)
 
-pub found_alone : (segment : Segment) (others : List Segment) (address : ℕ) → list_any (share_a_byte segment) others ≡ false → has_address address segment ≡ true
+pub found_alone : (segment : Segment) (others : List Segment) (address : ℕ) → list_any (share_a_byte segment) others ≡ false
+    → has_address address segment ≡ true
     → find (has_address address) others ≡ None
 found_alone segment others address none inside = find_none (has_address address) others (none_covers segment others address none inside)
 
 -- the byte after a segment and then others were loaded
-byte_first : (image : List ℕ) (segment : Segment) (others : List Segment) (memory : List ℕ) (address : ℕ) → ram_base ≤ address → address < ram_base + length memory
+byte_first : (image : List ℕ) (segment : Segment) (others : List Segment) (memory : List ℕ) (address : ℕ) → ram_base ≤ address
+    → address < ram_base + length memory
     → list_any (share_a_byte segment) others ≡ false
     → byte_after image others (loaded_memory image (segment ∷ []) memory) address ≡ byte_after image (segment ∷ others) memory address
 byte_first image segment others memory address low high none =
@@ -104,7 +108,8 @@ all_at test (first ∷ others) segment all (zero, below, is) = ap test (sym is) 
 all_at test (first ∷ others) segment all (suc k, below, is) = all_at test others segment (and_parts (test first) _ all).1 (k, omega (arith, below), is)
 
 -- the addresses of a segment that fits are in RAM
-in_ram : (memory : List ℕ) (image_size address : ℕ) (monitored : Bool) (segment : Segment) → fits image_size (length memory) monitored segment ≡ true → has_address address segment ≡ true
+in_ram : (memory : List ℕ) (image_size address : ℕ) (monitored : Bool) (segment : Segment)
+    → fits image_size (length memory) monitored segment ≡ true → has_address address segment ≡ true
     → is_inside memory address 1 ≡ true
 in_ram memory image_size address monitored segment fit inside = grind (arith, common_steps)
 
@@ -116,7 +121,12 @@ byte_loaded : (image : List ℕ) (segments : List Segment) (memory : List ℕ) (
     → byte_at (loaded_memory image segments memory) address ≡ Some (byte_after image segments memory address)
 byte_loaded image segments memory address inside =
     let bounds = in_ram_low memory address inside in
-    rw (byte_at-index (loaded_memory image segments memory) address, length-loaded_memory image segments memory, inside, loaded_at image segments memory address bounds.0 bounds.1) refl
+    rw (
+      byte_at-index (loaded_memory image segments memory) address,
+      length-loaded_memory image segments memory,
+      inside,
+      loaded_at image segments memory address bounds.0 bounds.1,
+    ) refl
 
 byte_outside : (image : List ℕ) (segments : List Segment) (memory : List ℕ) (address : ℕ) → is_inside memory address 1 ≡ false
     → byte_at (loaded_memory image segments memory) address ≡ byte_at memory address
@@ -147,7 +157,9 @@ none_reserved : (image_size ram_size address : ℕ) (monitored : Bool) (segment 
     → is_reserved monitored address ≡ true → has_address address segment ≡ false
 none_reserved image_size ram_size address monitored segment fit reserved =
     let size = segment.memory_size in
-    let apart = apart_of (is_truncated image_size segment) (is_oversized segment) (lies_inside ram_size segment.address size) (meets_reserved monitored segment.address size) fit in
+    let apart =
+    apart_of (is_truncated image_size segment) (is_oversized segment) (lies_inside ram_size segment.address size)
+    (meets_reserved monitored segment.address size) fit in
     elim (cases_Bool (has_address address segment)) [
       | inl inside ↦ absurd (true≢false (sym reserved ∙ not_reserved monitored segment address apart inside))
       | inr outside ↦ outside

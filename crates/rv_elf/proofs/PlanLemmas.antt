@@ -64,8 +64,12 @@ is_valid plan none placed =
     let others = rest_has_none (list_any (is_outside plan.ram_size plan.monitored) plan.segments) _ _ placed in
     let apart = first_is_false (has_overlap plan.segments) _ _ others in
     let placed = has_place plan.ram_size plan.monitored plan.entry 4 in
-    let good = first_is_false (is_bad_entry plan.ram_size plan.monitored plan.entry) _ _ (rest_has_none (has_overlap plan.segments) _ _ others) in
-    (all_fit plan.image_size plan.ram_size plan.monitored plan.segments whole sized inside, apart, entry_aligned plan.entry placed good, entry_placed (plan.entry % 4 == 0) placed good)
+    let good = first_is_false (is_bad_entry plan.ram_size plan.monitored plan.entry) _ _ (rest_has_none (has_overlap plan.segments) _ _ others) in (
+      all_fit plan.image_size plan.ram_size plan.monitored plan.segments whole sized inside,
+      apart,
+      entry_aligned plan.entry placed good,
+      entry_placed (plan.entry % 4 == 0) placed good,
+    )
 
 -- a raw image that is larger than the RAM is outside
 pub raw_outside : (len ram_size : ℕ) (monitored : Bool) → ram_size < len → raw_fault len ram_size monitored ≡ Some SegmentOutside
@@ -87,7 +91,8 @@ later_faults file ram_size monitored = segment_faults (length file) (segments_of
 
 -- a fault of the header is that of the file; so is one of the segments, where the header has none, and one of the places in RAM,
 -- where neither has one
-pub header_fault_first : (file : List ℕ) (ram_size : ℕ) (monitored : Bool) (fault : ElfFault) → first_fault (header_faults file) ≡ Some fault → file_plan file ram_size monitored ≡ Err fault
+pub header_fault_first : (file : List ℕ) (ram_size : ℕ) (monitored : Bool) (fault : ElfFault) → first_fault (header_faults file) ≡ Some fault
+    → file_plan file ram_size monitored ≡ Err fault
 unfolding header_faults
 header_fault_first file ram_size monitored fault some =
     rw (some_before (header_faults file) (later_faults file ram_size monitored) fault some) refl
@@ -96,11 +101,21 @@ pub segment_fault_first : (file : List ℕ) (ram_size : ℕ) (monitored : Bool) 
     → first_fault (segment_faults (length file) (segments_of file)) ≡ Some fault → file_plan file ram_size monitored ≡ Err fault
 unfolding header_faults
 segment_fault_first file ram_size monitored fault none some =
-    rw (none_before (header_faults file) (later_faults file ram_size monitored) none, some_before (segment_faults (length file) (segments_of file)) (file_place_faults file ram_size monitored) fault some) refl
+    rw (
+      none_before (header_faults file) (later_faults file ram_size monitored) none,
+      some_before (segment_faults (length file) (segments_of file)) (file_place_faults file ram_size monitored) fault some,
+    ) refl
 
 pub place_fault_first : (file : List ℕ) (ram_size : ℕ) (monitored : Bool) (fault : ElfFault) → first_fault (header_faults file) ≡ None
     → first_fault (segment_faults (length file) (segments_of file)) ≡ None
     → first_fault (file_place_faults file ram_size monitored) ≡ Some fault → file_plan file ram_size monitored ≡ Err fault
 unfolding header_faults
 place_fault_first file ram_size monitored fault none whole some =
-    rw (none_before (header_faults file) (later_faults file ram_size monitored) none, none_before (segment_faults (length file) (segments_of file)) (file_place_faults file ram_size monitored) whole, some) refl
+    rw (
+      none_before (header_faults file) (later_faults file ram_size monitored) none,
+      none_before (segment_faults (length file) (segments_of file)) (file_place_faults file ram_size monitored) whole,
+      some,
+    ) refl
+
+-- a fault of each group, where the groups before have none
+pub ruleset fault_first = (header_fault_first, segment_fault_first, place_fault_first)

@@ -24,7 +24,8 @@ unfolding first_segments
 more file count =
     rw (
       filter_of_map_range_with_len_more (is_load file) (place_of file) 0 count count (omega arith),
-      map-append (segment_at file) (filter (is_load file) (map (place_of file) (range_with_len 0 count))) (cond (is_load file (place_of file count)) (place_of file count ∷ []) []),
+      map-append (segment_at file) (filter (is_load file) (map (place_of file) (range_with_len 0 count)))
+          (cond (is_load file (place_of file count)) (place_of file count ∷ []) []),
     ) refl
 
 -- which is that of a segment to load, or is not
@@ -52,3 +53,9 @@ without_occupying segments i default inside none =
 pub occupying_none : occupying [] ≡ []
 unfolding occupying
 occupying_none = refl
+
+-- one header more of those to load
+pub ruleset load_more = (with_load, without_load)
+
+-- one segment more of those that take memory
+pub ruleset occupying_more = (with_occupying, without_occupying, occupying_none)

@@ -19,7 +19,8 @@ outside one other address apart low high = grind (arith, common_steps)
 pub unshared : (one other : Segment) → min (one.address + one.memory_size) (other.address + other.memory_size) ≤ max one.address other.address
     → share_a_byte one other ≡ false
 unfolding share_a_byte
-unshared one other apart = any_none (λ address. has_address address other) one.address one.memory_size (λ address low high. outside one other address apart low high)
+unshared one other apart =
+    any_none (λ address. has_address address other) one.address one.memory_size (λ address low high. outside one other address apart low high)
 
 -- an address of one of two segments that share no byte is not the other's
 pub not_in_other : (one other : Segment) (address : ℕ) → share_a_byte one other ≡ false → has_address address one ≡ true → has_address address other ≡ false

@@ -29,21 +29,26 @@ above_both memory part index size k shorter within high = grind (arith, common_s
 -- the byte that the definition has there
 part_byte : (image memory : List ℕ) (segment : Segment) (k : ℕ) → ram_base ≤ segment.address → segment.file_size ≤ segment.memory_size
     → segment.address ≤ ram_base + k → ram_base + k < segment.address + segment.file_size
-    → byte_after image (segment ∷ []) memory (ram_base + k) ≡ slice_index (take segment.file_size (drop segment.offset image)) (k - (segment.address - ram_base))
+    → byte_after image (segment ∷ []) memory (ram_base + k)
+    ≡ slice_index (take segment.file_size (drop segment.offset image)) (k - (segment.address - ram_base))
 part_byte image memory segment k above sized low high = grind (arith, common_steps)
 
-zero_byte : (image memory : List ℕ) (segment : Segment) (k : ℕ) → segment.address + segment.file_size ≤ ram_base + k → ram_base + k < segment.address + segment.memory_size
+zero_byte : (image memory : List ℕ) (segment : Segment) (k : ℕ) → segment.address + segment.file_size ≤ ram_base + k
+    → ram_base + k < segment.address + segment.memory_size
     → byte_after image (segment ∷ []) memory (ram_base + k) ≡ 0
 zero_byte image memory segment k low high = grind (arith, common_steps)
 
-byte_below : (image memory : List ℕ) (segment : Segment) (k : ℕ) → ram_base + k < segment.address → byte_after image (segment ∷ []) memory (ram_base + k) ≡ slice_index memory k
+byte_below : (image memory : List ℕ) (segment : Segment) (k : ℕ) → ram_base + k < segment.address
+    → byte_after image (segment ∷ []) memory (ram_base + k) ≡ slice_index memory k
 byte_below image memory segment k low = grind (arith, common_steps)
 
-byte_above : (image memory : List ℕ) (segment : Segment) (k : ℕ) → segment.address + segment.memory_size ≤ ram_base + k → byte_after image (segment ∷ []) memory (ram_base + k) ≡ slice_index memory k
+byte_above : (image memory : List ℕ) (segment : Segment) (k : ℕ) → segment.address + segment.memory_size ≤ ram_base + k
+    → byte_after image (segment ∷ []) memory (ram_base + k) ≡ slice_index memory k
 byte_above image memory segment k high = grind (arith, common_steps)
 
 -- the byte of a segment, and of the two writes, at an index
-same_byte : (image memory part : List ℕ) (segment : Segment) (k : ℕ) → part ≡ take segment.file_size (drop segment.offset image) → length part ≡ segment.file_size
+same_byte : (image memory part : List ℕ) (segment : Segment) (k : ℕ) → part ≡ take segment.file_size (drop segment.offset image)
+    → length part ≡ segment.file_size
     → segment.file_size ≤ segment.memory_size → ram_base ≤ segment.address → segment.address + segment.memory_size ≤ ram_base + length memory
     → slice_index (write_bytes (write_bytes memory (segment.address - ram_base) (replicate segment.memory_size 0)) (segment.address - ram_base) part) k
     ≡ byte_after image (segment ∷ []) memory (ram_base + k)

@@ -5,7 +5,8 @@ use Rattle.std.specs.Prelude.{◌≡◌, ℕ, ◌+◌, ◌*◌, ◌%◌, ◌==�
 use Rattle.std.specs.List.{list_any}
 use Rattle.std.specs.Str.{bytes_eq}
 use Rattle.rv_elf.specs.declared.elf_fault.ElfFault.{ElfFault}
-use Rattle.rv_elf.specs.declared.elf_fault.ElfFault.TheVariants.{Truncated, NotElf, WrongClass, WrongType, WrongMachine, BadHeader, SegmentTruncated, SegmentSizes, SegmentOutside, SegmentOverlap, BadEntry}
+use Rattle.rv_elf.specs.declared.elf_fault.ElfFault.TheVariants.{Truncated, NotElf, WrongClass, WrongType, WrongMachine, BadHeader}
+use Rattle.rv_elf.specs.declared.elf_fault.ElfFault.TheVariants.{SegmentTruncated, SegmentSizes, SegmentOutside, SegmentOverlap, BadEntry}
 use Rattle.rv_elf.specs.declared.segment.Segment.{Segment}
 use Rattle.rv_elf.specs.Fields.{magic, et_exec, em_riscv, class_data_version, ei_class_data_version, e_type, e_machine, e_entry, e_phoff, e_phentsize, e_phnum}
 use Rattle.rv_elf.specs.Places.{first_address, has_place}

@@ -26,7 +26,8 @@ loaded_memory image segments memory = map (byte_after image segments memory) (ra
 -- each byte of each segment is the segment's, and each byte of none is as before
 pub record LoadsEach (image : List ℕ) (segments : List Segment) (old new : List ℕ) : Type 0 where
   pub size : length new ≡ length old
-  pub inside : (segment : Segment) (address : ℕ) → Contains segments segment → has_address address segment ≡ true → byte_at new address ≡ Some (byte_in image address segment)
+  pub inside : (segment : Segment) (address : ℕ) → Contains segments segment → has_address address segment ≡ true
+      → byte_at new address ≡ Some (byte_in image address segment)
   pub elsewhere : (address : ℕ) → list_any (has_address address) segments ≡ false → byte_at new address ≡ byte_at old address
 
 -- each byte at an address that no image may use is as before

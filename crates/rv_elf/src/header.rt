@@ -99,7 +99,7 @@ pub(crate) fn check_header(file: &[u8]) -> Result<(), ElfFault>
 }
 
 /// The segments to load, in the order of their headers.
-#[tactic(auto, using(crate::proofs::SegmentLemmas::with_load, crate::proofs::SegmentLemmas::without_load), unfolding(crate::specs::Segments::segments_of, crate::proofs::SegmentLemmas::first_segments))]
+#[tactic(auto, using(crate::proofs::SegmentLemmas::load_more), unfolding(crate::specs::Segments::segments_of, crate::proofs::SegmentLemmas::first_segments))]
 pub(crate) fn read_segments(file: &[u8]) -> ArrayVec<Segment, MAX_HEADERS>
     requires whole { FILE_HEADER_LEN ≤ length file.now }
     requires few { e_phnum file.now ≤ MAX_HEADERS }

@@ -24,11 +24,24 @@ impl Model for Plan {
 
     ghost Value = { LoadPlan };
 
-    ghost view = { λ plan. record { segments = plan.segments.items; entry = plan.entry; image_size = plan.image_size; ram_size = plan.ram_size; monitored = plan.monitored } };
+    ghost view = { λ plan. record {
+      segments = plan.segments.items;
+      entry = plan.entry;
+      image_size = plan.image_size;
+      ram_size = plan.ram_size;
+      monitored = plan.monitored;
+    } };
 
-    ghost invariant = { λ plan. IsValid (record { segments = plan.segments.items; entry = plan.entry; image_size = plan.image_size; ram_size = plan.ram_size; monitored = plan.monitored }) };
+    ghost invariant = { λ plan. IsValid (record
+        { segments = plan.segments.items; entry = plan.entry; image_size = plan.image_size; ram_size = plan.ram_size; monitored = plan.monitored }) };
 
-    ghost inverse = { λ plan. record { segments = record { items = plan.segments }; entry = plan.entry; image_size = plan.image_size; ram_size = plan.ram_size; monitored = plan.monitored } };
+    ghost inverse = { λ plan. record {
+      segments = record { items = plan.segments };
+      entry = plan.entry;
+      image_size = plan.image_size;
+      ram_size = plan.ram_size;
+      monitored = plan.monitored;
+    } };
 }
 
 impl Plan {

@@ -36,7 +36,7 @@ fn load_segment(segment: &Segment, image: &[u8], ram: &mut Ram)
 
 /// Puts the segments of a plan into RAM: of each its part of the image, and zeros behind that. Every other byte stays as it was.
 /// The plan is of this image and of a RAM of this size. So the range of a monitor stays as it was.
-#[tactic(auto, using(crate::proofs::LoadLoop::loads_begin, crate::proofs::LoadLoop::loads_fits, crate::proofs::LoadLoop::loads_inside, crate::proofs::LoadLoop::loads_more, crate::proofs::LoadLoop::loads_end, crate::proofs::LoadLoop::loads_size, crate::proofs::LoadedBytes::loads_each, crate::proofs::LoadedBytes::keeps_reserved))]
+#[tactic(auto, using(crate::proofs::LoadLoop::loading, crate::proofs::LoadedBytes::loads_each, crate::proofs::LoadedBytes::keeps_reserved))]
 pub fn load(plan: &Plan, bytes: &[u8], ram: &mut Ram)
     requires of_image { length bytes.now ≡ plan.now.image_size }
     requires of_ram { length ram.old ≡ plan.now.ram_size }

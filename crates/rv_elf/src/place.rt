@@ -1,7 +1,8 @@
 //! Where an image may lie.
 
 ghost use Rattle.std.specs.Prelude.{◌≡◌};
-ghost use Rattle.rv_elf.specs.Places.{first_address as first_address_of, has_place as has_place_of, lies_inside as lies_inside_of, meets_reserved as meets_reserved_of};
+ghost use Rattle.rv_elf.specs.Places.{first_address as first_address_of, has_place as has_place_of, lies_inside as lies_inside_of};
+ghost use Rattle.rv_elf.specs.Places.{meets_reserved as meets_reserved_of};
 
 use rv_memory::RAM_BASE;
 

@@ -2,7 +2,8 @@
 
 ghost use Rattle.std.specs.Prelude.{◌≡◌, ◌%◌, ◌==◌, ◌≤◌, length, MatchResult, IfErr, IfOk, None, Some, true, false};
 ghost use Rattle.std.specs.List.{list_all, list_any};
-ghost use Rattle.rv_elf.specs.Segments.{is_truncated, is_oversized, is_outside, has_overlap as has_overlap_of, share_a_byte, occupying as occupying_of, raw_segments, segments_of};
+ghost use Rattle.rv_elf.specs.Segments.{is_truncated, is_oversized, is_outside, has_overlap as has_overlap_of, share_a_byte};
+ghost use Rattle.rv_elf.specs.Segments.{occupying as occupying_of, raw_segments, segments_of};
 ghost use Rattle.rv_elf.specs.Faults.{IsLeast, file_faults, first_fault, raw_faults, place_faults, segment_faults};
 ghost use Rattle.rv_elf.specs.Plans.{file_plan, raw_plan, fits};
 
@@ -14,7 +15,7 @@ use crate::segment::Segment;
 use arrayvec::ArrayVec;
 
 /// Those that take memory.
-#[tactic(auto, using(crate::proofs::SegmentLemmas::with_occupying, crate::proofs::SegmentLemmas::without_occupying, crate::proofs::SegmentLemmas::occupying_none))]
+#[tactic(auto, using(crate::proofs::SegmentLemmas::occupying_more))]
 fn occupying(segments: &[Segment]) -> ArrayVec<Segment, MAX_HEADERS>
     requires { length segments.now ≤ MAX_HEADERS }
     ensures { result.items ≡ occupying_of segments.now }
@@ -79,7 +80,8 @@ fn has_overlap(segments: &[Segment]) -> bool
 /// `SegmentTruncated`, else `SegmentSizes`.
 #[tactic(auto, unfolding(crate::specs::Faults::segment_faults))]
 fn check_segments(len: usize, segments: &[Segment]) -> Result<(), ElfFault>
-    ensures { MatchResult result (λ _. first_fault (segment_faults len segments.now) ≡ None) (λ fault. first_fault (segment_faults len segments.now) ≡ Some fault) }
+    ensures { MatchResult result (λ _. first_fault (segment_faults len segments.now) ≡ None)
+        (λ fault. first_fault (segment_faults len segments.now) ≡ Some fault) }
 {
     if has_truncated(len, segments) {
         return Err(ElfFault::SegmentTruncated);
@@ -102,7 +104,8 @@ fn check_places(
     segments: &[Segment],
     entry: u32,
 ) -> Result<(), ElfFault>
-    ensures { MatchResult result (λ _. first_fault (place_faults ram_size monitored segments.now entry) ≡ None) (λ fault. first_fault (place_faults ram_size monitored segments.now entry) ≡ Some fault) }
+    ensures { MatchResult result (λ _. first_fault (place_faults ram_size monitored segments.now entry) ≡ None)
+        (λ fault. first_fault (place_faults ram_size monitored segments.now entry) ≡ Some fault) }
 {
     if has_outside(ram_size, monitored, segments) {
         return Err(ElfFault::SegmentOutside);
@@ -122,7 +125,7 @@ fn check_places(
 /// # Errors
 ///
 /// The fault of the least number that the file has. Each is asked of all program headers before the next.
-#[tactic(auto, using(crate::proofs::FirstFaults::none_before, crate::proofs::PlanLemmas::header_fault_first, crate::proofs::PlanLemmas::segment_fault_first, crate::proofs::PlanLemmas::place_fault_first))]
+#[tactic(auto, using(crate::proofs::FirstFaults::none_before, crate::proofs::PlanLemmas::fault_first))]
 pub fn plan(bytes: &[u8], ram_size: u32, monitored: bool) -> Result<Plan, ElfFault>
     ensures value { result ≡ file_plan bytes.now ram_size monitored }
     ensures least { IfErr result (λ fault. IsLeast (file_faults bytes.now ram_size monitored) fault) }

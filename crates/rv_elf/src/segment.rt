@@ -1,7 +1,8 @@
 //! A segment of an image.
 
 ghost use Rattle.std.specs.Prelude.{◌≡◌, ◌+◌, ◌≤◌, length, false};
-ghost use Rattle.rv_elf.specs.Segments.{segment_at as segment_at_of, is_truncated as is_truncated_of, is_oversized as is_oversized_of, is_outside as is_outside_of, share_a_byte};
+ghost use Rattle.rv_elf.specs.Segments.{segment_at as segment_at_of, is_truncated as is_truncated_of, is_oversized as is_oversized_of};
+ghost use Rattle.rv_elf.specs.Segments.{is_outside as is_outside_of, share_a_byte};
 
 use crate::fields::word_at;
 use crate::place::has_place;

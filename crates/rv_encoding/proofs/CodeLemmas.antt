@@ -1,6 +1,7 @@
 -- Each kind is found by its code, and the codes fit their bits.
 use Rattle.std.proofs.Common.{◌≡◌, ℕ, ◌<◌, Some, None, arith}
-use Rattle.rv_encoding.specs.Codes.{branch_funct3, load_funct3, store_funct3, op_imm_funct3, shift_functs, op_functs, csr_funct3, csr_imm_funct3, branch_kind, load_kind, store_kind, op_imm_kind, shift_kind, op_kind, csr_kind, csr_imm_kind}
+use Rattle.rv_encoding.specs.Codes.{branch_funct3, load_funct3, store_funct3, op_imm_funct3, shift_functs, op_functs, csr_funct3, csr_imm_funct3}
+use Rattle.rv_encoding.specs.Codes.{branch_kind, load_kind, store_kind, op_imm_kind, shift_kind, op_kind, csr_kind, csr_imm_kind}
 use Rattle.rv_encoding.specs.declared.kind.BranchKind.{BranchKind}
 use Rattle.rv_encoding.specs.declared.kind.LoadKind.{LoadKind}
 use Rattle.rv_encoding.specs.declared.kind.StoreKind.{StoreKind}

@@ -24,10 +24,12 @@ true-test a b is = grind arith
 
 -- ---- a row that is found fits, and where none is found none fits
 
-found_first : (word : ℕ) (x s : Instr) (rest : Option Instr) (b : Bool) → b ≡ fits_row word x → cond b (Some x) rest ≡ Some s → (rest ≡ Some s → and_by_bits word (row_of_instr s).mask ≡ (row_of_instr s).match) → and_by_bits word (row_of_instr s).mask ≡ (row_of_instr s).match
+found_first : (word : ℕ) (x s : Instr) (rest : Option Instr) (b : Bool) → b ≡ fits_row word x → cond b (Some x) rest ≡ Some s
+    → (rest ≡ Some s → and_by_bits word (row_of_instr s).mask ≡ (row_of_instr s).match) → and_by_bits word (row_of_instr s).mask ≡ (row_of_instr s).match
 found_first word x s rest true is found later =
     let same : x ≡ s = cc in
-    subst (λ (i : Instr). and_by_bits word (row_of_instr i).mask ≡ (row_of_instr i).match) same (true-test (and_by_bits word (row_of_instr x).mask) (row_of_instr x).match (sym is))
+    subst (λ (i : Instr). and_by_bits word (row_of_instr i).mask ≡ (row_of_instr i).match) same
+    (true-test (and_by_bits word (row_of_instr x).mask) (row_of_instr x).match (sym is))
 found_first word x s rest false is found later = later found
 
 found_fits : (word : ℕ) (xs : List Instr) (s : Instr) → find (fits_row word) xs ≡ Some s → and_by_bits word (row_of_instr s).mask ≡ (row_of_instr s).match
@@ -38,7 +40,8 @@ not_found : (b : Bool) (x : Instr) (rest : Option Instr) → cond b (Some x) res
 not_found true x rest none = cc
 not_found false x rest none = (refl, none)
 
-none_fit : (word : ℕ) (xs : List Instr) → find (fits_row word) xs ≡ None → (place : ℕ) (row : Listed) → slice_get (map listed_of xs) place ≡ Some row → and_by_bits word row.mask ≢ row.match
+none_fit : (word : ℕ) (xs : List Instr) → find (fits_row word) xs ≡ None → (place : ℕ) (row : Listed)
+    → slice_get (map listed_of xs) place ≡ Some row → and_by_bits word row.mask ≢ row.match
 none_fit word [] none place row is same = cc
 none_fit word (x ∷ xs) none zero row is same =
     let row_is : row ≡ listed_of x = cc in
@@ -56,7 +59,8 @@ unfolding word_of
 word_of_parts i match fields match_is fields_are = sym (ap (λ n. n + fields) match_is ∙ ap (λ n. (row_of_instr i).match + n) fields_are)
 
 -- no row of the listing fits where none of the samples does
-unlisted : (word : ℕ) → find (fits_row word) samples ≡ None → (place : ℕ) (row : Listed) → slice_get listing place ≡ Some row → and_by_bits word row.mask ≢ row.match
+unlisted : (word : ℕ) → find (fits_row word) samples ≡ None → (place : ℕ) (row : Listed) → slice_get listing place ≡ Some row
+    → and_by_bits word row.mask ≢ row.match
 unlisted word none place row is =
     none_fit word samples none place row (ap (λ (rows : List Listed). slice_get rows place) (sym listing_of_samples) ∙ is)
 
@@ -68,7 +72,8 @@ unfound word (Some i) fits found none =
     absurd (unlisted word none (is_listed i).0 (listed_of i) (is_listed i).1 masked)
 
 -- what is spelled by the word, and alone is, is what the listing gives
-pub decoded_is : (word : ℕ) (result : Option Instr) → word < 2 ^ 32 → IfSome result (Spells word) → ((i : Instr) → Spells word i → result ≡ Some i) → result ≡ decoded word
+pub decoded_is : (word : ℕ) (result : Option Instr) → word < 2 ^ 32 → IfSome result (Spells word) → ((i : Instr) → Spells word i → result ≡ Some i)
+    → result ≡ decoded word
 unfolding decoded
 decoded_is word result fits found only = by_row (find (fits_row word) samples) refl
   where

@@ -6,9 +6,11 @@ use Rattle.rv_word.proofs.LogicLemmas.{bit_and_is}
 use Rattle.rv_encoding.specs.Codes.{branch_funct3, load_funct3, store_funct3, op_imm_funct3, shift_functs, op_functs, csr_funct3, csr_imm_funct3}
 use Rattle.rv_encoding.specs.Rows.{row_of_instr, IsInstr, word_of, Spells}
 use Rattle.rv_encoding.specs.Decoding.{with_fields_of}
-use Rattle.rv_encoding.proofs.CodeLemmas.{branch_funct3-lt, load_funct3-lt, store_funct3-lt, op_imm_funct3-lt, shift_functs-lt, op_functs-lt, csr_funct3-lt, csr_imm_funct3-lt}
+use Rattle.rv_encoding.proofs.CodeLemmas.{branch_funct3-lt, load_funct3-lt, store_funct3-lt, op_imm_funct3-lt, shift_functs-lt}
+use Rattle.rv_encoding.proofs.CodeLemmas.{op_functs-lt, csr_funct3-lt, csr_imm_funct3-lt}
 use Rattle.rv_encoding.specs.declared.instr.Instr.{Instr}
-use Rattle.rv_encoding.specs.declared.instr.Instr.TheVariants.{Lui, Auipc, Jal, Jalr, Branch, Load, Store, OpImm, ShiftImm, Op, Fence, Csr, CsrImm, Ecall, Ebreak, Sret, Mret, Wfi, SfenceVma}
+use Rattle.rv_encoding.specs.declared.instr.Instr.TheVariants.{Lui, Auipc, Jal, Jalr, Branch, Load, Store, OpImm, ShiftImm, Op, Fence}
+use Rattle.rv_encoding.specs.declared.instr.Instr.TheVariants.{Csr, CsrImm, Ecall, Ebreak, Sret, Mret, Wfi, SfenceVma}
 
 -- ---- what each mask leaves of a word
 
@@ -157,7 +159,8 @@ mask-lt i = grind arith
 and_mask_is : (i : Instr) (word : ℕ) → word < 2 ^ 32 → bit_and word (row_of_instr i).mask ≡ and_by_bits word (row_of_instr i).mask
 and_mask_is i word fits = bit_and_is word (row_of_instr i).mask fits (mask-lt i)
 
-pub spelled_by_mask : (i : Instr) (word : ℕ) → word < 2 ^ 32 → and_by_bits word (row_of_instr i).mask ≡ (row_of_instr i).match → Spells word (with_fields_of word i)
+pub spelled_by_mask : (i : Instr) (word : ℕ) → word < 2 ^ 32 → and_by_bits word (row_of_instr i).mask ≡ (row_of_instr i).match
+    → Spells word (with_fields_of word i)
 spelled_by_mask i word fits masked = spelled_by_and i word fits (and_mask_is i word fits ∙ masked)
 
 pub masked_word_of : (i : Instr) → IsInstr i → word_of i < 2 ^ 32 → and_by_bits (word_of i) (row_of_instr i).mask ≡ (row_of_instr i).match

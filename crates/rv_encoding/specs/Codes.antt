@@ -1,5 +1,6 @@
--- The opcodes, and the codes that tell the kinds of a group of instructions apart: RISC-V Unprivileged ISA 20191213, chapter 24.
-use Rattle.std.specs.Prelude.{ℕ, ◌==◌, ◌&&◌, [], ◌∷◌, find, Option}
+-- The opcodes, and of each kind of a group of instructions the name and the codes that tell it apart: RISC-V Unprivileged ISA 20191213,
+-- chapter 24.
+use Rattle.std.specs.Prelude.{ℕ, ◌==◌, ◌&&◌, List, [], ◌∷◌, ◌++◌, codes, find, Option}
 use Rattle.rv_encoding.specs.declared.kind.BranchKind.{BranchKind}
 use Rattle.rv_encoding.specs.declared.kind.BranchKind.TheVariants.{Beq, Bne, Blt, Bge, Bltu, Bgeu}
 use Rattle.rv_encoding.specs.declared.kind.LoadKind.{LoadKind}
@@ -11,8 +12,8 @@ use Rattle.rv_encoding.specs.declared.kind.OpImmKind.TheVariants.{Addi, Slti, Sl
 use Rattle.rv_encoding.specs.declared.kind.ShiftKind.{ShiftKind}
 use Rattle.rv_encoding.specs.declared.kind.ShiftKind.TheVariants.{Slli, Srli, Srai}
 use Rattle.rv_encoding.specs.declared.kind.OpKind.{OpKind}
-use Rattle.rv_encoding.specs.declared.kind.OpKind.TheVariants.{Add, Sub, Sll, Slt, Sltu, Xor, Srl, Sra, Or, And, Mul, Mulh, Mulhsu, Mulhu, Div, Divu, Rem, Remu}
-use Rattle.rv_encoding.specs.declared.encoder.codes.Functs.{Functs}
+use Rattle.rv_encoding.specs.declared.kind.OpKind.TheVariants.{Add, Sub, Sll, Slt, Sltu, Xor, Srl, Sra, Or, And}
+use Rattle.rv_encoding.specs.declared.kind.OpKind.TheVariants.{Mul, Mulh, Mulhsu, Mulhu, Div, Divu, Rem, Remu}
 use Rattle.rv_encoding.specs.declared.kind.CsrKind.{CsrKind}
 use Rattle.rv_encoding.specs.declared.kind.CsrKind.TheVariants.{Write, Set, Clear}
 
@@ -51,95 +52,181 @@ misc_mem_opcode = 0b0001111
 abbrev pub system_opcode : ℕ
 system_opcode = 0b1110011
 
--- ---- funct3 alone
+-- ---- names and codes
+
+-- funct7, in bits 31:25, and funct3, in bits 14:12
+pub record Functs : Type 0 where
+  pub funct7 : ℕ
+  pub funct3 : ℕ
+
+abbrev pub functs : ℕ → ℕ → Functs
+functs funct7 funct3 = record { funct7 = funct7; funct3 = funct3 }
+
+-- the name of each kind with its funct3
+abbrev pub branch_code : BranchKind → List ℕ × ℕ
+branch_code Beq = (codes "beq", 0b000)
+branch_code Bne = (codes "bne", 0b001)
+branch_code Blt = (codes "blt", 0b100)
+branch_code Bge = (codes "bge", 0b101)
+branch_code Bltu = (codes "bltu", 0b110)
+branch_code Bgeu = (codes "bgeu", 0b111)
+
+abbrev pub load_code : LoadKind → List ℕ × ℕ
+load_code Lb = (codes "lb", 0b000)
+load_code Lh = (codes "lh", 0b001)
+load_code Lw = (codes "lw", 0b010)
+load_code Lbu = (codes "lbu", 0b100)
+load_code Lhu = (codes "lhu", 0b101)
+
+abbrev pub store_code : StoreKind → List ℕ × ℕ
+store_code Sb = (codes "sb", 0b000)
+store_code Sh = (codes "sh", 0b001)
+store_code Sw = (codes "sw", 0b010)
+
+abbrev pub op_imm_code : OpImmKind → List ℕ × ℕ
+op_imm_code Addi = (codes "addi", 0b000)
+op_imm_code Slti = (codes "slti", 0b010)
+op_imm_code Sltiu = (codes "sltiu", 0b011)
+op_imm_code Xori = (codes "xori", 0b100)
+op_imm_code Ori = (codes "ori", 0b110)
+op_imm_code Andi = (codes "andi", 0b111)
+
+abbrev pub csr_code : CsrKind → List ℕ × ℕ
+csr_code Write = (codes "csrrw", 0b001)
+csr_code Set = (codes "csrrs", 0b010)
+csr_code Clear = (codes "csrrc", 0b011)
+
+abbrev pub csr_imm_code : CsrKind → List ℕ × ℕ
+csr_imm_code Write = (codes "csrrwi", 0b101)
+csr_imm_code Set = (codes "csrrsi", 0b110)
+csr_imm_code Clear = (codes "csrrci", 0b111)
+
+-- with its funct7 and funct3
+abbrev pub shift_code : ShiftKind → List ℕ × Functs
+shift_code Slli = (codes "slli", functs 0b0000000 0b001)
+shift_code Srli = (codes "srli", functs 0b0000000 0b101)
+shift_code Srai = (codes "srai", functs 0b0100000 0b101)
+
+abbrev pub op_code : OpKind → List ℕ × Functs
+op_code Add = (codes "add", functs 0b0000000 0b000)
+op_code Sub = (codes "sub", functs 0b0100000 0b000)
+op_code Sll = (codes "sll", functs 0b0000000 0b001)
+op_code Slt = (codes "slt", functs 0b0000000 0b010)
+op_code Sltu = (codes "sltu", functs 0b0000000 0b011)
+op_code Xor = (codes "xor", functs 0b0000000 0b100)
+op_code Srl = (codes "srl", functs 0b0000000 0b101)
+op_code Sra = (codes "sra", functs 0b0100000 0b101)
+op_code Or = (codes "or", functs 0b0000000 0b110)
+op_code And = (codes "and", functs 0b0000000 0b111)
+op_code Mul = (codes "mul", functs 0b0000001 0b000)
+op_code Mulh = (codes "mulh", functs 0b0000001 0b001)
+op_code Mulhsu = (codes "mulhsu", functs 0b0000001 0b010)
+op_code Mulhu = (codes "mulhu", functs 0b0000001 0b011)
+op_code Div = (codes "div", functs 0b0000001 0b100)
+op_code Divu = (codes "divu", functs 0b0000001 0b101)
+op_code Rem = (codes "rem", functs 0b0000001 0b110)
+op_code Remu = (codes "remu", functs 0b0000001 0b111)
+
+-- each of the two alone
+abbrev pub branch_name : BranchKind → List ℕ
+branch_name kind = (branch_code kind).0
 
 abbrev pub branch_funct3 : BranchKind → ℕ
-branch_funct3 Beq = 0b000
-branch_funct3 Bne = 0b001
-branch_funct3 Blt = 0b100
-branch_funct3 Bge = 0b101
-branch_funct3 Bltu = 0b110
-branch_funct3 Bgeu = 0b111
+branch_funct3 kind = (branch_code kind).1
+
+abbrev pub load_name : LoadKind → List ℕ
+load_name kind = (load_code kind).0
 
 abbrev pub load_funct3 : LoadKind → ℕ
-load_funct3 Lb = 0b000
-load_funct3 Lh = 0b001
-load_funct3 Lw = 0b010
-load_funct3 Lbu = 0b100
-load_funct3 Lhu = 0b101
+load_funct3 kind = (load_code kind).1
+
+abbrev pub store_name : StoreKind → List ℕ
+store_name kind = (store_code kind).0
 
 abbrev pub store_funct3 : StoreKind → ℕ
-store_funct3 Sb = 0b000
-store_funct3 Sh = 0b001
-store_funct3 Sw = 0b010
+store_funct3 kind = (store_code kind).1
+
+abbrev pub op_imm_name : OpImmKind → List ℕ
+op_imm_name kind = (op_imm_code kind).0
 
 abbrev pub op_imm_funct3 : OpImmKind → ℕ
-op_imm_funct3 Addi = 0b000
-op_imm_funct3 Slti = 0b010
-op_imm_funct3 Sltiu = 0b011
-op_imm_funct3 Xori = 0b100
-op_imm_funct3 Ori = 0b110
-op_imm_funct3 Andi = 0b111
+op_imm_funct3 kind = (op_imm_code kind).1
+
+abbrev pub csr_name : CsrKind → List ℕ
+csr_name kind = (csr_code kind).0
 
 abbrev pub csr_funct3 : CsrKind → ℕ
-csr_funct3 Write = 0b001
-csr_funct3 Set = 0b010
-csr_funct3 Clear = 0b011
+csr_funct3 kind = (csr_code kind).1
+
+abbrev pub csr_imm_name : CsrKind → List ℕ
+csr_imm_name kind = (csr_imm_code kind).0
 
 abbrev pub csr_imm_funct3 : CsrKind → ℕ
-csr_imm_funct3 Write = 0b101
-csr_imm_funct3 Set = 0b110
-csr_imm_funct3 Clear = 0b111
+csr_imm_funct3 kind = (csr_imm_code kind).1
 
--- ---- funct7 and funct3
+abbrev pub shift_name : ShiftKind → List ℕ
+shift_name kind = (shift_code kind).0
 
 abbrev pub shift_functs : ShiftKind → Functs
-shift_functs Slli = record { funct7 = 0b0000000; funct3 = 0b001 }
-shift_functs Srli = record { funct7 = 0b0000000; funct3 = 0b101 }
-shift_functs Srai = record { funct7 = 0b0100000; funct3 = 0b101 }
+shift_functs kind = (shift_code kind).1
+
+abbrev pub op_name : OpKind → List ℕ
+op_name kind = (op_code kind).0
 
 abbrev pub op_functs : OpKind → Functs
-op_functs Add = record { funct7 = 0b0000000; funct3 = 0b000 }
-op_functs Sub = record { funct7 = 0b0100000; funct3 = 0b000 }
-op_functs Sll = record { funct7 = 0b0000000; funct3 = 0b001 }
-op_functs Slt = record { funct7 = 0b0000000; funct3 = 0b010 }
-op_functs Sltu = record { funct7 = 0b0000000; funct3 = 0b011 }
-op_functs Xor = record { funct7 = 0b0000000; funct3 = 0b100 }
-op_functs Srl = record { funct7 = 0b0000000; funct3 = 0b101 }
-op_functs Sra = record { funct7 = 0b0100000; funct3 = 0b101 }
-op_functs Or = record { funct7 = 0b0000000; funct3 = 0b110 }
-op_functs And = record { funct7 = 0b0000000; funct3 = 0b111 }
-op_functs Mul = record { funct7 = 0b0000001; funct3 = 0b000 }
-op_functs Mulh = record { funct7 = 0b0000001; funct3 = 0b001 }
-op_functs Mulhsu = record { funct7 = 0b0000001; funct3 = 0b010 }
-op_functs Mulhu = record { funct7 = 0b0000001; funct3 = 0b011 }
-op_functs Div = record { funct7 = 0b0000001; funct3 = 0b100 }
-op_functs Divu = record { funct7 = 0b0000001; funct3 = 0b101 }
-op_functs Rem = record { funct7 = 0b0000001; funct3 = 0b110 }
-op_functs Remu = record { funct7 = 0b0000001; funct3 = 0b111 }
+op_functs kind = (op_code kind).1
+
+-- ---- the kinds of each group, in the order of the listing
+
+abbrev pub branch_kinds : List BranchKind
+branch_kinds = Beq ∷ Bne ∷ Blt ∷ Bge ∷ Bltu ∷ Bgeu ∷ []
+
+abbrev pub load_kinds : List LoadKind
+load_kinds = Lb ∷ Lh ∷ Lw ∷ Lbu ∷ Lhu ∷ []
+
+abbrev pub store_kinds : List StoreKind
+store_kinds = Sb ∷ Sh ∷ Sw ∷ []
+
+abbrev pub op_imm_kinds : List OpImmKind
+op_imm_kinds = Addi ∷ Slti ∷ Sltiu ∷ Xori ∷ Ori ∷ Andi ∷ []
+
+abbrev pub shift_kinds : List ShiftKind
+shift_kinds = Slli ∷ Srli ∷ Srai ∷ []
+
+abbrev pub csr_kinds : List CsrKind
+csr_kinds = Write ∷ Set ∷ Clear ∷ []
+
+-- those of RV32I, and those of RV32M
+abbrev pub rv32i_op_kinds : List OpKind
+rv32i_op_kinds = Add ∷ Sub ∷ Sll ∷ Slt ∷ Sltu ∷ Xor ∷ Srl ∷ Sra ∷ Or ∷ And ∷ []
+
+abbrev pub rv32m_op_kinds : List OpKind
+rv32m_op_kinds = Mul ∷ Mulh ∷ Mulhsu ∷ Mulhu ∷ Div ∷ Divu ∷ Rem ∷ Remu ∷ []
 
 -- ---- the kind of a code, if there is one
 
 abbrev pub branch_kind : ℕ → Option BranchKind
-branch_kind funct3 = find (λ kind. branch_funct3 kind == funct3) (Beq ∷ Bne ∷ Blt ∷ Bge ∷ Bltu ∷ Bgeu ∷ [])
+branch_kind funct3 = find (λ kind. branch_funct3 kind == funct3) branch_kinds
 
 abbrev pub load_kind : ℕ → Option LoadKind
-load_kind funct3 = find (λ kind. load_funct3 kind == funct3) (Lb ∷ Lh ∷ Lw ∷ Lbu ∷ Lhu ∷ [])
+load_kind funct3 = find (λ kind. load_funct3 kind == funct3) load_kinds
 
 abbrev pub store_kind : ℕ → Option StoreKind
-store_kind funct3 = find (λ kind. store_funct3 kind == funct3) (Sb ∷ Sh ∷ Sw ∷ [])
+store_kind funct3 = find (λ kind. store_funct3 kind == funct3) store_kinds
 
 abbrev pub op_imm_kind : ℕ → Option OpImmKind
-op_imm_kind funct3 = find (λ kind. op_imm_funct3 kind == funct3) (Addi ∷ Slti ∷ Sltiu ∷ Xori ∷ Ori ∷ Andi ∷ [])
-
-abbrev pub shift_kind : ℕ → ℕ → Option ShiftKind
-shift_kind funct3 funct7 = find (λ kind. (shift_functs kind).funct3 == funct3 && (shift_functs kind).funct7 == funct7) (Slli ∷ Srli ∷ Srai ∷ [])
-
-abbrev pub op_kind : ℕ → ℕ → Option OpKind
-op_kind funct3 funct7 = find (λ kind. (op_functs kind).funct3 == funct3 && (op_functs kind).funct7 == funct7) (Add ∷ Sub ∷ Sll ∷ Slt ∷ Sltu ∷ Xor ∷ Srl ∷ Sra ∷ Or ∷ And ∷ Mul ∷ Mulh ∷ Mulhsu ∷ Mulhu ∷ Div ∷ Divu ∷ Rem ∷ Remu ∷ [])
+op_imm_kind funct3 = find (λ kind. op_imm_funct3 kind == funct3) op_imm_kinds
 
 abbrev pub csr_kind : ℕ → Option CsrKind
-csr_kind funct3 = find (λ kind. csr_funct3 kind == funct3) (Write ∷ Set ∷ Clear ∷ [])
+csr_kind funct3 = find (λ kind. csr_funct3 kind == funct3) csr_kinds
 
 abbrev pub csr_imm_kind : ℕ → Option CsrKind
-csr_imm_kind funct3 = find (λ kind. csr_imm_funct3 kind == funct3) (Write ∷ Set ∷ Clear ∷ [])
+csr_imm_kind funct3 = find (λ kind. csr_imm_funct3 kind == funct3) csr_kinds
+
+abbrev pub shift_kind : ℕ → ℕ → Option ShiftKind
+shift_kind funct3 funct7 =
+    find (λ kind. (shift_functs kind).funct3 == funct3 && (shift_functs kind).funct7 == funct7) shift_kinds
+
+abbrev pub op_kind : ℕ → ℕ → Option OpKind
+op_kind funct3 funct7 =
+    find (λ kind. (op_functs kind).funct3 == funct3 && (op_functs kind).funct7 == funct7) (rv32i_op_kinds ++ rv32m_op_kinds)

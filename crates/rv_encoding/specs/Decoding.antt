@@ -1,36 +1,30 @@
 -- The instruction that a word spells, read off the listing: RISC-V Unprivileged ISA 20191213, section 2.2 and chapter 24.
-use Rattle.std.specs.Prelude.{ℕ, ◌==◌, List, [], ◌∷◌, find, Option}
+use Rattle.std.specs.Prelude.{ℕ, ◌==◌, List, [], ◌∷◌, ◌++◌, map, find, Option}
 use Rattle.std.specs.Option.{option_map}
 use Rattle.rv_word.specs.Logic.{and_by_bits}
-use Rattle.rv_encoding.specs.Places.{rd_at, rs1_at, rs2_at, i_immediate_at, s_immediate_at, b_immediate_at, j_immediate_at, u_immediate_at, shamt_at, fm_at, pred_at, succ_at, csr_at, uimm_at, taken}
+use Rattle.rv_encoding.specs.Places.{rd_at, rs1_at, rs2_at, i_immediate_at, s_immediate_at, b_immediate_at, j_immediate_at, u_immediate_at}
+use Rattle.rv_encoding.specs.Places.{shamt_at, fm_at, pred_at, succ_at, csr_at, uimm_at, taken}
+use Rattle.rv_encoding.specs.Codes.{branch_kinds, load_kinds, store_kinds, op_imm_kinds, shift_kinds, rv32i_op_kinds, rv32m_op_kinds, csr_kinds}
 use Rattle.rv_encoding.specs.Rows.{row_of_instr}
-use Rattle.rv_encoding.specs.declared.kind.BranchKind.TheVariants.{Beq, Bne, Blt, Bge, Bltu, Bgeu}
-use Rattle.rv_encoding.specs.declared.kind.LoadKind.TheVariants.{Lb, Lh, Lw, Lbu, Lhu}
-use Rattle.rv_encoding.specs.declared.kind.StoreKind.TheVariants.{Sb, Sh, Sw}
-use Rattle.rv_encoding.specs.declared.kind.OpImmKind.TheVariants.{Addi, Slti, Sltiu, Xori, Ori, Andi}
-use Rattle.rv_encoding.specs.declared.kind.ShiftKind.TheVariants.{Slli, Srli, Srai}
-use Rattle.rv_encoding.specs.declared.kind.OpKind.TheVariants.{Add, Sub, Sll, Slt, Sltu, Xor, Srl, Sra, Or, And, Mul, Mulh, Mulhsu, Mulhu, Div, Divu, Rem, Remu}
-use Rattle.rv_encoding.specs.declared.kind.CsrKind.TheVariants.{Write, Set, Clear}
 use Rattle.rv_encoding.specs.declared.instr.Instr.{Instr}
-use Rattle.rv_encoding.specs.declared.instr.Instr.TheVariants.{Lui, Auipc, Jal, Jalr, Branch, Load, Store, OpImm, ShiftImm, Op, Fence, Csr, CsrImm, Ecall, Ebreak, Sret, Mret, Wfi, SfenceVma}
+use Rattle.rv_encoding.specs.declared.instr.Instr.TheVariants.{Lui, Auipc, Jal, Jalr, Branch, Load, Store, OpImm, ShiftImm, Op, Fence}
+use Rattle.rv_encoding.specs.declared.instr.Instr.TheVariants.{Csr, CsrImm, Ecall, Ebreak, Sret, Mret, Wfi, SfenceVma}
 
 -- An instruction of each row, its fields 0, in the order of the listing.
 abbrev pub samples : List Instr
 samples =
     Lui 0 0 ∷ Auipc 0 0 ∷ Jal 0 0 ∷ Jalr 0 0 0
-    ∷ Branch Beq 0 0 0 ∷ Branch Bne 0 0 0 ∷ Branch Blt 0 0 0 ∷ Branch Bge 0 0 0 ∷ Branch Bltu 0 0 0 ∷ Branch Bgeu 0 0 0
-    ∷ Load Lb 0 0 0 ∷ Load Lh 0 0 0 ∷ Load Lw 0 0 0 ∷ Load Lbu 0 0 0 ∷ Load Lhu 0 0 0
-    ∷ Store Sb 0 0 0 ∷ Store Sh 0 0 0 ∷ Store Sw 0 0 0
-    ∷ OpImm Addi 0 0 0 ∷ OpImm Slti 0 0 0 ∷ OpImm Sltiu 0 0 0 ∷ OpImm Xori 0 0 0 ∷ OpImm Ori 0 0 0 ∷ OpImm Andi 0 0 0
-    ∷ ShiftImm Slli 0 0 0 ∷ ShiftImm Srli 0 0 0 ∷ ShiftImm Srai 0 0 0
-    ∷ Op Add 0 0 0 ∷ Op Sub 0 0 0 ∷ Op Sll 0 0 0 ∷ Op Slt 0 0 0 ∷ Op Sltu 0 0 0
-    ∷ Op Xor 0 0 0 ∷ Op Srl 0 0 0 ∷ Op Sra 0 0 0 ∷ Op Or 0 0 0 ∷ Op And 0 0 0
-    ∷ Fence 0 0 0 0 0 ∷ Ecall ∷ Ebreak
-    ∷ Csr Write 0 0 0 ∷ Csr Set 0 0 0 ∷ Csr Clear 0 0 0
-    ∷ CsrImm Write 0 0 0 ∷ CsrImm Set 0 0 0 ∷ CsrImm Clear 0 0 0
-    ∷ Op Mul 0 0 0 ∷ Op Mulh 0 0 0 ∷ Op Mulhsu 0 0 0 ∷ Op Mulhu 0 0 0 ∷ Op Div 0 0 0 ∷ Op Divu 0 0 0 ∷ Op Rem 0 0 0 ∷ Op Remu 0 0 0
-    ∷ Sret ∷ Mret ∷ Wfi ∷ SfenceVma 0 0
-    ∷ []
+    ∷ map (λ kind. Branch kind 0 0 0) branch_kinds
+    ++ map (λ kind. Load kind 0 0 0) load_kinds
+    ++ map (λ kind. Store kind 0 0 0) store_kinds
+    ++ map (λ kind. OpImm kind 0 0 0) op_imm_kinds
+    ++ map (λ kind. ShiftImm kind 0 0 0) shift_kinds
+    ++ map (λ kind. Op kind 0 0 0) rv32i_op_kinds
+    ++ Fence 0 0 0 0 0 ∷ Ecall ∷ Ebreak
+    ∷ map (λ kind. Csr kind 0 0 0) csr_kinds
+    ++ map (λ kind. CsrImm kind 0 0 0) csr_kinds
+    ++ map (λ kind. Op kind 0 0 0) rv32m_op_kinds
+    ++ Sret ∷ Mret ∷ Wfi ∷ SfenceVma 0 0 ∷ []
 
 -- The instruction of the same row whose fields are those of a word.
 abbrev pub with_fields_of : ℕ → Instr → Instr

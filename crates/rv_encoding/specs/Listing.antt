@@ -2,23 +2,11 @@
 -- Zicsr, RV32M), and of Privileged Architecture 20211203, chapter "RISC-V Privileged Instruction Set Listings". This is
 -- the table to hold beside the manuals; `decode` ensures that it is the rows of `Rows`, no more and no fewer.
 use Rattle.std.specs.Prelude.{◌≡◌, ℕ, List, [], ◌∷◌, codes, slice_get, Some}
+use Rattle.rv_encoding.specs.Codes.{branch_name, load_name, store_name, op_imm_name, shift_name, op_name, csr_name, csr_imm_name}
 use Rattle.rv_encoding.specs.Rows.{row_of_instr}
-use Rattle.rv_encoding.specs.declared.kind.BranchKind.{BranchKind}
-use Rattle.rv_encoding.specs.declared.kind.BranchKind.TheVariants.{Beq, Bne, Blt, Bge, Bltu, Bgeu}
-use Rattle.rv_encoding.specs.declared.kind.LoadKind.{LoadKind}
-use Rattle.rv_encoding.specs.declared.kind.LoadKind.TheVariants.{Lb, Lh, Lw, Lbu, Lhu}
-use Rattle.rv_encoding.specs.declared.kind.StoreKind.{StoreKind}
-use Rattle.rv_encoding.specs.declared.kind.StoreKind.TheVariants.{Sb, Sh, Sw}
-use Rattle.rv_encoding.specs.declared.kind.OpImmKind.{OpImmKind}
-use Rattle.rv_encoding.specs.declared.kind.OpImmKind.TheVariants.{Addi, Slti, Sltiu, Xori, Ori, Andi}
-use Rattle.rv_encoding.specs.declared.kind.ShiftKind.{ShiftKind}
-use Rattle.rv_encoding.specs.declared.kind.ShiftKind.TheVariants.{Slli, Srli, Srai}
-use Rattle.rv_encoding.specs.declared.kind.OpKind.{OpKind}
-use Rattle.rv_encoding.specs.declared.kind.OpKind.TheVariants.{Add, Sub, Sll, Slt, Sltu, Xor, Srl, Sra, Or, And, Mul, Mulh, Mulhsu, Mulhu, Div, Divu, Rem, Remu}
-use Rattle.rv_encoding.specs.declared.kind.CsrKind.{CsrKind}
-use Rattle.rv_encoding.specs.declared.kind.CsrKind.TheVariants.{Write, Set, Clear}
 use Rattle.rv_encoding.specs.declared.instr.Instr.{Instr}
-use Rattle.rv_encoding.specs.declared.instr.Instr.TheVariants.{Lui, Auipc, Jal, Jalr, Branch, Load, Store, OpImm, ShiftImm, Op, Fence, Csr, CsrImm, Ecall, Ebreak, Sret, Mret, Wfi, SfenceVma}
+use Rattle.rv_encoding.specs.declared.instr.Instr.TheVariants.{Lui, Auipc, Jal, Jalr, Branch, Load, Store, OpImm, ShiftImm, Op, Fence}
+use Rattle.rv_encoding.specs.declared.instr.Instr.TheVariants.{Csr, CsrImm, Ecall, Ebreak, Sret, Mret, Wfi, SfenceVma}
 
 pub record Listed : Type 0 where
   pub name : List ℕ
@@ -93,71 +81,6 @@ listing =
     ∷ listed (codes "wfi") 0xFFFFFFFF 0x10500073
     ∷ listed (codes "sfence.vma") 0xFE007FFF 0x12000073
     ∷ []
-
--- ---- the names of the kinds
-
-abbrev pub branch_name : BranchKind → List ℕ
-branch_name Beq = codes "beq"
-branch_name Bne = codes "bne"
-branch_name Blt = codes "blt"
-branch_name Bge = codes "bge"
-branch_name Bltu = codes "bltu"
-branch_name Bgeu = codes "bgeu"
-
-abbrev pub load_name : LoadKind → List ℕ
-load_name Lb = codes "lb"
-load_name Lh = codes "lh"
-load_name Lw = codes "lw"
-load_name Lbu = codes "lbu"
-load_name Lhu = codes "lhu"
-
-abbrev pub store_name : StoreKind → List ℕ
-store_name Sb = codes "sb"
-store_name Sh = codes "sh"
-store_name Sw = codes "sw"
-
-abbrev pub op_imm_name : OpImmKind → List ℕ
-op_imm_name Addi = codes "addi"
-op_imm_name Slti = codes "slti"
-op_imm_name Sltiu = codes "sltiu"
-op_imm_name Xori = codes "xori"
-op_imm_name Ori = codes "ori"
-op_imm_name Andi = codes "andi"
-
-abbrev pub shift_name : ShiftKind → List ℕ
-shift_name Slli = codes "slli"
-shift_name Srli = codes "srli"
-shift_name Srai = codes "srai"
-
-abbrev pub op_name : OpKind → List ℕ
-op_name Add = codes "add"
-op_name Sub = codes "sub"
-op_name Sll = codes "sll"
-op_name Slt = codes "slt"
-op_name Sltu = codes "sltu"
-op_name Xor = codes "xor"
-op_name Srl = codes "srl"
-op_name Sra = codes "sra"
-op_name Or = codes "or"
-op_name And = codes "and"
-op_name Mul = codes "mul"
-op_name Mulh = codes "mulh"
-op_name Mulhsu = codes "mulhsu"
-op_name Mulhu = codes "mulhu"
-op_name Div = codes "div"
-op_name Divu = codes "divu"
-op_name Rem = codes "rem"
-op_name Remu = codes "remu"
-
-abbrev pub csr_name : CsrKind → List ℕ
-csr_name Write = codes "csrrw"
-csr_name Set = codes "csrrs"
-csr_name Clear = codes "csrrc"
-
-abbrev pub csr_imm_name : CsrKind → List ℕ
-csr_imm_name Write = codes "csrrwi"
-csr_imm_name Set = codes "csrrsi"
-csr_imm_name Clear = codes "csrrci"
 
 -- The name of an instruction.
 abbrev pub name_of : Instr → List ℕ

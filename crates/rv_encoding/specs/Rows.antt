@@ -2,12 +2,15 @@
 -- Privileged Architecture 20211203, chapter "RISC-V Privileged Instruction Set Listings". What the words of each row
 -- share, the fields of each at their places, and so the word that spells an instruction.
 use Rattle.std.specs.Prelude.{◌≡◌, ℕ, ◌+◌, ◌*◌, ◌^◌, ◌<◌, List, [], ◌∷◌, sum_by}
-use Rattle.rv_encoding.specs.Places.{Places, rd_at, rs1_at, rs2_at, i_immediate_at, s_immediate_at, b_immediate_at, j_immediate_at, u_immediate_at, shamt_at, fm_at, pred_at, succ_at, csr_at, uimm_at, placed}
+use Rattle.rv_encoding.specs.Places.{Places, rd_at, rs1_at, rs2_at, i_immediate_at, s_immediate_at, b_immediate_at, j_immediate_at}
+use Rattle.rv_encoding.specs.Places.{u_immediate_at, shamt_at, fm_at, pred_at, succ_at, csr_at, uimm_at, placed}
 use Rattle.rv_encoding.specs.Ranges.{IsUpperImmediate, IsBranchOffset, IsJumpOffset}
-use Rattle.rv_encoding.specs.Codes.{lui_opcode, auipc_opcode, jal_opcode, jalr_opcode, branch_opcode, load_opcode, store_opcode, op_imm_opcode, op_opcode, misc_mem_opcode, system_opcode, branch_funct3, load_funct3, store_funct3, op_imm_funct3, shift_functs, op_functs, csr_funct3, csr_imm_funct3}
-use Rattle.rv_encoding.specs.declared.encoder.codes.Functs.{Functs}
+use Rattle.rv_encoding.specs.Codes.{lui_opcode, auipc_opcode, jal_opcode, jalr_opcode, branch_opcode, load_opcode, store_opcode, op_imm_opcode}
+use Rattle.rv_encoding.specs.Codes.{op_opcode, misc_mem_opcode, system_opcode, Functs, functs, branch_funct3, load_funct3, store_funct3}
+use Rattle.rv_encoding.specs.Codes.{op_imm_funct3, shift_functs, op_functs, csr_funct3, csr_imm_funct3}
 use Rattle.rv_encoding.specs.declared.instr.Instr.{Instr}
-use Rattle.rv_encoding.specs.declared.instr.Instr.TheVariants.{Lui, Auipc, Jal, Jalr, Branch, Load, Store, OpImm, ShiftImm, Op, Fence, Csr, CsrImm, Ecall, Ebreak, Sret, Mret, Wfi, SfenceVma}
+use Rattle.rv_encoding.specs.declared.instr.Instr.TheVariants.{Lui, Auipc, Jal, Jalr, Branch, Load, Store, OpImm, ShiftImm, Op, Fence}
+use Rattle.rv_encoding.specs.declared.instr.Instr.TheVariants.{Csr, CsrImm, Ecall, Ebreak, Sret, Mret, Wfi, SfenceVma}
 
 -- A row of the listings, and the fields of one of its words. Under the mask every word of the row is the match; this one is the
 -- match with each of these fields at its places.
@@ -20,7 +23,7 @@ pub record InstrRow : Type 0 where
 abbrev pub fields_at : List (Places × ℕ) → ℕ
 fields_at fields = sum_by (λ (field : Places × ℕ). placed field.0 field.1) fields
 
--- ---- formats: opcode in bits 6:0, funct3 in bits 14:12, funct7 in bits 31:25
+-- ---- formats: opcode in bits 6:0, funct3 in bits 14:12, funct7 in bits 31:25, funct12 in bits 31:20
 
 abbrev pub opcode_row : ℕ → List (Places × ℕ) → InstrRow
 opcode_row opcode fields = record { mask = 0x0000007F; match = opcode; fields = fields }
@@ -32,9 +35,13 @@ abbrev pub funct7_row : ℕ → Functs → List (Places × ℕ) → InstrRow
 funct7_row opcode functs fields =
     record { mask = 0xFE00707F; match = opcode + functs.funct3 * 2 ^ 12 + functs.funct7 * 2 ^ 25; fields = fields }
 
--- a whole word
-abbrev pub word_row : ℕ → InstrRow
-word_row word = record { mask = 0xFFFFFFFF; match = word; fields = [] }
+-- rd (bits 11:7) is 0
+abbrev pub funct7_row_without_rd : ℕ → Functs → List (Places × ℕ) → InstrRow
+funct7_row_without_rd opcode functs fields = record (funct7_row opcode functs fields) { mask = 0xFE007FFF }
+
+-- rd, funct3 and rs1 (bits 19:7) are 0
+abbrev pub funct12_row : ℕ → ℕ → InstrRow
+funct12_row opcode funct12 = record { mask = 0xFFFFFFFF; match = opcode + funct12 * 2 ^ 20; fields = [] }
 
 -- ---- the rows, by groups with the same fields
 
@@ -42,22 +49,32 @@ abbrev pub row_of_instr : Instr → InstrRow
 row_of_instr (Lui rd imm) = opcode_row lui_opcode ((rd_at, rd) ∷ (u_immediate_at, imm) ∷ [])
 row_of_instr (Auipc rd imm) = opcode_row auipc_opcode ((rd_at, rd) ∷ (u_immediate_at, imm) ∷ [])
 row_of_instr (Jal rd offset) = opcode_row jal_opcode ((rd_at, rd) ∷ (j_immediate_at, offset) ∷ [])
-row_of_instr (Jalr rd rs1 offset) = funct3_row jalr_opcode 0b000 ((rd_at, rd) ∷ (rs1_at, rs1) ∷ (i_immediate_at, offset) ∷ [])
-row_of_instr (Branch kind rs1 rs2 offset) = funct3_row branch_opcode (branch_funct3 kind) ((rs1_at, rs1) ∷ (rs2_at, rs2) ∷ (b_immediate_at, offset) ∷ [])
-row_of_instr (Load kind rd rs1 offset) = funct3_row load_opcode (load_funct3 kind) ((rd_at, rd) ∷ (rs1_at, rs1) ∷ (i_immediate_at, offset) ∷ [])
-row_of_instr (Store kind rs1 rs2 offset) = funct3_row store_opcode (store_funct3 kind) ((rs1_at, rs1) ∷ (rs2_at, rs2) ∷ (s_immediate_at, offset) ∷ [])
-row_of_instr (OpImm kind rd rs1 imm) = funct3_row op_imm_opcode (op_imm_funct3 kind) ((rd_at, rd) ∷ (rs1_at, rs1) ∷ (i_immediate_at, imm) ∷ [])
-row_of_instr (ShiftImm kind rd rs1 shamt) = funct7_row op_imm_opcode (shift_functs kind) ((rd_at, rd) ∷ (rs1_at, rs1) ∷ (shamt_at, shamt) ∷ [])
-row_of_instr (Op kind rd rs1 rs2) = funct7_row op_opcode (op_functs kind) ((rd_at, rd) ∷ (rs1_at, rs1) ∷ (rs2_at, rs2) ∷ [])
-row_of_instr (Fence fm pred succ rd rs1) = funct3_row misc_mem_opcode 0b000 ((fm_at, fm) ∷ (pred_at, pred) ∷ (succ_at, succ) ∷ (rd_at, rd) ∷ (rs1_at, rs1) ∷ [])
-row_of_instr (Csr kind rd rs1 csr) = funct3_row system_opcode (csr_funct3 kind) ((rd_at, rd) ∷ (rs1_at, rs1) ∷ (csr_at, csr) ∷ [])
-row_of_instr (CsrImm kind rd uimm csr) = funct3_row system_opcode (csr_imm_funct3 kind) ((rd_at, rd) ∷ (uimm_at, uimm) ∷ (csr_at, csr) ∷ [])
-row_of_instr Ecall = word_row 0x00000073
-row_of_instr Ebreak = word_row 0x00100073
-row_of_instr Sret = word_row 0x10200073
-row_of_instr Mret = word_row 0x30200073
-row_of_instr Wfi = word_row 0x10500073
-row_of_instr (SfenceVma rs1 rs2) = record { mask = 0xFE007FFF; match = 0x12000073; fields = (rs1_at, rs1) ∷ (rs2_at, rs2) ∷ [] }
+row_of_instr (Jalr rd rs1 offset) =
+    funct3_row jalr_opcode 0b000 ((rd_at, rd) ∷ (rs1_at, rs1) ∷ (i_immediate_at, offset) ∷ [])
+row_of_instr (Branch kind rs1 rs2 offset) =
+    funct3_row branch_opcode (branch_funct3 kind) ((rs1_at, rs1) ∷ (rs2_at, rs2) ∷ (b_immediate_at, offset) ∷ [])
+row_of_instr (Load kind rd rs1 offset) =
+    funct3_row load_opcode (load_funct3 kind) ((rd_at, rd) ∷ (rs1_at, rs1) ∷ (i_immediate_at, offset) ∷ [])
+row_of_instr (Store kind rs1 rs2 offset) =
+    funct3_row store_opcode (store_funct3 kind) ((rs1_at, rs1) ∷ (rs2_at, rs2) ∷ (s_immediate_at, offset) ∷ [])
+row_of_instr (OpImm kind rd rs1 imm) =
+    funct3_row op_imm_opcode (op_imm_funct3 kind) ((rd_at, rd) ∷ (rs1_at, rs1) ∷ (i_immediate_at, imm) ∷ [])
+row_of_instr (ShiftImm kind rd rs1 shamt) =
+    funct7_row op_imm_opcode (shift_functs kind) ((rd_at, rd) ∷ (rs1_at, rs1) ∷ (shamt_at, shamt) ∷ [])
+row_of_instr (Op kind rd rs1 rs2) =
+    funct7_row op_opcode (op_functs kind) ((rd_at, rd) ∷ (rs1_at, rs1) ∷ (rs2_at, rs2) ∷ [])
+row_of_instr (Fence fm pred succ rd rs1) =
+    funct3_row misc_mem_opcode 0b000 ((fm_at, fm) ∷ (pred_at, pred) ∷ (succ_at, succ) ∷ (rd_at, rd) ∷ (rs1_at, rs1) ∷ [])
+row_of_instr (Csr kind rd rs1 csr) =
+    funct3_row system_opcode (csr_funct3 kind) ((rd_at, rd) ∷ (rs1_at, rs1) ∷ (csr_at, csr) ∷ [])
+row_of_instr (CsrImm kind rd uimm csr) =
+    funct3_row system_opcode (csr_imm_funct3 kind) ((rd_at, rd) ∷ (uimm_at, uimm) ∷ (csr_at, csr) ∷ [])
+row_of_instr Ecall = funct12_row system_opcode 0x000
+row_of_instr Ebreak = funct12_row system_opcode 0x001
+row_of_instr Sret = funct12_row system_opcode 0x102
+row_of_instr Mret = funct12_row system_opcode 0x302
+row_of_instr Wfi = funct12_row system_opcode 0x105
+row_of_instr (SfenceVma rs1 rs2) = funct7_row_without_rd system_opcode (functs 0b0001001 0b000) ((rs1_at, rs1) ∷ (rs2_at, rs2) ∷ [])
 
 -- ---- spelling
 

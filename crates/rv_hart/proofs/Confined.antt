@@ -36,7 +36,8 @@ decodes-too : (state : State) (n : List ℕ) (word : ℕ) (given : Option Instr)
     → Decodes (with_memory state n) word given
 decodes-too state n word given same here = record { fetch = fetches-too state n (Ok word) same here.fetch; decoded = here.decoded }
 
-asks-too : (state : State) (n : List ℕ) (word : ℕ) (instr : Instr) (access : Request) → SameIn state.memory n (span state.hart.pc Word) → Asks state word instr access
+asks-too : (state : State) (n : List ℕ) (word : ℕ) (instr : Instr) (access : Request) → SameIn state.memory n (span state.hart.pc Word)
+    → Asks state word instr access
     → Asks (with_memory state n) word instr access
 asks-too state n word instr access same here = record { decode = decodes-too state n word (Some instr) same here.decode; request = here.request }
 
@@ -47,7 +48,8 @@ unchanged : (state : State) (n : List ℕ) (ended : Ended) → ended.outcome.tou
     → EndAlike state.memory n [] (over state.memory ended) (step (with_memory state n))
 unchanged state n ended none other = rw other (record { hart = refl; outcome = refl; here = rw none refl; there = rw none refl })
 
-touched-ended : (hart : Hart) (touched : Touched) (written : Option ℕ) (finish : Result Hart Trap) → (retired_or_trapped hart touched written finish).outcome.touched ≡ touched
+touched-ended : (hart : Hart) (touched : Touched) (written : Option ℕ) (finish : Result Hart Trap)
+    → (retired_or_trapped hart touched written finish).outcome.touched ≡ touched
 unfolding retired_or_trapped
 touched-ended hart touched written (Ok after) = refl
 touched-ended hart touched written (Err trap) = refl
@@ -59,8 +61,10 @@ none-stored hart touched written finish none = ap (λ (t : Touched). t.stored) (
 -- both memories take a store
 stored-alike : (state : State) (n : List ℕ) (word : ℕ) (instr : Instr) (address : ℕ) (width : Width) (value : ℕ) (memory : List ℕ)
     → length state.memory ≡ length n → Stores state address width value (Ok memory)
-    → step (with_memory state n) ≡ over (write_bytes n (address - ram_base) (bytes_of (bytes_in width) value)) (from_execute state.hart (store_of state.hart address width) word instr 0)
-    → EndAlike state.memory n (bytes_of (bytes_in width) value) (over memory (from_execute state.hart (store_of state.hart address width) word instr 0)) (step (with_memory state n))
+    → step (with_memory state n)
+    ≡ over (write_bytes n (address - ram_base) (bytes_of (bytes_in width) value)) (from_execute state.hart (store_of state.hart address width) word instr 0)
+    → EndAlike state.memory n (bytes_of (bytes_in width) value)
+    (over memory (from_execute state.hart (store_of state.hart address width) word instr 0)) (step (with_memory state n))
 stored-alike state n word instr address width value memory sizes is other =
     let here = store_done state.memory state.hart.csrs.pmp (data_mode state.hart) address width value memory is in
     let there = store_done n state.hart.csrs.pmp (data_mode state.hart) address width value _
@@ -94,7 +98,8 @@ confined state = by_ways state (IsConfined state) (record {
     bytes = [];
     alike = λ n agree.
         let reads : AgreeOn state.memory n (fetch_of state.hart) = rw touched-ended at agree in
-        unchanged state n _ (none-stored state.hart (fetch_of state.hart) _ _ refl) (asked_step _ word instr Nothing (asks-too state n word instr Nothing reads.fetched here));
+        unchanged state n _ (none-stored state.hart (fetch_of state.hart) _ _ refl)
+        (asked_step _ word instr Nothing (asks-too state n word instr Nothing reads.fetched here));
   };
   load = λ word instr address width number here is. record {
     bytes = [];

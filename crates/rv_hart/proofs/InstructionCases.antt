@@ -5,7 +5,8 @@ use Rattle.std.specs.Prelude.{IfOk, ◌==◌, ◌%◌, if◌then◌else◌}
 use Rattle.rv_word.specs.BitFields.{sign_extended}
 use Rattle.rv_word.specs.declared.width.Width.{Width}
 use Rattle.rv_encoding.specs.declared.instr.Instr.{Instr}
-use Rattle.rv_encoding.specs.declared.instr.Instr.TheVariants.{Lui, Auipc, Jal, Jalr, Branch, Load, Store, OpImm, ShiftImm, Op, Fence, Csr, CsrImm, Ecall, Ebreak, Sret, Mret, Wfi, SfenceVma}
+use Rattle.rv_encoding.specs.declared.instr.Instr.TheVariants.{Lui, Auipc, Jal, Jalr, Branch, Load, Store, OpImm, ShiftImm, Op, Fence}
+use Rattle.rv_encoding.specs.declared.instr.Instr.TheVariants.{Csr, CsrImm, Ecall, Ebreak, Sret, Mret, Wfi, SfenceVma}
 use Rattle.rv_encoding.specs.declared.kind.CsrKind.{CsrKind}
 use Rattle.rv_state.specs.CsrState.{CsrState}
 use Rattle.rv_state.specs.CsrTable.{write_result}
@@ -17,7 +18,8 @@ use Rattle.rv_hart.specs.CsrInstructions.{is_written, changed, old_word, new_csr
 use Rattle.rv_hart.specs.Exceptions.{misaligned}
 use Rattle.rv_hart.specs.Hart.{advanced, with_result, jumped, branched}
 use Rattle.rv_hart.specs.HartState.{Hart}
-use Rattle.rv_hart.specs.Instructions.{request, executed, where_allowed, unless_refused, unless_illegal, returned_from_machine, returned_from_supervisor, address_of, made_even}
+use Rattle.rv_hart.specs.Instructions.{request, executed, where_allowed, unless_refused, unless_illegal, returned_from_machine}
+use Rattle.rv_hart.specs.Instructions.{returned_from_supervisor, address_of, made_even}
 use Rattle.rv_hart.specs.declared.request.Request.TheVariants as requests
 use Rattle.rv_hart.specs.declared.trap.Trap.{Trap}
 
@@ -34,7 +36,8 @@ pub record Changes (hart : Hart) (P : Hart → Type 0) : Type 0 where
 
 jumped-by : (hart : Hart) (P : Hart → Type 0) → Changes hart P → (rd target : ℕ) → IfOk (jumped hart rd target) P
 jumped-by hart P changes rd target =
-    elim (target % 4 == 0) as (λ b. IfOk (if b then Ok (record hart { regs = with_register hart.regs rd (sum_of hart.pc 4); pc = target }) else Err (misaligned target)) P)
+    elim (target % 4 == 0) as
+    (λ b. IfOk (if b then Ok (record hart { regs = with_register hart.regs rd (sum_of hart.pc 4); pc = target }) else Err (misaligned target)) P)
     [ true ↦ changes.computes _ _ | false ↦ tt ]
 
 branched-by : (hart : Hart) (P : Hart → Type 0) → Changes hart P → (taken : Bool) (target : ℕ) → IfOk (branched hart taken target) P
@@ -47,7 +50,8 @@ allowed-by : (P : Hart → Type 0) (allowed : Bool) (word : ℕ) (after : Hart) 
 allowed-by P true word after holds = holds refl
 allowed-by P false word after holds = tt
 
-written-by : (hart : Hart) (P : Hart → Type 0) → Changes hart P → (rd old word csr new : ℕ) (r : Result CsrState CsrFault) → write_result hart.csrs csr new hart.mode ≡ r
+written-by : (hart : Hart) (P : Hart → Type 0) → Changes hart P → (rd old word csr new : ℕ) (r : Result CsrState CsrFault)
+    → write_result hart.csrs csr new hart.mode ≡ r
     → IfOk (unless_illegal word (unless_fault r (λ csrs. Ok (with_result (record hart { csrs = csrs }) rd old)))) P
 written-by hart P changes rd old word csr new (Ok csrs) is = changes.writes csr new csrs _ _ is
 written-by hart P changes rd old word csr new (Err fault) is = tt
@@ -57,10 +61,14 @@ changed-by : (hart : Hart) (P : Hart → Type 0) → Changes hart P → (kind : 
 unfolding csr_changed
 changed-by hart P changes kind rd source operand csr word =
     elim (old_word hart kind rd csr) as (λ o.
-    IfOk (unless_illegal word (unless_fault o (λ old. unless_fault (new_csrs hart kind source (changed kind old operand) csr) (λ csrs. Ok (with_result (record hart { csrs = csrs }) rd old))))) P) [
+    IfOk (unless_illegal word
+    (unless_fault o (λ old. unless_fault (new_csrs hart kind source (changed kind old operand) csr)
+    (λ csrs. Ok (with_result (record hart { csrs = csrs }) rd old))))) P) [
       | Ok old ↦
           elim (is_written kind source) as (λ b.
-          IfOk (unless_illegal word (unless_fault (if b then write_result hart.csrs csr (changed kind old operand) hart.mode else Ok hart.csrs) (λ csrs. Ok (with_result (record hart { csrs = csrs }) rd old)))) P)
+          IfOk (unless_illegal word
+          (unless_fault (if b then write_result hart.csrs csr (changed kind old operand) hart.mode else Ok hart.csrs)
+          (λ csrs. Ok (with_result (record hart { csrs = csrs }) rd old)))) P)
           [ true ↦ written-by hart P changes rd old word csr (changed kind old operand) _ refl | false ↦ changes.computes _ _ ]
       | Err fault ↦ tt
     ]

@@ -19,7 +19,8 @@ use Rattle.rv_hart.specs.HartState.{Hart}
 use Rattle.rv_hart.specs.Instructions.{request, executed}
 use Rattle.rv_hart.specs.Permitted.{MayTouchAll}
 use Rattle.rv_hart.specs.State.{State, Ended, Stepped, over}
-use Rattle.rv_hart.specs.Step.{step, from_fetch, from_decode, from_access, retired_or_trapped, data_mode, from_execute, trap_end, retired_end, fetch_of, load_of, store_of, nothing}
+use Rattle.rv_hart.specs.Step.{step, from_fetch, from_decode, from_access, retired_or_trapped, data_mode, from_execute}
+use Rattle.rv_hart.specs.Step.{trap_end, retired_end, fetch_of, load_of, store_of, nothing}
 use Rattle.rv_hart.specs.declared.request.Request.{Request}
 use Rattle.rv_hart.specs.declared.request.Request.TheVariants.{Nothing, Load, Store}
 use Rattle.rv_hart.specs.declared.trap.Trap.{Trap}
@@ -62,7 +63,8 @@ pub record Ways (state : State) (P : Stepped → Type 0) : Type 0 where
       → Loads state address width (Err fault) → P (over state.memory (trap_end state.hart (fetch_of state.hart) (access_fault LoadAccessFault address)))
   pub store : (word : ℕ) (instr : Instr) (address : ℕ) (width : Width) (value : ℕ) (memory : List ℕ) → Asks state word instr (Store address width value)
       → Stores state address width value (Ok memory) → P (over memory (from_execute state.hart (store_of state.hart address width) word instr 0))
-  pub store_refused : (word : ℕ) (instr : Instr) (address : ℕ) (width : Width) (value : ℕ) (fault : AccessFault) → Asks state word instr (Store address width value)
+  pub store_refused : (word : ℕ) (instr : Instr) (address : ℕ) (width : Width) (value : ℕ) (fault : AccessFault)
+      → Asks state word instr (Store address width value)
       → Stores state address width value (Err fault) → P (over state.memory (trap_end state.hart (fetch_of state.hart) (access_fault StoreAccessFault address)))
 
 by-load : (state : State) (P : Stepped → Type 0) → Ways state P → (word : ℕ) (instr : Instr) (address : ℕ) (width : Width)
@@ -129,7 +131,8 @@ pub record Cases (state : State) (P : Stepped → Type 0) : Type 0 where
   pub load : (instr : Instr) (word address : ℕ) (width : Width) (number : ℕ) (after : Hart) → MayTouchAll state (load_of state.hart address width)
       → Loads state address width (Ok number) → executed instr state.hart word number ≡ Ok after
       → P (over state.memory (retired_end state.hart (load_of state.hart address width) (written_csr instr) after))
-  pub store : (instr : Instr) (word address : ℕ) (width : Width) (value : ℕ) (memory : List ℕ) (after : Hart) → MayTouchAll state (store_of state.hart address width)
+  pub store : (instr : Instr) (word address : ℕ) (width : Width) (value : ℕ) (memory : List ℕ) (after : Hart)
+      → MayTouchAll state (store_of state.hart address width)
       → Stores state address width value (Ok memory) → executed instr state.hart word 0 ≡ Ok after
       → P (over memory (retired_end state.hart (store_of state.hart address width) (written_csr instr) after))
 
@@ -154,7 +157,8 @@ touches-load state word address width number here is =
     let read = load_done state.memory state.hart.csrs.pmp (data_mode state.hart) address width number is in
     record { fetched = (touches-fetch state word here).fetched; loaded = read; stored = tt }
 
-touches-store : (state : State) (word address : ℕ) (width : Width) (value : ℕ) (memory : List ℕ) → Fetches state (Ok word) → Stores state address width value (Ok memory)
+touches-store : (state : State) (word address : ℕ) (width : Width) (value : ℕ) (memory : List ℕ) → Fetches state (Ok word)
+    → Stores state address width value (Ok memory)
     → MayTouchAll state (store_of state.hart address width)
 touches-store state word address width value memory here is =
     let done = store_done state.memory state.hart.csrs.pmp (data_mode state.hart) address width value memory is in

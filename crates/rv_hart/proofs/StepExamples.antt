@@ -51,7 +51,8 @@ step-csrrw : step (over_bytes (0x73 ∷ 0x10 ∷ 0x10 ∷ 0x34 ∷ []) reset) �
   state = over_bytes (0x73 ∷ 0x10 ∷ 0x10 ∷ 0x34 ∷ []) (record reset { csrs = record csrs_at_reset { mcycle = 1; minstret = 1 }; pc = 0x80000004 });
   outcome = record { trap = None; touched = fetch_of reset };
 }
-unfolding step from_fetch from_decode from_access request executed retired_or_trapped written_csr csr_changed write_result csr_numbered csr_listing written decoded by_bits read verdict decider covers
+unfolding step from_fetch from_decode from_access request executed retired_or_trapped written_csr csr_changed write_result csr_numbered csr_listing
+    written decoded by_bits read verdict decider covers
 step-csrrw = refl
 
 -- jal x1, 2: rd is not written

@@ -5,7 +5,8 @@ use Rattle.rv_pmp.specs.declared.mode.Mode.{Mode}
 use Rattle.rv_pmp.specs.declared.mode.Mode.TheVariants.{U, S, M}
 use Rattle.rv_state.specs.declared.cause.Cause.TheVariants.{Exception as by_exception, Interrupt as by_interrupt}
 use Rattle.rv_state.specs.declared.cause.Exception.{Exception}
-use Rattle.rv_state.specs.declared.cause.Exception.TheVariants.{InstructionAddressMisaligned, IllegalInstruction, Breakpoint, EnvironmentCallFromU, EnvironmentCallFromS, EnvironmentCallFromM}
+use Rattle.rv_state.specs.declared.cause.Exception.TheVariants.{InstructionAddressMisaligned, IllegalInstruction, Breakpoint, EnvironmentCallFromU}
+use Rattle.rv_state.specs.declared.cause.Exception.TheVariants.{EnvironmentCallFromS, EnvironmentCallFromM}
 use Rattle.rv_state.specs.declared.cause.Interrupt.{Interrupt}
 use Rattle.rv_hart.specs.declared.trap.Trap.{Trap}
 

@@ -5,7 +5,8 @@ use Rattle.std.specs.Prelude.{ℕ, ◌*◌, ◌/◌, Bool, true, false, not, Res
 use Rattle.rv_word.specs.Cases.{result_case}
 use Rattle.rv_word.specs.BitFields.{sign_extended}
 use Rattle.rv_encoding.specs.declared.instr.Instr.{Instr}
-use Rattle.rv_encoding.specs.declared.instr.Instr.TheVariants.{Lui, Auipc, Jal, Jalr, Branch, Load, Store, OpImm, ShiftImm, Op, Fence, Csr, CsrImm, Ecall, Ebreak, Sret, Mret, Wfi, SfenceVma}
+use Rattle.rv_encoding.specs.declared.instr.Instr.TheVariants.{Lui, Auipc, Jal, Jalr, Branch, Load, Store, OpImm, ShiftImm, Op, Fence}
+use Rattle.rv_encoding.specs.declared.instr.Instr.TheVariants.{Csr, CsrImm, Ecall, Ebreak, Sret, Mret, Wfi, SfenceVma}
 use Rattle.rv_hart.specs.Arithmetic.{sum_of, op_value, op_imm_value, shift_value, is_taken, load_width, load_value, store_width}
 use Rattle.rv_pmp.specs.declared.mode.Mode.{Mode}
 use Rattle.rv_pmp.specs.declared.mode.Mode.TheVariants.{U, S, M}

@@ -1,7 +1,8 @@
 //! What instructions compute (Unprivileged ISA, sections 2.4 to 2.6, 7.1 and 7.2).
 
 ghost use Rattle.std.specs.Prelude.{◌≡◌, ◌<◌};
-ghost use Rattle.rv_hart.specs.Arithmetic.{op_value, op_imm_value, shift_value, is_taken as is_taken_of, load_width as load_width_of, load_value as load_value_of, store_width as store_width_of, is_less};
+ghost use Rattle.rv_hart.specs.Arithmetic.{op_value, op_imm_value, shift_value, is_taken as is_taken_of, load_width as load_width_of};
+ghost use Rattle.rv_hart.specs.Arithmetic.{load_value as load_value_of, store_width as store_width_of, is_less};
 ghost use Rattle.rv_word.specs.Logic.{digit};
 
 use rv_encoding::{BranchKind, LoadKind, OpImmKind, OpKind, ShiftKind, StoreKind};

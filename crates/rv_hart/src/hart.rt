@@ -366,7 +366,8 @@ impl Hart {
     /// Ends the step of an instruction that retires and wrote no control and status register.
     #[inline(always)]
     pub(crate) fn retire(&mut self, touched: Touched) -> StepOutcome
-        ensures { ended_in (step_counted self.old true self.old.csrs.mcountinhibit None) (record { trap = None; touched = touched }) ≡ ended_in self.new result }
+        ensures { ended_in (step_counted self.old true self.old.csrs.mcountinhibit None) (record { trap = None; touched = touched })
+            ≡ ended_in self.new result }
     {
         let inhibit = self.csrs.inhibit();
         self.csrs.tick_counters(true, inhibit, None);
@@ -445,7 +446,8 @@ impl Hart {
         rs2: Reg,
         touched: Touched,
     ) -> StepOutcome
-        ensures { retired_end self.old touched None (with_result self.old rd (op_value kind (register self.old.regs rs1) (register self.old.regs rs2))) ≡ ended_in self.new result }
+        ensures { retired_end self.old touched None
+            (with_result self.old rd (op_value kind (register self.old.regs rs1) (register self.old.regs rs2))) ≡ ended_in self.new result }
     {
         let value = op(kind, self.regs.get(rs1), self.regs.get(rs2));
         self.write_rd(rd, value, touched)
@@ -465,7 +467,8 @@ impl Hart {
     #[inline(always)]
     #[tactic(auto, unfolding(crate::specs::Step::retired_or_trapped))]
     fn jump_to(&mut self, rd: Reg, rs1: Reg, offset: u32, touched: Touched) -> StepOutcome
-        ensures { retired_or_trapped self.old touched None (jumped self.old rd (made_even (sum_of (register self.old.regs rs1) offset))) ≡ ended_in self.new result }
+        ensures { retired_or_trapped self.old touched None (jumped self.old rd (made_even (sum_of (register self.old.regs rs1) offset)))
+            ≡ ended_in self.new result }
     {
         let target = self.regs.get(rs1).wrapping_add(offset);
         self.jump(rd, target / 2 * 2, touched)
@@ -500,7 +503,9 @@ impl Hart {
         offset: u32,
         touched: Touched,
     ) -> StepOutcome
-        ensures { retired_or_trapped self.old touched None (branched self.old (is_taken_of kind (register self.old.regs rs1) (register self.old.regs rs2)) (sum_of self.old.pc offset)) ≡ ended_in self.new result }
+        ensures { retired_or_trapped self.old touched None
+            (branched self.old (is_taken_of kind (register self.old.regs rs1) (register self.old.regs rs2)) (sum_of self.old.pc offset))
+            ≡ ended_in self.new result }
     {
         if !is_taken(kind, self.regs.get(rs1), self.regs.get(rs2)) {
             return self.advance_pc(touched);

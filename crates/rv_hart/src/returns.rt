@@ -34,7 +34,8 @@ impl Hart {
     #[inline(always)]
     #[tactic(auto, unfolding(crate::specs::Step::retired_or_trapped))]
     pub(crate) fn wait(&mut self, word: u32, touched: Touched) -> StepOutcome
-        ensures { retired_or_trapped self.old touched None (where_allowed (unless_refused_of self.old.mode self.old.csrs.mstatus.tw) word (advanced self.old)) ≡ ended_in self.new result }
+        ensures { retired_or_trapped self.old touched None
+            (where_allowed (unless_refused_of self.old.mode self.old.csrs.mstatus.tw) word (advanced self.old)) ≡ ended_in self.new result }
     {
         if !unless_refused(self.mode, self.csrs.mstatus().tw) {
             return self.trap(exception(Exception::IllegalInstruction, word), touched);
@@ -46,7 +47,8 @@ impl Hart {
     #[inline(always)]
     #[tactic(auto, unfolding(crate::specs::Step::retired_or_trapped))]
     pub(crate) fn order_translations(&mut self, word: u32, touched: Touched) -> StepOutcome
-        ensures { retired_or_trapped self.old touched None (where_allowed (unless_refused_of self.old.mode self.old.csrs.mstatus.tvm) word (advanced self.old)) ≡ ended_in self.new result }
+        ensures { retired_or_trapped self.old touched None
+            (where_allowed (unless_refused_of self.old.mode self.old.csrs.mstatus.tvm) word (advanced self.old)) ≡ ended_in self.new result }
     {
         if !unless_refused(self.mode, self.csrs.mstatus().tvm) {
             return self.trap(exception(Exception::IllegalInstruction, word), touched);
@@ -58,7 +60,8 @@ impl Hart {
     #[inline(always)]
     #[tactic(auto, unfolding(crate::specs::Step::retired_or_trapped))]
     pub(crate) fn return_from_machine(&mut self, word: u32, touched: Touched) -> StepOutcome
-        ensures { retired_or_trapped self.old touched None (where_allowed (is_machine self.old.mode) word (returned_from_machine self.old)) ≡ ended_in self.new result }
+        ensures { retired_or_trapped self.old touched None (where_allowed (is_machine self.old.mode) word (returned_from_machine self.old))
+            ≡ ended_in self.new result }
     {
         if self.mode != Mode::M {
             return self.trap(exception(Exception::IllegalInstruction, word), touched);
@@ -73,7 +76,8 @@ impl Hart {
     #[inline(always)]
     #[tactic(auto, unfolding(crate::specs::Step::retired_or_trapped))]
     pub(crate) fn return_from_supervisor(&mut self, word: u32, touched: Touched) -> StepOutcome
-        ensures { retired_or_trapped self.old touched None (where_allowed (unless_refused_of self.old.mode self.old.csrs.mstatus.tsr) word (returned_from_supervisor self.old)) ≡ ended_in self.new result }
+        ensures { retired_or_trapped self.old touched None
+            (where_allowed (unless_refused_of self.old.mode self.old.csrs.mstatus.tsr) word (returned_from_supervisor self.old)) ≡ ended_in self.new result }
     {
         if !unless_refused(self.mode, self.csrs.mstatus().tsr) {
             return self.trap(exception(Exception::IllegalInstruction, word), touched);

@@ -104,7 +104,8 @@ pub store_refused_too : (m n : List ℕ) (entries : Entries) (mode : Mode) (addr
     → stored m entries mode address width value ≡ Err fault → stored n entries mode address width value ≡ Err fault
 unfolding write
 store_refused_too m n entries mode address width value fault sizes is =
-    judged-refused (is_inside n address (length (bytes_of (bytes_in width) value))) _ _ (verdict_on entries mode Write address width) (λ (x : List ℕ). x) fault (rw sizes at is)
+    judged-refused (is_inside n address (length (bytes_of (bytes_in width) value))) _ _ (verdict_on entries mode Write address width)
+    (λ (x : List ℕ). x) fault (rw sizes at is)
 
 pub store_done_too : (m n : List ℕ) (entries : Entries) (mode : Mode) (address : ℕ) (width : Width) (value : ℕ) (after : List ℕ) → length m ≡ length n
     → stored m entries mode address width value ≡ Ok after
@@ -121,6 +122,7 @@ pub fetch_same : (m n : List ℕ) (entries : Entries) (mode : Mode) (address : �
     → fetched m entries mode address ≡ fetched n entries mode address
 fetch_same m n entries mode address same = rw same refl
 
-pub load_same : (m n : List ℕ) (entries : Entries) (mode : Mode) (address : ℕ) (width : Width) → read m address (bytes_in width) ≡ read n address (bytes_in width)
+pub load_same : (m n : List ℕ) (entries : Entries) (mode : Mode) (address : ℕ) (width : Width)
+    → read m address (bytes_in width) ≡ read n address (bytes_in width)
     → loaded m entries mode address width ≡ loaded n entries mode address width
 load_same m n entries mode address width same = rw same refl

@@ -43,12 +43,14 @@ within memory index count k inside low high =
     index-within memory index (complements memory index count) k (omega (arith, long)) low (omega (arith, long))
     ∙ complements-at memory index count k inside low high
 
-pub below : (memory : List ℕ) (index count k : ℕ) → index + count ≤ length memory → k < index → get_or (with_complements memory index count) k 0 ≡ get_or memory k 0
+pub below : (memory : List ℕ) (index count k : ℕ) → index + count ≤ length memory → k < index
+    → get_or (with_complements memory index count) k 0 ≡ get_or memory k 0
 below memory index count k inside low =
     let long = length-complements memory index count inside in
     index-below memory index (complements memory index count) k (omega (arith, long)) low
 
-pub above : (memory : List ℕ) (index count k : ℕ) → index + count ≤ length memory → index + count ≤ k → get_or (with_complements memory index count) k 0 ≡ get_or memory k 0
+pub above : (memory : List ℕ) (index count k : ℕ) → index + count ≤ length memory → index + count ≤ k
+    → get_or (with_complements memory index count) k 0 ≡ get_or memory k 0
 above memory index count k inside high =
     let long = length-complements memory index count inside in
     index-above memory index (complements memory index count) k (omega (arith, long)) (omega (arith, long))

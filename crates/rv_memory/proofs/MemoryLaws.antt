@@ -15,18 +15,22 @@ unfolding write
 length-write memory address bytes after written = grind (arith, common_steps)
 
 -- what was written is read back
-pub read-write : (memory : List ℕ) (address : ℕ) (bytes after : List ℕ) → write memory address bytes ≡ Some after → read after address (length bytes) ≡ Some bytes
+pub read-write : (memory : List ℕ) (address : ℕ) (bytes after : List ℕ) → write memory address bytes ≡ Some after
+    → read after address (length bytes) ≡ Some bytes
 unfolding write read
 read-write memory address bytes after written = grind (arith, common_steps)
 
 -- a byte elsewhere is as before: by its index
-pub index-below : (memory : List ℕ) (index : ℕ) (bytes : List ℕ) (k : ℕ) → index + length bytes ≤ length memory → k < index → slice_index (write_bytes memory index bytes) k ≡ slice_index memory k
+pub index-below : (memory : List ℕ) (index : ℕ) (bytes : List ℕ) (k : ℕ) → index + length bytes ≤ length memory → k < index
+    → slice_index (write_bytes memory index bytes) k ≡ slice_index memory k
 index-below memory index bytes k within below = grind (arith, common_steps)
 
-pub index-above : (memory : List ℕ) (index : ℕ) (bytes : List ℕ) (k : ℕ) → index + length bytes ≤ length memory → index + length bytes ≤ k → slice_index (write_bytes memory index bytes) k ≡ slice_index memory k
+pub index-above : (memory : List ℕ) (index : ℕ) (bytes : List ℕ) (k : ℕ) → index + length bytes ≤ length memory → index + length bytes ≤ k
+    → slice_index (write_bytes memory index bytes) k ≡ slice_index memory k
 index-above memory index bytes k within above = grind (arith, common_steps)
 
-pub byte_at-index : (memory : List ℕ) (address : ℕ) → byte_at memory address ≡ (if is_inside memory address 1 then Some (slice_index memory (address - ram_base)) else None)
+pub byte_at-index : (memory : List ℕ) (address : ℕ)
+    → byte_at memory address ≡ (if is_inside memory address 1 then Some (slice_index memory (address - ram_base)) else None)
 unfolding read
 byte_at-index memory address = grind (arith, common_steps)
 

@@ -1,6 +1,7 @@
 -- Memory as the list of its bytes, of which the first has the address 80000000: one reader of it, and one writer.
 -- Byte addresses, and numbers whose lowest byte comes first: RISC-V Unprivileged ISA 20191213, sections 1.4 and 2.6.
-use Rattle.std.specs.Prelude.{ℕ, ◌+◌, ◌-◌, ◌*◌, ◌%◌, ◌^◌, ◌==◌, Bool, ◌&&◌, nat_le, List, [], ◌∷◌, ◌++◌, length, take, drop, slice_index, Option, Some, None, if◌then◌else◌}
+use Rattle.std.specs.Prelude.{ℕ, ◌+◌, ◌-◌, ◌*◌, ◌%◌, ◌^◌, ◌==◌, Bool, ◌&&◌, nat_le, List, [], ◌∷◌, ◌++◌, length}
+use Rattle.std.specs.Prelude.{take, drop, slice_index, Option, Some, None, if◌then◌else◌}
 use Rattle.std.specs.Option.{option_map}
 use Rattle.rv_word.specs.ByteOrder.{byte_of}
 

@@ -1,6 +1,7 @@
 //! The memory of the machine.
 
-ghost use Rattle.std.specs.Prelude.{◌≡◌, ℕ, ◌+◌, ◌-◌, ◌%◌, ◌^◌, ◌<◌, ◌*◌, ◌≤◌, List, [], ◌∷◌, length, map, replicate, take, drop, IfOk, OnOk, OnErr, MatchResult, Some, None, Ok, Err, true, false, if◌then◌else◌};
+ghost use Rattle.std.specs.Prelude.{◌≡◌, ℕ, ◌+◌, ◌-◌, ◌%◌, ◌^◌, ◌<◌, ◌*◌, ◌≤◌, List, [], ◌∷◌, length, map, replicate, take, drop, IfOk};
+ghost use Rattle.std.specs.Prelude.{OnOk, OnErr, MatchResult, Some, None, Ok, Err, true, false, if◌then◌else◌};
 ghost use Rattle.rv_word.specs.Widths.{bytes_in};
 ghost use Rattle.rv_memory.specs.Memory.{is_ram_size, ram_base, is_inside, read, write, write_bytes, byte_at, number_of_bytes, number_at, bytes_of};
 ghost use Rattle.rv_memory.specs.Complement.{complement_of, complemented};

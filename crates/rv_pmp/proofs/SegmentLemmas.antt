@@ -1,5 +1,7 @@
 -- Segments that follow one another: one goes on, or one more begins; and bounds between which no range begins or ends.
-use Rattle.std.proofs.Common.{◌≡◌, ℕ, zero, suc, ◌-◌, ◌<◌, ◌≤◌, ◌^◌, ◌⊎◌, ◌==◌, ◌&&◌, nat_le, nat_lt, if◌then◌else◌, Bool, true, false, List, length, Option, None, refl, sym, ◌∙◌, ap, inl, inr, arith, slice_index, slice_index_or, slice_set, take, leb, get_or-set_same, get_or-set_other}
+use Rattle.std.proofs.Common.{◌≡◌, ℕ, zero, suc, ◌-◌, ◌<◌, ◌≤◌, ◌^◌, ◌⊎◌, ◌==◌, ◌&&◌, nat_le, nat_lt, if◌then◌else◌, Bool, true, false, List}
+use Rattle.std.proofs.Common.{length, Option, None, refl, sym, ◌∙◌, ap, inl, inr, arith, slice_index, slice_index_or, slice_set, take, leb}
+use Rattle.std.proofs.Common.{get_or-set_same, get_or-set_other}
 use Rattle.std.specs.List.{Contains}
 use Rattle.std.specs.List.Sorted.{IsPermutation, IsNonDecreasingBy, IsPartitionPoint}
 use Rattle.std.proofs.lemmas.Bool.{cases_eq, cases_lt, cond-false, ne_eqb, and_from, both_ways, le-leb, leb-true, lt-ltb, ltb-true, leb-false}
@@ -30,7 +32,8 @@ begin_kept ends at end k before = elim (cases_eq k 0) [
 ]
 
 -- each byte has its owner still where the last segment goes on
-module _ (covering : ℕ → ℕ → Bool) (old : Segments) (start end : ℕ) (own : Option ℕ) (owned : AreOwned covering old) (is_reach : start ≡ reach_of old) (alike : (byte : ℕ) → start ≤ byte → byte < end → owner covering byte ≡ own) where
+module _ (covering : ℕ → ℕ → Bool) (old : Segments) (start end : ℕ) (own : Option ℕ) (owned : AreOwned covering old)
+    (is_reach : start ≡ reach_of old) (alike : (byte : ℕ) → start ≤ byte → byte < end → owner covering byte ≡ own) where
   abbrev n : ℕ
   n = old.count
 
@@ -68,7 +71,8 @@ and_both true false both = absurd (both_ways false refl both)
 and_both false q both = absurd (both_ways false refl both)
 
 -- no end of a range lies between two bytes: it has both or neither
-both_or_neither : (from to start end byte : ℕ) → start ≤ byte → byte < end → (from < to → (from ≤ start) ⊎ (end ≤ from)) → (from < to → (to ≤ start) ⊎ (end ≤ to)) → (nat_le from byte && nat_lt byte to) ≡ (nat_le from start && nat_lt start to)
+both_or_neither : (from to start end byte : ℕ) → start ≤ byte → byte < end → (from < to → (from ≤ start) ⊎ (end ≤ from))
+    → (from < to → (to ≤ start) ⊎ (end ≤ to)) → (nat_le from byte && nat_lt byte to) ≡ (nat_le from start && nat_lt start to)
 both_or_neither from to start end byte low high from_apart to_apart =
     bool_same (nat_le from byte && nat_lt byte to) (nat_le from start && nat_lt start to)
     (λ has.
@@ -89,7 +93,8 @@ both_or_neither from to start end byte low high from_apart to_apart =
     ])
 
 -- bounds of which the first k are not above start, and the others not below end: between the two the owner is one
-module _ (ranges : EntryRanges) (bounds : List ℕ) (start end k : ℕ) (all : AreBounds ranges bounds) (before : (m : ℕ) → m < k → slice_index bounds m ≤ start) (after : (m : ℕ) → k ≤ m → m < length bounds → end ≤ slice_index bounds m) where
+module _ (ranges : EntryRanges) (bounds : List ℕ) (start end k : ℕ) (all : AreBounds ranges bounds)
+    (before : (m : ℕ) → m < k → slice_index bounds m ≤ start) (after : (m : ℕ) → k ≤ m → m < length bounds → end ≤ slice_index bounds m) where
   apart : (x : ℕ) → Contains bounds x → (x ≤ start) ⊎ (end ≤ x)
   apart x found =
       let m = found.0 in
@@ -136,7 +141,8 @@ pub record IsPlace (s : Segments) (byte place : ℕ) : Type 0 where
   pub to : byte < slice_index s.ends place
 
 -- the first segment whose end is past a byte has the byte
-pub at_place : (s : Segments) (byte place : ℕ) → s.count ≤ length s.ends → byte < reach_of s → place ≤ length (take s.count s.ends) → IsPartitionPoint (λ end. leb end byte ≡ true) (λ end. leb end byte ≡ false) (take s.count s.ends) place → IsPlace s byte place
+pub at_place : (s : Segments) (byte place : ℕ) → s.count ≤ length s.ends → byte < reach_of s → place ≤ length (take s.count s.ends)
+    → IsPartitionPoint (λ end. leb end byte ≡ true) (λ end. leb end byte ≡ false) (take s.count s.ends) place → IsPlace s byte place
 at_place s byte place fits inside bound point =
     let long = length-take-le s.count s.ends fits in
     let ended : (k : ℕ) → k < place → slice_index s.ends k ≤ byte
@@ -149,5 +155,6 @@ at_place s byte place fits inside bound point =
       | inl below ↦ below
       | inr past ↦ let at : place ≡ s.count = omega (arith, past, bound, long) in absurd (omega (arith, inside, rw at at began))
     ] in
-    let above : leb (slice_index s.ends place) byte ≡ false = rw (get_or-take s.count s.ends place 0 used) at (point.1 place 0 (omega arith) (omega (arith, used, long))) in
+    let above : leb (slice_index s.ends place) byte ≡ false =
+    rw (get_or-take s.count s.ends place 0 used) at (point.1 place 0 (omega arith) (omega (arith, used, long))) in
     record { used = used; from = began; to = leb-false _ _ above }

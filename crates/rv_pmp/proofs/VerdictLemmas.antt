@@ -1,7 +1,8 @@
 -- Tests of the numbers from one up to another, and the verdict from which entries meet an access.
 use Rattle.std.proofs.Common.{◌≡◌, ℕ, zero, suc, ◌+◌, ◌<◌, ◌≤◌, ◌⊎◌, Bool, true, false, ◌||◌, ◌&&◌, List, Some, None, refl, sym, ◌∙◌, ap, inl, inr, arith}
 use Rattle.std.specs.List.{range_with_len, list_any, list_all, find}
-use Rattle.std.proofs.lemmas.Bool.{cases_eq, or_from, or_left, or_right, and_from, and_left, and_right, cases_Bool, cond-true, cond-false, false_from_ne_true, true_from_ne_false, both_ways}
+use Rattle.std.proofs.lemmas.Bool.{cases_eq, or_from, or_left, or_right, and_from, and_left, and_right, cases_Bool, cond-true}
+use Rattle.std.proofs.lemmas.Bool.{cond-false, false_from_ne_true, true_from_ne_false, both_ways}
 use Rattle.rv_pmp.specs.declared.mode.Mode.{Mode}
 use Rattle.rv_pmp.specs.declared.access.Access.{Access}
 use Rattle.rv_pmp.specs.Entries.{Entries}
@@ -100,7 +101,9 @@ pub record IsFirst (p : ℕ → Bool) (a n i : ℕ) : Type 0 where
   pub first : (j : ℕ) → a ≤ j → j < i → p j ≡ false
 
 -- a number is found that is the first, or nothing where none passes
-pub find_cases : (p : ℕ → Bool) (a n : ℕ) → ((i : ℕ) × (find p (range_with_len a n) ≡ Some i) × IsFirst p a n i) ⊎ ((find p (range_with_len a n) ≡ None) × ((j : ℕ) → a ≤ j → j < a + n → p j ≡ false))
+pub find_cases : (p : ℕ → Bool) (a n : ℕ)
+    → ((i : ℕ) × (find p (range_with_len a n) ≡ Some i) × IsFirst p a n i)
+    ⊎ ((find p (range_with_len a n) ≡ None) × ((j : ℕ) → a ≤ j → j < a + n → p j ≡ false))
 find_cases p a zero = inr (refl, λ j low high. absurd (omega arith))
 find_cases p a (suc n) = elim (cases_Bool (p a)) [
   | inl found ↦ inl (
@@ -133,13 +136,15 @@ find_cases p a (suc n) = elim (cases_Bool (p a)) [
 ]
 
 -- the least entry that covers some byte decides
-pub verdict_decided : (e : Entries) (mode : Mode) (access : Access) (bytes : List ℕ) (i : ℕ) → i < 16 → list_any (covers e i) bytes ≡ true → ((j : ℕ) → j < i → list_any (covers e j) bytes ≡ false) → verdict e mode access bytes ≡ decided e mode access i (list_all (covers e i) bytes)
+pub verdict_decided : (e : Entries) (mode : Mode) (access : Access) (bytes : List ℕ) (i : ℕ) → i < 16 → list_any (covers e i) bytes ≡ true
+    → ((j : ℕ) → j < i → list_any (covers e j) bytes ≡ false) → verdict e mode access bytes ≡ decided e mode access i (list_all (covers e i) bytes)
 unfolding verdict decider
 verdict_decided e mode access bytes i in_range meets first =
     ap (verdict_by e mode access bytes) (find_at (λ j. list_any (covers e j) bytes) 0 16 i (omega arith) (omega arith) meets (λ j low high. first j high))
 
 -- where no entry covers a byte, none decides
-pub verdict_undecided : (e : Entries) (mode : Mode) (access : Access) (bytes : List ℕ) → ((j : ℕ) → j < 16 → list_any (covers e j) bytes ≡ false) → verdict e mode access bytes ≡ undecided mode
+pub verdict_undecided : (e : Entries) (mode : Mode) (access : Access) (bytes : List ℕ) → ((j : ℕ) → j < 16 → list_any (covers e j) bytes ≡ false)
+    → verdict e mode access bytes ≡ undecided mode
 unfolding verdict decider
 verdict_undecided e mode access bytes none =
     ap (verdict_by e mode access bytes) (find_none (λ j. list_any (covers e j) bytes) 0 16 (λ j low high. none j high))

@@ -46,7 +46,8 @@ with_entries cfgs addrs = record { cfgs = map stored_cfg cfgs; addrs = addrs }
 -- what a register pmpcfg reads: the cfg bytes of four entries, the lowest first
 abbrev pub cfg_word : Entries → ℕ → ℕ
 cfg_word entries register =
-    word_of_bytes (cfg_of entries (4 * register) ∷ cfg_of entries (4 * register + 1) ∷ cfg_of entries (4 * register + 2) ∷ cfg_of entries (4 * register + 3) ∷ [])
+    word_of_bytes (cfg_of entries (4 * register) ∷ cfg_of entries (4 * register + 1) ∷ cfg_of entries (4 * register + 2)
+    ∷ cfg_of entries (4 * register + 3) ∷ [])
 
 -- the cfg byte of entry i after a write of a word to a register pmpcfg: byte k of the word is for entry 4 * register + k
 abbrev pub cfg_after : Entries → ℕ → ℕ → ℕ → ℕ

@@ -1,6 +1,7 @@
 -- The addresses in segments, each with the least entry that covers its bytes. (No standard's: what is kept of the entries.
 -- No contract of a public call names it.)
-use Rattle.std.specs.Prelude.{ℕ, ◌-◌, ◌<◌, ◌≤◌, ◌^◌, ◌≡◌, ◌==◌, ◌&&◌, nat_le, nat_lt, Bool, true, if◌then◌else◌, List, Option, Some, None, min, slice_index, slice_index_or}
+use Rattle.std.specs.Prelude.{ℕ, ◌-◌, ◌<◌, ◌≤◌, ◌^◌, ◌≡◌, ◌==◌, ◌&&◌, nat_le, nat_lt, Bool, true, if◌then◌else◌}
+use Rattle.std.specs.Prelude.{List, Option, Some, None, min, slice_index, slice_index_or}
 use Rattle.std.specs.List.{range_with_len, find, Contains}
 use Rattle.rv_pmp.specs.declared.entry_ranges.EntryRanges.{EntryRanges}
 use Rattle.rv_pmp.specs.declared.segments.Segments.{Segments}

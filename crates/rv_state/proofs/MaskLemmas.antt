@@ -1,7 +1,12 @@
 -- Words under a mask, bit by bit.
-use Rattle.std.proofs.Common.{◌≡◌, ℕ, zero, suc, ◌+◌, ◌*◌, ◌/◌, ◌%◌, ◌<◌, ◌≤◌, Bool, true, false, refl, ap, arith}
+use Rattle.std.proofs.Common.{◌≡◌, ℕ, zero, suc, ◌+◌, ◌*◌, ◌/◌, ◌%◌, ◌^◌, ◌<◌, ◌≤◌, Bool, true, false, List, [], ◌∷◌, refl, sym, ap, ◌∙◌, arith}
 use Rattle.std.specs.Prelude.{◌&&◌, ◌==◌}
+use Rattle.std.proofs.Math.Nat.{pow-suc, div-div-eq-div-mul, div-one}
+use Rattle.rv_word.specs.BitFields.{is_set}
 use Rattle.rv_word.specs.Logic.{bit_list, word_of_bits, digit, bitwise, by_bits, and_by_bits}
+use Rattle.rv_state.specs.Bits.{kept_bits}
+use Rattle.rv_state.specs.CsrTable.{enabled_of, inhibited_of}
+use Rattle.rv_state.specs.Interrupts.{software_pending_of}
 
 -- the bits that two numbers share, of the lowest so many
 abbrev shared : ℕ → ℕ → ℕ → ℕ
@@ -43,27 +48,76 @@ digit-below (suc (suc n)) below = absurd (omega arith)
 pub digit-rem : (n : ℕ) → digit (n % 2 == 1) ≡ n % 2
 digit-rem n = digit-below (n % 2) (omega arith)
 
-and-digit : (x y : Bool) → digit (x && y) ≤ digit y
-and-digit true y = omega arith
-and-digit false y = omega arith
+-- ---- a word under a mask, as the sum of the bits that the mask has
 
-shared-at_most : (count word mask : ℕ) → shared count word mask ≤ mask
-shared-at_most zero word mask = omega arith
-shared-at_most (suc count) word mask =
-    let low = and-digit (word % 2 == 1) (mask % 2 == 1) in
-    let rest = shared-at_most count (word / 2) (mask / 2) in
-    omega (arith, low, rest, digit-rem mask)
+-- the bits of a list that a mask has
+abbrev pub masked : List Bool → List Bool → List Bool
+masked [] bits = []
+masked (m ∷ ms) [] = []
+masked (m ∷ ms) (bit ∷ bits) = (m && bit) ∷ masked ms bits
 
--- and no more than the mask
-pub masked_at_most : (word mask : ℕ) → and_by_bits word mask ≤ mask
+and-comm : (x y : Bool) → (x && y) ≡ (y && x)
+and-comm true true = refl
+and-comm true false = refl
+and-comm false true = refl
+and-comm false false = refl
+
+pub bitwise-masked : (bits mask : List Bool) → bitwise (λ x y. x && y) bits mask ≡ masked mask bits
+bitwise-masked [] [] = refl
+bitwise-masked [] (m ∷ ms) = refl
+bitwise-masked (bit ∷ bits) [] = refl
+bitwise-masked (bit ∷ bits) (m ∷ ms) = rw (and-comm bit m, bitwise-masked bits ms) refl
+
+-- so many bits of a word from bit k up
+abbrev pub bits_from : ℕ → ℕ → ℕ → List Bool
+bits_from zero k word = []
+bits_from (suc count) k word = is_set word k ∷ bits_from count (suc k) word
+
+halved : (word k : ℕ) → word / 2 ^ k / 2 ≡ word / 2 ^ suc k
+halved word k = div-div-eq-div-mul word (2 ^ k) 2 ∙ sym (ap (λ n. word / n) (pow-suc 2 k))
+
+pub bit_list-from : (count k word : ℕ) → bit_list count (word / 2 ^ k) ≡ bits_from count k word
+bit_list-from zero k word = refl
+bit_list-from (suc count) k word =
+    rw (halved word k) (ap (λ bits. is_set word k ∷ bits) (bit_list-from count (suc k) word))
+
+pub by_places : (word mask : ℕ) → and_by_bits word mask ≡ word_of_bits (masked (bit_list 32 mask) (bits_from 32 0 word))
 unfolding by_bits
-masked_at_most word mask = shared-at_most 32 word mask
+by_places word mask =
+    ap word_of_bits (bitwise-masked (bit_list 32 word) (bit_list 32 mask)
+    ∙ ap (masked (bit_list 32 mask)) (ap (bit_list 32) (sym (div-one word)) ∙ bit_list-from 32 0 word))
 
-shared-none : (count mask : ℕ) → shared count 0 mask ≡ 0
-shared-none zero mask = refl
-shared-none (suc count) mask = let rest = shared-none count (mask / 2) in omega (arith, rest)
+-- ---- the bits that a register keeps are the word under their mask, and are kept again
 
--- of no bits there are none
-pub masked_none : (mask : ℕ) → and_by_bits 0 mask ≡ 0
-unfolding by_bits
-masked_none mask = shared-none 32 mask
+kept_again : (keep : ℕ → ℕ) (mask : ℕ) → ((word : ℕ) → and_by_bits word mask ≡ keep word) → (word : ℕ) → keep (keep word) ≡ keep word
+kept_again keep mask is word =
+    sym (is (keep word)) ∙ ap (λ n. and_by_bits n mask) (sym (is word)) ∙ masked_again word mask ∙ is word
+
+pub enabled_is : (word : ℕ) → and_by_bits word 0xAAA ≡ enabled_of word
+unfolding kept_bits
+enabled_is word = omega (arith, by_places word 0xAAA)
+
+pub enabled_again : (word : ℕ) → enabled_of (enabled_of word) ≡ enabled_of word
+enabled_again word = kept_again enabled_of 0xAAA enabled_is word
+
+pub software_is : (word : ℕ) → and_by_bits word 0x222 ≡ software_pending_of word
+unfolding kept_bits
+software_is word = omega (arith, by_places word 0x222)
+
+pub software_again : (word : ℕ) → software_pending_of (software_pending_of word) ≡ software_pending_of word
+software_again word = kept_again software_pending_of 0x222 software_is word
+
+-- they are those of three places
+pub software_of : (word : ℕ) → software_pending_of word ≡ word / 2 ^ 1 % 2 * 2 + word / 2 ^ 5 % 2 * 32 + word / 2 ^ 9 % 2 * 512
+unfolding kept_bits
+software_of word = omega (arith, digit-rem (word / 2 ^ 1), digit-rem (word / 2 ^ 5), digit-rem (word / 2 ^ 9))
+
+pub software_at_most : (word : ℕ) → software_pending_of word ≤ 0x222
+software_at_most word = omega (arith, software_of word)
+
+pub inhibited_is : (word : ℕ) → and_by_bits word 0x5 ≡ inhibited_of word
+unfolding kept_bits
+inhibited_is word = omega (arith, by_places word 0x5)
+
+pub inhibited_again : (word : ℕ) → inhibited_of (inhibited_of word) ≡ inhibited_of word
+inhibited_again word = kept_again inhibited_of 0x5 inhibited_is word

@@ -1,8 +1,9 @@
 -- What a register reads after a write is the word under its mask.
-use Rattle.std.proofs.Common.{◌≡◌, ℕ, zero, suc, ◌+◌, ◌*◌, ◌/◌, ◌^◌, ◌<◌, Bool, true, false, List, [], ◌∷◌, Option, Some, None, Ok, Err, refl, sym, ap, ◌∙◌, arith}
-use Rattle.std.specs.Prelude.{nat_lt, ◌&&◌, ◌==◌, if◌then◌else◌}
-use Rattle.std.proofs.Math.Nat.{pow-suc, div-div-eq-div-mul, div-one}
-use Rattle.rv_word.specs.Logic.{bit_list, word_of_bits, digit, bitwise, by_bits, and_by_bits}
+use Rattle.std.proofs.Common.{◌≡◌, ℕ, zero, suc, ◌+◌, ◌*◌, ◌/◌, ◌^◌, ◌<◌, Bool, true, false}
+use Rattle.std.proofs.Common.{Option, Some, None, Result, Ok, Err, refl, sym, ap, ◌∙◌, arith}
+use Rattle.std.specs.Prelude.{nat_lt, ◌==◌, if◌then◌else◌}
+use Rattle.std.proofs.Math.Nat.{pow-suc}
+use Rattle.rv_word.specs.Logic.{bit_list, word_of_bits, digit, and_by_bits}
 use Rattle.rv_pmp.specs.Mode.{mode_number}
 use Rattle.rv_word.specs.BitFields.{bits, is_set, flag}
 use Rattle.rv_state.specs.Bits.{aligned_to_4}
@@ -10,52 +11,16 @@ use Rattle.rv_state.specs.Mstatus.{mstatus_word, mstatus_of, mode_of_mpp, sstatu
 use Rattle.rv_state.specs.declared.mstatus.Mstatus.{Mstatus}
 use Rattle.rv_state.specs.Counters.{with_low_half, with_high_half}
 use Rattle.rv_state.specs.CsrState.{CsrState}
-use Rattle.rv_state.specs.CsrTable.{reading, written, is_trapped, on_register, csr_numbered, least_mode, is_read_only, read_result, write_result}
+use Rattle.rv_state.specs.CsrTable.{vector_of, reading, written, is_trapped, on_register, csr_numbered, least_mode, is_read_only, read_result, write_result}
 use Rattle.rv_state.specs.Laws.{mstatus_mask, kept, kept_at, ReadsBack}
 use Rattle.rv_state.specs.declared.csr_name.CsrName.{CsrName}
-use Rattle.rv_state.specs.declared.csr_name.CsrName.TheVariants.{Sstatus, Stvec, Sscratch, Sepc, Scause, Stval, Satp, Mstatus as NameMstatus, Misa, Mie, Mtvec, Mscratch, Mepc, Mcause, Mtval, Mip, Pmpcfg, Pmpaddr, Mcycle, Minstret, Mcycleh, Minstreth, Mcountinhibit, Zero}
+use Rattle.rv_state.specs.declared.csr_name.CsrName.TheVariants.{Sstatus, Stvec, Sscratch, Sepc, Scause, Stval, Satp}
+use Rattle.rv_state.specs.declared.csr_name.CsrName.TheVariants.{Mstatus as NameMstatus, Misa, Mie, Mtvec, Mscratch, Mepc, Mcause, Mtval, Mip}
+use Rattle.rv_state.specs.declared.csr_name.CsrName.TheVariants.{Pmpcfg, Pmpaddr, Mcycle, Minstret, Mcycleh, Minstreth, Mcountinhibit, Zero}
+use Rattle.rv_state.specs.declared.csr_fault.CsrFault.{CsrFault}
 use Rattle.rv_state.specs.declared.csr_fault.CsrFault.TheVariants.{Privilege, ReadOnly, Trapped}
 use Rattle.rv_pmp.specs.declared.mode.Mode.{Mode}
-use Rattle.rv_state.proofs.MaskLemmas.{digit-rem, masked_again}
-
--- ---- a word under a mask, as the sum of the bits that the mask has
-
--- the bits of a list that a mask has
-abbrev pub masked : List Bool → List Bool → List Bool
-masked [] bits = []
-masked (m ∷ ms) [] = []
-masked (m ∷ ms) (bit ∷ bits) = (m && bit) ∷ masked ms bits
-
-and-comm : (x y : Bool) → (x && y) ≡ (y && x)
-and-comm true true = refl
-and-comm true false = refl
-and-comm false true = refl
-and-comm false false = refl
-
-pub bitwise-masked : (bits mask : List Bool) → bitwise (λ x y. x && y) bits mask ≡ masked mask bits
-bitwise-masked [] [] = refl
-bitwise-masked [] (m ∷ ms) = refl
-bitwise-masked (bit ∷ bits) [] = refl
-bitwise-masked (bit ∷ bits) (m ∷ ms) = rw (and-comm bit m, bitwise-masked bits ms) refl
-
--- so many bits of a word from bit k up
-abbrev bits_from : ℕ → ℕ → ℕ → List Bool
-bits_from zero k word = []
-bits_from (suc count) k word = is_set word k ∷ bits_from count (suc k) word
-
-halved : (word k : ℕ) → word / 2 ^ k / 2 ≡ word / 2 ^ suc k
-halved word k = div-div-eq-div-mul word (2 ^ k) 2 ∙ sym (ap (λ n. word / n) (pow-suc 2 k))
-
-bit_list-from : (count k word : ℕ) → bit_list count (word / 2 ^ k) ≡ bits_from count k word
-bit_list-from zero k word = refl
-bit_list-from (suc count) k word =
-    rw (halved word k) (ap (λ bits. is_set word k ∷ bits) (bit_list-from count (suc k) word))
-
-pub by_places : (word mask : ℕ) → and_by_bits word mask ≡ word_of_bits (masked (bit_list 32 mask) (bits_from 32 0 word))
-unfolding by_bits
-by_places word mask =
-    ap word_of_bits (bitwise-masked (bit_list 32 word) (bit_list 32 mask)
-    ∙ ap (masked (bit_list 32 mask)) (ap (bit_list 32) (sym (div-one word)) ∙ bit_list-from 32 0 word))
+use Rattle.rv_state.proofs.MaskLemmas.{digit-rem, bits_from, bit_list-from, by_places, enabled_is, software_is, software_again, inhibited_is}
 
 -- ---- bits 1:0 cleared
 
@@ -66,12 +31,15 @@ word_of_bit_list (suc count) word below =
     let rest = word_of_bit_list count (word / 2) (omega (arith, pow-suc 2 count)) in
     omega (arith, rest, digit-rem word)
 
+above : (word : ℕ) → word < 2 ^ 32 → word_of_bits (bits_from 30 2 word) ≡ word / 4
+above word below = ap word_of_bits (sym (bit_list-from 30 2 word)) ∙ word_of_bit_list 30 (word / 4) (omega arith)
+
 pub aligned-is : (word : ℕ) → word < 2 ^ 32 → aligned_to_4 word ≡ and_by_bits word 0xFFFFFFFC
-aligned-is word below =
-    let above : word_of_bits (bits_from 30 2 word) ≡ word / 4 =
-    ap word_of_bits (sym (bit_list-from 30 2 word)) ∙ word_of_bit_list 30 (word / 4) (omega arith)
-    in
-    omega (arith, above, by_places word 0xFFFFFFFC)
+aligned-is word below = omega (arith, above word below, by_places word 0xFFFFFFFC)
+
+-- and bit 1 alone
+vector-is : (word : ℕ) → word < 2 ^ 32 → vector_of word ≡ and_by_bits word 0xFFFFFFFD
+vector-is word below = omega (arith, above word below, by_places word 0xFFFFFFFD, digit-rem (word / 2 ^ 0))
 
 -- ---- sstatus and mstatus
 
@@ -89,7 +57,8 @@ mpp-number (suc (suc (suc (suc n)))) below = absurd (omega arith)
 mpp-digits : (word : ℕ) → bits word 12 11 ≡ digit (is_set word 11) + 2 * digit (is_set word 12)
 mpp-digits word = omega (arith, digit-rem (word / 2 ^ 11), digit-rem (word / 2 ^ 12))
 
-mstatus-kept-by : (word : ℕ) (is_two : Bool) → (bits word 12 11 == 2) ≡ is_two → mstatus_word (mstatus_of word) ≡ and_by_bits word (if is_two then 0x007A01AA else 0x007A19AA)
+mstatus-kept-by : (word : ℕ) (is_two : Bool) → (bits word 12 11 == 2) ≡ is_two
+    → mstatus_word (mstatus_of word) ≡ and_by_bits word (if is_two then 0x007A01AA else 0x007A19AA)
 mstatus-kept-by word true e =
     let mode : mode_number (mode_of_mpp (bits word 12 11)) ≡ 0 =
     mpp-number (bits word 12 11) (omega arith) ∙ ap (λ (b : Bool). if b then 0 else bits word 12 11) e
@@ -104,12 +73,6 @@ mstatus-kept-by word false e =
 pub mstatus-kept : (word : ℕ) → mstatus_word (mstatus_of word) ≡ and_by_bits word (mstatus_mask word)
 mstatus-kept word = mstatus-kept-by word (bits word 12 11 == 2) refl
 
--- ---- mip
-
--- the bits of mip that software writes are the sum of its three
-pub software_bits : (word : ℕ) → and_by_bits word 0x222 ≡ word → flag 1 (is_set word 1) + flag 5 (is_set word 5) + flag 9 (is_set word 9) ≡ word
-software_bits word own = omega (arith, by_places word 0x222, own)
-
 -- ---- every register
 
 low-half : (counter word : ℕ) → word < 2 ^ 32 → bits (with_low_half counter word) 31 0 ≡ word
@@ -121,7 +84,7 @@ high-half counter word below = omega arith
 reading-written : (name : CsrName) (word : ℕ) (c : CsrState) → word < 2 ^ 32 → reading name (written name word c) ≡ kept name word c
 unfolding reading written
 reading-written Sstatus word c below = sstatus-kept c.mstatus word
-reading-written Stvec word c below = refl
+reading-written Stvec word c below = vector-is word below
 reading-written Sscratch word c below = refl
 reading-written Sepc word c below = aligned-is word below
 reading-written Scause word c below = refl
@@ -129,20 +92,20 @@ reading-written Stval word c below = refl
 reading-written Satp word c below = refl
 reading-written NameMstatus word c below = mstatus-kept word
 reading-written Misa word c below = refl
-reading-written Mie word c below = refl
-reading-written Mtvec word c below = refl
+reading-written Mie word c below = sym (enabled_is word)
+reading-written Mtvec word c below = vector-is word below
 reading-written Mscratch word c below = refl
 reading-written Mepc word c below = aligned-is word below
 reading-written Mcause word c below = refl
 reading-written Mtval word c below = refl
-reading-written Mip word c below = omega (arith, software_bits (and_by_bits word 0x222) (masked_again word 0x222))
+reading-written Mip word c below = ap (λ n. n + flag 7 c.timer) (software_again word ∙ sym (software_is word))
 reading-written (Pmpcfg k) word c below = refl
 reading-written (Pmpaddr i) word c below = refl
 reading-written Mcycle word c below = low-half c.mcycle word below
 reading-written Minstret word c below = low-half c.minstret word below
 reading-written Mcycleh word c below = high-half c.mcycle word below
 reading-written Minstreth word c below = high-half c.minstret word below
-reading-written Mcountinhibit word c below = refl
+reading-written Mcountinhibit word c below = sym (inhibited_is word)
 reading-written Zero word c below = refl
 
 -- a write does not make satp refused
@@ -173,20 +136,29 @@ trapped-after Minstreth word mode c free = refl
 trapped-after Mcountinhibit word mode c free = refl
 trapped-after Zero word mode c free = refl
 
--- the tests of an access to a register that is there, in the order in which they are asked
-ok-by-tests : (low read_only refused : Bool) (before after : CsrState) (name : CsrName) (word : ℕ) → (if low then Err Privilege else (if read_only then Err ReadOnly else (if refused then Err Trapped else Ok (written name word before)))) ≡ Ok after → (low ≡ false) × (refused ≡ false) × (written name word before ≡ after)
-ok-by-tests true read_only refused before after name word e = cc
-ok-by-tests false true refused before after name word e = cc
-ok-by-tests false false true before after name word e = cc
-ok-by-tests false false false before after name word e = (refl, refl, cc)
+-- a write to a register that is there, by its tests in the order in which they are asked
+abbrev stored : Bool → Bool → Bool → CsrState → Result CsrState CsrFault
+stored low read_only refused left =
+    if low then Err Privilege else (if read_only then Err ReadOnly else (if refused then Err Trapped else Ok left))
 
-reads-back : (found : Option CsrName) (low read_only : Bool) (before after : CsrState) (word : ℕ) (mode : Mode) → word < 2 ^ 32 → on_register found (λ name. if low then Err Privilege else (if read_only then Err ReadOnly else (if is_trapped name mode before then Err Trapped else Ok (written name word before)))) ≡ Ok after → on_register found (λ name. if low then Err Privilege else (if is_trapped name mode after then Err Trapped else Ok (reading name after))) ≡ Ok (kept_at found word before)
+ok-by-tests : (low read_only refused : Bool) (left after : CsrState) → stored low read_only refused left ≡ Ok after
+    → (low ≡ false) × (refused ≡ false) × (left ≡ after)
+ok-by-tests true read_only refused left after e = cc
+ok-by-tests false true refused left after e = cc
+ok-by-tests false false true left after e = cc
+ok-by-tests false false false left after e = (refl, refl, cc)
+
+reads-back : (found : Option CsrName) (low read_only : Bool) (before after : CsrState) (word : ℕ) (mode : Mode) → word < 2 ^ 32
+    → on_register found (λ name. stored low read_only (is_trapped name mode before) (written name word before)) ≡ Ok after
+    → on_register found (λ name. if low then Err Privilege else (if is_trapped name mode after then Err Trapped else Ok (reading name after)))
+    ≡ Ok (kept_at found word before)
 reads-back None low read_only before after word mode below e = cc
 reads-back (Some name) low read_only before after word mode below e =
-    let tests = ok-by-tests low read_only (is_trapped name mode before) before after name word e in
+    let tests = ok-by-tests low read_only (is_trapped name mode before) (written name word before) after e in
     rw (tests.0, ← tests.2, trapped-after name word mode before tests.1, reading-written name word before below) refl
 
-pub write_reads_back : (before after : CsrState) (number word : ℕ) (mode : Mode) → word < 2 ^ 32 → write_result before number word mode ≡ Ok after → ReadsBack before after number word mode
+pub write_reads_back : (before after : CsrState) (number word : ℕ) (mode : Mode) → word < 2 ^ 32 → write_result before number word mode ≡ Ok after
+    → ReadsBack before after number word mode
 unfolding write_result read_result ReadsBack
 write_reads_back before after number word mode below e =
     reads-back (csr_numbered number) (nat_lt (mode_number mode) (least_mode number)) (is_read_only number) before after word mode below e

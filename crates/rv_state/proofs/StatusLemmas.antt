@@ -7,8 +7,7 @@ use Rattle.rv_pmp.specs.declared.mode.Mode.{Mode}
 use Rattle.rv_pmp.specs.declared.mode.Mode.TheVariants.{U, S, M}
 use Rattle.rv_state.specs.Mstatus.{mstatus_word, sstatus_word}
 use Rattle.rv_state.specs.declared.mstatus.Mstatus.{Mstatus}
-use Rattle.rv_state.proofs.MaskLemmas.{lowest, above}
-use Rattle.rv_state.proofs.ReadBackLemmas.{masked, bitwise-masked}
+use Rattle.rv_state.proofs.MaskLemmas.{lowest, above, masked, bitwise-masked}
 
 bit_list-word_of_bits : (bits : List Bool) → bit_list (length bits) (word_of_bits bits) ≡ bits
 bit_list-word_of_bits [] = refl

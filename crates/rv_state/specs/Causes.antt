@@ -1,9 +1,12 @@
 -- The codes of the causes, as mcause has them: RISC-V Privileged Architecture 20211203, section 3.1.15 and its table 3.6.
 use Rattle.std.specs.Prelude.{ℕ, ◌+◌, ◌^◌}
 use Rattle.rv_state.specs.declared.cause.Exception.{Exception}
-use Rattle.rv_state.specs.declared.cause.Exception.TheVariants.{InstructionAddressMisaligned, InstructionAccessFault, IllegalInstruction, Breakpoint, LoadAccessFault, StoreAccessFault, EnvironmentCallFromU, EnvironmentCallFromS, EnvironmentCallFromM}
+use Rattle.rv_state.specs.declared.cause.Exception.TheVariants.{InstructionAddressMisaligned, InstructionAccessFault, IllegalInstruction}
+use Rattle.rv_state.specs.declared.cause.Exception.TheVariants.{Breakpoint, LoadAccessFault, StoreAccessFault, EnvironmentCallFromU}
+use Rattle.rv_state.specs.declared.cause.Exception.TheVariants.{EnvironmentCallFromS, EnvironmentCallFromM}
 use Rattle.rv_state.specs.declared.cause.Interrupt.{Interrupt}
-use Rattle.rv_state.specs.declared.cause.Interrupt.TheVariants.{SupervisorSoftware, MachineSoftware, SupervisorTimer, MachineTimer, SupervisorExternal, MachineExternal}
+use Rattle.rv_state.specs.declared.cause.Interrupt.TheVariants.{SupervisorSoftware, MachineSoftware, SupervisorTimer, MachineTimer}
+use Rattle.rv_state.specs.declared.cause.Interrupt.TheVariants.{SupervisorExternal, MachineExternal}
 use Rattle.rv_state.specs.declared.cause.Cause.{Cause}
 use Rattle.rv_state.specs.declared.cause.Cause.TheVariants as causes
 

@@ -2,22 +2,24 @@
 -- an access is refused. RISC-V Privileged Architecture 20211203, chapter 2: the listing is in the order of tables 2.3, 2.5
 -- and 2.6. What the registers keep: sections 3.1 and 4.1. Which numbers there are, those kept as zero included, is this
 -- machine's profile; any other number is missing.
-use Rattle.std.specs.Prelude.{ℕ, ◌+◌, ◌-◌, ◌/◌, ◌%◌, Bool, false, ◌&&◌, nat_lt, nat_le, ◌==◌, if◌then◌else◌, List, [], ◌∷◌, ◌++◌, codes, Option, Some, None, Result, Ok, Err}
+use Rattle.std.specs.Prelude.{ℕ, ◌+◌, ◌-◌, ◌*◌, ◌/◌, ◌%◌, ◌^◌, Bool, false, ◌&&◌, nat_lt, nat_le, ◌==◌, if◌then◌else◌}
+use Rattle.std.specs.Prelude.{List, [], ◌∷◌, ◌++◌, sum_by, codes, Option, Some, None, Result, Ok, Err}
 use Rattle.std.specs.Option.{option_map}
-use Rattle.rv_word.specs.Logic.{and_by_bits}
 use Rattle.rv_pmp.specs.declared.mode.Mode.{Mode}
 use Rattle.rv_pmp.specs.declared.mode.Mode.TheVariants.{S}
 use Rattle.rv_pmp.specs.Entries.{addr_of}
 use Rattle.rv_pmp.specs.Locks.{cfg_word, with_cfg_word, with_addr}
 use Rattle.rv_pmp.specs.Mode.{mode_number}
 use Rattle.rv_word.specs.BitFields.{bits}
-use Rattle.rv_state.specs.Bits.{aligned_to_4}
+use Rattle.rv_state.specs.Bits.{kept_bits, aligned_to_4}
 use Rattle.rv_state.specs.CsrState.{CsrState}
 use Rattle.rv_state.specs.Counters.{with_low_half, with_high_half}
-use Rattle.rv_state.specs.Interrupts.{mip_word}
+use Rattle.rv_state.specs.Interrupts.{mip_word, software_pending_of}
 use Rattle.rv_state.specs.Mstatus.{mstatus_word, mstatus_of, sstatus_word, with_sstatus}
 use Rattle.rv_state.specs.declared.csr_name.CsrName.{CsrName}
-use Rattle.rv_state.specs.declared.csr_name.CsrName.TheVariants.{Sstatus, Stvec, Sscratch, Sepc, Scause, Stval, Satp, Mstatus, Misa, Mie, Mtvec, Mscratch, Mepc, Mcause, Mtval, Mip, Pmpcfg, Pmpaddr, Mcycle, Minstret, Mcycleh, Minstreth, Mcountinhibit, Zero}
+use Rattle.rv_state.specs.declared.csr_name.CsrName.TheVariants.{Sstatus, Stvec, Sscratch, Sepc, Scause, Stval, Satp}
+use Rattle.rv_state.specs.declared.csr_name.CsrName.TheVariants.{Mstatus, Misa, Mie, Mtvec, Mscratch, Mepc, Mcause, Mtval, Mip}
+use Rattle.rv_state.specs.declared.csr_name.CsrName.TheVariants.{Pmpcfg, Pmpaddr, Mcycle, Minstret, Mcycleh, Minstreth, Mcountinhibit, Zero}
 use Rattle.rv_state.specs.declared.csr_fault.CsrFault.{CsrFault}
 use Rattle.rv_state.specs.declared.csr_fault.CsrFault.TheVariants as faults
 
@@ -127,6 +129,11 @@ name_of_number number = option_map (λ (row : CsrRow). row.name number) (row_of_
 
 -- ---- what each reads
 
+-- misa (section 3.1.1): MXL in bits 31:30, where 1 says that a register has 32 bits, and in Extensions the bit of each letter, that of A
+-- the lowest (65 is the code of A)
+abbrev pub misa_word : ℕ
+misa_word = 1 * 2 ^ 30 + sum_by (λ letter. 2 ^ (letter - 65)) (codes "IMSU")
+
 unfoldable pub reading : CsrName → CsrState → ℕ
 reading Sstatus c = sstatus_word c.mstatus
 reading Stvec c = c.stvec
@@ -136,7 +143,7 @@ reading Scause c = c.scause
 reading Stval c = c.stval
 reading Satp c = 0
 reading Mstatus c = mstatus_word c.mstatus
-reading Misa c = 0x40141100
+reading Misa c = misa_word
 reading Mie c = c.mie
 reading Mtvec c = c.mtvec
 reading Mscratch c = c.mscratch
@@ -155,19 +162,18 @@ reading Zero c = 0
 
 -- ---- what a write leaves
 
--- a trap vector: bit 1, of the reserved modes, is cleared
+-- a trap vector (sections 3.1.7 and 4.1.2): BASE in bits 31:2, MODE in bits 1:0, of which 0 (Direct) and 1 (Vectored) are legal, so that
+-- bit 1 reads 0
 abbrev pub vector_of : ℕ → ℕ
-vector_of word = and_by_bits word 0xFFFFFFFD
+vector_of word = aligned_to_4 word + bits word 0 0
 
--- the interrupts that can be enabled, those that software can raise, and the counters that can be held
+-- the interrupts that mie enables (sections 3.1.9 and 4.1.3): SSIE, MSIE, STIE, MTIE, SEIE and MEIE
 abbrev pub enabled_of : ℕ → ℕ
-enabled_of word = and_by_bits word 0xAAA
+enabled_of word = kept_bits (1 ∷ 3 ∷ 5 ∷ 7 ∷ 9 ∷ 11 ∷ []) word
 
-abbrev pub software_pending_of : ℕ → ℕ
-software_pending_of word = and_by_bits word 0x222
-
+-- the counters that mcountinhibit holds (section 3.1.12): CY, which is mcycle, and IR, which is minstret
 abbrev pub inhibited_of : ℕ → ℕ
-inhibited_of word = and_by_bits word 0x5
+inhibited_of word = kept_bits (0 ∷ 2 ∷ []) word
 
 unfoldable pub written : CsrName → ℕ → CsrState → CsrState
 written Sstatus word c = record c { mstatus = with_sstatus c.mstatus word }

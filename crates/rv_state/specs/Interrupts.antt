@@ -4,16 +4,20 @@ use Rattle.std.specs.Prelude.{ℕ, ◌+◌, Bool, true, false, ◌&&◌, not, if
 use Rattle.rv_pmp.specs.declared.mode.Mode.{Mode}
 use Rattle.rv_pmp.specs.declared.mode.Mode.TheVariants.{M}
 use Rattle.rv_word.specs.BitFields.{is_set, flag}
+use Rattle.rv_state.specs.Bits.{kept_bits}
 use Rattle.rv_state.specs.Causes.{interrupt_number}
 use Rattle.rv_state.specs.CsrState.{CsrState}
 use Rattle.rv_state.specs.declared.cause.Interrupt.{Interrupt}
-use Rattle.rv_state.specs.declared.cause.Interrupt.TheVariants.{SupervisorSoftware, MachineSoftware, SupervisorTimer, MachineTimer, SupervisorExternal, MachineExternal}
+use Rattle.rv_state.specs.declared.cause.Interrupt.TheVariants.{SupervisorSoftware, MachineSoftware, SupervisorTimer, MachineTimer}
+use Rattle.rv_state.specs.declared.cause.Interrupt.TheVariants.{SupervisorExternal, MachineExternal}
 
--- what mip reads: SSIP, STIP and SEIP, which are the bits that software wrote, and MTIP, which is the timer line
+-- the bits of mip that software writes: SSIP, STIP and SEIP
+abbrev pub software_pending_of : ℕ → ℕ
+software_pending_of word = kept_bits (1 ∷ 5 ∷ 9 ∷ []) word
+
+-- what mip reads: those that software wrote, and MTIP, which is the timer line
 abbrev pub mip_word : CsrState → ℕ
-mip_word c =
-    flag 1 (is_set c.software_pending 1) + flag 5 (is_set c.software_pending 5) + flag 7 c.timer
-    + flag 9 (is_set c.software_pending 9)
+mip_word c = software_pending_of c.software_pending + flag 7 c.timer
 
 -- the order in which interrupts are taken where several wait
 abbrev pub interrupt_order : List Interrupt

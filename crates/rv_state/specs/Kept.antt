@@ -3,6 +3,7 @@
 use Rattle.std.specs.Prelude.{ℕ, zero, suc, ◌+◌, ◌%◌, ◌^◌, Bool, if◌then◌else◌}
 use Rattle.rv_word.specs.BitFields.{is_set, flag}
 use Rattle.rv_state.specs.Counters.{incremented}
+use Rattle.rv_state.specs.Interrupts.{software_pending_of}
 
 -- both counters, and what holds them
 pub record CountersState : Type 0 where
@@ -31,8 +32,10 @@ pub record RaisedState : Type 0 where
   pub software : ℕ
   pub timer : Bool
 
+-- both, as one word keeps them
+abbrev pub raised_in : ℕ → RaisedState
+raised_in word = record { software = software_pending_of word; timer = is_set word 7 }
+
 -- the word that mip reads of them
 abbrev pub mip_of : RaisedState → ℕ
-mip_of raised =
-    flag 1 (is_set raised.software 1) + flag 5 (is_set raised.software 5) + flag 7 raised.timer
-    + flag 9 (is_set raised.software 9)
+mip_of raised = software_pending_of raised.software + flag 7 raised.timer

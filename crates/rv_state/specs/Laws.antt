@@ -10,9 +10,11 @@ use Rattle.rv_state.specs.CsrState.{CsrState}
 use Rattle.rv_state.specs.CsrTable.{csr_numbered, read_result}
 use Rattle.rv_state.specs.Traps.{after_mret}
 use Rattle.rv_state.specs.declared.csr_name.CsrName.{CsrName}
-use Rattle.rv_state.specs.declared.csr_name.CsrName.TheVariants.{Sstatus, Stvec, Sscratch, Sepc, Scause, Stval, Satp, Mstatus, Misa, Mie, Mtvec, Mscratch, Mepc, Mcause, Mtval, Mip, Pmpcfg, Pmpaddr, Mcycle, Minstret, Mcycleh, Minstreth, Mcountinhibit, Zero}
+use Rattle.rv_state.specs.declared.csr_name.CsrName.TheVariants.{Sstatus, Stvec, Sscratch, Sepc, Scause, Stval, Satp}
+use Rattle.rv_state.specs.declared.csr_name.CsrName.TheVariants.{Mstatus, Misa, Mie, Mtvec, Mscratch, Mepc, Mcause, Mtval, Mip}
+use Rattle.rv_state.specs.declared.csr_name.CsrName.TheVariants.{Pmpcfg, Pmpaddr, Mcycle, Minstret, Mcycleh, Minstreth, Mcountinhibit, Zero}
 
--- ---- what is read after a write: the word under the register's mask
+-- ---- what is read after a write: the word under the register's mask, in which the bits that it keeps are 1
 
 -- mstatus has no mode 2 in MPP (bits 12:11)
 abbrev pub mstatus_mask : ℕ → ℕ

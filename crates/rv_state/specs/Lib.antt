@@ -5,8 +5,8 @@ pub mod CsrFaults
 pub mod Mstatus
 pub mod CsrState
 pub mod Counters
-pub mod Kept
 pub mod Interrupts
+pub mod Kept
 pub mod Traps
 pub mod CsrTable
 pub mod Laws

@@ -17,6 +17,7 @@ mod counters;
 mod csr_fault;
 mod csr_name;
 mod csrs;
+mod kept_bits;
 mod mstatus;
 mod raised;
 mod regs;

@@ -8,7 +8,8 @@ long_is_bad : (line : List ℕ) → 120 < length line → is_good_line line ≡ 
 long_is_bad line long = let e : leb (length line) 120 ≡ false = grind arith in rw e refl
 
 -- whatever is said of good lines alone
-pub if_good-take : {A : Type 0} (f : List ℕ → A) (bad : A) (line : List ℕ) → cond (is_good_line (take 121 line)) (f (take 121 line)) bad ≡ cond (is_good_line line) (f line) bad
+pub if_good-take : {A : Type 0} (f : List ℕ → A) (bad : A) (line : List ℕ)
+    → cond (is_good_line (take 121 line)) (f (take 121 line)) bad ≡ cond (is_good_line line) (f line) bad
 if_good-take f bad line = elim (cases_lt 120 (length line)) [
   | inl long ↦
       let cut : 120 < length (take 121 line) = rw (length-take 121 line) (omega arith) in

@@ -8,7 +8,8 @@ use Rattle.std.proofs.lemmas.Int.Digits.{digits_value-lt}
 use Rattle.std.proofs.lemmas.List.Folds.{list_all_more}
 use Rattle.std.proofs.Math.Nat.{pow-le-pow_right, mul-le-mul_right, pow-suc}
 
-digit_from_both : (base c : ℕ) (text : List ℕ) → list_all (λ d. is_digit d base) (c ∷ text) ≡ true → (digit_value c < base) × (list_all (λ d. is_digit d base) text ≡ true)
+digit_from_both : (base c : ℕ) (text : List ℕ) → list_all (λ d. is_digit d base) (c ∷ text) ≡ true
+    → (digit_value c < base) × (list_all (λ d. is_digit d base) text ≡ true)
 digit_from_both base c text h = grind (arith, nat_tests)
 
 pub AllDigits-from_list_all : (base : ℕ) (text : List ℕ) → list_all (λ c. is_digit c base) text ≡ true → AllDigits base text
@@ -25,26 +26,31 @@ value_step-lt base most i value digit low fits within small below =
     omega (arith, pow-suc base i, step, room)
 
 -- the number that the first digits write is below the base to the power of their count
-first_digits-lt : (base i value : ℕ) (text : List ℕ) → 2 ≤ base → i ≤ length text → list_all (λ c. is_digit c base) (take i text) ≡ true → value ≡ digits_value base (take i text) → value < base ^ i
+first_digits-lt : (base i value : ℕ) (text : List ℕ) → 2 ≤ base → i ≤ length text → list_all (λ c. is_digit c base) (take i text) ≡ true
+    → value ≡ digits_value base (take i text) → value < base ^ i
 first_digits-lt base i value text low within digits is =
     let size : length (take i text) ≡ i = length-take-le i text within in
-    let small : digits_value base (take i text) < base ^ length (take i text) = digits_value-lt base (take i text) (AllDigits-from_list_all base (take i text) digits) in
+    let small : digits_value base (take i text) < base ^ length (take i text) =
+    digits_value-lt base (take i text) (AllDigits-from_list_all base (take i text) digits) in
     let P : ℕ → Type 0 = λ k. digits_value base (take i text) < base ^ k in
     let narrow : digits_value base (take i text) < base ^ i = subst P size small in
     omega (arith, is, narrow)
 
-pub number_step-lt : (base most i value digit : ℕ) (text : List ℕ) → 2 ≤ base → base ^ most ≤ 2 ^ 32 → i < length text → length text ≤ most → list_all (λ c. is_digit c base) (take i text) ≡ true → value ≡ digits_value base (take i text) → digit < base → value * base + digit < 2 ^ 32
+pub number_step-lt : (base most i value digit : ℕ) (text : List ℕ) → 2 ≤ base → base ^ most ≤ 2 ^ 32 → i < length text → length text ≤ most
+    → list_all (λ c. is_digit c base) (take i text) ≡ true → value ≡ digits_value base (take i text) → digit < base → value * base + digit < 2 ^ 32
 number_step-lt base most i value digit text low fits within short digits is below =
     value_step-lt base most i value digit low fits (omega arith) (first_digits-lt base i value text low (omega arith) digits is) below
 
 -- and so below the base to the power of the digits allowed
-pub number-lt : (base most i value : ℕ) (text : List ℕ) → 2 ≤ base → i ≤ length text → length text ≤ most → list_all (λ c. is_digit c base) (take i text) ≡ true → value ≡ digits_value base (take i text) → value < base ^ most
+pub number-lt : (base most i value : ℕ) (text : List ℕ) → 2 ≤ base → i ≤ length text → length text ≤ most
+    → list_all (λ c. is_digit c base) (take i text) ≡ true → value ≡ digits_value base (take i text) → value < base ^ most
 number-lt base most i value text low within short digits is =
     let narrow = first_digits-lt base i value text low within digits is in
     let wide : base ^ i ≤ base ^ most = pow-le-pow_right (omega arith) (omega arith) in
     omega (arith, narrow, wide)
 
-pub all_digits_more : (base i : ℕ) (text : List ℕ) → i < length text → list_all (λ c. is_digit c base) (take i text) ≡ true → digit_value (get_or text i 0) < base → list_all (λ c. is_digit c base) (take (i + 1) text) ≡ true
+pub all_digits_more : (base i : ℕ) (text : List ℕ) → i < length text → list_all (λ c. is_digit c base) (take i text) ≡ true
+    → digit_value (get_or text i 0) < base → list_all (λ c. is_digit c base) (take (i + 1) text) ≡ true
 all_digits_more base i text within digits below =
     let more = list_all_more (λ c. is_digit c base) text i 0 within in
     grind (arith, nat_tests, more)

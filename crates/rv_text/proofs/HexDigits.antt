@@ -1,5 +1,6 @@
 -- Hexadecimal digits, written from the first.
-use Rattle.std.proofs.Common.{◌≡◌, ℕ, zero, suc, ◌+◌, ◌-◌, ◌*◌, ◌/◌, ◌%◌, ◌^◌, ◌<◌, [], ◌∷◌, ◌++◌, length, bit_and, refl, ap, sym, ◌∙◌, arith, add-one, length-append, Option, Some, None}
+use Rattle.std.proofs.Common.{◌≡◌, ℕ, zero, suc, ◌+◌, ◌-◌, ◌*◌, ◌/◌, ◌%◌, ◌^◌, ◌<◌, [], ◌∷◌, ◌++◌, length, bit_and, refl}
+use Rattle.std.proofs.Common.{ap, sym, ◌∙◌, arith, add-one, length-append, Option, Some, None}
 use Rattle.std.specs.Option.{SomeIff}
 use Rattle.std.proofs.lemmas.Option.{none-some}
 use Rattle.std.specs.Char.{digit_char, digit_value}
@@ -26,7 +27,8 @@ hex_digits-start n = refl
 shifted_more : (value places written : ℕ) → written < places → value / 2 ^ (4 * (places - (written + 1))) / 16 ≡ value / 2 ^ (4 * (places - written))
 shifted_more value places written more =
     let exponent : 4 * (places - (written + 1)) + 4 ≡ 4 * (places - written) = omega arith in
-    div-div-eq-div-mul value (2 ^ (4 * (places - (written + 1)))) 16 ∙ ap (λ k. value / k) (sym (pow-add 2 (4 * (places - (written + 1))) 4) ∙ ap (λ k. 2 ^ k) exponent)
+    div-div-eq-div-mul value (2 ^ (4 * (places - (written + 1)))) 16
+    ∙ ap (λ k. value / k) (sym (pow-add 2 (4 * (places - (written + 1))) 4) ∙ ap (λ k. 2 ^ k) exponent)
 
 -- one more digit at the end
 digit_more : (written before shown : ℕ) → before ≡ shown / 16 → hex_digits written before ++ digit_char (bit_and shown 15) ∷ [] ≡ hex_digits (written + 1) shown
@@ -35,7 +37,9 @@ digit_more written before shown is =
     let last : bit_and shown 15 ≡ shown % 16 = and_mask shown 4 in
     rw (is, last, add-one written)
 
-pub hex_digits_more : (value places written : ℕ) → written < places → hex_digits written (value / 2 ^ (4 * (places - written))) ++ digit_char (bit_and (value / 2 ^ (4 * (places - (written + 1)))) 15) ∷ [] ≡ hex_digits (written + 1) (value / 2 ^ (4 * (places - (written + 1))))
+pub hex_digits_more : (value places written : ℕ) → written < places
+    → hex_digits written (value / 2 ^ (4 * (places - written))) ++ digit_char (bit_and (value / 2 ^ (4 * (places - (written + 1)))) 15) ∷ []
+    ≡ hex_digits (written + 1) (value / 2 ^ (4 * (places - (written + 1))))
 hex_digits_more value places written more = digit_more written _ _ (sym (shifted_more value places written more))
 
 pub hex_digits-all : (value places : ℕ) → hex_digits places (value / 2 ^ (4 * (places - places))) ≡ hex_digits places value

@@ -1,5 +1,6 @@
 -- The first line of a text.
-use Rattle.std.proofs.Common.{◌≡◌, ◌≢◌, ◌==◌, ◌||◌, ℕ, ◌+◌, ◌<◌, Bool, true, false, not, cond, sym, List, [], ◌∷◌, ◌++◌, length, take, get_or, refl, ap, ◌∙◌, arith, append_assoc, suc}
+use Rattle.std.proofs.Common.{◌≡◌, ◌≢◌, ◌==◌, ◌||◌, ℕ, ◌+◌, ◌<◌, Bool, true, false, not, cond, sym, List, [], ◌∷◌}
+use Rattle.std.proofs.Common.{◌++◌, length, take, get_or, refl, ap, ◌∙◌, arith, append_assoc, suc}
 use Rattle.std.proofs.lemmas.List.{take_all}
 use Rattle.std.specs.List.{position_or_len, before_first, after_first, prefix_len}
 use Rattle.std.proofs.lemmas.Bool.Decides.{nat_tests}
@@ -30,9 +31,11 @@ whole_line front = through_last_feed-append_feed front (10 ∷ []) refl
 
 cut : (front rest : List ℕ) → has_feed front ≡ false → lines_of (front ++ 10 ∷ rest) ≡ without_return front ∷ lines_of rest
 cut front rest none =
-    ap lines_of (sym (append_assoc front (10 ∷ []) rest)) ∙ lines_of-append (front ++ 10 ∷ []) rest (whole_line front) ∙ ap (λ ls. ls ++ lines_of rest) (lines_of-line front none)
+    ap lines_of (sym (append_assoc front (10 ∷ []) rest)) ∙ lines_of-append (front ++ 10 ∷ []) rest (whole_line front)
+    ∙ ap (λ ls. ls ++ lines_of rest) (lines_of-line front none)
 
-pub lines-cut : (text : List ℕ) → position_or_len is_feed text < length text → lines_of text ≡ without_return (before_first is_feed text) ∷ lines_of (after_first is_feed text)
+pub lines-cut : (text : List ℕ) → position_or_len is_feed text < length text
+    → lines_of text ≡ without_return (before_first is_feed text) ∷ lines_of (after_first is_feed text)
 lines-cut text within =
     let feed : get_or text (position_or_len is_feed text) 0 ≡ 10 = ten _ (passes_at_first is_feed text 0 within) in
     let parts : text ≡ before_first is_feed text ++ 10 ∷ after_first is_feed text = rw feed at (split_at_first is_feed text 0 within) in

@@ -1,5 +1,6 @@
 -- The lines of a text that is read byte by byte.
-use Rattle.std.proofs.Common.{◌≡◌, ◌≢◌, ℕ, suc, zero, inl, inr, ◌<◌, ◌≤◌, nat_eq, Bool, true, false, ◌&&◌, ◌||◌, cond, List, [], ◌∷◌, ◌++◌, length, take, drop, min, refl, sym, ◌∙◌, ap, arith, append-nil}
+use Rattle.std.proofs.Common.{◌≡◌, ◌≢◌, ℕ, suc, zero, inl, inr, ◌<◌, ◌≤◌, nat_eq, Bool, true, false, ◌&&◌, ◌||◌, cond, List}
+use Rattle.std.proofs.Common.{[], ◌∷◌, ◌++◌, length, take, drop, min, refl, sym, ◌∙◌, ap, arith, append-nil}
 use Rattle.std.proofs.lemmas.List.{take-append-le, take_all, take-take, length-take, length-append}
 use Rattle.std.proofs.lemmas.Bool.{cases_lt}
 use Rattle.rv_text.specs.Lines.{has_feed, starts_with_feed, onto_first, lines_of, through_last_feed, after_line, after_lines}
@@ -56,7 +57,8 @@ onto_first-some x (l ∷ ls) e = cc
 pub lines_of-some : (xs : List ℕ) → has_feed xs ≡ true → lines_of xs ≡ [] → ⊥
 lines_of-some [] h e = cc
 lines_of-some (x ∷ xs) h e = go (nat_eq x 10) (nat_eq x 13 && starts_with_feed xs) (lines_of-some xs) h e where
-  go : (b c : Bool) → (has_feed xs ≡ true → lines_of xs ≡ [] → ⊥) → b || has_feed xs ≡ true → cond b ([] ∷ lines_of xs) (cond c (lines_of xs) (onto_first x (lines_of xs))) ≡ [] → ⊥
+  go : (b c : Bool) → (has_feed xs ≡ true → lines_of xs ≡ [] → ⊥) → b || has_feed xs ≡ true
+      → cond b ([] ∷ lines_of xs) (cond c (lines_of xs) (onto_first x (lines_of xs))) ≡ [] → ⊥
   go true c more h e = cc
   go false true more h e = more h e
   go false false more h e = onto_first-some x (lines_of xs) e
@@ -79,7 +81,9 @@ lines_of-append (x ∷ xs) ys h =
     let parts = through_last_feed-cons x xs h in
     go (nat_eq x 10) (lines_of-append xs ys parts.1) parts.0 where
       go : (b : Bool) → lines_of (xs ++ ys) ≡ lines_of xs ++ lines_of ys → b || has_feed xs ≡ true
-          → cond b ([] ∷ lines_of (xs ++ ys)) (cond (nat_eq x 13 && starts_with_feed (xs ++ ys)) (lines_of (xs ++ ys)) (onto_first x (lines_of (xs ++ ys)))) ≡ cond b ([] ∷ lines_of xs) (cond (nat_eq x 13 && starts_with_feed xs) (lines_of xs) (onto_first x (lines_of xs))) ++ lines_of ys
+          → cond b ([] ∷ lines_of (xs ++ ys))
+          (cond (nat_eq x 13 && starts_with_feed (xs ++ ys)) (lines_of (xs ++ ys)) (onto_first x (lines_of (xs ++ ys))))
+          ≡ cond b ([] ∷ lines_of xs) (cond (nat_eq x 13 && starts_with_feed xs) (lines_of xs) (onto_first x (lines_of xs))) ++ lines_of ys
       go true more some = ap (λ (t : List (List ℕ)). [] ∷ t) more
       go false more some = rw (starts_with_feed-append xs ys some) (branch false (nat_eq x 13 && starts_with_feed xs) x _ _ _ more (λ _. lines_of-some xs some))
 
@@ -99,7 +103,8 @@ through_last_feed-append xs (y ∷ ys) h e = through_last_feed-append_feed xs (y
 without_return-cons : (x y : ℕ) (ys : List ℕ) → without_return (x ∷ y ∷ ys) ≡ x ∷ without_return (y ∷ ys)
 without_return-cons x y ys = rw (and_false (nat_eq x 13)) refl
 
-one_more : (b c d : Bool) (x : ℕ) (line : List ℕ) (ms : List (List ℕ)) → ms ≡ line ∷ [] → b ≡ false → d ≡ false → cond b ([] ∷ ms) (cond (c && d) ms (onto_first x ms)) ≡ (x ∷ line) ∷ []
+one_more : (b c d : Bool) (x : ℕ) (line : List ℕ) (ms : List (List ℕ)) → ms ≡ line ∷ [] → b ≡ false → d ≡ false
+    → cond b ([] ∷ ms) (cond (c && d) ms (onto_first x ms)) ≡ (x ∷ line) ∷ []
 one_more true c d x line ms e h k = cc
 one_more false c true x line ms e h k = cc
 one_more false c false x line ms e h k = rw (and_false c) (ap (onto_first x) e)
@@ -114,7 +119,8 @@ lines_of-line (x ∷ []) h = rw ((or_none (nat_eq x 10) false h).0) (go (nat_eq 
 lines_of-line (x ∷ y ∷ ys) h =
     let first = or_none (nat_eq x 10) (has_feed (y ∷ ys)) h in
     let second = or_none (nat_eq y 10) (has_feed ys) first.1 in
-    one_more (nat_eq x 10) (nat_eq x 13) (nat_eq y 10) x (without_return (y ∷ ys)) (lines_of (y ∷ ys ++ 10 ∷ [])) (lines_of-line (y ∷ ys) first.1) first.0 second.0
+    one_more (nat_eq x 10) (nat_eq x 13) (nat_eq y 10) x (without_return (y ∷ ys)) (lines_of (y ∷ ys ++ 10 ∷ []))
+    (lines_of-line (y ∷ ys) first.1) first.0 second.0
     ∙ sym (ap (λ (t : List ℕ). t ∷ []) (without_return-cons x y ys))
 
 -- with no line feed in them, the last bytes are one line
@@ -166,7 +172,13 @@ take-min n xs = elim (cases_lt n (length xs)) [
 pub shown-return : (text front : List ℕ) → text ≡ front ++ 13 ∷ [] → length text ≤ 122 → take (length front) text ≡ take 121 (without_return text)
 shown-return text front e h =
     let short : length front ≤ 121 = omega (arith, simp length-append at (ap length e)) in
-    rw (e, without_return-return front, take-append-le (length front) front (13 ∷ []) (omega arith), take_all (length front) front (omega arith), take_all 121 front short) refl
+    rw (
+      e,
+      without_return-return front,
+      take-append-le (length front) front (13 ∷ []) (omega arith),
+      take_all (length front) front (omega arith),
+      take_all 121 front short,
+    ) refl
 
 -- any other end is
 pub shown-other : (text front : List ℕ) (last : ℕ) → text ≡ front ++ last ∷ [] → last ≢ 13 → take (min (length text) 121) text ≡ take 121 (without_return text)
@@ -203,7 +215,8 @@ lines_of-after_line (x ∷ xs) = go (nat_eq x 10) (nat_eq x 13 && starts_with_fe
   first [] = refl
   first (l ∷ ls) = refl
 
-  go : (b c : Bool) (ls : List (List ℕ)) → lines_of (after_line xs) ≡ drop 1 ls → lines_of (cond b xs (after_line xs)) ≡ drop 1 (cond b ([] ∷ lines_of xs) (cond c ls (onto_first x ls)))
+  go : (b c : Bool) (ls : List (List ℕ)) → lines_of (after_line xs) ≡ drop 1 ls
+      → lines_of (cond b xs (after_line xs)) ≡ drop 1 (cond b ([] ∷ lines_of xs) (cond c ls (onto_first x ls)))
   go true c ls more = refl
   go false true ls more = more
   go false false ls more = more ∙ first ls

@@ -21,7 +21,8 @@ joined-slice_split : (line : List ℕ) → joined (slice_split is_blank line) �
 joined-slice_split [] = refl
 joined-slice_split (x ∷ xs) = go (is_blank x) (joined-slice_split xs) where
   go : (b : Bool) → joined (slice_split is_blank xs) ≡ filter (λ byte. not (is_blank byte)) xs
-      → joined (cond b ([] ∷ slice_split is_blank xs) (onto_first x (slice_split is_blank xs))) ≡ cond (not b) (x ∷ filter (λ byte. not (is_blank byte)) xs) (filter (λ byte. not (is_blank byte)) xs)
+      → joined (cond b ([] ∷ slice_split is_blank xs) (onto_first x (slice_split is_blank xs)))
+      ≡ cond (not b) (x ∷ filter (λ byte. not (is_blank byte)) xs) (filter (λ byte. not (is_blank byte)) xs)
   go true more = more
   go false more = joined-onto_first x (slice_split is_blank xs) ∙ ap (λ t. x ∷ t) more
 
@@ -46,7 +47,8 @@ pub words_of-filled : (line : List ℕ) → list_all is_filled (words_of line) �
 unfolding words_of
 words_of-filled line = all_filled (slice_split is_blank line)
 
-no_blank-onto_first : (x : ℕ) (words : List (List ℕ)) → is_blank x ≡ false → list_all has_no_blank words ≡ true → list_all has_no_blank (onto_first x words) ≡ true
+no_blank-onto_first : (x : ℕ) (words : List (List ℕ)) → is_blank x ≡ false → list_all has_no_blank words ≡ true
+    → list_all has_no_blank (onto_first x words) ≡ true
 no_blank-onto_first x [] h all = rw h refl
 no_blank-onto_first x (word ∷ words) h all = rw h all
 
@@ -62,7 +64,9 @@ no_blank-filter : (words : List (List ℕ)) → list_all has_no_blank words ≡ 
 no_blank-filter [] all = refl
 no_blank-filter ([] ∷ words) all = no_blank-filter words all
 no_blank-filter ((x ∷ xs) ∷ words) all = rw (filled x xs) (go (has_no_blank (x ∷ xs)) all (no_blank-filter words)) where
-  go : (b : Bool) → b && list_all has_no_blank words ≡ true → (list_all has_no_blank words ≡ true → list_all has_no_blank (filter is_filled words) ≡ true) → b && list_all has_no_blank (filter is_filled words) ≡ true
+  go : (b : Bool) → b && list_all has_no_blank words ≡ true
+      → (list_all has_no_blank words ≡ true → list_all has_no_blank (filter is_filled words) ≡ true)
+      → b && list_all has_no_blank (filter is_filled words) ≡ true
   go true all more = more all
   go false all more = cc
 

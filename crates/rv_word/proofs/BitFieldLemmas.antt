@@ -43,12 +43,14 @@ shl_low number width k sum =
     ap (λ n. n % 2 ^ 32) split ∙ mod-mul-add (number / 2 ^ width) (2 ^ 32) (number % 2 ^ width * 2 ^ k) below
 
 -- those bits shifted back, with their sign: by the value of one half and of the factor shifted by
-shl_shr_positive : (low half factor : ℕ) → 0 < factor → half * factor ≡ 2 ^ 31 → low < half → cast_unsigned w32 (shr_z (cast_signed w32 (low * factor)) factor) ≡ low
+shl_shr_positive : (low half factor : ℕ) → 0 < factor → half * factor ≡ 2 ^ 31 → low < half
+    → cast_unsigned w32 (shr_z (cast_signed w32 (low * factor)) factor) ≡ low
 shl_shr_positive low half factor some whole small =
     let below : low * factor < 2 ^ 31 = subst (λ (x : ℕ). low * factor < x) whole (mul-lt-mul_of_pos_right small some) in
     rw (to_z_pos w32 (low * factor) below) (ap (λ x. x / factor) (sym (add-zero (low * factor))) ∙ div-mul-add low factor 0 some)
 
-shl_shr_negative : (low half factor : ℕ) → 0 < factor → half * factor ≡ 2 ^ 31 → half ≤ low → low < 2 * half → cast_unsigned w32 (shr_z (cast_signed w32 (low * factor)) factor) ≡ low + 2 ^ 32 - 2 * half
+shl_shr_negative : (low half factor : ℕ) → 0 < factor → half * factor ≡ 2 ^ 31 → half ≤ low → low < 2 * half
+    → cast_unsigned w32 (shr_z (cast_signed w32 (low * factor)) factor) ≡ low + 2 ^ 32 - 2 * half
 shl_shr_negative low half factor some whole large fits =
     let rest : ℕ = 2 * half - suc low in
     let above : 2 ^ 31 ≤ low * factor = subst (λ (x : ℕ). x ≤ low * factor) whole (mul-le-mul_right factor large) in
@@ -64,7 +66,8 @@ double width positive =
     let one_more : width ≡ 1 + (width - 1) = omega arith in
     ap (λ e. 2 ^ e) one_more ∙ pow-add 2 1 (width - 1)
 
-pub sign_extended_by_shifts : (value width : ℕ) → 1 ≤ width → width ≤ 32 → cast_unsigned w32 (shr_z (cast_signed w32 (value * 2 ^ (32 - width) % 2 ^ 32)) (2 ^ (32 - width))) ≡ sign_extended value width
+pub sign_extended_by_shifts : (value width : ℕ) → 1 ≤ width → width ≤ 32
+    → cast_unsigned w32 (shr_z (cast_signed w32 (value * 2 ^ (32 - width) % 2 ^ 32)) (2 ^ (32 - width))) ≡ sign_extended value width
 sign_extended_by_shifts value width positive within =
     let low : ℕ = value % 2 ^ width in
     let half : ℕ = 2 ^ (width - 1) in

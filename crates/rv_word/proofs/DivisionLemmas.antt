@@ -27,7 +27,8 @@ division a d nonzero = record {
 signed-nonzero : (n : ℕ) → n < 2 ^ 32 → n ≢ 0 → 0 < unsigned_abs (signed n)
 signed-nonzero n fits nonzero = grind (arith, ints)
 
-pub quotient-equation : (dividend divisor word : ℕ) → divisor < 2 ^ 32 → word ≡ quotient dividend divisor → divisor ≢ 0 → IsQuotient (signed dividend) (signed divisor) word
+pub quotient-equation : (dividend divisor word : ℕ) → divisor < 2 ^ 32 → word ≡ quotient dividend divisor → divisor ≢ 0
+    → IsQuotient (signed dividend) (signed divisor) word
 quotient-equation dividend divisor word fits is nonzero = (
   int_div (signed dividend) (signed divisor),
   int_rem (signed dividend) (signed divisor),
@@ -35,7 +36,8 @@ quotient-equation dividend divisor word fits is nonzero = (
   grind arith,
 )
 
-pub remainder-equation : (dividend divisor word : ℕ) → divisor < 2 ^ 32 → word ≡ remainder dividend divisor → divisor ≢ 0 → IsRemainder (signed dividend) (signed divisor) word
+pub remainder-equation : (dividend divisor word : ℕ) → divisor < 2 ^ 32 → word ≡ remainder dividend divisor → divisor ≢ 0
+    → IsRemainder (signed dividend) (signed divisor) word
 remainder-equation dividend divisor word fits is nonzero = (
   int_div (signed dividend) (signed divisor),
   int_rem (signed dividend) (signed divisor),
@@ -93,13 +95,15 @@ division-unique (negsuc n) (negsuc k) (pos q) (negsuc r) is =
 division-unique (negsuc n) (negsuc k) (negsuc q) (pos zero) is = absurd (omega (arith, ints, is.whole, is.smaller))
 division-unique (negsuc n) (negsuc k) (negsuc q) (negsuc r) is = absurd (omega (arith, ints, is.whole, is.smaller))
 
-pub quotient-unique : (dividend divisor word : ℕ) → word ≡ quotient dividend divisor → divisor ≢ 0 → (other : ℕ) → IsQuotient (signed dividend) (signed divisor) other → other ≡ word
+pub quotient-unique : (dividend divisor word : ℕ) → word ≡ quotient dividend divisor → divisor ≢ 0 → (other : ℕ)
+    → IsQuotient (signed dividend) (signed divisor) other → other ≡ word
 quotient-unique dividend divisor word is nonzero other solves =
     let unique = division-unique (signed dividend) (signed divisor) solves.0 solves.1 solves.2 in
     let whole : quotient dividend divisor ≡ low_word (int_div (signed dividend) (signed divisor)) = grind arith in
     solves.3 ∙ ap low_word unique.quotient_is ∙ sym whole ∙ sym is
 
-pub remainder-unique : (dividend divisor word : ℕ) → word ≡ remainder dividend divisor → divisor ≢ 0 → (other : ℕ) → IsRemainder (signed dividend) (signed divisor) other → other ≡ word
+pub remainder-unique : (dividend divisor word : ℕ) → word ≡ remainder dividend divisor → divisor ≢ 0 → (other : ℕ)
+    → IsRemainder (signed dividend) (signed divisor) other → other ≡ word
 remainder-unique dividend divisor word is nonzero other solves =
     let unique = division-unique (signed dividend) (signed divisor) solves.0 solves.1 solves.2 in
     let whole : remainder dividend divisor ≡ low_word (int_rem (signed dividend) (signed divisor)) = grind arith in

@@ -15,7 +15,8 @@ record GoesByBits (f : Bool → Bool → Bool) (g : ℕ → ℕ → ℕ) : Type 
   none : g 0 0 ≡ 0
   step : (a b : ℕ) → g a b ≡ digit (f (a % 2 == 1) (b % 2 == 1)) + 2 * g (a / 2) (b / 2)
 
-number_of-bitwise : (f : Bool → Bool → Bool) (g : ℕ → ℕ → ℕ) → GoesByBits f g → (k a b : ℕ) → a < 2 ^ k → b < 2 ^ k → word_of_bits (bitwise f (bit_list k a) (bit_list k b)) ≡ g a b
+number_of-bitwise : (f : Bool → Bool → Bool) (g : ℕ → ℕ → ℕ) → GoesByBits f g → (k a b : ℕ) → a < 2 ^ k → b < 2 ^ k
+    → word_of_bits (bitwise f (bit_list k a) (bit_list k b)) ≡ g a b
 number_of-bitwise f g goes zero a b p q =
     let a_is : a ≡ 0 = omega arith in
     let b_is : b ≡ 0 = omega arith in

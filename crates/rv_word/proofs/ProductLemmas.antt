@@ -14,7 +14,8 @@ high_word_is (pos n) number fits is = grind (arith, ints)
 high_word_is (negsuc n) number fits is = grind (arith, ints)
 
 -- that word solves the equation
-pub IsSignedHighWord-high : (product : ℤ) (number : ℕ) → FitsSigned w64 product → number ≡ cast_unsigned w64 product → IsSignedHighWord product (number / 2 ^ 32)
+pub IsSignedHighWord-high : (product : ℤ) (number : ℕ) → FitsSigned w64 product → number ≡ cast_unsigned w64 product
+    → IsSignedHighWord product (number / 2 ^ 32)
 IsSignedHighWord-high (pos n) number fits is = (number % 2 ^ 32, mod_below number (2 ^ 32) (omega arith), grind (arith, ints, signed-low))
 IsSignedHighWord-high (negsuc n) number fits is = (number % 2 ^ 32, mod_below number (2 ^ 32) (omega arith), grind (arith, ints, signed-is))
 

@@ -3,7 +3,8 @@
 
 ghost use Rattle.std.specs.Prelude.{◌≡◌, ◌≢◌, ℕ};
 ghost use Rattle.rv_word.specs.Word.{signed};
-ghost use Rattle.rv_word.specs.Division.{quotient, remainder, IsQuotient, IsRemainder, unsigned_quotient, unsigned_remainder, IsUnsignedQuotient, IsUnsignedRemainder};
+ghost use Rattle.rv_word.specs.Division.{quotient, remainder, IsQuotient, IsRemainder, unsigned_quotient, unsigned_remainder};
+ghost use Rattle.rv_word.specs.Division.{IsUnsignedQuotient, IsUnsignedRemainder};
 
 /// The signed quotient, rounded towards zero and taken modulo 2^32; by zero all ones.
 pub const fn div(dividend: u32, divisor: u32) -> u32

@@ -1,7 +1,10 @@
 //! The kind of each code (Unprivileged ISA, chapter 24).
 
 ghost use Rattle.std.specs.Prelude.{◌≡◌, IfSome};
-ghost use Rattle.rv_encoding.specs.Codes.{branch_funct3, load_funct3, store_funct3, op_imm_funct3, shift_functs, op_functs, csr_funct3, csr_imm_funct3, branch_kind as branch_kind_of, load_kind as load_kind_of, store_kind as store_kind_of, op_imm_kind as op_imm_kind_of, csr_kind as csr_kind_of, csr_imm_kind as csr_imm_kind_of, shift_kind as shift_kind_of, op_kind as op_kind_of};
+ghost use Rattle.rv_encoding.specs.Codes.{branch_funct3, load_funct3, store_funct3, op_imm_funct3, shift_functs, op_functs, csr_funct3};
+ghost use Rattle.rv_encoding.specs.Codes.{csr_imm_funct3, branch_kind as branch_kind_of, load_kind as load_kind_of, store_kind as store_kind_of};
+ghost use Rattle.rv_encoding.specs.Codes.{op_imm_kind as op_imm_kind_of, csr_kind as csr_kind_of, csr_imm_kind as csr_imm_kind_of};
+ghost use Rattle.rv_encoding.specs.Codes.{shift_kind as shift_kind_of, op_kind as op_kind_of};
 
 use crate::kind::{BranchKind, CsrKind, LoadKind, OpImmKind, OpKind, ShiftKind, StoreKind};
 

@@ -102,7 +102,8 @@ const fn funct(funct7: u32, funct3: u32) -> Functs
 
 /// funct7 and funct3 of a shift by an immediate.
 pub(super) const fn shift_functs(kind: ShiftKind) -> Functs
-    ensures value { result ≡ spec.shift_functs kind }
+    ensures funct7 { result.funct7 ≡ (spec.shift_functs kind).funct7 }
+    ensures funct3 { result.funct3 ≡ (spec.shift_functs kind).funct3 }
     ensures funct3_in_range { result.funct3 < 8 }
     ensures funct7_in_range { result.funct7 < 128 }
 {
@@ -115,7 +116,8 @@ pub(super) const fn shift_functs(kind: ShiftKind) -> Functs
 
 /// funct7 and funct3 of an operation on registers.
 pub(super) const fn op_functs(kind: OpKind) -> Functs
-    ensures value { result ≡ spec.op_functs kind }
+    ensures funct7 { result.funct7 ≡ (spec.op_functs kind).funct7 }
+    ensures funct3 { result.funct3 ≡ (spec.op_functs kind).funct3 }
     ensures funct3_in_range { result.funct3 < 8 }
     ensures funct7_in_range { result.funct7 < 128 }
 {

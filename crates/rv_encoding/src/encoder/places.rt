@@ -1,7 +1,8 @@
 //! Fields at their places in a word (Unprivileged ISA, sections 2.2 and 2.3).
 
 ghost use Rattle.std.specs.Prelude.{◌≡◌, ◌/◌, ◌^◌, ◌<◌};
-ghost use Rattle.rv_encoding.specs.Places.{rd_at, rs1_at, rs2_at, i_immediate_at, s_immediate_at, b_immediate_at, j_immediate_at, u_immediate_at, shamt_at, fm_at, pred_at, succ_at, csr_at, uimm_at, placed};
+ghost use Rattle.rv_encoding.specs.Places.{rd_at, rs1_at, rs2_at, i_immediate_at, s_immediate_at, b_immediate_at, j_immediate_at, u_immediate_at};
+ghost use Rattle.rv_encoding.specs.Places.{shamt_at, fm_at, pred_at, succ_at, csr_at, uimm_at, placed};
 ghost use Rattle.rv_encoding.specs.Ranges.{IsUpperImmediate, IsBranchOffset, IsJumpOffset};
 
 use crate::field::{

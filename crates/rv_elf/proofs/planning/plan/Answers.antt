@@ -7,7 +7,13 @@ use Rattle.rv_elf.proofs.planning.plan.Goals as goal
 
 pub invariant_of-result : goal.invariant_of-result
 invariant_of-result c =
-    is_valid (record { segments = c.occupying-segments.result.items; entry = c.entry_of-entry.result; image_size = length c.args.bytes.now; ram_size = c.args.ram_size; monitored = c.args.monitored })
+    is_valid (record {
+      segments = c.occupying-segments.result.items;
+      entry = c.entry_of-entry.result;
+      image_size = length c.args.bytes.now;
+      ram_size = c.args.ram_size;
+      monitored = c.args.monitored;
+    })
     (rw c.occupying-segments.ensures (kept_have_none _ _ (search rules))) (search rules)
 
 pub returns-in_err-check_segments-clause-value : goal.returns-in_err-check_segments-clause-value
@@ -24,9 +30,11 @@ returns-in_err-check_header-clause-least c =
 
 pub returns-in_err-check_segments-clause-least : goal.returns-in_err-check_segments-clause-least
 returns-in_err-check_segments-clause-least c =
-    file_plan_least c.args.bytes.now c.args.ram_size c.args.monitored c.from_residual-in_err-check_segments.result (returns-in_err-check_segments-clause-value c)
+    file_plan_least c.args.bytes.now c.args.ram_size c.args.monitored c.from_residual-in_err-check_segments.result
+    (returns-in_err-check_segments-clause-value c)
 
 pub returns-in_err-check_places-clause-least : goal.returns-in_err-check_places-clause-least
 returns-in_err-check_places-clause-least c =
-    let fault = place_fault_first c.args.bytes.now c.args.ram_size c.args.monitored c.in_err-check_places.field-0.0 (search rules) (search rules) (search rules) in
+    let fault =
+    place_fault_first c.args.bytes.now c.args.ram_size c.args.monitored c.in_err-check_places.field-0.0 (search rules) (search rules) (search rules) in
     file_plan_least c.args.bytes.now c.args.ram_size c.args.monitored c.from_residual-in_err-check_places.result (grind (arith, fault))

@@ -6,12 +6,19 @@ use Rattle.rv_elf.proofs.planning.plan_raw.Goals as goal
 
 pub invariant_of-result : goal.invariant_of-result
 invariant_of-result c =
-    is_valid (record { segments = c.occupying-segments.result.items; entry = c.first_address-address.result; image_size = c.args.len; ram_size = c.args.ram_size; monitored = c.args.monitored })
+    is_valid (record {
+      segments = c.occupying-segments.result.items;
+      entry = c.first_address-address.result;
+      image_size = c.args.len;
+      ram_size = c.args.ram_size;
+      monitored = c.args.monitored;
+    })
     (rw (c.occupying-segments.ensures, c.first_address-address.ensures) (raw_has_none c.args.len c.args.monitored)) (search rules)
 
 pub returns-then-len-ram_size-clause-least : goal.returns-then-len-ram_size-clause-least
 returns-then-len-ram_size-clause-least c =
-    raw_plan_least c.args.len c.args.ram_size c.args.monitored (Err SegmentOutside) (rw (raw_outside c.args.len c.args.ram_size c.args.monitored (search rules)) refl)
+    raw_plan_least c.args.len c.args.ram_size c.args.monitored (Err SegmentOutside)
+    (rw (raw_outside c.args.len c.args.ram_size c.args.monitored (search rules)) refl)
 
 pub returns-in_err-check_places-clause-least : goal.returns-in_err-check_places-clause-least
 returns-in_err-check_places-clause-least c = raw_plan_least c.args.len c.args.ram_size c.args.monitored c.from_residual.result (search rules)

@@ -4,7 +4,8 @@ use Rattle.rv_encoding.proofs.ReadingLemmas.{only_op_imm}
 use Rattle.rv_encoding.proofs.decoder.op_imm.Goals as goal
 
 pub returns-in_err-kind-clause-only : goal.returns-in_err-kind-clause-only
-returns-in_err-kind-clause-only c = λ instr spells. let is : read_op_imm c.args.word ≡ Some instr = only_op_imm c.args.word instr c.requires spells in grind arith
+returns-in_err-kind-clause-only c =
+    λ instr spells. let is : read_op_imm c.args.word ≡ Some instr = only_op_imm c.args.word instr c.requires spells in grind arith
 
 pub returns-clause-only : goal.returns-clause-only
 returns-clause-only c = λ instr spells. let is : read_op_imm c.args.word ≡ Some instr = only_op_imm c.args.word instr c.requires spells in grind arith

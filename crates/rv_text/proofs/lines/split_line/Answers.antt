@@ -15,5 +15,6 @@ returns-clause-lines c =
     let text = c.args.text.now in
     let end : c.position_of-end.result ≡ position_or_len (λ b. b == 10) text = c.position_of-end.ensures.value in
     let within : position_or_len (λ b. b == 10) text < length text = omega (arith, end, c.position_of-end.ensures.within, c.if-end-text.false) in
-    let rest : take (length text - (c.position_of-end.result + 1)) (drop (c.position_of-end.result + 1) text) ≡ drop (c.position_of-end.result + 1) text = grind (arith, common_steps) in
+    let rest : take (length text - (c.position_of-end.result + 1)) (drop (c.position_of-end.result + 1) text)
+    ≡ drop (c.position_of-end.result + 1) text = grind (arith, common_steps) in
     rw (rest, c.without_return.ensures, end) (lines-cut text within)

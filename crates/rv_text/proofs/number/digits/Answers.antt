@@ -7,20 +7,26 @@ use Rattle.rv_text.proofs.number.digits.Goals as goal
 pub overflow_add-value : goal.overflow_add-value
 overflow_add-value c =
     let kept = c.loop-byte.invariant in
-    let fits = number_step-lt c.args.base c.args.most c.loop-byte.byte-index c.loop-byte.value c.in_ok-digit.digit c.args.text.now c.requires.low c.requires.fits (omega arith) (omega arith) kept.digits kept.value (omega (arith, c.in_ok-digit.ensures.value)) in
+    let fits =
+    number_step-lt c.args.base c.args.most c.loop-byte.byte-index c.loop-byte.value c.in_ok-digit.digit c.args.text.now c.requires.low
+    c.requires.fits (omega arith) (omega arith) kept.digits kept.value (omega (arith, c.in_ok-digit.ensures.value)) in
     omega (arith, fits)
 
 pub overflow_mul-value : goal.overflow_mul-value
 overflow_mul-value c =
     let kept = c.loop-byte.invariant in
-    let fits = number_step-lt c.args.base c.args.most c.loop-byte.byte-index c.loop-byte.value c.in_ok-digit.digit c.args.text.now c.requires.low c.requires.fits (omega arith) (omega arith) kept.digits kept.value (omega (arith, c.in_ok-digit.ensures.value)) in
+    let fits =
+    number_step-lt c.args.base c.args.most c.loop-byte.byte-index c.loop-byte.value c.in_ok-digit.digit c.args.text.now c.requires.low
+    c.requires.fits (omega arith) (omega arith) kept.digits kept.value (omega (arith, c.in_ok-digit.ensures.value)) in
     omega (arith, fits)
 
 pub loop-byte-preserved : goal.loop-byte-preserved
 loop-byte-preserved c =
     let byte : c.from.result ≡ get_or c.args.text.now c.loop-byte.byte-index 0 = search arith in
     record {
-      digits = all_digits_more c.args.base c.loop-byte.byte-index c.args.text.now (omega arith) c.loop-byte.invariant.digits (rw byte at c.in_ok-digit.ensures.value.0);
+      digits =
+          all_digits_more c.args.base c.loop-byte.byte-index c.args.text.now (omega arith) c.loop-byte.invariant.digits
+          (rw byte at c.in_ok-digit.ensures.value.0);
       value = grind (arith, common_steps, digits_value_more);
     }
 

@@ -10,5 +10,6 @@ pub returns-clause-value : goal.returns-clause-value
 returns-clause-value c =
     let text = c.args.text.now in
     c.unwrap_or.ensures ∙ unwrap_or-position (position_or_len (λ b. b == c.args.wanted) text) (length text) c.position.result
-    (position_from_yields_List (λ b. b == c.args.wanted) _ _ c.position.result c.position.ensures.ran (YieldsList-from_slice text c.iter.ensures.rest) (λ x b q k. search rules))
+    (position_from_yields_List (λ b. b == c.args.wanted) _ _ c.position.result c.position.ensures.ran
+    (YieldsList-from_slice text c.iter.ensures.rest) (λ x b q k. search rules))
     (prefix_len-le-length _ text)
