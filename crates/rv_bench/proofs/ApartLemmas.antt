@@ -1,5 +1,5 @@
 -- What is told of a script's lines by two benches that are apart.
-use Rattle.std.proofs.Common.{◌≡◌, ℕ, ◌+◌, ◌<◌, ◌==◌, Bool, true, false, cond, List, [], ◌∷◌, ◌++◌, length, take, drop, get_or}
+use Rattle.std.proofs.Common.{◌≡◌, ℕ, ◌+◌, ◌<◌, ◌==◌, Bool, true, cond, List, [], ◌∷◌, ◌++◌, length, take, drop, get_or}
 use Rattle.std.proofs.Common.{refl, sym, ◌∙◌, ap, ap₂, subst, inl, inr, append_assoc, append-nil}
 use Rattle.std.proofs.lemmas.Bool.{false≢true}
 use Rattle.std.proofs.lemmas.List.{drop_more}
@@ -70,15 +70,6 @@ entered_script slot start now lines others unread is over all =
     ∙ (ap (λ t. t ++ last_text (state_after (apart_line slot) start (lines ++ others))) texts
     ∙ (ap (λ t. replies (apart_line slot) start lines ++ t) last ∙ append-nil (replies (apart_line slot) start lines)))
 
--- the text of one to its end
-pub ended_script : (slot : ℕ) (start now : Apart) (lines : List (List ℕ)) (unread : List ℕ) → now ≡ state_after (apart_line slot) start lines
-    → now.entered ≡ false → lines_of unread ≡ lines
-    → script_text slot start (lines_of unread) ≡ replies (apart_line slot) start lines ++ end_text now.ran
-ended_script slot start now lines unread is going all =
-    ap (script_text slot start) all
-    ∙ ap (λ t. replies (apart_line slot) start lines ++ t)
-    (ap last_text (sym is) ∙ ap (λ b. cond b [] (end_text now.ran)) going)
-
 -- what is written once a line entered the slot is the whole text
 pub entered_all : (slot : ℕ) (start now : Apart) (unread left : List ℕ) (is_at_end : Bool) (lines : List (List ℕ)) (old new : List ℕ)
     → ReadsLines unread left is_at_end lines → now ≡ state_after (apart_line slot) start lines → now.entered ≡ true
@@ -109,23 +100,23 @@ front_after old mid new text more is (rest, (front, wrote, split)) = (
 pub front_all : (old new text : List ℕ) → new ≡ old ++ text → WritesFront old new text
 front_all old new text is = ([], (text, is, sym (append-nil text)))
 
--- the end of the input is told, once all lines of the script are
-pub ended_all : (slot : ℕ) (start now : Apart) (lines : List (List ℕ)) (unread old mid last : List ℕ)
-    → now ≡ state_after (apart_line slot) start lines
-    → now.entered ≡ false → lines_of unread ≡ lines → mid ≡ old ++ replies (apart_line slot) start lines → last ≡ end_text now.ran
-    → mid ++ last ≡ old ++ script_text slot start (lines_of unread)
-ended_all slot start now lines unread old mid last is going all wrote tells =
-    ap₂ (λ (m l : List ℕ). m ++ l) wrote tells
-    ∙ (append_assoc old (replies (apart_line slot) start lines) (end_text now.ran)
-    ∙ ap (λ t. old ++ t) (sym (ended_script slot start now lines unread is going all)))
+-- none of it
+pub front_none : (old new : List ℕ) → WritesFront old new [] → new ≡ old
+front_none old new (rest, ([], wrote, split)) = wrote ∙ append-nil old
+front_none old new (rest, (byte ∷ front, wrote, split)) = cc
 
-pub ended_front : (slot : ℕ) (start now : Apart) (lines : List (List ℕ)) (unread old mid new last : List ℕ)
-    → now ≡ state_after (apart_line slot) start lines
-    → now.entered ≡ false → lines_of unread ≡ lines → mid ≡ old ++ replies (apart_line slot) start lines → last ≡ end_text now.ran
-    → WritesFront mid new last → WritesFront old new (script_text slot start (lines_of unread))
-ended_front slot start now lines unread old mid new last is going all wrote tells stops =
-    subst (WritesFront old new) (sym (ended_script slot start now lines unread is going all))
-    (front_after old mid new (replies (apart_line slot) start lines) (end_text now.ran) wrote (subst (WritesFront mid new) tells stops))
+-- the last is told, once all lines of the script are
+module _ (slot : ℕ) (start now : Apart) (lines : List (List ℕ)) (old mid last : List ℕ) (is : now ≡ state_after (apart_line slot) start lines)
+    (wrote : mid ≡ old ++ replies (apart_line slot) start lines) (tells : last ≡ last_text now) where
+  last_is : last ≡ last_text (state_after (apart_line slot) start lines)
+  last_is = tells ∙ ap last_text is
+
+  pub ended_all : mid ++ last ≡ old ++ script_text slot start lines
+  ended_all = ap₂ (λ (m l : List ℕ). m ++ l) wrote last_is
+      ∙ append_assoc old (replies (apart_line slot) start lines) (last_text (state_after (apart_line slot) start lines))
+
+  pub ended_front : (new : List ℕ) → WritesFront mid new last → WritesFront old new (script_text slot start lines)
+  ended_front new stops = front_after old mid new (replies (apart_line slot) start lines) _ wrote (subst (WritesFront mid new) last_is stops)
 
 -- a script of the input ends where the source has answered its end
 pub at_input_end : {S : Type 0} {g : Ghosts S} {mid new : Lines S g} → FindsEnd Input mid new → IsAtEnd mid new

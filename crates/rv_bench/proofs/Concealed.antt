@@ -1,6 +1,6 @@
 -- Scripts conceal: by the law of one command, over the lines of a part; and from one input to another.
-use Rattle.std.proofs.Common.{◌≡◌, ℕ, suc, ◌+◌, List, [], ◌∷◌, ◌++◌, length, Result, Ok, Err, IfOk, IsOkAnd, refl, sym, ◌∙◌, ap}
-use Rattle.std.proofs.Common.{ap₂, arith, subst, true}
+use Rattle.std.proofs.Common.{◌≡◌, ℕ, List, [], ◌∷◌, ◌++◌, length, Result, Ok, Err, IfOk, IsOkAnd, refl, sym, ◌∙◌, ap}
+use Rattle.std.proofs.Common.{ap₂, arith, true}
 use Rattle.rv_word.specs.Cases.{result_case}
 use Rattle.rv_text.specs.Lines.{lines_of, through_last_feed}
 use Rattle.rv_text.proofs.LineLemmas.{lines_of-append}
@@ -13,18 +13,17 @@ use Rattle.rv_debug.specs.TwoBenches.{BenchesAgreeBut}
 use Rattle.rv_debug.specs.declared.command.Command.{Command}
 use Rattle.rv_debug.specs.declared.command.CommandFault.{CommandFault}
 use Rattle.rv_debug.proofs.AnswersAlike.{agree_again, confidentiality}
-use Rattle.rv_debug.proofs.DeedsKept.{keeps_monitor}
 use Rattle.rv_debug.proofs.PokesAlike.{agrees_with_itself, poke_law}
 use Rattle.rv_command_line.specs.declared.setup.Setup.{Setup}
 use Rattle.rv_bench.specs.declared.fault.BenchFault.{BenchFault}
-use Rattle.rv_bench.specs.Confidentiality.{AnswerAlike, AreSecret, ConcealsSecret, ConcealsThrough, DifferInSecret, PassOver, PokeInto}
+use Rattle.rv_bench.specs.Confidentiality.{AnswerAlike, AreSecret, ConcealsSecret, ConcealsThrough, PassOver, PokeInto}
 use Rattle.rv_bench.specs.Image.{image_in}
 use Rattle.rv_bench.specs.Loaded.{started}
 use Rattle.rv_bench.specs.Output.{bench_in, output, replies_of}
 use Rattle.rv_bench.specs.Replies.{bench_line, replies, state_after}
 use Rattle.rv_bench.specs.Separator.{after_separator, has_separator}
 use Rattle.rv_bench.proofs.FrontLines.{bench_in-front, script_lines-front}
-use Rattle.rv_bench.proofs.RepliesLemmas.{replies-append, state_after-append}
+use Rattle.rv_bench.proofs.RepliesLemmas.{replies-append}
 use Rattle.rv_bench.proofs.Spared.{keeps_line, keeps_lines}
 use Rattle.rv_bench.proofs.Starts.{started_keeps}
 
@@ -159,5 +158,6 @@ module _ (setup : Setup) (e : ℕ) (front secret another rest : List ℕ) (whole
 pub conceals_secret : (setup : Setup) (input : List ℕ) → ConcealsSecret setup input
 conceals_secret setup input e other differ =
     ap (output setup) differ.input_is
-    ∙ outputs_alike setup e differ.front differ.secret differ.another differ.rest differ.whole_front differ.separated differ.whole_secret differ.whole_another differ.as_many differ.poked
+    ∙ outputs_alike setup e differ.front differ.secret differ.another differ.rest differ.whole_front differ.separated
+    differ.whole_secret differ.whole_another differ.as_many differ.poked
     ∙ sym (ap (output setup) differ.other_is)

@@ -4,6 +4,8 @@ use Rattle.std.proofs.lemmas.Bool.{false≢true}
 use Rattle.std.specs.Result.{is_err}
 use Rattle.rv_bench.specs.declared.device.Source.{Ghosts}
 use Rattle.rv_bench.specs.declared.lines.Lines.{Lines}
+use Rattle.rv_bench.specs.declared.device.Sink.{Ghosts as SinkGhosts}
+use Rattle.rv_bench.specs.Calls.{SinkFailed, SinkWorked}
 use Rattle.rv_bench.specs.Device.{counted, one_more, HasRisen}
 use Rattle.rv_bench.specs.Script.{ReadsThroughSeparator}
 use Rattle.rv_bench.specs.Separator.{has_separator}
@@ -30,6 +32,11 @@ TellsEnd-ends {S} {g} old new before after count =
 -- a read that did not fail leaves the count of failures as it was
 pub no_failure : {A E : Type 0} (old mid new : ℕ) (r : Result A E) (a : A) → new ≡ counted (is_err r) mid → r ≡ Ok a → mid ≡ old → new ≡ old
 no_failure old mid new r a count ok same = count ∙ (ap (λ r. counted (is_err r) mid) ok ∙ same)
+
+-- a sink that fails after it worked
+pub SinkFailed-after : {W : Type 0} (h : SinkGhosts W) {old mid new : W} → SinkWorked h old mid → SinkFailed h mid new → SinkFailed h old new
+SinkFailed-after h worked (inl risen) = let same = worked.0 in inl (omega (arith, risen, same))
+SinkFailed-after h worked (inr risen) = let same = worked.1 in inr (omega (arith, risen, same))
 
 -- one call and another
 pub TellsEnd-more : {S : Type 0} {g : Ghosts S} (old mid new : Lines S g) → TellsEnd old mid → TellsEnd mid new → TellsEnd old new

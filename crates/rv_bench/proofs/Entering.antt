@@ -1,6 +1,6 @@
 -- Where the second script of two benches ends: at the line that enters the slot, or before any does.
-use Rattle.std.proofs.Common.{◌≡◌, ℕ, Bool, true, false, cond, List, [], ◌++◌, inl, inr, IsTrue, Option, Some, None, refl, sym, ◌∙◌, ap}
-use Rattle.std.proofs.Common.{subst}
+use Rattle.std.proofs.Common.{◌≡◌, ℕ, Bool, true, false, cond, List, [], ◌++◌, inl, inr, IsTrue, Option, Some, None, Ok, Err, sym}
+use Rattle.std.proofs.Common.{◌∙◌, ap, subst, append-nil}
 use Rattle.std.specs.Option.{IsSomeAnd}
 use Rattle.std.proofs.lemmas.Bool.{false≢true}
 use Rattle.rv_text.specs.Lines.{lines_of}
@@ -9,121 +9,78 @@ use Rattle.rv_debug.specs.declared.both.BothLine.{BothLine}
 use Rattle.rv_debug.specs.declared.both.BothLine.TheVariants.{Faulty, Given}
 use Rattle.rv_debug.specs.declared.both.BothWhy.TheVariants.{All, Entered, NotBlind}
 use Rattle.rv_bench.specs.declared.apart.Apart.{Apart}
+use Rattle.rv_bench.specs.declared.device.Sink.{Ghosts as SinkGhosts}
+use Rattle.rv_bench.specs.declared.device.Source.{Ghosts as SourceGhosts}
+use Rattle.rv_bench.specs.declared.fault.BenchFault.{BenchFault}
+use Rattle.rv_bench.specs.declared.fault.BenchFault.TheVariants.{Read, Write}
+use Rattle.rv_bench.specs.declared.lines.Lines.{Lines}
 use Rattle.rv_bench.specs.declared.separator.ScriptEnd.TheVariants.{Input}
-use Rattle.rv_bench.specs.Apart.{apart_line, done_by, end_text, entered_text, no_slot_text, told}
-use Rattle.rv_bench.specs.LineText.{ReadsText, TakesLine}
-use Rattle.rv_bench.specs.Replies.{Replied, replies, state_after}
-use Rattle.rv_bench.specs.Run.{StopsAtWrite}
+use Rattle.rv_bench.specs.Answered.{AnswersAll, AnswersToEnd, AnswersToOver}
+use Rattle.rv_bench.specs.Apart.{apart_line, done_by, end_text, entered_text, last_text, no_slot_text, script_text, told, two_benches}
+use Rattle.rv_bench.specs.Calls.{SinkFailed, SinkWorked}
+use Rattle.rv_bench.specs.Replies.{Answering, Replied, replies, state_after}
+use Rattle.rv_bench.specs.Run.{FailsIn, StopsAtRead, StopsAtWrite}
 use Rattle.rv_bench.specs.Transfer.{WritesFront}
-use Rattle.rv_bench.specs.Twin.{EntersSlot, StopsInEnd, StopsInLine, StopsSecondAtWrite, StopsUnentered}
-use Rattle.rv_bench.proofs.LineTextLemmas.{ReadsLines-more}
-use Rattle.rv_bench.proofs.Runs.{AnswersFronts, AnswersLines, AnswersLines-before, AnswersLines-kept, AnswersLines-next, AnswersLines-read}
-use Rattle.rv_bench.proofs.Runs.{AnswersLines-stopped, StopsAtWrite-after, StopsAtWrite-answered}
-
--- of a state that is reached, and of the same by another name
-same_entered : (now other : Apart) (entered : Bool) → now ≡ other → now.entered ≡ entered → other.entered ≡ entered
-same_entered now other entered is so = ap (λ (apart : Apart). apart.entered) (sym is) ∙ so
-
-module _ (slot : ℕ) (start now : Apart) where
-  -- at the end of the input
-  pub never_entered : (lines : List (List ℕ)) (unread : List ℕ) → now ≡ state_after (apart_line slot) start lines → now.entered ≡ false
-      → lines_of unread ≡ lines
-      → (state_after (apart_line slot) start (lines_of unread)).entered ≡ false
-  never_entered lines unread is going all = same_entered now _ false (is ∙ ap (state_after (apart_line slot) start) (sym all)) going
-
-  -- the sink fails in the line that tells it
-  pub stops_in_end : (tells : Bool) (lines : List (List ℕ)) (unread left old mid new last : List ℕ) → left ≡ []
-      → now ≡ state_after (apart_line slot) start lines → now.entered ≡ false
-      → lines_of unread ≡ lines → (IsTrue tells → mid ≡ old ++ replies (apart_line slot) start lines) → last ≡ end_text now.ran
-      → (IsTrue tells → WritesFront mid new last)
-      → StopsInEnd slot start tells unread left old new
-  stops_in_end tells lines unread left old mid new last none is going all wrote tells_end stops =
-      let texts = replies (apart_line slot) start (lines_of unread) in record {
-        used_up = none;
-        going = never_entered lines unread is going all;
-        written = λ told.
-            subst (λ (apart : Apart). WritesFront (old ++ texts) new (end_text apart.ran)) (is ∙ ap (state_after (apart_line slot) start) (sym all))
-            (subst (λ (t : List ℕ). WritesFront t new (end_text now.ran)) (wrote told
-            ∙ ap (λ (lines : List (List ℕ)). old ++ replies (apart_line slot) start lines) (sym all))
-            (subst (WritesFront mid new) tells_end (stops told)));
-      }
-
-  module _ (tells : Bool) (unread old left mid : List ℕ) (so_far : AnswersLines (apart_line slot) Input start tells unread old now left false mid)
-      (going : now.entered ≡ false) where
-    -- within a line
-    pub stops_unentered : (rest kept : List ℕ) → ReadsText left rest kept → StopsUnentered slot start tells unread rest kept old mid
-    stops_unentered rest kept begun = record {
-      stops = AnswersLines-read (apart_line slot) Input start tells unread old now left mid rest kept so_far begun;
-      going = same_entered now _ false (AnswersLines-kept (apart_line slot) Input start tells unread old now left mid rest kept so_far begun) going;
-    }
-
-    -- with the line that was read
-    pub entered_at : (after : Apart) (rest : List ℕ) (ends : Bool) (shown reply : List ℕ) → TakesLine left rest ends shown
-        → AnswersFronts (apart_line slot) now shown
-        → apart_line slot now shown ≡ record { state = after; reply = reply } → after.entered ≡ true → EntersSlot slot start unread rest ends
-    entered_at after rest ends shown reply takes fronts is over = record {
-      lines = so_far.lines;
-      line = takes.line;
-      reads = ReadsLines-more unread left rest ends shown so_far.lines so_far.taken.reads takes;
-      going = same_entered now _ false so_far.state going;
-      entered = same_entered after _ true
-          (AnswersLines-next (apart_line slot) Input start tells unread old now left mid after rest ends shown reply so_far takes fronts is) over;
-    }
-
-    -- the sink fails in what is told of it
-    pub stops_in_line : (after : Apart) (rest : List ℕ) (ends : Bool) (new shown reply : List ℕ) → TakesLine left rest ends shown
-        → AnswersFronts (apart_line slot) now shown
-        → apart_line slot now shown ≡ record { state = after; reply = reply } → (IsTrue tells → WritesFront mid new reply)
-        → StopsInLine slot start tells unread rest old new
-    stops_in_line after rest ends new shown reply takes fronts is stops = record {
-      stops = AnswersLines-stopped (apart_line slot) Input start tells unread old now left mid after rest ends new shown reply so_far takes refl fronts is stops;
-      going = same_entered now _ false (AnswersLines-before
-          (apart_line slot) Input start tells unread old now left mid after rest ends new shown reply so_far takes refl fronts is stops) going;
-    }
+use Rattle.rv_bench.specs.Twin.{EntersSlot, RunsSecond, StopsSecondAtWrite}
+use Rattle.rv_bench.specs.Unread.{unread, TellsEnd}
+use Rattle.rv_bench.proofs.ApartLemmas.{at_input_end, ended_all, ended_front, entered_all, front_all, front_more, front_none}
+use Rattle.rv_bench.proofs.Ends.{SinkFailed-after}
+use Rattle.rv_bench.proofs.Runs.{AnswersLines-all, AnswersLines-state}
+use Rattle.rv_bench.proofs.Runs.{AnswersNext-going, AnswersNext-state, AnswersNext-stops, AnswersNext-taken, AnswersNext-wrote}
+use Rattle.rv_bench.proofs.ScriptLemmas.{FindsEnd-whole}
 
 -- ---- the same of what was written before by another name
 
-pub unentered_after : (slot : ℕ) (apart : Option Apart) (tells : Bool) (unread left kept old other new : List ℕ) → (IsTrue tells → old ≡ other)
-    → IsSomeAnd apart (λ apart. StopsUnentered slot apart tells unread left kept old new)
-    → IsSomeAnd apart (λ apart. StopsUnentered slot apart tells unread left kept other new)
-unentered_after slot None tells unread left kept old other new same never = never
-unentered_after slot (Some apart) tells unread left kept old other new same stopped = let stops = stopped.stops in record {
-  stops = record {
-    text = stops.text;
-    begun = stops.begun;
-    split = stops.split;
-    whole = stops.whole;
-    unfinished = stops.unfinished;
-    front = stops.front;
-    inside = stops.inside;
-    written = λ told. stops.written told ∙ ap (λ (t : List ℕ). t ++ replies (apart_line slot) apart (lines_of stops.text)) (same told);
-  };
-  going = stopped.going;
+StopsAtRead-after : {A : Type 0} {by : Answering A} {start : A} {tells : Bool} {unread left kept old other new : List ℕ} → (IsTrue tells → old ≡ other)
+    → StopsAtRead by Input start tells unread left kept old new → StopsAtRead by Input start tells unread left kept other new
+StopsAtRead-after {by = by} {start = start} same stops = record {
+  text = stops.text;
+  begun = stops.begun;
+  split = stops.split;
+  whole = stops.whole;
+  unfinished = stops.unfinished;
+  front = stops.front;
+  inside = stops.inside;
+  going = stops.going;
+  written = λ told. stops.written told ∙ ap (λ (t : List ℕ). t ++ replies by.answer start (lines_of stops.text)) (same told);
 }
 
-line_after : (slot : ℕ) (apart : Apart) (tells : Bool) (unread left old other new : List ℕ) → (IsTrue tells → old ≡ other)
-    → (stopped : StopsInLine slot apart tells unread left old new)
-    → (stops : StopsAtWrite (apart_line slot) Input apart tells unread left other new) → stops.answered ≡ stopped.stops.answered
-    → StopsInLine slot apart tells unread left other new
-line_after slot apart tells unread left old other new same stopped stops answered = record {
-  stops = stops;
-  going = ap (λ (lines : List (List ℕ)). (state_after (apart_line slot) apart lines).entered) answered ∙ stopped.going;
-}
+pub read_after : (slot : ℕ) (apart : Option Apart) (tells : Bool) (unread left kept old other new : List ℕ) → (IsTrue tells → old ≡ other)
+    → IsSomeAnd apart (λ apart. StopsAtRead (two_benches slot) Input apart tells unread left kept old new)
+    → IsSomeAnd apart (λ apart. StopsAtRead (two_benches slot) Input apart tells unread left kept other new)
+read_after slot None tells unread left kept old other new same never = never
+read_after slot (Some apart) tells unread left kept old other new same stops = StopsAtRead-after same stops
 
-pub second_after : (slot : ℕ) (apart : Option Apart) (tells : Bool) (unread left old other new : List ℕ) → (IsTrue tells → old ≡ other)
+StopsAtWrite-after : {A : Type 0} {by : Answering A} {start : A} {tells : Bool} {unread left old other new : List ℕ} → (IsTrue tells → old ≡ other)
+    → StopsAtWrite by Input start tells unread left old new → StopsAtWrite by Input start tells unread left other new
+StopsAtWrite-after {by = by} {start = start} {new = new} same stops =
+    let texts = replies by.answer start stops.answered in record {
+      text = stops.text;
+      answered = stops.answered;
+      next = stops.next;
+      one = stops.one;
+      split = stops.split;
+      are_lines = stops.are_lines;
+      all = stops.all;
+      going = stops.going;
+      written = λ told. subst (λ t. WritesFront (t ++ texts) new (replies by.answer (state_after by.answer start stops.answered) stops.next)) (same told)
+          (stops.written told);
+    }
+
+pub write_after : (slot : ℕ) (apart : Option Apart) (tells : Bool) (unread left old other new : List ℕ) → (IsTrue tells → old ≡ other)
     → StopsSecondAtWrite slot apart tells unread left old new → StopsSecondAtWrite slot apart tells unread left other new
-second_after slot None tells unread left old other new same stopped =
+write_after slot None tells unread left old other new same stopped =
     (stopped.0, λ told. subst (λ (t : List ℕ). WritesFront t new no_slot_text) (same told) (stopped.1 told))
-second_after slot (Some apart) tells unread left old other new same (inl stopped) =
-    inl (line_after slot apart tells unread left old other new same stopped
-    (StopsAtWrite-after (apart_line slot) Input apart tells unread left old other new same stopped.stops)
-    (StopsAtWrite-answered (apart_line slot) Input apart tells unread left old other new same stopped.stops))
-second_after slot (Some apart) tells unread left old other new same (inr stopped) = inr (record {
-  used_up = stopped.used_up;
-  going = stopped.going;
-  written = λ told. subst (λ (t : List ℕ). WritesFront (t ++ replies (apart_line slot) apart (lines_of unread)) new
-      (end_text (state_after (apart_line slot) apart (lines_of unread)).ran)) (same told) (stopped.written told);
-})
+write_after slot (Some apart) tells unread left old other new same (inl stops) = inl (StopsAtWrite-after same stops)
+write_after slot (Some apart) tells unread left old other new same (inr stopped) =
+    let last = end_text (state_after (apart_line slot) apart (lines_of unread)).ran in inr (record {
+      used_up = stopped.used_up;
+      going = stopped.going;
+      written = λ told. subst (λ (t : List ℕ). WritesFront (t ++ replies (apart_line slot) apart (lines_of unread)) new last) (same told)
+          (stopped.written told);
+    })
+
+-- ---- a line that enters
 
 -- a line that enters the slot is told so
 pub told_entered : (slot : ℕ) (now after : Apart) (line reply : List ℕ) → apart_line slot now line ≡ record { state = after; reply = reply }
@@ -144,3 +101,124 @@ told_entered slot now after line reply is going over =
       by (Given All blank) both is = absurd (false≢true (enters (done_by (Given All blank) both now.ran) is))
       by (Given NotBlind blank) both is = absurd (false≢true (enters (done_by (Given NotBlind blank) both now.ran) is))
       by Faulty both is = absurd (false≢true (enters (done_by Faulty both now.ran) is))
+
+-- ---- the script that both answer
+
+-- a failure in a line
+pub two_benches-stop : {S W : Type 0} {g : SourceGhosts S} (h : SinkGhosts W) (slot : ℕ) (start : Apart) (old new : Lines S g) (before after : W)
+    (fault : BenchFault) → FailsIn h (two_benches slot) Input start old new before after fault
+    → RunsSecond h slot (Some start) old new before after (Err fault)
+two_benches-stop h slot start old new before after Read stops = stops
+two_benches-stop h slot start old new before after Write stops =
+    let lines = lines_of (unread old) in (
+      record {
+        source = stops.0.source;
+        sink = stops.0.sink;
+        emptied = stops.0.emptied;
+        front = λ tells told. front_more (h.taken before) (h.taken after) (replies (apart_line slot) start lines)
+            (last_text (state_after (apart_line slot) start lines)) (stops.0.front tells told);
+      },
+      λ tells. inl (stops.1 tells),
+    )
+two_benches-stop h slot start old new before after _ stops = absurd stops
+
+module _ {S W : Type 0} {g : SourceGhosts S} (h : SinkGhosts W) (slot : ℕ) {start now : Apart} {old new : Lines S g} {before mid : W} where
+  -- to its end
+  module _ (run : AnswersToEnd h (two_benches slot) Input start now old new before mid) (tells : IsTrue g.tells) where
+    all_state : now ≡ state_after (apart_line slot) start (lines_of (unread old))
+    all_state = AnswersLines-state (run.answered tells) (FindsEnd-whole old run.last new Input _ run.found (run.answered tells).taken tells)
+
+    all_wrote : IsTrue h.tells → h.taken mid ≡ h.taken before ++ replies (apart_line slot) start (lines_of (unread old))
+    all_wrote = AnswersLines-all (run.answered tells) (FindsEnd-whole old run.last new Input _ run.found (run.answered tells).taken tells)
+
+    never_entered : (state_after (apart_line slot) start (lines_of (unread old))).entered ≡ false
+    never_entered = ap (λ (apart : Apart). apart.entered) (sym all_state) ∙ run.going
+
+  -- to the line that enters
+  module _ (run : AnswersToOver h (two_benches slot) Input start now old new before mid) where
+    enters : IsTrue g.tells → EntersSlot slot start (unread old) (unread new) new.is_at_end
+    enters tells = let next = run.next tells in record {
+      lines = next.so_far.lines;
+      line = next.takes.line;
+      reads = (AnswersNext-taken next).reads;
+      going = AnswersNext-going next;
+      entered = ap (λ (apart : Apart). apart.entered) (sym (AnswersNext-state next)) ∙ run.over;
+    }
+
+    over_wrote : IsTrue g.tells → IsTrue h.tells → h.taken mid ≡ h.taken before ++ script_text slot start (lines_of (unread old))
+    over_wrote tells told =
+        let all = AnswersNext-wrote (run.next tells) run.told in
+        entered_all slot start now _ _ _ _ _ _ all.taken.reads all.state run.over (all.written told)
+
+  -- and what is told last
+  module _ (answers : AnswersAll h (two_benches slot) Input start now old new before mid) {last : List ℕ} (last_is : last ≡ last_text now) where
+    last_going : now.entered ≡ false → last ≡ end_text now.ran
+    last_going going = last_is ∙ ap (λ b. cond b [] (end_text now.ran)) going
+
+    last_over : now.entered ≡ true → last ≡ []
+    last_over over = last_is ∙ ap (λ b. cond b [] (end_text now.ran)) over
+
+    module _ {after : W} (ends : TellsEnd old new) (wrote : IsTrue h.tells → h.taken after ≡ h.taken mid ++ last) where
+      nothing_more : now.entered ≡ true → IsTrue h.tells → h.taken after ≡ h.taken mid
+      nothing_more over told = wrote told ∙ (ap (λ t. h.taken mid ++ t) (last_over over) ∙ append-nil (h.taken mid))
+
+      pub two_benches-tell : SinkWorked h mid after → RunsSecond h slot (Some start) old new before after (Ok tt)
+      two_benches-tell worked = record {
+        source = answers.source;
+        sink = (worked.0 ∙ answers.sink.0, worked.1 ∙ answers.sink.1);
+        emptied = answers.emptied;
+        read = elim answers.stopped [
+          | inl run ↦ let at_end = at_input_end run.found in inl (record {
+            at_end = at_end.at_end;
+            ended = ends.ended at_end.at_end;
+            used_up = at_end.left;
+            going = never_entered run;
+            told = λ told. (now.ran, (h.taken mid, wrote told ∙ ap (λ t. h.taken mid ++ t) (last_going run.going)));
+          })
+          | inr run ↦ inr (
+            enters run,
+            λ told. inr (
+              now.ran,
+              (
+                run.mid,
+                nothing_more run.over told ∙ (run.told told
+                    ∙ ap (λ t. run.mid ++ t) (told_entered slot _ _ _ _ run.is run.going run.over)),
+              ),
+            ),
+          )
+        ];
+        written = λ tells told. elim answers.stopped [
+          | inl run ↦ wrote told ∙ ended_all slot start now _ _ _ _ (all_state run tells) (all_wrote run tells told) last_is
+          | inr run ↦ nothing_more run.over told ∙ over_wrote run tells told
+        ];
+      }
+
+    -- the sink fails in it
+    module _ {after : W} (stops : IsTrue h.tells → WritesFront (h.taken mid) (h.taken after) last) where
+      nothing_wrote : now.entered ≡ true → IsTrue h.tells → h.taken after ≡ h.taken mid
+      nothing_wrote over told = front_none (h.taken mid) (h.taken after) (subst (WritesFront (h.taken mid) (h.taken after)) (last_over over) (stops told))
+
+      pub two_benches-fail : SinkFailed h mid after → RunsSecond h slot (Some start) old new before after (Err Write)
+      two_benches-fail failed = (
+        record {
+          source = answers.source;
+          sink = SinkFailed-after h answers.sink failed;
+          emptied = answers.emptied;
+          front = λ tells told. elim answers.stopped [
+            | inl run ↦ ended_front slot start now _ _ _ _ (all_state run tells) (all_wrote run tells told) last_is _ (stops told)
+            | inr run ↦ front_all _ _ _ (nothing_wrote run.over told ∙ over_wrote run tells told)
+          ];
+        },
+        λ tells. elim answers.stopped [
+          | inl run ↦ inr (record {
+            used_up = (at_input_end run.found).left tells;
+            going = never_entered run tells;
+            written = λ told.
+                let ended = end_text (state_after (apart_line slot) start (lines_of (unread old))).ran in
+                subst (λ t. WritesFront t (h.taken after) ended) (all_wrote run tells told)
+                (subst (WritesFront (h.taken mid) (h.taken after)) (last_going run.going
+                ∙ ap (λ (apart : Apart). end_text apart.ran) (all_state run tells)) (stops told));
+          })
+          | inr run ↦ inl (AnswersNext-stops (run.next tells) (λ told. front_all _ _ _ (nothing_wrote run.over told ∙ run.told told)))
+        ],
+      )

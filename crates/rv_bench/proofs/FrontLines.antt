@@ -1,13 +1,13 @@
 -- Inputs that begin with the same whole lines, the separator among them.
-use Rattle.std.proofs.Common.{◌≡◌, ℕ, zero, suc, ◌+◌, ◌<◌, ◌≤◌, Bool, true, false, cond, not, ◌||◌, List, [], ◌∷◌, ◌++◌}
-use Rattle.std.proofs.Common.{length, drop, Result, Ok, Err, refl, sym, ◌∙◌, ap, arith, subst, lit≤, nat_eq}
+use Rattle.std.proofs.Common.{◌≡◌, ℕ, zero, suc, ◌+◌, ◌≤◌, Bool, true, false, cond, not, ◌||◌, List, [], ◌∷◌, ◌++◌}
+use Rattle.std.proofs.Common.{length, drop, Err, refl, sym, ◌∙◌, ap, arith, subst, nat_eq}
 use Rattle.std.proofs.lemmas.List.Sums.{take_while-cons}
 use Rattle.std.specs.List.{list_any, take_while}
 use Rattle.rv_text.specs.Lines.{has_feed, lines_of, through_last_feed, after_line, after_lines}
 use Rattle.rv_text.proofs.LineLemmas.{lines_of-append, lines_of-after_lines}
 use Rattle.rv_word.specs.Cases.{result_case}
 use Rattle.rv_command_line.specs.declared.setup.Setup.{Setup}
-use Rattle.rv_bench.specs.Image.{image_of, image_in}
+use Rattle.rv_bench.specs.Image.{image_of}
 use Rattle.rv_bench.specs.Loaded.{started}
 use Rattle.rv_bench.specs.Output.{bench_in}
 use Rattle.rv_bench.specs.Separator.{is_separator, has_separator, before_separator, after_separator}

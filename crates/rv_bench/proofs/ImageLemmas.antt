@@ -14,7 +14,8 @@ use Rattle.rv_bench.specs.Image.{bytes_of_digits, line_bytes, is_image_line, byt
 use Rattle.rv_bench.specs.Image.{StopsAtFault}
 use Rattle.rv_bench.specs.Separator.{line_word, is_separator, before_separator}
 use Rattle.rv_bench.proofs.LineTextLemmas.{ReadsLines-none, ReadsLines-more}
-use Rattle.rv_bench.proofs.ScriptLemmas.{line_word-take, ends_script-shown, TakesScript, ReadsScript}
+use Rattle.rv_bench.specs.Script.{TakesScript}
+use Rattle.rv_bench.proofs.ScriptLemmas.{line_word-take, ends_script-shown, ReadsScript}
 use Rattle.rv_bench.proofs.TakeWhileLemmas.{take_while-all, take_while-stop, take_while-pass, list_all-push, list_all-stop}
 
 -- The lines that were taken are no separator and spell the image so far.

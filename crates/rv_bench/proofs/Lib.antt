@@ -6,6 +6,7 @@ mod Entering
 mod Examples
 mod FrontLines
 mod ImageLemmas
+mod ImageResults
 mod LineTextLemmas
 mod Mapped
 mod RepliesLemmas
@@ -15,6 +16,7 @@ mod Spared
 mod Starts
 mod Streams
 mod TakeWhileLemmas
+mod Turns
 mod TwinAlike
 mod Twins
 mod WordLengths

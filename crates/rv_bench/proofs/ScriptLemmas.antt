@@ -12,7 +12,7 @@ use Rattle.rv_bench.specs.declared.separator.ScriptEnd.{ScriptEnd}
 use Rattle.rv_bench.specs.declared.separator.ScriptEnd.TheVariants.{Input, Separator}
 use Rattle.rv_bench.specs.Calls.{SourceWorked}
 use Rattle.rv_bench.specs.LineText.{TakesLine, ReadsLines}
-use Rattle.rv_bench.specs.Script.{ends_script, script_lines, ReadsScriptEnd, FindsEnd, ReadsThroughSeparator}
+use Rattle.rv_bench.specs.Script.{ends_script, script_lines, within, TakesScript, ReadsScriptEnd, FindsEnd, ReadsThroughSeparator}
 use Rattle.rv_bench.specs.Separator.{only_word, line_word, is_dashes, is_separator, has_separator}
 use Rattle.rv_bench.specs.Unread.{held, unread}
 use Rattle.rv_text.proofs.CutLines.{if_good-take}
@@ -30,10 +30,6 @@ pub ends_script-shown : (end : ScriptEnd) (left rest : List ℕ) (ends : Bool) (
     → ends_script end takes.line ≡ ends_script end shown
 ends_script-shown Input left rest ends shown takes = refl
 ends_script-shown Separator left rest ends shown takes = ap is_dashes (sym (line_word-take takes.line) ∙ ap line_word (sym takes.front))
-
--- a line of the script
-abbrev pub within : ScriptEnd → List ℕ → Bool
-within end line = not (ends_script end line)
 
 all_within : (lines : List (List ℕ)) → list_all (within Input) lines ≡ true
 all_within [] = refl
@@ -67,11 +63,6 @@ has_separator-there : (lines others : List (List ℕ)) (line unread : List ℕ) 
 has_separator-there lines others line unread all e = subst IsTrue (sym (ap (list_any is_separator) all
     ∙ (list_any-append is_separator lines (line ∷ others)
     ∙ ap (λ b. list_any is_separator lines || (b || list_any is_separator others)) e))) (or_true (list_any is_separator lines))
-
--- These lines of the script were taken, and none other.
-pub record TakesScript (end : ScriptEnd) (unread left : List ℕ) (is_at_end : Bool) (lines : List (List ℕ)) : Type 0 where
-  pub reads : ReadsLines unread left is_at_end lines
-  pub inside : list_all (within end) lines ≡ true
 
 -- These are all lines of the script, and at most the one that ends it was read with them.
 pub record ReadsScript (end : ScriptEnd) (unread left : List ℕ) (lines : List (List ℕ)) : Type 0 where

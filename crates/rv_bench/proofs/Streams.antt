@@ -15,7 +15,7 @@ use Rattle.rv_bench.specs.Calls.{SourceFailed}
 use Rattle.rv_bench.specs.Image.{image_in}
 use Rattle.rv_bench.specs.Loaded.{started}
 use Rattle.rv_bench.specs.Output.{bench_in, output, replies_of}
-use Rattle.rv_bench.specs.Replies.{bench_line, replies}
+use Rattle.rv_bench.specs.Replies.{bench_line, one_bench, replies}
 use Rattle.rv_bench.specs.Run.{Outcome, RunsBench, StopsAtRead, StopsAtWrite}
 use Rattle.rv_bench.specs.Script.{ReadsThroughSeparator}
 use Rattle.rv_bench.specs.Separator.{after_separator}
@@ -69,9 +69,9 @@ module _ {S W : Type 0} {g : SourceGhosts S} (h : SinkGhosts W) (setup : Setup) 
         record { source = failed run.0.source; sink = run.0.sink; going = run.0.going },
         λ tells. inr (
           separator_read old mid new reads script_end run.0.going tells,
-          subst (λ m. IsOkAnd m (λ state. StopsAtRead bench_line Input state h.tells (after_separator (unread old)) (g.remaining new.source) (held new)
+          subst (λ m. IsOkAnd m (λ state. StopsAtRead one_bench Input state h.tells (after_separator (unread old)) (g.remaining new.source) (held new)
               (h.taken before) (h.taken after))) (sym (bench_is (Ok state) starts tells))
-              (subst (λ t. StopsAtRead bench_line Input state h.tells t (g.remaining new.source) (held new) (h.taken before) (h.taken after))
+              (subst (λ t. StopsAtRead one_bench Input state h.tells t (g.remaining new.source) (held new) (h.taken before) (h.taken after))
               (reads.rest tells) (run.1 tells)),
         ),
       )
@@ -86,9 +86,9 @@ module _ {S W : Type 0} {g : SourceGhosts S} (h : SinkGhosts W) (setup : Setup) 
               (sym (output_is state starts tells)) (run.0.front tells);
         },
         λ tells.
-            subst (λ m. IsOkAnd m (λ state. StopsAtWrite bench_line Input state h.tells (after_separator (unread old)) (unread new) (h.taken before)
+            subst (λ m. IsOkAnd m (λ state. StopsAtWrite one_bench Input state h.tells (after_separator (unread old)) (unread new) (h.taken before)
             (h.taken after))) (sym (bench_is (Ok state) starts tells))
-            (subst (λ t. StopsAtWrite bench_line Input state h.tells t (unread new) (h.taken before) (h.taken after)) (reads.rest tells) (run.1 tells)),
+            (subst (λ t. StopsAtWrite one_bench Input state h.tells t (unread new) (h.taken before) (h.taken after)) (reads.rest tells) (run.1 tells)),
       )
   streamed (Err (Ram BadSize)) (none, same, unwritten) =
       (none, subst (ReadsThroughSeparator old) (sym same) reads, fault_is (Ram BadSize) (no_ram image setup none), unwritten)

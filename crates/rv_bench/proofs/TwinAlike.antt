@@ -1,14 +1,14 @@
 -- Two benches with one script stay alike, and each spares what rests: by the laws of one command, over the lines.
 use Rattle.std.proofs.Common.{◌≡◌, ℕ, Bool, true, false, List, [], ◌∷◌, ◌++◌, Option, Some, None, IfSome, Result, Ok, Err, IfOk, refl, sym}
 use Rattle.std.proofs.Common.{◌∙◌, ap, subst}
-use Rattle.std.specs.Prelude.{◌&&◌, ◌||◌, if◌then◌else◌}
+use Rattle.std.specs.Prelude.{◌&&◌, if◌then◌else◌}
 use Rattle.rv_word.specs.Cases.{result_case}
 use Rattle.rv_monitor.proofs.Scrambled.{scramble_agrees, scramble_kept}
 use Rattle.rv_debug.specs.Answer.{answer}
 use Rattle.rv_debug.specs.BenchState.{BenchState}
 use Rattle.rv_debug.specs.Command.{parse_of}
 use Rattle.rv_debug.specs.Confidentiality.{AlikeBy, StayAlike}
-use Rattle.rv_debug.specs.Isolation.{IsSparedIn, RestsUnderAll, after_commands}
+use Rattle.rv_debug.specs.Isolation.{IsSparedIn, after_commands}
 use Rattle.rv_debug.specs.Targets.{KeepsMonitor}
 use Rattle.rv_debug.specs.TwoBenches.{BenchesAgreeBut, BothAnswered, BothTold, TargetsAgreeBut, both_answer, both_do, both_line_answer, both_told, can_scramble}
 use Rattle.rv_debug.specs.TwoBenches.{can_scramble_in, is_blank, is_blind, scrambled, scrambled_in}
@@ -28,7 +28,7 @@ use Rattle.rv_bench.specs.declared.apart.Apart.{Apart}
 use Rattle.rv_bench.specs.declared.fault.BenchFault.{BenchFault}
 use Rattle.rv_bench.specs.Apart.{apart_line, done_by, set_apart, told}
 use Rattle.rv_bench.specs.Output.{bench_in}
-use Rattle.rv_bench.specs.Replies.{Replied, bench_line, state_after}
+use Rattle.rv_bench.specs.Replies.{Replied, state_after}
 use Rattle.rv_bench.specs.Separator.{after_separator, before_separator}
 use Rattle.rv_text.specs.Lines.{lines_of}
 use Rattle.rv_bench.specs.Twin.{after_first, monitored}

@@ -4,43 +4,63 @@ use Rattle.std.proofs.Common.{subst, arith, append_assoc}
 use Rattle.std.specs.Option.{IsSomeAnd}
 use Rattle.std.specs.Result.{IsOkAnd}
 use Rattle.rv_debug.specs.BenchState.{BenchState}
-use Rattle.rv_debug.specs.TwoBenches.{can_scramble, scrambled}
+use Rattle.rv_debug.specs.Targets.{KeepsMonitor}
+use Rattle.rv_debug.specs.TwoBenches.{can_scramble, can_scramble_in, scrambled}
+use Rattle.rv_debug.specs.declared.target.Target.{Target}
+use Rattle.rv_debug.specs.declared.target.Target.TheVariants.{Bare, Monitored}
+use Rattle.rv_monitor.proofs.Slots.{none_past}
+use Rattle.rv_monitor.specs.SlotNumbers.{slot_numbered}
+use Rattle.rv_monitor.specs.State.{is_held}
 use Rattle.rv_word.specs.Cases.{result_case}
 use Rattle.rv_memory.specs.Memory.{is_ram_size}
 use Rattle.rv_memory.specs.declared.ram_fault.RamFault.TheVariants.{BadSize, NoMemory as NoRamMemory}
 use Rattle.rv_command_line.specs.declared.setup.Setup.{Setup}
 use Rattle.rv_bench.specs.declared.apart.Apart.{Apart}
+use Rattle.rv_bench.specs.declared.apart.ApartBenches.{ApartBenches}
 use Rattle.rv_bench.specs.declared.device.Sink.{Ghosts as SinkGhosts}
 use Rattle.rv_bench.specs.declared.device.Source.{Ghosts as SourceGhosts}
 use Rattle.rv_bench.specs.declared.fault.BenchFault.{BenchFault}
 use Rattle.rv_bench.specs.declared.fault.BenchFault.TheVariants.{Image, Ram, Read, Write}
 use Rattle.rv_bench.specs.declared.lines.Lines.{Lines}
-use Rattle.rv_bench.specs.declared.separator.ScriptEnd.TheVariants.{Separator}
-use Rattle.rv_bench.specs.Apart.{set_apart}
-use Rattle.rv_bench.specs.Calls.{SinkFailed, SourceFailed}
+use Rattle.rv_bench.specs.declared.separator.ScriptEnd.TheVariants.{Input, Separator}
+use Rattle.rv_bench.specs.Apart.{set_apart, two_benches}
+use Rattle.rv_bench.specs.Calls.{SourceFailed}
 use Rattle.rv_bench.specs.Image.{image_in}
 use Rattle.rv_bench.specs.Loaded.{Starts, started}
 use Rattle.rv_bench.specs.Output.{bench_in}
-use Rattle.rv_bench.specs.Replies.{bench_line}
+use Rattle.rv_bench.specs.Replies.{one_bench}
 use Rattle.rv_bench.specs.Run.{Outcome, RunsLines, StopsAtRead, StopsAtWrite}
 use Rattle.rv_bench.specs.Script.{ReadsThroughSeparator}
 use Rattle.rv_bench.specs.Separator.{after_separator}
 use Rattle.rv_bench.specs.Transfer.{WritesFront}
-use Rattle.rv_bench.specs.Twin.{IsNeverEntered, IsOver, RunsSecond, RunsTwin, StopsInScripts, StopsInScriptsAtWrite, StopsSecondAtWrite, StopsUnentered}
+use Rattle.rv_bench.specs.Twin.{IsNeverEntered, IsOver, RunsSecond, RunsTwin, StopsInScripts, StopsInScriptsAtWrite, StopsSecondAtWrite}
 use Rattle.rv_bench.specs.Twin.{after_first, first_text, monitored, scripts_text, second_text, twin_output}
 use Rattle.rv_bench.specs.Unread.{held, unread, TellsEnd}
 use Rattle.rv_bench.proofs.ApartLemmas.{front_after, front_more}
-use Rattle.rv_bench.proofs.Ends.{TellsEnd-more, separator_read}
-use Rattle.rv_bench.proofs.Entering.{second_after, unentered_after}
+use Rattle.rv_bench.proofs.Ends.{SinkFailed-after, TellsEnd-more, separator_read}
+use Rattle.rv_bench.proofs.Entering.{read_after, write_after}
 use Rattle.rv_bench.proofs.Starts.{no_ram, has_ram, fault_has_ram}
 
--- no enclave can be scrambled, or that of the slot is
+-- no enclave can be scrambled, or that of the slot is; over 12 there is no slot
 pub not_apart : (slot : ℕ) (bench : BenchState) → can_scramble slot bench ≡ false → None ≡ set_apart slot bench
 not_apart slot bench none = rw none refl
 
 pub are_apart : (slot : ℕ) (bench second : BenchState) → can_scramble slot bench ≡ true → second ≡ scrambled slot bench
     → Some (record { first = bench; second = second; ran = 0; entered = false }) ≡ set_apart slot bench
 are_apart slot bench second can is = rw can (ap (λ (second : BenchState). Some (record { first = bench; second = second; ran = 0; entered = false })) is)
+
+none_numbered : (number : ℕ) (target : Target) → KeepsMonitor target → slot_numbered number ≡ None → can_scramble_in number target ≡ false
+none_numbered number (Bare machine) kept none = refl
+none_numbered number (Monitored chosen) kept none = ap is_held (none_past chosen.state.shared.table number kept.shared.valid.count none)
+
+-- what is said of two benches that are set apart is said of the slot that was named
+pub set_apart_at : (P : ℕ → Option Apart → Type 0) (number : ℕ) (bench : BenchState) (found : ApartBenches)
+    → (found.slot ≡ number) × (set_apart number bench ≡ Some found.apart) → P found.slot (Some found.apart) → P number (set_apart number bench)
+set_apart_at P number bench found is holds =
+    subst (λ (slot : ℕ). P slot (set_apart number bench)) is.0 (subst (P found.slot) (sym is.1) holds)
+
+pub not_numbered : (number : ℕ) (bench : BenchState) → KeepsMonitor bench.target → slot_numbered number ≡ None → set_apart number bench ≡ None
+not_numbered number bench kept none = sym (not_apart number bench (none_numbered number bench.target kept none))
 
 module _ {S W : Type 0} {g : SourceGhosts S} (h : SinkGhosts W) (setup : Setup) (slot : ℕ) (image : List ℕ) (old mid : Lines S g) (before : W)
     (reads : ReadsThroughSeparator old mid) (is : IsTrue g.tells → image_in (unread old) ≡ Ok image) where
@@ -83,7 +103,8 @@ module _ {S W : Type 0} {g : SourceGhosts S} (h : SinkGhosts W) (setup : Setup) 
               separator_read old mid new reads script_end run.0.going tells,
               subst (λ (m : Result BenchState BenchFault). IsOkAnd m (StopsInScripts h setup slot old new before after (after_separator (unread old))))
                   (sym (bench_is (Ok bench) starts tells))
-                  (inl (subst (λ (t : List ℕ). StopsAtRead bench_line Separator bench h.tells t (g.remaining new.source) (held new) (h.taken before) (h.taken after)) (reads.rest tells) (run.1 tells))),
+                  (inl (subst (λ (t : List ℕ). StopsAtRead one_bench Separator bench h.tells t (g.remaining new.source) (held new)
+                  (h.taken before) (h.taken after)) (reads.rest tells) (run.1 tells))),
             ),
           )
 
@@ -102,7 +123,7 @@ module _ {S W : Type 0} {g : SourceGhosts S} (h : SinkGhosts W) (setup : Setup) 
         λ tells.
             subst (λ (m : Result BenchState BenchFault). IsOkAnd m (StopsInScriptsAtWrite h setup slot old new before after (after_separator (unread old))))
             (sym (bench_is (Ok bench) starts tells))
-            (inl (subst (λ (t : List ℕ). StopsAtWrite bench_line Separator bench h.tells t (unread new) (h.taken before) (h.taken after)) (reads.rest tells)
+            (inl (subst (λ (t : List ℕ). StopsAtWrite one_bench Separator bench h.tells t (unread new) (h.taken before) (h.taken after)) (reads.rest tells)
             (run.1 tells))),
       )
 
@@ -187,19 +208,19 @@ module _ {S W : Type 0} {g : SourceGhosts S} (h : SinkGhosts W) (setup : Setup) 
                   (inr (
                     separator_read mid next new first.reads second_end run.0.going tells,
                     of_rest tells Stops
-                        (unentered_after slot (set_apart slot then) h.tells _ _ _ _ _ _ (first.written tells) (run.1 tells)),
+                        (read_after slot (set_apart slot then) h.tells _ _ _ _ _ _ (first.written tells) (run.1 tells)),
                   ))),
             ),
           ) where
             Stops : Option Apart → List ℕ → Type 0
             Stops apart script = IsSomeAnd apart
-                (λ apart. StopsUnentered slot apart h.tells script (g.remaining new.source) (held new) (h.taken before ++ first_text bench (unread mid))
-                (h.taken after))
+                (λ apart. StopsAtRead (two_benches slot) Input apart h.tells script (g.remaining new.source) (held new)
+                (h.taken before ++ first_text bench (unread mid)) (h.taken after))
       second_part (Err Write) run = (
         has_size,
         record {
           source = run.0.source ∙ (first.reads.source ∙ reads.source);
-          sink = sink_failed run.0.sink;
+          sink = SinkFailed-after h first.sink run.0.sink;
           emptied = run.0.emptied;
           front = λ tells. subst (λ o. IsOkAnd o (λ text. IsTrue h.tells → WritesFront (h.taken before) (h.taken after) text))
               (sym (output_is bench starts tells))
@@ -211,12 +232,8 @@ module _ {S W : Type 0} {g : SourceGhosts S} (h : SinkGhosts W) (setup : Setup) 
             subst (λ (m : Result BenchState BenchFault). IsOkAnd m (StopsInScriptsAtWrite h setup slot old new before after (after_separator (unread old))))
             (sym (bench_is (Ok bench) starts tells))
             (subst (λ (scripts : List ℕ). StopsInScriptsAtWrite h setup slot old new before after scripts bench) (reads.rest tells)
-            (inr (of_rest tells Stops (second_after slot (set_apart slot then) h.tells _ _ _ _ _ (first.written tells) (run.1 tells))))),
+            (inr (of_rest tells Stops (write_after slot (set_apart slot then) h.tells _ _ _ _ _ (first.written tells) (run.1 tells))))),
       ) where
         Stops : Option Apart → List ℕ → Type 0
         Stops apart script = StopsSecondAtWrite slot apart h.tells script (unread new) (h.taken before ++ first_text bench (unread mid)) (h.taken after)
-
-        sink_failed : SinkFailed h between after → SinkFailed h before after
-        sink_failed (inl risen) = let same = first.sink.0 in inl (omega (arith, risen, same))
-        sink_failed (inr risen) = let same = first.sink.1 in inr (omega (arith, risen, same))
       second_part (Err _) run = absurd run

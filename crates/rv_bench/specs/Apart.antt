@@ -7,7 +7,7 @@ use Rattle.rv_debug.specs.declared.both.BothLine.{BothLine}
 use Rattle.rv_debug.specs.declared.both.BothLine.TheVariants.{Faulty, Given}
 use Rattle.rv_debug.specs.declared.both.BothWhy.TheVariants.{All, Entered, NotBlind}
 use Rattle.rv_bench.specs.Device.{one_more}
-use Rattle.rv_bench.specs.Replies.{Replied, replies, state_after}
+use Rattle.rv_bench.specs.Replies.{Answering, Replied, replies, state_after}
 use Rattle.rv_bench.specs.declared.apart.Apart.{Apart}
 
 -- ---- the texts
@@ -65,6 +65,10 @@ told apart both = done_by both.line both apart.ran
 unfoldable pub apart_line : ℕ → Apart → List ℕ → Replied Apart
 apart_line slot apart line =
     if apart.entered then record { state = apart; reply = [] } else told apart (both_line_answer slot apart.first apart.second line)
+
+-- both benches are over once the slot was entered
+abbrev pub two_benches : ℕ → Answering Apart
+two_benches slot = record { answer = apart_line slot; is_over = λ apart. apart.entered }
 
 -- ---- a script
 

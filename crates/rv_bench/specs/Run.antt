@@ -14,14 +14,14 @@ use Rattle.rv_bench.specs.declared.separator.ScriptEnd.{ScriptEnd}
 use Rattle.rv_bench.specs.declared.separator.ScriptEnd.TheVariants.{Input, Separator}
 use Rattle.rv_bench.specs.Calls.{SourceWorked, SourceFailed, SinkWorked, SinkFailed}
 use Rattle.rv_bench.specs.Loaded.{started}
-use Rattle.rv_bench.specs.Replies.{Replied, bench_line, replies, state_after}
+use Rattle.rv_bench.specs.Replies.{Answering, bench_line, one_bench, replies, state_after}
 use Rattle.rv_bench.specs.Script.{script_lines, ReadsThroughSeparator}
 use Rattle.rv_bench.specs.Transfer.{WritesFront}
 use Rattle.rv_bench.specs.Unread.{held, unread, HasEnded}
 
-module _ {A : Type 0} (answer : A → List ℕ → Replied A) where
-  -- The source failed. A text of whole lines of the script has its replies, and the line that was begun is kept, at most 122
-  -- bytes of it, so that a later call goes on from there. What was written is known where the sink tells.
+module _ {A : Type 0} (by : Answering A) where
+  -- The source failed. A text of whole lines of the script has its replies, after which it is not over, and the line that was begun is
+  -- kept, at most 122 bytes of it, so that a later call goes on from there. What was written is known where the sink tells.
   pub record StopsAtRead (end : ScriptEnd) (start : A) (tells : Bool) (unread left kept old new : List ℕ) : Type 0 where
     pub text : List ℕ
     pub begun : List ℕ
@@ -30,10 +30,11 @@ module _ {A : Type 0} (answer : A → List ℕ → Replied A) where
     pub unfinished : has_feed begun ≡ false
     pub front : kept ≡ take 122 begun
     pub inside : script_lines end (lines_of text) ≡ lines_of text
-    pub written : IsTrue tells → new ≡ old ++ replies answer start (lines_of text)
+    pub going : by.is_over (state_after by.answer start (lines_of text)) ≡ false
+    pub written : IsTrue tells → new ≡ old ++ replies by.answer start (lines_of text)
 
-  -- The sink failed, or took nothing. Lines of the script were answered and at most one more line was read: the next of the
-  -- script, of whose reply a beginning was written, or the line that ends the script. A later call goes on after these.
+  -- The sink failed, or took nothing. Lines of the script were answered, after which it is not over, and at most one more line was read:
+  -- the next of the script, of whose reply a beginning was written, or the line that ends the script. A later call goes on after these.
   pub record StopsAtWrite (end : ScriptEnd) (start : A) (tells : Bool) (unread left old new : List ℕ) : Type 0 where
     pub text : List ℕ
     pub answered : List (List ℕ)
@@ -42,7 +43,9 @@ module _ {A : Type 0} (answer : A → List ℕ → Replied A) where
     pub split : unread ≡ text ++ left
     pub are_lines : script_lines end (lines_of text) ≡ answered ++ next
     pub all : lines_of unread ≡ lines_of text ++ lines_of left
-    pub written : IsTrue tells → WritesFront (old ++ replies answer start answered) new (replies answer (state_after answer start answered) next)
+    pub going : by.is_over (state_after by.answer start answered) ≡ false
+    pub written : IsTrue tells
+        → WritesFront (old ++ replies by.answer start answered) new (replies by.answer (state_after by.answer start answered) next)
 
 -- what a call that gives no value comes to
 abbrev pub Outcome : Type 0
@@ -83,17 +86,21 @@ module _ {S W : Type 0} {g : SourceGhosts S} (h : SinkGhosts W) where
     pub emptied : held new ≡ []
     pub front : IsTrue g.tells → IsOkAnd output (λ text. IsTrue h.tells → WritesFront (h.taken before) (h.taken after) text)
 
-  -- what each result of a run over the lines of a script means, from the state of the bench before it
+  -- what each failure means of a run over the lines of a script, from the state before it
+  abbrev pub FailsIn : {A : Type 0} → Answering A → ScriptEnd → A → Lines S g → Lines S g → W → W → BenchFault → Type 0
+  FailsIn by end start old new before after Read =
+      FailsToRead old new before after
+      × (IsTrue g.tells → StopsAtRead by end start h.tells (unread old) (g.remaining new.source) (held new) (h.taken before) (h.taken after))
+  FailsIn by end start old new before after Write =
+      FailsToWrite (Ok (replies by.answer start (script_lines end (lines_of (unread old))))) old new before after
+      × (IsTrue g.tells → StopsAtWrite by end start h.tells (unread old) (unread new) (h.taken before) (h.taken after))
+  FailsIn by end start old new before after _ = ⊥
+
+  -- what each result of a run of one bench over the lines of a script means, from the state of the bench before it
   abbrev pub RunsLines : ScriptEnd → BenchState → Lines S g → Lines S g → W → W → Outcome → Type 0
   RunsLines end bench old new before after (Ok _) =
       RunsScript end (Ok (replies bench_line bench (script_lines end (lines_of (unread old))))) old new before after
-  RunsLines end bench old new before after (Err Read) =
-      FailsToRead old new before after
-      × (IsTrue g.tells → StopsAtRead bench_line end bench h.tells (unread old) (g.remaining new.source) (held new) (h.taken before) (h.taken after))
-  RunsLines end bench old new before after (Err Write) =
-      FailsToWrite (Ok (replies bench_line bench (script_lines end (lines_of (unread old))))) old new before after
-      × (IsTrue g.tells → StopsAtWrite bench_line end bench h.tells (unread old) (unread new) (h.taken before) (h.taken after))
-  RunsLines end bench old new before after (Err _) = ⊥
+  RunsLines end bench old new before after (Err fault) = FailsIn one_bench end bench old new before after fault
 
   -- What each result of `run_bench` means. Where the setup or the image has a fault, nothing is read or written; else the lines
   -- are run by the bench that the image starts.

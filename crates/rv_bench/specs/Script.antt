@@ -1,11 +1,12 @@
 -- The lines of a script, and how it ends. (This project's own format.)
-use Rattle.std.specs.Prelude.{◌≡◌, ◌⊎◌, ℕ, Bool, true, false, List, [], IsTrue}
+use Rattle.std.specs.Prelude.{◌≡◌, ◌⊎◌, ℕ, Bool, true, false, not, List, [], IsTrue}
+use Rattle.std.specs.List.{list_all}
 use Rattle.rv_bench.specs.declared.device.Source.{Ghosts}
 use Rattle.rv_bench.specs.declared.lines.Lines.{Lines}
 use Rattle.rv_bench.specs.declared.separator.ScriptEnd.{ScriptEnd}
 use Rattle.rv_bench.specs.declared.separator.ScriptEnd.TheVariants.{Input, Separator}
 use Rattle.rv_bench.specs.Calls.{SourceWorked}
-use Rattle.rv_bench.specs.LineText.{TakesLine}
+use Rattle.rv_bench.specs.LineText.{ReadsLines, TakesLine}
 use Rattle.rv_bench.specs.Separator.{is_separator, before_separator, has_separator, after_separator}
 use Rattle.rv_bench.specs.Unread.{held, unread}
 
@@ -18,6 +19,15 @@ ends_script Separator line = is_separator line
 abbrev pub script_lines : ScriptEnd → List (List ℕ) → List (List ℕ)
 script_lines Input lines = lines
 script_lines Separator lines = before_separator lines
+
+-- a line of the script
+abbrev pub within : ScriptEnd → List ℕ → Bool
+within end line = not (ends_script end line)
+
+-- These lines of the script were taken, and none other.
+pub record TakesScript (end : ScriptEnd) (unread left : List ℕ) (is_at_end : Bool) (lines : List (List ℕ)) : Type 0 where
+  pub reads : ReadsLines unread left is_at_end lines
+  pub inside : list_all (within end) lines ≡ true
 
 module _ {S : Type 0} {g : Ghosts S} where
   -- The source has answered its end, and no line is left.

@@ -12,7 +12,7 @@ use Rattle.rv_bench.specs.declared.separator.ScriptEnd.TheVariants.{Input}
 use Rattle.rv_bench.specs.Image.{image_in, ReadsInImage}
 use Rattle.rv_bench.specs.Output.{bench_in, output}
 use Rattle.rv_bench.specs.ReadImage.{FindsFault, LacksMemory}
-use Rattle.rv_bench.specs.Replies.{bench_line}
+use Rattle.rv_bench.specs.Replies.{one_bench}
 use Rattle.rv_bench.specs.Run.{Outcome, RunsToEnd, FailsToRead, FailsToWrite, StopsAtRead, StopsAtWrite}
 use Rattle.rv_bench.specs.Script.{ReadsThroughSeparator}
 use Rattle.rv_bench.specs.Separator.{after_separator, has_separator}
@@ -28,13 +28,13 @@ module _ {S W : Type 0} {g : SourceGhosts S} (h : SinkGhosts W) (setup : Setup) 
   StopsStreamAtRead =
       (ReadsInImage (unread old) (g.remaining new.source) (held new) × (after ≡ before))
       ⊎ (IsTrue (has_separator (unread old)) × IsOkAnd (bench_in setup (unread old)) (λ state.
-      StopsAtRead bench_line Input state h.tells (after_separator (unread old)) (g.remaining new.source) (held new) (h.taken before) (h.taken after)))
+      StopsAtRead one_bench Input state h.tells (after_separator (unread old)) (g.remaining new.source) (held new) (h.taken before) (h.taken after)))
 
   -- The sink failed in the script.
   abbrev pub StopsStreamAtWrite : Type 0
   StopsStreamAtWrite =
       IsOkAnd (bench_in setup (unread old)) (λ state.
-      StopsAtWrite bench_line Input state h.tells (after_separator (unread old)) (unread new) (h.taken before) (h.taken after))
+      StopsAtWrite one_bench Input state h.tells (after_separator (unread old)) (unread new) (h.taken before) (h.taken after))
 
   -- What each result of `run_stream` means. The image's text, the RAM's size and the image are asked in this order, before a
   -- byte is written.

@@ -15,13 +15,13 @@ use Rattle.rv_bench.specs.declared.fault.BenchFault.{BenchFault}
 use Rattle.rv_bench.specs.declared.fault.BenchFault.TheVariants.{Image, Ram, Read, Write, Hex, TooLong, NoMemory}
 use Rattle.rv_bench.specs.declared.lines.Lines.{Lines}
 use Rattle.rv_bench.specs.declared.separator.ScriptEnd.TheVariants.{Input, Separator}
-use Rattle.rv_bench.specs.Apart.{apart_line, end_text, entered_text, no_slot_text, script_text, set_apart}
+use Rattle.rv_bench.specs.Apart.{apart_line, end_text, entered_text, no_slot_text, script_text, set_apart, two_benches}
 use Rattle.rv_bench.specs.Calls.{SourceWorked, SinkWorked}
 use Rattle.rv_bench.specs.Image.{image_in, ReadsInImage}
 use Rattle.rv_bench.specs.LineText.{ReadsLines}
 use Rattle.rv_bench.specs.Output.{bench_in}
 use Rattle.rv_bench.specs.ReadImage.{FindsFault, LacksMemory}
-use Rattle.rv_bench.specs.Replies.{bench_line, replies, state_after}
+use Rattle.rv_bench.specs.Replies.{bench_line, one_bench, replies, state_after}
 use Rattle.rv_bench.specs.Run.{Outcome, FailsToRead, FailsToWrite, StopsAtRead, StopsAtWrite}
 use Rattle.rv_bench.specs.Script.{ReadsThroughSeparator}
 use Rattle.rv_bench.specs.Separator.{before_separator, has_separator, after_separator}
@@ -74,17 +74,7 @@ IsOver slot (Some apart) unread left is_at_end = EntersSlot slot apart unread le
 abbrev pub IsNeverEntered : ℕ → Option Apart → List ℕ → Type 0
 IsNeverEntered slot apart input = IsSomeAnd apart (λ apart. (state_after (apart_line slot) apart (lines_of input)).entered ≡ false)
 
--- The source failed in the second script, before the slot was entered.
-pub record StopsUnentered (slot : ℕ) (apart : Apart) (tells : Bool) (unread left kept old new : List ℕ) : Type 0 where
-  pub stops : StopsAtRead (apart_line slot) Input apart tells unread left kept old new
-  pub going : (state_after (apart_line slot) apart (lines_of stops.text)).entered ≡ false
-
--- The sink failed in what is told of a line of the second script, before which none entered the slot.
-pub record StopsInLine (slot : ℕ) (apart : Apart) (tells : Bool) (unread left old new : List ℕ) : Type 0 where
-  pub stops : StopsAtWrite (apart_line slot) Input apart tells unread left old new
-  pub going : (state_after (apart_line slot) apart stops.answered).entered ≡ false
-
--- It failed in the line that tells the end of the input, no line having entered the slot.
+-- The sink failed in the line that tells the end of the input, no line having entered the slot.
 pub record StopsInEnd (slot : ℕ) (apart : Apart) (tells : Bool) (unread left old new : List ℕ) : Type 0 where
   pub used_up : left ≡ []
   pub going : (state_after (apart_line slot) apart (lines_of unread)).entered ≡ false
@@ -95,7 +85,7 @@ pub record StopsInEnd (slot : ℕ) (apart : Apart) (tells : Bool) (unread left o
 abbrev pub StopsSecondAtWrite : ℕ → Option Apart → Bool → List ℕ → List ℕ → List ℕ → List ℕ → Type 0
 StopsSecondAtWrite slot None tells unread left old new = (left ≡ unread) × (IsTrue tells → WritesFront old new no_slot_text)
 StopsSecondAtWrite slot (Some apart) tells unread left old new =
-    StopsInLine slot apart tells unread left old new ⊎ StopsInEnd slot apart tells unread left old new
+    StopsAtWrite (two_benches slot) Input apart tells unread left old new ⊎ StopsInEnd slot apart tells unread left old new
 
 -- this is the last that was written
 abbrev pub EndsIn : List ℕ → List ℕ → Type 0
@@ -130,7 +120,7 @@ module _ {S W : Type 0} {g : SourceGhosts S} (h : SinkGhosts W) where
   RunsSecond slot apart old new before after (Err Read) =
       FailsToRead h old new before after
       × (IsTrue g.tells → IsSomeAnd apart (λ apart.
-      StopsUnentered slot apart h.tells (unread old) (g.remaining new.source) (held new) (h.taken before) (h.taken after)))
+      StopsAtRead (two_benches slot) Input apart h.tells (unread old) (g.remaining new.source) (held new) (h.taken before) (h.taken after)))
   RunsSecond slot apart old new before after (Err Write) =
       FailsToWrite h (Ok (second_text slot apart (unread old))) old new before after
       × (IsTrue g.tells → StopsSecondAtWrite slot apart h.tells (unread old) (unread new) (h.taken before) (h.taken after))
@@ -144,9 +134,9 @@ module _ {S W : Type 0} {g : SourceGhosts S} (h : SinkGhosts W) (setup : Setup) 
   -- the source failed in the first script, or in the second, which follows a separator
   abbrev pub StopsInScripts : List ℕ → BenchState → Type 0
   StopsInScripts scripts bench =
-      StopsAtRead bench_line Separator bench h.tells scripts (g.remaining new.source) (held new) (h.taken before) (h.taken after)
+      StopsAtRead one_bench Separator bench h.tells scripts (g.remaining new.source) (held new) (h.taken before) (h.taken after)
       ⊎ (IsTrue (has_separator scripts) × IsSomeAnd (set_apart slot (after_first bench scripts)) (λ apart.
-      StopsUnentered slot apart h.tells (after_separator scripts) (g.remaining new.source) (held new)
+      StopsAtRead (two_benches slot) Input apart h.tells (after_separator scripts) (g.remaining new.source) (held new)
       (h.taken before ++ first_text bench scripts) (h.taken after)))
 
   -- The source failed: in the image, when nothing is written, or else in a script, which follows a separator.
@@ -158,7 +148,7 @@ module _ {S W : Type 0} {g : SourceGhosts S} (h : SinkGhosts W) (setup : Setup) 
   -- the sink failed in the first script, or after it
   abbrev pub StopsInScriptsAtWrite : List ℕ → BenchState → Type 0
   StopsInScriptsAtWrite scripts bench =
-      StopsAtWrite bench_line Separator bench h.tells scripts (unread new) (h.taken before) (h.taken after)
+      StopsAtWrite one_bench Separator bench h.tells scripts (unread new) (h.taken before) (h.taken after)
       ⊎ StopsSecondAtWrite slot (set_apart slot (after_first bench scripts)) h.tells (after_separator scripts) (unread new)
       (h.taken before ++ first_text bench scripts) (h.taken after)
 

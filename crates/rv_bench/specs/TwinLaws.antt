@@ -2,7 +2,6 @@
 -- enclave that rests. (Laws of this project's own monitor under its own debugger.)
 use Rattle.std.specs.Prelude.{◌≡◌, ℕ, false, List, [], ◌∷◌, ◌++◌, IfOk, IfSome, if◌then◌else◌}
 use Rattle.rv_word.specs.Cases.{result_case}
-use Rattle.rv_debug.specs.BenchState.{BenchState}
 use Rattle.rv_debug.specs.Command.{parse_of}
 use Rattle.rv_debug.specs.Isolation.{IsSparedIn, RestsUnderAll}
 use Rattle.rv_debug.specs.TwoBenches.{BenchesAgreeBut, both_answer}

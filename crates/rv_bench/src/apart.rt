@@ -2,10 +2,12 @@
 
 ghost use Rattle.std.specs.Prelude.{◌≡◌, ◌+◌, ◌*◌, ◌≤◌, ◌++◌, ℕ, List, false, [], true, take, length};
 ghost use Rattle.arrayvec.specs.ArrayVec.{array_vec_len};
-ghost use Rattle.rv_bench.specs.Apart.{apart_line, end_text, entered_text, marked, told};
+ghost use Rattle.rv_bench.specs.Apart.{apart_line, end_text, entered_text, last_text, marked, told, two_benches};
 
+use crate::answers::Answers;
 use arrayvec::ArrayVec;
 use rv_debug::{Bench, BothLine, BothWhy, both_line};
+use rv_monitor::Slot;
 use rv_text::{Reply, push_count, push_text};
 
 /// The most bytes that are told of one line: each byte of two replies may begin a line, which has a mark of three bytes.
@@ -65,7 +67,7 @@ fn push_entered(out: &mut Told, ran: u64)
 
 /// The text that ends a run in which the slot was not entered, after so many commands.
 #[tactic(auto, unfolding(crate::specs::Apart::end_text))]
-pub(crate) fn end_of(ran: u64) -> Reply
+fn end_of(ran: u64) -> Reply
     ensures { result.items ≡ end_text ran }
 {
     let mut text = Reply::new();
@@ -79,7 +81,7 @@ impl Apart {
     /// Gives a line to both benches, and puts what is told of it in place of what the buffer holds. Every line that begins with the same
     /// 121 bytes is told the same.
     #[tactic(auto, unfolding(crate::specs::Apart::apart_line))]
-    pub(crate) fn answer_line(&mut self, slot: u8, line: &[u8], out: &mut Told)
+    fn answer_line(&mut self, slot: Slot, line: &[u8], out: &mut Told)
         requires { self.old.entered ≡ false }
         ensures answer { apart_line slot self.old line.now ≡ record { state = self.new; reply = out.new.items } }
         ensures front { (other : List ℕ) → take 121 other ≡ take 121 line.now → apart_line slot self.old other ≡ apart_line slot self.old line.now }
@@ -102,7 +104,8 @@ impl Apart {
     fn tell(&mut self, line: BothLine, first: &Reply, second: &Reply, out: &mut Told)
         requires empty { out.old.items ≡ [] }
         requires going { self.old.entered ≡ false }
-        ensures { told self.old (record { first = self.old.first; second = self.old.second; first_reply = first.now.items; second_reply = second.now.items; line = line })
+        ensures { told self.old
+            (record { first = self.old.first; second = self.old.second; first_reply = first.now.items; second_reply = second.now.items; line = line })
             ≡ record { state = self.new; reply = out.new.items } }
     {
         let BothLine::Given { why, is_blank } = line else {
@@ -123,5 +126,41 @@ impl Apart {
             }
             BothWhy::NotBlind => push_all(out, b"error blind\n"),
         }
+    }
+
+    /// What is told once no more lines are read.
+    pub(crate) fn last(&self) -> Reply
+        ensures { result.items ≡ last_text self.now }
+    {
+        if self.entered {
+            Reply::new()
+        } else {
+            end_of(self.ran)
+        }
+    }
+}
+
+/// Two benches that are apart, and the slot of the enclave in which they are.
+#[derive(Drop)]
+pub(crate) struct ApartBenches {
+    pub(crate) apart: Apart,
+    pub(crate) slot: Slot,
+}
+
+impl Answers for ApartBenches {
+    type Told = Told;
+
+    type State = Apart;
+
+    ghost state = { λ benches. benches.apart };
+
+    ghost answering = { λ benches. two_benches benches.slot };
+
+    fn answer_line(&mut self, line: &[u8], out: &mut Told) {
+        self.apart.answer_line(self.slot, line, out);
+    }
+
+    fn is_over(&self) -> bool {
+        self.apart.entered
     }
 }

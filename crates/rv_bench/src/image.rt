@@ -7,7 +7,7 @@ ghost use Rattle.rv_bench.specs.Unread.{TellsEnd};
 use crate::device::Source;
 use crate::fault::BenchFault;
 use crate::lines::Lines;
-use crate::separator::{ScriptEnd, only_word};
+use crate::separator::{is_dashes, only_word};
 use rv_text::MAX_LINE;
 use std::alloc::Global;
 
@@ -56,13 +56,13 @@ pub fn read_image<S: Source>(alloc: Global, lines: &mut Lines<S>) -> Result<Vec<
     ensures end { TellsEnd lines.old lines.new }
 {
     let mut image = Vec::new(alloc);
-    while let Some(line) = lines
-        .next_line_before(ScriptEnd::Separator)
-        .map_err(|_| BenchFault::Read)?
-    {
+    while let Some(line) = lines.next_line().map_err(|_| BenchFault::Read)? {
         let Some(word) = only_word(line.as_slice()) else {
             return Err(BenchFault::Hex);
         };
+        if is_dashes(word) {
+            return Ok(image);
+        }
         add_bytes(&mut image, word)?;
     }
     Ok(image)

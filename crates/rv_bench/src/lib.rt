@@ -14,6 +14,7 @@
 //! ```
 #![tactic(auto)]
 
+mod answers;
 mod apart;
 mod asm;
 mod device;

@@ -79,7 +79,8 @@ impl<S: Source> Lines<S> {
     /// Where the source failed in this call. The first 122 bytes of the line that was begun are kept, and a further call goes
     /// on from there.
     pub fn next_line(&mut self) -> Result<Option<Line>, DeviceFault>
-        ensures line { IsTrue S.tells → IfOk result (λ found. IfSome found (λ line. TakesLine (unread self.old) (unread self.new) self.new.is_at_end line.items)) }
+        ensures line { IsTrue S.tells → IfOk result (λ found. IfSome found (λ line.
+            TakesLine (unread self.old) (unread self.new) self.new.is_at_end line.items)) }
         ensures going { IfOk result (λ found. OnSome found (self.old.is_at_end ≡ false)) }
         ensures none { IfOk result (λ found. IfNone found (self.new.is_at_end ≡ true)) }
         ensures nothing { IsTrue S.tells → IfOk result (λ found. IfNone found ((unread self.old ≡ []) × (unread self.new ≡ []))) }
@@ -115,7 +116,8 @@ impl<S: Source> Lines<S> {
     ///
     /// As `next_line`.
     pub(crate) fn next_line_before(&mut self, end: ScriptEnd) -> Result<Option<Line>, DeviceFault>
-        ensures line { IsTrue S.tells → IfOk result (λ found. IfSome found (λ line. TakesLine (unread self.old) (unread self.new) self.new.is_at_end line.items)) }
+        ensures line { IsTrue S.tells → IfOk result (λ found. IfSome found (λ line.
+            TakesLine (unread self.old) (unread self.new) self.new.is_at_end line.items)) }
         ensures inside { IfOk result (λ found. IfSome found (λ line. ends_script end line.items ≡ false)) }
         ensures going { IfOk result (λ found. OnSome found (self.old.is_at_end ≡ false)) }
         ensures none { IfOk result (λ found. IfNone found (FindsEnd end self.old self.new)) }

@@ -1,20 +1,18 @@
 //! From lines read to replies written.
 
-ghost use Rattle.std.specs.Prelude.{◌≡◌, IfOk, IsTrue, OnOk};
-ghost use Rattle.rv_text.specs.Lines.{lines_of};
+ghost use Rattle.std.specs.Prelude.{◌≡◌, IfOk, false};
+ghost use Rattle.rv_bench.specs.Answered.{AnswersScript};
 ghost use Rattle.rv_bench.specs.Confidentiality.{ConcealsSecret, ConcealsThrough};
 ghost use Rattle.rv_bench.specs.Integrity.{SparesThrough};
 ghost use Rattle.rv_bench.specs.Loaded.{started};
 ghost use Rattle.rv_bench.specs.MonitorRange.{ReservesMonitorRange};
 ghost use Rattle.rv_bench.specs.Output.{bench_in};
-ghost use Rattle.rv_bench.specs.Replies.{bench_line, state_after};
 ghost use Rattle.rv_bench.specs.Run.{RunsBench, RunsLines};
-ghost use Rattle.rv_bench.specs.Script.{script_lines};
 ghost use Rattle.rv_bench.specs.Stream.{RunsStream};
 ghost use Rattle.rv_bench.specs.Unread.{unread, TellsEnd};
 
+use crate::answers::Answers;
 use crate::device::{Sink, Source};
-use crate::equal::Answers;
 use crate::fault::BenchFault;
 use crate::image::read_image;
 use crate::lines::Lines;
@@ -22,29 +20,45 @@ use crate::separator::ScriptEnd;
 use crate::start::start;
 use crate::transfer::write_all;
 use rv_command_line::Setup;
-use rv_text::Reply;
+use rv_debug::Bench;
 use std::alloc::Global;
+use std::convert::AsSlice;
 
-/// Writes the reply to each line of a script, and flushes the sink at the end of the input. It takes no memory.
+/// Answers the lines of a script, and writes what is told of each, to the end of the script or to the line after which it is over, which is
+/// the last that is read. It takes no memory.
 pub(crate) fn run_lines<T: Answers, S: Source, W: Sink>(
-    bench: &mut T,
+    answering: &mut T,
     lines: &mut Lines<S>,
     sink: &mut W,
     end: ScriptEnd,
 ) -> Result<(), BenchFault>
-    ensures outcome { RunsLines W.Sink end (T.bench bench.old) lines.old lines.new sink.old sink.new result }
-    ensures state { OnOk result (IsTrue S.tells → T.bench bench.new ≡ state_after bench_line (T.bench bench.old) (script_lines end (lines_of (unread lines.old)))) }
+    requires { (T.answering answering.old).is_over (T.state answering.old) ≡ false }
+    ensures outcome { AnswersScript W.Sink (T.answering answering.old) end (T.state answering.old) (T.state answering.new)
+        lines.old lines.new sink.old sink.new result }
     ensures end { TellsEnd lines.old lines.new }
 {
-    let mut reply = Reply::new();
+    let mut told = T::Told::default();
     while let Some(line) = lines.next_line_before(end).map_err(|_| BenchFault::Read)? {
-        bench.answer_line(line.as_slice(), &mut reply);
-        write_all(sink, reply.as_slice()).map_err(|_| BenchFault::Write)?;
+        answering.answer_line(line.as_slice(), &mut told);
+        write_all(sink, told.as_slice()).map_err(|_| BenchFault::Write)?;
+        if answering.is_over() {
+            return Ok(());
+        }
     }
-    match end {
-        ScriptEnd::Input => sink.flush().map_err(|_| BenchFault::Write),
-        ScriptEnd::Separator => Ok(()),
-    }
+    Ok(())
+}
+
+/// Writes the reply of a bench to each line, until the source answers its end, and flushes the sink then.
+fn run_script<S: Source, W: Sink>(
+    bench: &mut Bench,
+    lines: &mut Lines<S>,
+    sink: &mut W,
+) -> Result<(), BenchFault>
+    ensures outcome { RunsLines W.Sink ScriptEnd.Input bench.old lines.old lines.new sink.old sink.new result }
+    ensures end { TellsEnd lines.old lines.new }
+{
+    run_lines(bench, lines, sink, ScriptEnd::Input)?;
+    sink.flush().map_err(|_| BenchFault::Write)
 }
 
 /// Loads an image into the RAM of a new machine, and writes the reply to each line, until the source answers its end. A monitored
@@ -77,7 +91,7 @@ pub fn run_bench<S: Source, W: Sink>(
     ensures reserved { ReservesMonitorRange setup.now.monitored }
 {
     let mut bench = start(alloc, image, setup)?;
-    run_lines(&mut bench, lines, sink, ScriptEnd::Input)
+    run_script(&mut bench, lines, sink)
 }
 
 /// Reads an image, and then runs the lines after it as `run_bench` does, under the same laws of integrity and of confidentiality.

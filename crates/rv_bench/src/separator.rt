@@ -1,5 +1,6 @@
 //! The line `--`, which separates an image from a script, and a script from another.
-ghost use Rattle.std.specs.Prelude.{◌≡◌, option_map};
+ghost use Rattle.std.specs.Prelude.{◌≡◌, codes, option_map};
+ghost use Rattle.std.specs.Str.{bytes_eq};
 ghost use Rattle.rv_bench.specs.Separator.{line_word, is_separator};
 
 use rv_text::{first_words, is_good_line};
@@ -43,12 +44,19 @@ pub(crate) fn only_word(line: &[u8]) -> Option<&[u8]>
     }
 }
 
+/// Whether a word is `--`.
+pub(crate) fn is_dashes(word: &[u8]) -> bool
+    ensures { result ≡ bytes_eq word.now (codes "--") }
+{
+    word == b"--".as_slice()
+}
+
 /// Whether the only word of a line is `--`.
 fn is_separator(line: &[u8]) -> bool
     ensures { result ≡ is_separator line.now }
 {
     match only_word(line) {
-        Some(word) => word == b"--".as_slice(),
+        Some(word) => is_dashes(word),
         None => false,
     }
 }

@@ -1,13 +1,13 @@
 //! Two benches that are given the same script, and differ in what is private to an enclave.
 
-ghost use Rattle.std.specs.Prelude.{◌≡◌, Ok, Err, Some, MatchResult, IfSome, [], false};
-ghost use Rattle.rv_bench.specs.Apart.{set_apart, no_slot_text};
+ghost use Rattle.std.specs.Prelude.{◌≡◌, Ok, Err, Some, None, MatchOption, MatchResult, IfSome, [], false};
+ghost use Rattle.rv_bench.specs.Apart.{set_apart as set_apart_of, no_slot_text};
 ghost use Rattle.rv_bench.specs.Loaded.{Starts, started};
 ghost use Rattle.rv_bench.specs.Twin.{RunsSecond, RunsTwin, monitored};
 ghost use Rattle.rv_bench.specs.TwinLaws.{TwinConceals, TwinSpares};
 ghost use Rattle.rv_bench.specs.Unread.{held, unread, TellsEnd};
 
-use crate::apart::{Apart, Told, end_of};
+use crate::apart::{Apart, ApartBenches};
 use crate::device::{Sink, Source};
 use crate::equal::EqualBenches;
 use crate::fault::BenchFault;
@@ -17,8 +17,8 @@ use crate::lines::Lines;
 use crate::run::run_lines;
 use crate::separator::ScriptEnd;
 use crate::start::start;
-use crate::transfer::write_all;
 use rv_command_line::Setup;
+use rv_monitor::Slot;
 use rv_text::{Reply, push_text};
 use std::alloc::Global;
 
@@ -39,32 +39,6 @@ fn start_two(alloc: Global, image: &[u8], setup: &Setup) -> Result<EqualBenches,
     Ok(EqualBenches { first, second })
 }
 
-/// Gives the lines of the second script to both benches, and writes what is told of each, until the slot is entered or the source
-/// answers its end.
-fn run_apart<S: Source, W: Sink>(
-    apart: &mut Apart,
-    slot: u8,
-    lines: &mut Lines<S>,
-    sink: &mut W,
-) -> Result<(), BenchFault>
-    requires { apart.old.entered ≡ false }
-    ensures outcome { RunsSecond W.Sink slot (Some apart.old) lines.old lines.new sink.old sink.new result }
-    ensures end { TellsEnd lines.old lines.new }
-{
-    let mut told = Told::new();
-    while let Some(line) = lines
-        .next_line_before(ScriptEnd::Input)
-        .map_err(|_| BenchFault::Read)?
-    {
-        apart.answer_line(slot, line.as_slice(), &mut told);
-        write_all(sink, told.as_slice()).map_err(|_| BenchFault::Write)?;
-        if apart.entered {
-            return sink.flush().map_err(|_| BenchFault::Write);
-        }
-    }
-    write_last(&end_of(apart.ran), sink).map_err(|_| BenchFault::Write)
-}
-
 /// The text that tells that no slot could be scrambled.
 fn no_slot() -> Reply
     ensures { result.items ≡ no_slot_text }
@@ -75,8 +49,8 @@ fn no_slot() -> Reply
 }
 
 /// Scrambles the slot in the second bench, where that can be.
-fn scrambled(benches: EqualBenches, slot: u8) -> Option<Apart>
-    ensures apart { result ≡ set_apart slot benches.first }
+fn scrambled(benches: EqualBenches, slot: Slot) -> Option<Apart>
+    ensures apart { result ≡ set_apart_of slot benches.first }
     ensures going { IfSome result (λ apart. apart.entered ≡ false) }
 {
     let EqualBenches { first, second } = benches;
@@ -92,21 +66,36 @@ fn scrambled(benches: EqualBenches, slot: u8) -> Option<Apart>
     })
 }
 
-/// Scrambles the slot in the second bench, and runs the second script; or tells that this could not be.
+/// Scrambles the slot of a number in the second bench, where that can be; over 12 there is none.
+#[tactic(auto, using(crate::proofs::Twins::not_numbered))]
+fn set_apart(benches: EqualBenches, number: u8) -> Option<ApartBenches>
+    ensures apart { MatchOption result
+        (set_apart_of number benches.first ≡ None)
+        (λ found. (found.slot ≡ number) × (set_apart_of number benches.first ≡ Some found.apart)) }
+    ensures going { IfSome result (λ found. found.apart.entered ≡ false) }
+{
+    benches.first.invariant();
+    let slot = Slot::new(u32::from(number))?;
+    let apart = scrambled(benches, slot)?;
+    Some(ApartBenches { apart, slot })
+}
+
+/// Scrambles the slot of a number in the second bench, and runs the second script; or tells that this could not be.
 fn run_second<S: Source, W: Sink>(
     benches: EqualBenches,
-    slot: u8,
+    number: u8,
     lines: &mut Lines<S>,
     sink: &mut W,
 ) -> Result<(), BenchFault>
     requires { held lines.old ≡ [] }
-    ensures outcome { RunsSecond W.Sink slot (set_apart slot benches.first) lines.old lines.new sink.old sink.new result }
+    ensures outcome { RunsSecond W.Sink number (set_apart_of number benches.first) lines.old lines.new sink.old sink.new result }
     ensures end { TellsEnd lines.old lines.new }
 {
-    let Some(mut apart) = scrambled(benches, slot) else {
+    let Some(mut found) = set_apart(benches, number) else {
         return write_last(&no_slot(), sink).map_err(|_| BenchFault::Write);
     };
-    run_apart(&mut apart, slot, lines, sink)
+    run_lines(&mut found, lines, sink, ScriptEnd::Input)?;
+    write_last(&found.apart.last(), sink).map_err(|_| BenchFault::Write)
 }
 
 /// Reads an image, gives the lines up to the next `--` to two equal benches of the setup, which are monitored whatever it says, and writes

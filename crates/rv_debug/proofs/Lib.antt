@@ -5,7 +5,6 @@ pub mod AnswersAlike
 pub mod BothAlike
 mod CommandExamples
 pub mod Commands
-mod EnteredSlots
 mod FastRuns
 mod FastTargets
 pub mod Isolation

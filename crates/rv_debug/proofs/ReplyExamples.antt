@@ -4,6 +4,7 @@ use Rattle.std.specs.Prelude.{codes, decimal, replicate, nat_lt, if◌then◌els
 use Rattle.std.specs.Fmt.{digits}
 use Rattle.std.proofs.lemmas.Bool.Decides.{nat_tests}
 use Rattle.std.proofs.lemmas.Fmt.{decimal_digit, decimal_step}
+use Rattle.rv_state.specs.Bits.{kept_bits}
 use Rattle.rv_state.specs.CsrState.{CsrState, at_reset}
 use Rattle.rv_state.specs.CsrTable.{csr_numbered, csr_listing, reading, read_result}
 use Rattle.rv_debug.specs.Answer.{csr_reply, dis_reply, access_reply}
@@ -40,7 +41,8 @@ decimal-shown n =
 
 pub ran_text-examples :
     ran_text 0x80000010 M (codes "bare") (record { steps = 4; trap = None; stop = Done; entered = 0 })
-    ++ ran_text 0 M (codes "bare") (record { steps = 30; trap = Some (record { cause = Exception IllegalInstruction; tval = 0xffffffff }); stop = Done; entered = 0 })
+    ++ ran_text 0 M (codes "bare")
+    (record { steps = 30; trap = Some (record { cause = Exception IllegalInstruction; tval = 0xffffffff }); stop = Done; entered = 0 })
     ++ ran_text 0x80000004 U (codes "bare") (record { steps = 2; trap = None; stop = Break; entered = 0 })
     ++ ran_text 0x80000004 S (codes "bare") (record { steps = 1; trap = None; stop = Watch 0x8000010a; entered = 0 }) ≡
     codes "ran 4 pc=80000010 mode=M world=bare why=done trap=-\nran 30 pc=00000000 mode=M world=bare why=done trap=00000002:ffffffff\n"
@@ -73,7 +75,8 @@ pub memory_text-example : memory_text 0x8000000e (0xe2 ∷ 0 ∷ 0xff ∷ 0xff �
 unfolding memory_text hex_digits
 memory_text-example = refl
 
-pub dis_text-examples : dis_text 0x8000000e 0xfff08093 ++ dis_text 0x80000000 0x8330000f ≡ codes "8000000e: fff08093 addi x1, x1, -1\n80000000: 8330000f .word 0x8330000f\n"
+pub dis_text-examples : dis_text 0x8000000e 0xfff08093 ++ dis_text 0x80000000 0x8330000f
+    ≡ codes "8000000e: fff08093 addi x1, x1, -1\n80000000: 8330000f .word 0x8330000f\n"
 unfolding dis_text spelling instr_text line_text word_text decoded digits hex_digits by_bits
 dis_text-examples = refl
 
@@ -114,7 +117,7 @@ pub csr_reply-examples :
     csr_reply (alone at_reset) 0x301 ++ csr_reply (alone at_reset) 0xb00 ++ csr_reply (alone at_reset) 0x41 ++ csr_reply (alone at_reset) 0xf14
     ++ csr_reply (alone (record at_reset { timer = true })) 0x344 ≡
     codes "csr 301=40141100\ncsr b00=00000000\nerror csr\ncsr f14=00000000\ncsr 344=00000080\n"
-unfolding csr_text no_csr_text hex_digits read_result csr_numbered csr_listing reading
+unfolding csr_text no_csr_text hex_digits read_result csr_numbered csr_listing reading kept_bits
 csr_reply-examples = refl
 
 -- four bytes from 80000100 on, for reading and executing

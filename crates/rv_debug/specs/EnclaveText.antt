@@ -2,6 +2,7 @@
 use Rattle.std.specs.Prelude.{ℕ, List, [], ◌++◌, Option, Some, None, codes, decimal}
 use Rattle.std.specs.List.{flat_map, range_with_len}
 use Rattle.rv_text.specs.Digits.{hex2, hex8}
+use Rattle.rv_monitor.specs.SlotNumbers.{slot_count}
 use Rattle.rv_monitor.specs.Table.{Slots, slot_at}
 use Rattle.rv_monitor.specs.declared.block.Block.{Block}
 use Rattle.rv_monitor.specs.declared.slot_info.EnclaveState.{EnclaveState}
@@ -33,4 +34,4 @@ slot_text slot (Some info) = enclave_text slot info
 
 -- the live slots, rising
 unfoldable pub table_text : Slots → List ℕ
-table_text slots = flat_map (λ slot. slot_text slot (slot_at slots slot)) (range_with_len 0 13)
+table_text slots = flat_map (λ slot. slot_text slot (slot_at slots slot)) (range_with_len 0 slot_count)

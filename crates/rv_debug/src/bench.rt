@@ -10,7 +10,7 @@ use crate::enclaves::push_enclaves;
 use crate::reply::{push_fault, push_pmp, push_register, push_registers, push_set};
 use crate::target::Target;
 use rv_hart::Machine;
-use rv_monitor::Monitored;
+use rv_monitor::{Monitored, Slot};
 use rv_text::Reply;
 use std::marker::Model;
 
@@ -71,7 +71,7 @@ impl Bench {
     }
 
     /// What holds in every state. It does nothing.
-    pub(crate) fn invariant(&self)
+    pub fn invariant(&self)
         ensures { KeepsMonitor self.now.target }
     {
         // brings in what holds of every bench
@@ -80,7 +80,7 @@ impl Bench {
 
     /// Whether a command is blind to the enclave of a slot: it is not a mem, dis or poke with a byte in its region.
     #[tactic(auto, unfolding(crate::specs::TwoBenches::is_blind))]
-    pub(crate) fn is_blind(&self, slot: u8, command: &Command) -> bool
+    pub(crate) fn is_blind(&self, slot: Slot, command: &Command) -> bool
         ensures { result ≡ is_blind slot self.now command.now }
     {
         match (command.named(), self.target.region(slot)) {
@@ -163,11 +163,11 @@ impl Bench {
 
     /// Complements each byte of the region of a slot (b becomes 255 - b), and x1 to x31 of the context that is kept of its enclave (w
     /// becomes FFFFFFFF - w), of one that has ended too: a bench that agrees with the one before in all else. It answers false, and nothing
-    /// changes, only where the slot is free or over 12, its enclave runs, or the bench is bare.
+    /// changes, only where the slot is free, its enclave runs, or the bench is bare.
     ///
     /// `asked`, `meaning` and `same` are all of it. Of what follows, `agrees` is that the two benches differ in nothing but what is private
     /// to the slot's enclave, and `monitor` what holds in every state.
-    pub fn scramble(&mut self, slot: u8) -> bool
+    pub fn scramble(&mut self, slot: Slot) -> bool
         ensures asked { result ≡ can_scramble slot self.old }
         ensures meaning { result ≡ true → self.new ≡ scrambled slot self.old }
         ensures same { result ≡ false → self.new ≡ self.old }

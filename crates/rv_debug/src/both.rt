@@ -8,6 +8,7 @@ ghost use Rattle.rv_debug.specs.TwoBenches.{BenchesAgreeBut, both_answer, both_l
 use crate::bench::Bench;
 use crate::command::{Command, parse};
 use crate::reply::push_fault;
+use rv_monitor::Slot;
 use rv_text::Reply;
 
 /// Why commands for two benches ended.
@@ -45,16 +46,15 @@ pub struct Both {
 }
 
 /// Whether a slot is one of these, of which each has its bit set.
-#[tactic(auto, using(crate::proofs::EnteredSlots::none_above))]
-fn is_entered(slots: u16, slot: u8) -> bool
+fn is_entered(slots: u16, slot: Slot) -> bool
     ensures { result ≡ is_entered_in slot slots }
 {
-    slot < 16 && slots >> slot & 1 == 1
+    slots >> slot.number() & 1 == 1
 }
 
 /// Gives one command to two benches, and puts their replies in place of what the buffers hold. One that is not blind, a mem, dis or poke
-/// with a byte of the slot's region in one of them or in both, is done by neither, and both replies are empty. A slot that is free or over
-/// 12 has no region. It answers `Entered` exactly where the command entered the slot in one of them or in both; it was then done by both.
+/// with a byte of the slot's region in one of them or in both, is done by neither, and both replies are empty. A slot that is free
+/// has no region. It answers `Entered` exactly where the command entered the slot in one of them or in both; it was then done by both.
 ///
 /// `meaning` is all of it. `alike` is confidentiality: where the benches agreed in all but the region and the context of the slot, whose
 /// enclave runs in neither, the command is blind in both or in neither, and it enters the slot in both or in neither; and if in neither,
@@ -62,7 +62,7 @@ fn is_entered(slots: u16, slot: u8) -> bool
 pub fn both_command(
     a: &mut Bench,
     b: &mut Bench,
-    slot: u8,
+    slot: Slot,
     command: &Command,
     out_a: &mut Reply,
     out_b: &mut Reply,
@@ -82,7 +82,7 @@ pub fn both_command(
 fn give_both(
     a: &mut Bench,
     b: &mut Bench,
-    slot: u8,
+    slot: Slot,
     command: &Command,
     out_a: &mut Reply,
     out_b: &mut Reply,
@@ -110,7 +110,7 @@ fn give_both(
 pub fn both_line(
     a: &mut Bench,
     b: &mut Bench,
-    slot: u8,
+    slot: Slot,
     line: &[u8],
     out_a: &mut Reply,
     out_b: &mut Reply,
@@ -140,7 +140,7 @@ pub fn both_line(
 /// agreed in all but the region and the context of the slot, whose enclave runs in neither, all replies are equal and the benches agree
 /// at the end, and are equal once the enclave is gone; where the last command entered the slot, this is so before it. `first_spares` and
 /// `second_spares` are integrity: an enclave that rests through the commands keeps its record, its bytes and its context.
-pub fn run_both(a: &mut Bench, b: &mut Bench, slot: u8, commands: &[Command]) -> Both
+pub fn run_both(a: &mut Bench, b: &mut Bench, slot: Slot, commands: &[Command]) -> Both
     ensures meaning { both_run slot a.old b.old commands.now ≡ record { first = a.new; second = b.new; ran = result.ran; why = result.why } }
     ensures first { a.new ≡ after_commands a.old (take result.ran commands.now) }
     ensures second { b.new ≡ after_commands b.old (take result.ran commands.now) }
@@ -154,7 +154,7 @@ pub fn run_both(a: &mut Bench, b: &mut Bench, slot: u8, commands: &[Command]) ->
 }
 
 /// The commands one after another.
-fn run_commands(a: &mut Bench, b: &mut Bench, slot: u8, commands: &[Command]) -> Both
+fn run_commands(a: &mut Bench, b: &mut Bench, slot: Slot, commands: &[Command]) -> Both
     ensures { both_run slot a.old b.old commands.now ≡ record { first = a.new; second = b.new; ran = result.ran; why = result.why } }
 {
     let mut out_a = Reply::new();

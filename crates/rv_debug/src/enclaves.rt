@@ -9,7 +9,7 @@ ghost use Rattle.rv_monitor.specs.Table.{slot_at};
 ghost use Rattle.rv_debug.specs.Targets.{enclaves_text};
 
 use crate::target::Target;
-use rv_monitor::{Block, EnclaveState, SlotInfo, Table};
+use rv_monitor::{Block, EnclaveState, Slot, SlotInfo, Table};
 use rv_text::{Reply, push_decimal, push_hex, push_text};
 
 /// Writes how far an enclave is.
@@ -59,13 +59,13 @@ fn push_digest(out: &mut Reply, bytes: &[u8])
 
 /// Writes the record of a live enclave.
 #[tactic(auto, unfolding(crate::specs::EnclaveText::enclave_text))]
-fn push_enclave(out: &mut Reply, slot: u8, info: &SlotInfo)
+fn push_enclave(out: &mut Reply, slot: Slot, info: &SlotInfo)
     requires room { array_vec_len out.old + 137 ≤ 2048 }
     ensures items { out.new.items ≡ out.old.items ++ enclave_text slot info.now }
     ensures len { array_vec_len out.new ≤ array_vec_len out.old + 137 }
 {
     push_text(out, "enclave ");
-    push_decimal(out, u32::from(slot));
+    push_decimal(out, u32::from(slot.number()));
     push_text(out, " ");
     push_state(out, info.state);
     push_block(out, info.region);
@@ -77,13 +77,24 @@ fn push_enclave(out: &mut Reply, slot: u8, info: &SlotInfo)
 }
 
 /// Writes the record of a slot's enclave, if it is live.
-fn push_slot(out: &mut Reply, table: &Table, slot: u8)
+fn push_slot(out: &mut Reply, table: &Table, slot: Slot)
     requires room { array_vec_len out.old + 137 ≤ 2048 }
     ensures items { out.new.items ≡ out.old.items ++ slot_text slot (slot_at table.now slot) }
     ensures len { array_vec_len out.new ≤ array_vec_len out.old + 137 }
 {
     if let Some(info) = table.get(slot) {
         push_enclave(out, slot, info);
+    }
+}
+
+/// Writes the records of the enclaves of these slots, of each that is live.
+fn push_slots(out: &mut Reply, table: &Table, slots: &[Slot])
+    requires room { array_vec_len out.old + 137 * length slots.now ≤ 2048 }
+    ensures items { out.new.items ≡ out.old.items ++ flat_map (λ slot. slot_text slot (slot_at table.now slot)) slots.now }
+    ensures len { array_vec_len out.new ≤ array_vec_len out.old + 137 * length slots.now }
+{
+    for slot in slots {
+        push_slot(out, table, *slot);
     }
 }
 
@@ -94,9 +105,7 @@ fn push_table(out: &mut Reply, table: &Table)
     ensures items { out.new.items ≡ out.old.items ++ table_text table.now }
     ensures len { array_vec_len out.new ≤ array_vec_len out.old + 1781 }
 {
-    for slot in 0..13 {
-        push_slot(out, table, slot);
-    }
+    push_slots(out, table, &Slot::ALL);
 }
 
 /// Writes the records of a target's live enclaves; a machine alone has none.

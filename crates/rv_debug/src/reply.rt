@@ -77,7 +77,7 @@ fn push_world_name(out: &mut Reply, world: World)
         World::Host => push_text(out, "host"),
         World::Enclave(slot) => {
             push_text(out, "e");
-            push_decimal(out, u32::from(slot));
+            push_decimal(out, u32::from(slot.number()));
         }
     }
 }

@@ -14,7 +14,7 @@ use crate::addresses::Addresses;
 use crate::steps::{Ran, run_steps};
 use rv_hart::Machine;
 use rv_memory::Ram;
-use rv_monitor::{Block, Monitored};
+use rv_monitor::{Block, Monitored, Slot};
 use rv_pmp::Mode;
 use rv_state::{Csrs, Regs};
 use rv_word::Reg;
@@ -69,7 +69,7 @@ impl Target {
     }
 
     /// The region of a slot, where its enclave is live.
-    pub(crate) fn region(&self, slot: u8) -> Option<Block>
+    pub(crate) fn region(&self, slot: Slot) -> Option<Block>
         ensures { option_case result no_block (λ block. block) ≡ region_of slot self.now }
     {
         match self {
@@ -191,7 +191,7 @@ impl Target {
 
     /// Complements each byte of the region of a slot and x1 to x31 of its kept context, and answers whether its enclave is live and does not
     /// run; else nothing changes.
-    pub(crate) fn scramble(&mut self, slot: u8) -> bool
+    pub(crate) fn scramble(&mut self, slot: Slot) -> bool
         ensures asked { result ≡ can_scramble_in slot self.old }
         ensures meaning { OnTrue result (self.new ≡ scrambled_in slot self.old) }
         ensures same { OnFalse result (self.new ≡ self.old) }

@@ -1,5 +1,6 @@
 -- The monitor's work over two shared parts that agree but for what is private to an enclave.
-use Rattle.std.proofs.Common.{◌≡◌, ◌≢◌, ℕ, ◌+◌, ◌<◌, ◌≤◌, Bool, true, false, List, length, replicate, Option, Some, None, IfSome, refl, sym, ◌∙◌, ap, subst, inl, inr, arith}
+use Rattle.std.proofs.Common.{◌≡◌, ◌≢◌, ℕ, ◌+◌, ◌<◌, ◌≤◌, Bool, true, false, List, length, replicate, Option, Some, None, IfSome}
+use Rattle.std.proofs.Common.{refl, sym, ◌∙◌, ap, subst, inl, inr, arith}
 use Rattle.std.specs.Prelude.{nat_le, nat_lt, is_some}
 use Rattle.std.proofs.lemmas.Bool.{cases_Bool, cases_eq, both_ways, and_parts, and_from, leb-true, ltb-true, le-leb, lt-ltb}
 use Rattle.std.proofs.lemmas.List.{same_lists, get_or_default}
@@ -9,7 +10,10 @@ use Rattle.rv_monitor.specs.AgreeBut.{SameContexts}
 use Rattle.rv_monitor.specs.Create.{with_enclave}
 use Rattle.rv_monitor.specs.Destroy.{without}
 use Rattle.rv_monitor.specs.declared.call.Call.TheVariants as calls
-use Rattle.rv_monitor.proofs.Prelude.{AgreeOutside, Block, Context, Contexts, EnclaveState, IsLawfulSlot, IsValid, Proposal, Shared, SharedButFor, SlotInfo, Slots, context_at, created, destroyed, first_context, has, is_block_size, is_inside, is_lawful, is_live, is_private, measured, measurement_at, measurement_of, meets, new_slot, option_case, recorded, region, region_of, slot_at, with_bytes, with_context, with_slot, with_state, zeroed}
+use Rattle.rv_monitor.proofs.Prelude.{AgreeOutside, Block, Context, Contexts, EnclaveState, IsLawfulSlot, IsValid, Proposal, Shared, SharedButFor, SlotInfo}
+use Rattle.rv_monitor.proofs.Prelude.{Slots, context_at, created, destroyed, first_context, has, is_block_size, is_inside, is_lawful, is_live, is_private}
+use Rattle.rv_monitor.proofs.Prelude.{measured, measurement_at, measurement_of, meets, new_slot, option_case, recorded, region, region_of, slot_at, with_bytes}
+use Rattle.rv_monitor.proofs.Prelude.{with_context, with_slot, with_state, zeroed}
 use Rattle.rv_monitor.proofs.Agreement.{IsSeen, inside-is, same_read, read-none, write-alike, zeros-alike}
 use Rattle.rv_monitor.proofs.BlockLaws.{meets_at}
 use Rattle.rv_monitor.proofs.SavedLists.{same_at_set, same_after_set, length_after}
@@ -138,7 +142,8 @@ module _ (e : ℕ) (table : Slots) (m n : List ℕ) (cs ds : Contexts) (agree : 
     | inr other ↦
         let block = region table k in
         still (with_slot table k None) (zeroed m block) (zeroed n block) (with_context cs k None) (with_context ds k None)
-        (at_other table k e None (λ same. other (sym same))) (write-alike (is_private table e) m n block.base (replicate block.size 0) agree) (contexts_with e cs ds k None saved)
+        (at_other table k e None (λ same. other (sym same))) (write-alike (is_private table e) m n block.base (replicate block.size 0) agree)
+        (contexts_with e cs ds k None saved)
   ]
 
   region_inside : (o : Option SlotInfo) → IfSome o (IsLawfulSlot m) → is_some o ≡ true → is_inside m (region_of o).base (region_of o).size ≡ true

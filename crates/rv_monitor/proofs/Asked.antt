@@ -1,11 +1,16 @@
 -- What the monitor's work after a trap asks of memory and of the kept contexts.
-use Rattle.std.proofs.Common.{◌≡◌, ℕ, ◌+◌, ◌==◌, Bool, true, false, List, length, replicate, Option, Some, None, refl, sym, ap, ap₂, subst, inl, inr, arith}
+use Rattle.std.proofs.Common.{◌≡◌, ℕ, ◌+◌, ◌==◌, Bool, true, false, List, length, replicate, Option, Some, None, refl, sym, ap, ap₂, subst}
+use Rattle.std.proofs.Common.{inl, inr, arith}
 use Rattle.std.specs.Prelude.{not, slice_index}
 use Rattle.std.proofs.lemmas.Bool.{cases_eq, eq-eqb, both_ways, ne_eqb}
 use Rattle.rv_monitor.specs.Asked.{asked_by, is_entering, SameAsked, SameWhereSame, SameWork, AskedLaw, SameStep, AskedStepLaw}
 use Rattle.rv_monitor.specs.Create.{bytes_of_block}
 use Rattle.rv_monitor.specs.declared.next.Next.{Next}
-use Rattle.rv_monitor.proofs.Prelude.{AgreeOutside, Call, Cause, Context, Contexts, Create, Handled, MonitoredState, MonitoredStepped, Proposal, Running, Seat, Shared, Slots, StepOutcome, Trap, a0, a1, answered, bare, context_at, created, destroyed, entered, exited_context, first_context, handled, kept_context, left_slot, measured, measured_slot, measurement_at, measurement_of, monitored_step, new_slot, option_case, proposed, ram_base, recorded, region, returned, returned_to, seated, seated_beside, state_after, status_of, step, with_context, with_layout, with_slot, with_state, write}
+use Rattle.rv_monitor.proofs.Prelude.{AgreeOutside, Call, Cause, Context, Contexts, Create, Handled, MonitoredState, MonitoredStepped, Proposal, Running, Seat}
+use Rattle.rv_monitor.proofs.Prelude.{Shared, Slots, StepOutcome, Trap, a0, a1, answered, bare, context_at, created, destroyed, entered, exited_context}
+use Rattle.rv_monitor.proofs.Prelude.{first_context, handled, kept_context, left_slot, measured, measured_slot, measurement_at, measurement_of, monitored_step}
+use Rattle.rv_monitor.proofs.Prelude.{new_slot, option_case, proposed, ram_base, recorded, region, returned, returned_to, seated, seated_beside, state_after}
+use Rattle.rv_monitor.proofs.Prelude.{status_of, step, with_context, with_layout, with_slot, with_state, write}
 use Rattle.rv_monitor.proofs.Agreement.{or_same, write-alike}
 use Rattle.rv_monitor.proofs.SavedLists.{same_after_set}
 use Rattle.rv_monitor.proofs.TrapSteps.{seat_after, trapped_step}
@@ -103,7 +108,11 @@ module _ (table : Slots) (m n : List ℕ) (cs ds : Contexts) (size : length m �
       measures = λ asks may. answered_same _ _ 0 0 (measured_same (measured_slot seat.world (a0 seat)) (a1 seat));
       enters = λ call asks enters host taken. enters_same (asked.entered (entering_call call enters asks));
       leaves = λ k host runs kept.
-          record { seat = refl; next = refl; shared = with_kept (with_state table k (state_after trap.cause seat.hart.regs)) k (Some (kept_by trap.cause seat)) };
+          record {
+            seat = refl;
+            next = refl;
+            shared = with_kept (with_state table k (state_after trap.cause seat.hart.regs)) k (Some (kept_by trap.cause seat));
+          };
       stays = record { seat = refl; next = refl; shared = untouched };
       forwards = record { seat = refl; next = refl; shared = untouched };
     }) size
@@ -113,7 +122,8 @@ asked_law seat trap one other same =
     let tables = same.table in
     let same' : SameAsked seat trap.cause one (over one.table other.memory other.contexts) =
     record { table = refl; size = same.size; slots = same.slots; measured = same.measured; entered = same.entered } in
-    subst (λ (t : Slots). SameWork one (over t other.memory other.contexts) (handled seat one trap) (handled seat (over t other.memory other.contexts) trap)) tables
+    let there = λ (t : Slots). over t other.memory other.contexts in
+    subst (λ (t : Slots). SameWork one (there t) (handled seat one trap) (handled seat (there t) trap)) tables
     (handled_same one.table one.memory other.memory one.contexts other.contexts same.size same.slots seat trap same')
 
 -- ---- the step
@@ -133,7 +143,12 @@ returned_same : (one other : MonitoredState) (x y : StepOutcome) (a b : Handled)
     → SameStep one other (returned one.other x a) (returned other.other y b)
 returned_same one other x y a b beside same =
     let back : Seat → Next → Seat = λ seat next. record seat { hart = returned_to seat.hart next.pc next.mode } in
-    record { seat = ap₂ back same.seat same.next; beside = ap₂ seated_beside same.shared.table beside; entered = ap (λ (next : Next). next.entered) same.next; shared = same.shared }
+    record {
+      seat = ap₂ back same.seat same.next;
+      beside = ap₂ seated_beside same.shared.table beside;
+      entered = ap (λ (next : Next). next.entered) same.next;
+      shared = same.shared;
+    }
 
 pub asked_step_law : AskedStepLaw
 asked_step_law state other trap seats besides trapped trapped_too same =
@@ -144,4 +159,5 @@ asked_step_law state other trap seats besides trapped trapped_too same =
     let stepped : SameStep state other (returned state.other (step (bare state)).outcome (handled (seat_after state.seat trap) state.shared trap))
     (returned other.other (step (bare other)).outcome (left other.seat)) = returned_same state other _ _ _ _ besides works in
     subst (λ (after : MonitoredStepped). SameStep state other after (monitored_step other)) (sym (trapped_step state trap trapped))
-    (subst (SameStep state other (returned state.other (step (bare state)).outcome (handled (seat_after state.seat trap) state.shared trap))) (sym (trapped_step other trap trapped_too)) stepped)
+    (subst (SameStep state other (returned state.other (step (bare state)).outcome (handled (seat_after state.seat trap) state.shared trap)))
+    (sym (trapped_step other trap trapped_too)) stepped)

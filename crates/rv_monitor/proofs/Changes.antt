@@ -1,5 +1,6 @@
 -- A step changes the bytes that its instruction stored, the region that a destroy clears, or those that a measure puts.
-use Rattle.std.proofs.Common.{◌≡◌, ◌≢◌, ℕ, zero, suc, ◌+◌, ◌<◌, ◌≤◌, ◌⊎◌, true, false, List, [], length, replicate, Option, Some, None, IfSome, refl, sym, ◌∙◌, ap, subst, inl, inr, arith}
+use Rattle.std.proofs.Common.{◌≡◌, ◌≢◌, ℕ, zero, suc, ◌+◌, ◌<◌, ◌≤◌, ◌⊎◌, true, false, List, [], length, replicate, Option}
+use Rattle.std.proofs.Common.{Some, None, IfSome, refl, sym, ◌∙◌, ap, subst, inl, inr, arith}
 use Rattle.std.specs.Prelude.{is_some}
 use Rattle.std.proofs.lemmas.Bool.{both_ways, cases_lt, cases_Bool, and_from, and_parts, le-leb, lt-ltb}
 use Rattle.std.proofs.lemmas.List.{length-replicate}
@@ -11,7 +12,11 @@ use Rattle.rv_hart.specs.Permitted.{TouchesPermitted}
 use Rattle.rv_monitor.specs.Asked.{is_call}
 use Rattle.rv_monitor.specs.Changes.{IsStoredInReach, IsMeasured, ByMonitor, IsChanged, IsChangedWithin, ChangeLaw, RunsChangeLaw}
 use Rattle.rv_monitor.specs.Measure.{measure_refusals, may_store, may_store_all}
-use Rattle.rv_monitor.proofs.Prelude.{AgreeOn, Block, Call, Destroy, Entries, IsKept, IsLawfulSlot, IsValid, M, MayTouch, Measure, MonitoredState, S, Seat, Shared, SlotInfo, Span, Stepped, Stores, Trap, World, Write, a0, a1, asked_in, bare, byte_at, bytes_from, bytes_in, confined, created, data_mode, destroyed, entered, first_refusal, handled, has, is_inside, is_live, layout, left_slot, measured, measured_slot, monitored_step, option_case, permits, region, slot_at, step, touches_permitted, verdict, with_bytes, with_slot, worlds_beside, write, zeroed}
+use Rattle.rv_monitor.proofs.Prelude.{AgreeOn, Block, Call, Destroy, Entries, IsKept, IsLawfulSlot, IsValid, M, MayTouch, Measure, MonitoredState, S, Seat}
+use Rattle.rv_monitor.proofs.Prelude.{Shared, SlotInfo, Span, Stepped, Stores, Trap, World, Write, a0, a1, asked_in, bare, byte_at, bytes_from, bytes_in}
+use Rattle.rv_monitor.proofs.Prelude.{confined, created, data_mode, destroyed, entered, first_refusal, handled, has, is_inside, is_live, layout, left_slot}
+use Rattle.rv_monitor.proofs.Prelude.{measured, measured_slot, monitored_step, option_case, permits, region, slot_at, step, touches_permitted, verdict}
+use Rattle.rv_monitor.proofs.Prelude.{with_bytes, with_slot, worlds_beside, write, zeroed}
 use Rattle.rv_monitor.proofs.KeptReaches.{kept_reach, below_M, clear_mode}
 use Rattle.rv_monitor.proofs.Ready.{IsTrapped}
 use Rattle.rv_monitor.proofs.Reaches.{reach_law}
@@ -130,7 +135,8 @@ module _ (beside : List World) (seat : Seat) (shared : Shared) (trapped : IsTrap
     creates = λ asks may. inl refl;
     destroys = λ asks taken. by_call Destroy (destroyed shared (a0 seat)) asks (destroyed_changes seat shared byte trapped.ready.sound.valid asks.asked taken);
     measures = λ asks may.
-        by_call Measure (measured shared (measured_slot seat.world (a0 seat)) (a1 seat)) asks (measured_changes seat shared trapped.ready.sound.valid byte asks.asked may.live
+        by_call Measure (measured shared (measured_slot seat.world (a0 seat)) (a1 seat)) asks
+        (measured_changes seat shared trapped.ready.sound.valid byte asks.asked may.live
         (subst (λ (entries : Entries). may_store_all shared.memory entries (a1 seat) ≡ true) trapped.layout.entries may.stores));
     enters = λ call asks enters host taken. inl refl;
     leaves = λ k host runs is. inl refl;
@@ -171,7 +177,11 @@ module _ (state : MonitoredState) (kept : IsKept state) (byte : ℕ) where
       → Stored after.outcome.touched.stored after.state.memory
   bare_changes after is may =
       let agree : AgreeOn state.shared.memory state.shared.memory after.outcome.touched =
-      record { size = refl; fetched = same_in state.shared.memory after.outcome.touched.fetched; loaded = same_in state.shared.memory after.outcome.touched.loaded } in
+      record {
+        size = refl;
+        fetched = same_in state.shared.memory after.outcome.touched.fetched;
+        loaded = same_in state.shared.memory after.outcome.touched.loaded;
+      } in
       stored_by after.outcome.touched.stored is.bytes after.state.memory may.stored (is.alike state.shared.memory agree).here
 
 pub changes : ChangeLaw

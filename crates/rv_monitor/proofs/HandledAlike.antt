@@ -4,7 +4,10 @@ use Rattle.std.proofs.lemmas.Bool.{cases_Bool, cases_eq, both_ways, ne_eqb, eq-e
 use Rattle.rv_monitor.specs.AgreeBut.{SameContexts}
 use Rattle.rv_monitor.specs.Confidentiality.{HandledAlike, HandlerLaw}
 use Rattle.rv_monitor.specs.declared.slot_info.EnclaveState.TheVariants as states
-use Rattle.rv_monitor.proofs.Prelude.{AgreeOutside, Context, Contexts, Destroy, Enclave, EnclaveState, IsSound, Proposal, Seat, Shared, SharedButFor, Slots, Trap, World, a0, a1, answered, created, destroyed, entered, handled, is_live, is_private, is_world_of, kept_context, left_slot, measured, measured_slot, new_slot, proposed, seated, state_after, status_of, with_context, with_layout, with_state}
+use Rattle.rv_monitor.proofs.Prelude.{AgreeOutside, Context, Contexts, Destroy, Enclave, EnclaveState, IsSound, Proposal, Seat, Shared, SharedButFor, Slots}
+use Rattle.rv_monitor.proofs.Prelude.{Trap, World, a0, a1, answered, created, destroyed, entered, handled, is_live, is_private, is_world_of, kept_context}
+use Rattle.rv_monitor.proofs.Prelude.{left_slot, measured, measured_slot, new_slot, proposed, seated, state_after, status_of, with_context, with_layout}
+use Rattle.rv_monitor.proofs.Prelude.{with_state}
 use Rattle.rv_monitor.proofs.Alike.{itself, as_before, created_alike, destroyed_alike, measured_alike, switched_alike}
 use Rattle.rv_monitor.proofs.Refusals.{MayCreate, IsTaken}
 use Rattle.rv_monitor.proofs.Works.{by_work_of_both, entering, kept_by, leaving, over}
@@ -95,7 +98,8 @@ module _ (e : ℕ) (table : Slots) (m n : List ℕ) (cs ds : Contexts) (works : 
   ]
 
   leaves_alike : (k : ℕ) (host : Context) → seat.world ≡ Enclave k
-      → HandledAlike e (with_layout (leaving trap.cause seat here (Enclave k) (Some host))) (with_layout (leaving trap.cause seat there (Enclave k) (Some host)))
+      → HandledAlike e (with_layout (leaving trap.cause seat here (Enclave k) (Some host)))
+      (with_layout (leaving trap.cause seat there (Enclave k) (Some host)))
   unfolding left_slot
   leaves_alike k host runs =
       let other : (k == e) ≡ false = sym (ap (is_world_of e) runs) ∙ rests in

@@ -1,10 +1,12 @@
 -- Two harts, whose steps take turns in any order, by the laws of one step.
-use Rattle.std.proofs.Common.{◌≡◌, ℕ, zero, suc, ◌⊎◌, Bool, true, false, List, [], ◌∷◌, Option, Some, None, refl, sym, ap, ap₂, subst, inl, inr}
+use Rattle.std.proofs.Common.{◌≡◌, ℕ, zero, suc, ◌⊎◌, Bool, true, false, List, [], ◌∷◌, Option, Some, None, refl, sym, ap, ap₂, subst}
+use Rattle.std.proofs.Common.{inl, inr}
 use Rattle.std.specs.Prelude.{◌||◌}
 use Rattle.rv_monitor.specs.Confidentiality.{SteppedAlike}
 use Rattle.rv_monitor.specs.HartLaws.{Scheduled, sched, after_first, BothEnterIn, BothGoPast, SchedLaw, SchedKeptLaw}
 use Rattle.rv_monitor.specs.Step.{turned_stepped}
-use Rattle.rv_monitor.proofs.Prelude.{AgreeBut, IsKept, MonitoredState, MonitoredStepped, Outcome, Seat, Shared, is_world_of, monitored_step, seen_by, step_of, turned}
+use Rattle.rv_monitor.proofs.Prelude.{AgreeBut, IsKept, MonitoredState, MonitoredStepped, Outcome, Seat, Shared, is_world_of, monitored_step, seen_by, step_of}
+use Rattle.rv_monitor.proofs.Prelude.{turned}
 use Rattle.rv_monitor.proofs.MonitoredAlike.{confidentiality}
 use Rattle.rv_monitor.proofs.RunsAlike.{kept_law}
 use Rattle.rv_monitor.proofs.Turned.{seen_kept}
@@ -108,8 +110,11 @@ later e a b one other same (inr past) =
 pub sched_law : SchedLaw
 sched_law e [] one other here there agree = inr (record { outcomes = refl; state = agree })
 sched_law e (hart ∷ harts) one other here there agree = elim (step_alike e hart one other here there agree) [
-  | inl enter ↦ inl (first_enters e (step_of hart one).outcome (step_of hart other).outcome (sched harts (step_of hart one).state) (sched harts (step_of hart other).state) enter.here enter.there)
+  | inl enter ↦
+      inl (first_enters e (step_of hart one).outcome (step_of hart other).outcome (sched harts (step_of hart one).state)
+      (sched harts (step_of hart other).state) enter.here enter.there)
   | inr past ↦
-      later e (step_of hart one).outcome (step_of hart other).outcome (sched harts (step_of hart one).state) (sched harts (step_of hart other).state) past.outcome
+      later e (step_of hart one).outcome (step_of hart other).outcome (sched harts (step_of hart one).state)
+      (sched harts (step_of hart other).state) past.outcome
       (sched_law e harts (step_of hart one).state (step_of hart other).state (step_kept hart one here) (step_kept hart other there) past.state)
 ]

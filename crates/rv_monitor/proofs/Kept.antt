@@ -1,5 +1,6 @@
 -- The entries that are set are those of the layout.
-use Rattle.std.proofs.Common.{◌≡◌, ℕ, ◌-◌, ◌<◌, ◌==◌, Bool, true, false, List, Option, Some, None, refl, ◌∙◌, ap, ap₂, inl, inr, arith, length, map, slice_index}
+use Rattle.std.proofs.Common.{◌≡◌, ℕ, ◌-◌, ◌<◌, ◌==◌, Bool, true, false, List, Option, Some, None, refl, ◌∙◌, ap, ap₂, inl, inr}
+use Rattle.std.proofs.Common.{arith, length, map, slice_index}
 use Rattle.std.specs.Prelude.{if◌then◌else◌, nat_lt}
 use Rattle.std.proofs.lemmas.List.FromFn.{fill_by_all}
 use Rattle.std.proofs.lemmas.Bool.{cases_Bool}
@@ -7,10 +8,11 @@ use Rattle.rv_pmp.specs.Cfg.{is_locked, stored_cfg}
 use Rattle.rv_pmp.specs.Locks.{with_entries}
 use Rattle.std.proofs.lemmas.List.{length-map, get_or-map}
 use Rattle.rv_monitor.specs.Layout.{nothing, napot}
+use Rattle.rv_state.specs.Bits.{kept_bits}
 use Rattle.rv_state.specs.CsrTable.{enabled_of}
 use Rattle.rv_monitor.specs.Layout.{mie_of}
-use Rattle.rv_word.specs.Logic.{by_bits}
-use Rattle.rv_monitor.proofs.Prelude.{Enclave, Entries, Host, SlotInfo, Slots, World, entry_at, host_entry, is_world_of, layout, monitor_block, region_entry, slot_at, window_entry, window_entry_of}
+use Rattle.rv_monitor.proofs.Prelude.{Enclave, Entries, Host, SlotInfo, Slots, World, entry_at, host_entry, is_world_of, layout, monitor_block, region_entry}
+use Rattle.rv_monitor.proofs.Prelude.{slot_at, window_entry, window_entry_of}
 
 -- a cfg byte that the monitor uses is stored as it is, and locks nothing
 pub record IsPlain (cfg : ℕ) : Type 0 where
@@ -73,6 +75,6 @@ layout_from_each t w cfgs addrs cfgs_long addrs_long each_cfg each_addr =
 
 -- the monitor's value of mie is stored as it is
 pub mie_stored : (w : World) → enabled_of (mie_of w) ≡ mie_of w
-unfolding by_bits
+unfolding kept_bits
 mie_stored Host = refl
 mie_stored (Enclave k) = refl

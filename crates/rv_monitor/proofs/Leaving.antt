@@ -3,7 +3,8 @@ use Rattle.std.proofs.Common.{◌≡◌, ℕ, ◌⊎◌, true, Option, Some, Non
 use Rattle.rv_word.specs.BitFields.{is_set}
 use Rattle.rv_state.specs.declared.cause.Cause.TheVariants as causes
 use Rattle.rv_monitor.specs.Leaving.{LeaveLaw, kept_after, left_state}
-use Rattle.rv_monitor.proofs.Prelude.{Cause, Context, Enclave, Handled, Host, IsKept, MonitoredState, MonitoredStepped, Seat, StepOutcome, Trap, bare, can_go_on, handled, left_slot, reason, returned, state_after, step, value, with_layout}
+use Rattle.rv_monitor.proofs.Prelude.{Cause, Context, Enclave, Handled, Host, IsKept, MonitoredState, MonitoredStepped, Seat, StepOutcome, Trap, bare}
+use Rattle.rv_monitor.proofs.Prelude.{can_go_on, handled, left_slot, reason, returned, state_after, step, value, with_layout}
 use Rattle.rv_monitor.proofs.Refused.{or_none}
 use Rattle.rv_monitor.proofs.Switched.{aligned_again}
 use Rattle.rv_monitor.proofs.TrapSteps.{seat_after, trapped_step}

@@ -1,6 +1,5 @@
 pub mod Prelude
 pub mod Kept
-pub mod Sets
 pub mod Slots
 pub mod Valid
 pub mod Refusals
@@ -41,3 +40,4 @@ pub mod Changes
 pub mod Scrambled
 pub mod ScrambledTwice
 pub mod Touched
+pub mod StepLaws

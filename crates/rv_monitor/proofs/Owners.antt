@@ -1,9 +1,11 @@
 -- Which bytes each of the monitor's entries covers, and which blocks of a valid table share none.
-use Rattle.std.proofs.Common.{◌≡◌, ◌≢◌, ℕ, ◌+◌, ◌-◌, ◌^◌, ◌<◌, ◌≤◌, Bool, true, false, List, length, Option, Some, None, IfSome, refl, sym, ◌∙◌, ap, ap₂, inl, inr, arith, lit<, lit≤}
+use Rattle.std.proofs.Common.{◌≡◌, ◌≢◌, ℕ, ◌+◌, ◌-◌, ◌^◌, ◌<◌, ◌≤◌, Bool, true, false, List, length, Option, Some, None}
+use Rattle.std.proofs.Common.{IfSome, refl, sym, ◌∙◌, ap, ap₂, inl, inr, arith, lit<, lit≤}
 use Rattle.std.specs.Prelude.{◌%◌, ◌==◌, ◌&&◌, nat_le, nat_lt}
 use Rattle.std.proofs.Math.Nat.{div-eq_of_lt}
 use Rattle.std.proofs.lemmas.List.FromFn.{get_or-map-range_with_len}
-use Rattle.std.proofs.lemmas.Bool.{cases_eq, cond-true, cond-false, eqb-true, eq-eqb, ne_eqb, lt-ltb, leb-true, cases_Bool, and_parts, or_cases, both_ways, false_from_ne_true}
+use Rattle.std.proofs.lemmas.Bool.{cases_eq, cond-true, cond-false, eqb-true, eq-eqb, ne_eqb, lt-ltb, leb-true, cases_Bool, and_parts, or_cases, both_ways}
+use Rattle.std.proofs.lemmas.Bool.{false_from_ne_true}
 use Rattle.std.proofs.lemmas.Bool.Decides.{nat_tests}
 use Rattle.rv_pmp.specs.Cfg.{matching_of}
 use Rattle.rv_pmp.specs.Entries.{addr_of, addr_before}
@@ -11,7 +13,9 @@ use Rattle.rv_pmp.specs.Covers.{matches, napot_size, ones_at_end}
 use Rattle.rv_pmp.proofs.VerdictLemmas.{some_from_any}
 use Rattle.rv_monitor.specs.Blocks.{no_block}
 use Rattle.rv_monitor.specs.Layout.{Entry, napot, nothing}
-use Rattle.rv_monitor.proofs.Prelude.{Block, Enclave, Host, IsLawfulSlot, IsValid, SlotInfo, Slots, World, cfg_of, covers, entry_at, has, host_entry, is_block_size, is_host, is_lawful, is_window, is_world_of, layout, meets, monitor_block, ram_base, region, region_entry, region_of, slot_at, window, window_entry, window_entry_of, window_of}
+use Rattle.rv_monitor.proofs.Prelude.{Block, Enclave, Host, IsLawfulSlot, IsValid, SlotInfo, Slots, World, cfg_of, covers, entry_at, has, host_entry}
+use Rattle.rv_monitor.proofs.Prelude.{is_block_size, is_host, is_lawful, is_window, is_world_of, layout, meets, monitor_block, ram_base, region, region_entry}
+use Rattle.rv_monitor.proofs.Prelude.{region_of, slot_at, window, window_entry, window_entry_of, window_of}
 use Rattle.rv_monitor.proofs.BlockLaws.{meets_at}
 use Rattle.rv_monitor.proofs.Napots.{napot_addr, napot_matches}
 
@@ -175,7 +179,8 @@ module _ (memory : List ℕ) (t : Slots) (w : World) (ram_size : length memory �
   covers_monitor = at_entry 0 _ _ (lit< tt) (entry_at-monitor t w) (λ before. napot_matches ram_base 0x10000 13 before b (lit< tt) refl refl (lit≤ tt))
 
   pub covers_slot : (k : ℕ) → k < 13 → covers (layout t w) (k + 1) b ≡ has (region t k) b
-  covers_slot k in_range = at_entry (k + 1) _ _ (omega arith) (entry_at-slot t w k in_range) (λ before. region_covers memory w k (slot_at t k) before b ram_size (valid.lawful k))
+  covers_slot k in_range =
+      at_entry (k + 1) _ _ (omega arith) (entry_at-slot t w k in_range) (λ before. region_covers memory w k (slot_at t k) before b ram_size (valid.lawful k))
 
   pub covers_window : covers (layout t w) 14 b ≡ has (world_window t w) b
   covers_window = at_entry 14 _ _ (lit< tt) (entry_at-window t w) (λ before. window_owned memory t w before b ram_size valid)

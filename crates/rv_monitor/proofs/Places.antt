@@ -1,11 +1,13 @@
 -- The seats, each at its place: one read, and one put back.
-use Rattle.std.proofs.Common.{◌≡◌, ◌<◌, ℕ, zero, suc, ◌-◌, Bool, true, false, List, Option, Some, None, length, slice_set, ◌≢◌, refl, sym, ◌∙◌, ap, subst, arith}
+use Rattle.std.proofs.Common.{◌≡◌, ◌<◌, ℕ, zero, suc, ◌-◌, Bool, true, false, List, Option, Some, None, length, slice_set, ◌≢◌, refl, sym}
+use Rattle.std.proofs.Common.{◌∙◌, ap, subst, arith}
 use Rattle.std.specs.Prelude.{slice_index_or, if◌then◌else◌}
 use Rattle.std.proofs.lemmas.List.{get_or_default, get_or-set_same, get_or-set_other}
 use Rattle.rv_monitor.specs.State.{seat_at_start}
 use Rattle.rv_monitor.specs.Turns.{seat_at, beside, count_in, over}
 use Rattle.rv_monitor.specs.declared.seat.Seats.{Seats}
-use Rattle.rv_monitor.proofs.Prelude.{IsKept, MonitoredState, MonitoredStepped, OnTurn, Seat, Shared, Slots, as_seen, count_of, monitored_step, on_turn, option_case, seated_beside, seen_by}
+use Rattle.rv_monitor.proofs.Prelude.{IsKept, MonitoredState, MonitoredStepped, OnTurn, Seat, Shared, Slots, as_seen, count_of, monitored_step, on_turn}
+use Rattle.rv_monitor.proofs.Prelude.{option_case, seated_beside, seen_by}
 
 -- a seat is what is read at its place, whatever is past the end
 pub seat_read : (seats : List Seat) (hart : ℕ) (past : Seat) → length seats ≡ 2 → hart < 2 → seat_at seats hart ≡ slice_index_or seats hart past
@@ -35,7 +37,8 @@ put_back seats seat shared two has =
 
 -- and the entries and mie of the other hart set
 pub laid_beside : (seats after : Seats) (own : Seat) (shared : Shared) (table : Slots) → length seats.by_hart ≡ 2 → seats.turn < 2
-    → (let mid : Seats = record seats { by_hart = slice_set seats.by_hart seats.turn own } in over after shared ≡ record (over mid shared) { other = seated_beside table (beside mid) })
+    → (let mid : Seats = record seats { by_hart = slice_set seats.by_hart seats.turn own } in
+    over after shared ≡ record (over mid shared) { other = seated_beside table (beside mid) })
     → over after shared ≡ record (with_own seats own shared) { other = seated_beside table (beside seats) }
 laid_beside seats after own shared table two has laid =
     laid ∙ ap (λ (state : MonitoredState). let last : MonitoredState =

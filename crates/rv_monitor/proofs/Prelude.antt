@@ -34,13 +34,15 @@ pub use Rattle.rv_monitor.specs.Measure.{measured_slot, measurement_at, with_byt
 unfoldable pub use Rattle.rv_monitor.specs.Measure.{measured}
 pub use Rattle.rv_monitor.specs.Refusals.{first_refusal}
 pub use Rattle.rv_monitor.specs.Runs.{run}
-pub use Rattle.rv_monitor.specs.State.{AreApart, AreStored, HostIsStored, IsKept, IsSeated, IsSound, MonitoredState, OnTurn, count_of, is_held, is_host, seated, seated_beside, seen_by, turned, worlds_beside}
+pub use Rattle.rv_monitor.specs.State.{AreApart, AreStored, HostIsStored, IsKept, IsSeated, IsSound, MonitoredState, OnTurn, count_of, is_held, is_host, seated}
+pub use Rattle.rv_monitor.specs.State.{seated_beside, seen_by, turned, worlds_beside}
 pub use Rattle.rv_monitor.specs.Step.{MonitoredStepped, answered, forwarded, handled_cause, past_call, refused, returned, returned_to, unhandled, with_layout}
 unfoldable pub use Rattle.rv_monitor.specs.Step.{handled, monitored_step, step_of}
 pub use Rattle.rv_monitor.specs.SwitchLaws.{StaysOrSwitches, reason, value}
 pub use Rattle.rv_monitor.specs.Switches.{Handled}
 unfoldable pub use Rattle.rv_monitor.specs.Switches.{entered, left_slot}
-pub use Rattle.rv_monitor.specs.Table.{IsLawfulSlot, IsValid, Slots, is_live, is_running, is_world_of, region, region_of, runs, slot_at, window, window_of, with_slot, with_state}
+pub use Rattle.rv_monitor.specs.Table.{IsLawfulSlot, IsValid, Slots, is_live, is_running, is_world_of, region, region_of, runs, slot_at, window, window_of}
+pub use Rattle.rv_monitor.specs.Table.{with_slot, with_state}
 unfoldable pub use Rattle.rv_monitor.specs.Table.{is_window}
 pub use Rattle.rv_monitor.specs.Turns.{as_seen, on_turn}
 pub use Rattle.rv_monitor.specs.Unlocked.{HasNoLock}

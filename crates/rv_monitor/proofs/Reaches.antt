@@ -1,14 +1,18 @@
 -- S and U do an access exactly where it is in reach.
-use Rattle.std.proofs.Common.{◌≡◌, ◌≢◌, ℕ, ◌+◌, ◌-◌, ◌<◌, ◌≤◌, ◌⊎◌, ◌==◌, Bool, true, false, not, ◌&&◌, List, Option, Some, None, refl, sym, ◌∙◌, ap, inl, inr, arith, lit<, length}
+use Rattle.std.proofs.Common.{◌≡◌, ◌≢◌, ℕ, ◌+◌, ◌-◌, ◌<◌, ◌≤◌, ◌⊎◌, ◌==◌, Bool, true, false, not, ◌&&◌, List}
+use Rattle.std.proofs.Common.{Option, Some, None, refl, sym, ◌∙◌, ap, inl, inr, arith, lit<, length}
 use Rattle.std.specs.Prelude.{nat_le, ◌%◌}
 use Rattle.std.proofs.lemmas.List.{get_or_past}
 use Rattle.std.specs.List.{list_any, list_all}
-use Rattle.std.proofs.lemmas.Bool.{cases_lt, cases_eq, cases_Bool, eqb-true, eq-eqb, ne_eqb, both_ways, false≢true, or_left, or_right, or_cases, and_from, and_parts, not-true, le-leb, leb-true, ltb-true, false_from_ne_true}
+use Rattle.std.proofs.lemmas.Bool.{cases_lt, cases_eq, cases_Bool, eqb-true, eq-eqb, ne_eqb, both_ways, false≢true, or_left, or_right, or_cases, and_from}
+use Rattle.std.proofs.lemmas.Bool.{and_parts, not-true, le-leb, leb-true, ltb-true, false_from_ne_true}
 use Rattle.rv_pmp.specs.declared.mode.Mode.TheVariants.{U}
 use Rattle.rv_pmp.specs.Cfg.{has_permission, grants}
 use Rattle.rv_pmp.specs.Verdicts.{decided, undecided}
 use Rattle.rv_pmp.proofs.VerdictLemmas.{any_at, any_none, all_each, each_from_all, none_from_any, IsFirst, verdict_decided}
-use Rattle.rv_monitor.proofs.Prelude.{Access, Enclave, Entries, Fetch, Host, IsValid, M, Mode, Read, S, SlotInfo, Slots, World, Write, bytes_from, bytes_in, cfg_of, covers, has, host_entry, is_host, is_inside, is_ram_size, is_world_of, layout, monitor_block, permits, ram_base, region, region_entry, region_of, slot_at, verdict, window, window_entry, window_entry_of, window_of}
+use Rattle.rv_monitor.proofs.Prelude.{Access, Enclave, Entries, Fetch, Host, IsValid, M, Mode, Read, S, SlotInfo, Slots, World, Write, bytes_from, bytes_in}
+use Rattle.rv_monitor.proofs.Prelude.{cfg_of, covers, has, host_entry, is_host, is_inside, is_ram_size, is_world_of, layout, monitor_block, permits, ram_base}
+use Rattle.rv_monitor.proofs.Prelude.{region, region_entry, region_of, slot_at, verdict, window, window_entry, window_entry_of, window_of}
 use Rattle.rv_monitor.proofs.Scans.{same_any, same_all, verdict_cases}
 use Rattle.rv_monitor.specs.Table.{is_in_region}
 use Rattle.rv_monitor.specs.Layout.{Entry, nothing as nothing_cfg, all as all_cfg, read_write}
@@ -17,7 +21,8 @@ use Rattle.rv_monitor.specs.Access.{ApartLaw}
 use Rattle.rv_word.specs.declared.width.Width.{Width}
 use Rattle.rv_word.specs.declared.width.Width.TheVariants.{Byte, Half, Word}
 use Rattle.rv_monitor.proofs.Napots.{same_test}
-use Rattle.rv_monitor.proofs.Owners.{cfg_of-layout, entry_at-monitor, entry_at-slot, entry_at-window, entry_at-host, world_window, covers_monitor, covers_slot, covers_window, covers_host, has_nothing, IsApart, apart}
+use Rattle.rv_monitor.proofs.Owners.{cfg_of-layout, entry_at-monitor, entry_at-slot, entry_at-window, entry_at-host, world_window, covers_monitor, covers_slot}
+use Rattle.rv_monitor.proofs.Owners.{covers_window, covers_host, has_nothing, IsApart, apart}
 
 -- ---- verdicts in S and U
 
@@ -130,7 +135,8 @@ host_reaches memory t (Enclave k) access bytes host all = absurd (false≢true h
 -- the ways to be in reach
 reach_cases : (memory : List ℕ) (t : Slots) (w : World) (access : Access) (bytes : List ℕ) → in_reach memory t w access bytes ≡ true →
     ((is_host w ≡ true) × (list_all (host_has memory t) bytes ≡ true))
-    ⊎ ((k : ℕ) × (w ≡ Enclave k) × ((list_all (has (region t k)) bytes ≡ true) ⊎ ((access ≢ Fetch) × (list_all (has (window t k)) bytes ≡ true))))
+    ⊎ ((k : ℕ) × (w ≡ Enclave k)
+    × ((list_all (has (region t k)) bytes ≡ true) ⊎ ((access ≢ Fetch) × (list_all (has (window t k)) bytes ≡ true))))
 unfolding in_reach
 reach_cases memory t Host access bytes reached = elim (or_cases _ _ reached) [ inl all ↦ inl (refl, all) | inr none ↦ absurd (false≢true none) ]
 reach_cases memory t (Enclave k) Fetch bytes reached =
@@ -177,7 +183,9 @@ reached_apart memory t w access a n k valid other reached b low high =
     let apart_bytes = apart memory t valid in
     elim (reach_cases memory t w access (bytes_from a n) reached) [
       | inl host ↦
-          let parts = and_parts (not (has monitor_block b)) (not (is_in_region t b)) (and_parts (is_inside memory b 1) _ (each_from_all (host_has memory t) a n host.1 b low high)).1 in
+          let parts =
+          and_parts (not (has monitor_block b)) (not (is_in_region t b))
+          (and_parts (is_inside memory b 1) _ (each_from_all (host_has memory t) a n host.1 b low high)).1 in
           false_from_ne_true _ (λ held. both_ways _
           (none_from_any (λ j. has (region t j) b) 0 13 (not-true _ parts.1) k (omega arith) (slot_in_range memory t w k b valid held))
           held)
@@ -186,7 +194,8 @@ reached_apart memory t w access a n k valid other reached b low high =
           let apart : j ≢ k = λ same. both_ways _ other (rw enclave.1 (eq-eqb j k same)) in
           elim enclave.2 [
             | inl inner ↦ apart_bytes.regions_apart j k b apart (each_from_all (has (region t j)) a n inner b low high)
-            | inr outer ↦ false_from_ne_true _ (λ held. both_ways _ (apart_bytes.windows_apart k j b held) (each_from_all (has (window t j)) a n outer.1 b low high))
+            | inr outer ↦
+                false_from_ne_true _ (λ held. both_ways _ (apart_bytes.windows_apart k j b held) (each_from_all (has (window t j)) a n outer.1 b low high))
           ]
     ]
 
@@ -236,7 +245,9 @@ module _ (memory : List ℕ) (t : Slots) (w : World) (mode : Mode) (access : Acc
   host_set : ((j : ℕ) → j < 15 → list_any (covers entries j) bytes ≡ false) → list_all (host_has memory t) bytes ≡ true
   host_set none = all_each (host_has memory t) a n (λ b low high.
       let no_monitor = none_from_any (has monitor_block) a n (sym any_monitor ∙ none 0 (lit< tt)) b low high in
-      let no_region = any_none (λ k. has (region t k) b) 0 13 (λ k k_low k_high. none_from_any (has (region t k)) a n (sym (any_slot k k_high) ∙ none (k + 1) (omega arith)) b low high) in
+      let no_region =
+      any_none (λ k. has (region t k) b) 0 13
+      (λ k k_low k_high. none_from_any (has (region t k)) a n (sym (any_slot k k_high) ∙ none (k + 1) (omega arith)) b low high) in
       let in_ram : is_inside memory b 1 ≡ true = inside_from memory b (omega (arith, inside.0)) (omega (arith, inside.1)) in
       and_from _ _ in_ram (and_from _ _ (ap not no_monitor) (ap not no_region)))
 
@@ -273,7 +284,9 @@ module _ (memory : List ℕ) (t : Slots) (w : World) (mode : Mode) (access : Acc
     | inl found ↦
         let i = found.0 in
         let all = list_all (covers entries i) bytes in
-        let parts = and_parts all (grants mode access (cfg_of entries i)) (sym (permits-decided entries mode access i all) ∙ ap permits (sym found.1) ∙ permitted) in
+        let parts =
+        and_parts all (grants mode access (cfg_of entries i))
+        (sym (permits-decided entries mode access i all) ∙ ap permits (sym found.1) ∙ permitted) in
         reached_by i found.2 parts.0 parts.1
     | inr nothing ↦ absurd (both_ways _ (undecided_refuses mode below) (ap permits (sym nothing) ∙ permitted))
   ]
@@ -290,7 +303,9 @@ module _ (memory : List ℕ) (t : Slots) (w : World) (mode : Mode) (access : Acc
   done_by_host : is_host w ≡ true → list_all (host_has memory t) bytes ≡ true → permits (verdict entries mode access bytes) ≡ true
   done_by_host host all =
       let held : (b : ℕ) → a ≤ b → b < a + n → (has monitor_block b ≡ false) × (is_in_region t b ≡ false) = λ b low high.
-      let parts = and_parts (not (has monitor_block b)) (not (is_in_region t b)) (and_parts (is_inside memory b 1) _ (each_from_all (host_has memory t) a n all b low high)).1 in
+      let parts =
+      and_parts (not (has monitor_block b)) (not (is_in_region t b))
+      (and_parts (is_inside memory b 1) _ (each_from_all (host_has memory t) a n all b low high)).1 in
       (not-true _ parts.0, not-true _ parts.1) in
       done_by 15 (lit< tt)
       (all_each (covers entries 15) a n (λ b low high. covers_host memory t w ram_size valid b (omega (arith, inside.1, ram_size)) ∙ host))
@@ -321,7 +336,9 @@ module _ (memory : List ℕ) (t : Slots) (w : World) (mode : Mode) (access : Acc
         | inr later ↦ elim later [
           | inl slot ↦
               let other : k ≢ slot.0 = omega (arith, slot.2) in
-              rw slot.2 (any_slot slot.0 slot.1 ∙ any_none (has (region t slot.0)) a n (λ b low high. apart_bytes.regions_apart k slot.0 b other (held b low high)))
+              rw slot.2
+              (any_slot slot.0 slot.1
+              ∙ any_none (has (region t slot.0)) a n (λ b low high. apart_bytes.regions_apart k slot.0 b other (held b low high)))
           | inr last ↦ absurd (elim last [ inl window ↦ omega arith | inr host ↦ omega arith ])
         ]
       ])

@@ -10,7 +10,8 @@ use Rattle.rv_monitor.specs.Refusals.{state_refusals, is_taken}
 use Rattle.rv_monitor.specs.Table.{free_slot}
 use Rattle.rv_monitor.specs.declared.call.Call.TheVariants.{Run, Resume, Stop}
 use Rattle.rv_monitor.specs.declared.slot_info.EnclaveState.TheVariants as states
-use Rattle.rv_monitor.proofs.Prelude.{Call, Contexts, Create, Destroy, EnclaveState, Entries, Exit, Measure, Proposal, Refusal, Shared, SlotInfo, Slots, first_refusal, is_lawful, is_live, is_running, is_window, new_slot, option_case, overlaps, slot_at}
+use Rattle.rv_monitor.proofs.Prelude.{Call, Contexts, Create, Destroy, EnclaveState, Entries, Exit, Measure, Proposal, Refusal, Shared, SlotInfo, Slots}
+use Rattle.rv_monitor.proofs.Prelude.{first_refusal, is_lawful, is_live, is_running, is_window, new_slot, option_case, overlaps, slot_at}
 use Rattle.rv_monitor.proofs.Valid.{lawful_by_size, window_by_size}
 
 -- where no row holds, the first does not, nor one of the rest

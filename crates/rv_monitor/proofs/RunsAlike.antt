@@ -55,7 +55,9 @@ later e a b one other same (inr past) =
 pub run_law : RunLaw
 run_law e zero one other here there agree = inr (record { outcomes = refl; state = agree })
 run_law e (suc n) one other here there agree = elim (confidentiality one here e other there agree) [
-  | inl enter ↦ inl (first_enters e (monitored_step one).outcome (monitored_step other).outcome (run n (monitored_step one).state) (run n (monitored_step other).state) enter.here enter.there)
+  | inl enter ↦
+      inl (first_enters e (monitored_step one).outcome (monitored_step other).outcome (run n (monitored_step one).state)
+      (run n (monitored_step other).state) enter.here enter.there)
   | inr past ↦
       later e (monitored_step one).outcome (monitored_step other).outcome (run n (monitored_step one).state) (run n (monitored_step other).state) past.outcome
       (run_law e n (monitored_step one).state (monitored_step other).state (kept_law one here) (kept_law other there) past.state)

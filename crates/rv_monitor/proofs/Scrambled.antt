@@ -1,5 +1,6 @@
 -- A scrambled state agrees with the one before but for its slot, and keeps what is true in every state.
-use Rattle.std.proofs.Common.{◌≡◌, ℕ, ◌+◌, ◌-◌, ◌<◌, Bool, true, false, List, length, Option, Some, None, IfSome, refl, sym, ap, ◌∙◌, inl, inr, arith, subst, length-set}
+use Rattle.std.proofs.Common.{◌≡◌, ℕ, ◌+◌, ◌-◌, ◌<◌, Bool, true, false, List, length, Option, Some, None, IfSome, refl, sym, ap, ◌∙◌}
+use Rattle.std.proofs.Common.{inl, inr, arith, subst, length-set}
 use Rattle.std.specs.Prelude.{is_some, nat_le, nat_lt, not, if◌then◌else◌}
 use Rattle.std.specs.Option.{option_map}
 use Rattle.std.proofs.lemmas.Bool.{cases_lt, cases_eq, cases_Bool, and_from, le-leb, lt-ltb}
@@ -7,7 +8,9 @@ use Rattle.rv_memory.proofs.Complements.{with_complements, length-with_complemen
 use Rattle.rv_monitor.specs.Scramble.{can_scramble, complemented_context, complemented_block, scrambled_shared, scrambled}
 use Rattle.std.specs.List.{list_any}
 use Rattle.rv_monitor.specs.State.{worlds}
-use Rattle.rv_monitor.proofs.Prelude.{AgreeBut, AgreeOutside, Block, Context, Contexts, IsKept, IsSound, MonitoredState, Shared, SharedButFor, SlotInfo, World, can_go_on, context_at, has, is_held, is_inside, is_live, is_running, is_world_of, option_case, ram_base, region, runs, slot_at, with_context, worlds_beside}
+use Rattle.rv_monitor.proofs.Prelude.{AgreeBut, AgreeOutside, Block, Context, Contexts, IsKept, IsSound, MonitoredState, Shared, SharedButFor, SlotInfo, World}
+use Rattle.rv_monitor.proofs.Prelude.{can_go_on, context_at, has, is_held, is_inside, is_live, is_running, is_world_of, option_case, ram_base, region, runs}
+use Rattle.rv_monitor.proofs.Prelude.{slot_at, with_context, worlds_beside}
 use Rattle.rv_monitor.proofs.Agreement.{inside-is, read-none}
 use Rattle.rv_monitor.proofs.Alike.{itself}
 use Rattle.rv_monitor.proofs.Slots.{at_same, at_other, or-first, or-second}

@@ -1,5 +1,6 @@
 -- What is scrambled twice is as it was.
-use Rattle.std.proofs.Common.{◌≡◌, ℕ, zero, suc, ◌-◌, ◌^◌, ◌<◌, true, List, [], ◌∷◌, map, get_or, Option, Some, None, IfSome, refl, ap, ap₂, inl, inr, arith}
+use Rattle.std.proofs.Common.{◌≡◌, ℕ, zero, suc, ◌-◌, ◌^◌, ◌<◌, true, List, [], ◌∷◌, map, get_or, Option, Some, None, IfSome, refl}
+use Rattle.std.proofs.Common.{ap, ap₂, inl, inr, arith}
 use Rattle.std.specs.Prelude.{slice_index, slice_index_or, slice_set}
 use Rattle.std.specs.Option.{option_map}
 use Rattle.std.proofs.lemmas.Bool.{cases_Bool}

@@ -1,5 +1,6 @@
 -- What the harts share stays sound over each call.
-use Rattle.std.proofs.Common.{◌≡◌, ◌≢◌, ℕ, zero, suc, ◌+◌, ◌<◌, Bool, true, false, List, ◌∷◌, Option, Some, None, IfSome, length, refl, sym, ap, ◌∙◌, subst, inl, inr, arith, length-set, replicate}
+use Rattle.std.proofs.Common.{◌≡◌, ◌≢◌, ℕ, zero, suc, ◌+◌, ◌<◌, Bool, true, false, List, ◌∷◌, Option, Some, None, IfSome, length}
+use Rattle.std.proofs.Common.{refl, sym, ap, ◌∙◌, subst, inl, inr, arith, length-set, replicate}
 use Rattle.std.specs.Prelude.{◌==◌, ◌%◌, is_some}
 use Rattle.std.specs.List.{list_any, find, range_with_len}
 use Rattle.std.specs.Option.{is_none}
@@ -11,7 +12,10 @@ use Rattle.sha2.proofs.Facts256.{length-sha256}
 use Rattle.rv_monitor.specs.Destroy.{without}
 use Rattle.rv_monitor.specs.Table.{free_slot}
 use Rattle.rv_monitor.specs.declared.call.Call.TheVariants as calls
-use Rattle.rv_monitor.proofs.Prelude.{AreApart, Block, Context, Enclave, EnclaveState, Host, IsSound, Proposal, Running, Shared, SlotInfo, Slots, World, can_go_on, context_at, created, destroyed, first_context, has, is_held, is_lawful, is_running, is_window, is_world_of, length-write, measured, measurement_at, measurement_of, new_slot, option_case, overlaps, recorded, region, runs, slot_at, window, with_bytes, with_context, with_slot, with_state, write, zeroed}
+use Rattle.rv_monitor.proofs.Prelude.{AreApart, Block, Context, Enclave, EnclaveState, Host, IsSound, Proposal, Running, Shared, SlotInfo, Slots, World}
+use Rattle.rv_monitor.proofs.Prelude.{can_go_on, context_at, created, destroyed, first_context, has, is_held, is_lawful, is_running, is_window, is_world_of}
+use Rattle.rv_monitor.proofs.Prelude.{length-write, measured, measurement_at, measurement_of, new_slot, option_case, overlaps, recorded, region, runs, slot_at}
+use Rattle.rv_monitor.proofs.Prelude.{window, with_bytes, with_context, with_slot, with_state, write, zeroed}
 use Rattle.rv_monitor.proofs.Refusals.{MayCreate, IsTaken, takes_rests}
 use Rattle.rv_monitor.proofs.Slots.{at_same, at_other, IsFree, free_from}
 use Rattle.rv_monitor.proofs.Valid.{Fits, valid_with, nothing_fits, own_fits, valid_by_size}
@@ -150,7 +154,8 @@ created_done shared worlds new k sound lawful window apart entry is =
     let info = recorded shared.memory new in
     let before : false ≡ list_any (is_world_of k) worlds = sym (ap running_in slot.free) ∙ sound.running k in
     sound_with shared worlds worlds k (Some info) (Some (first_context info)) shared.memory sound slot.in_range refl
-    (new_fits shared new k lawful window entry (free_from shared.table new apart)) refl (first_goes_on info (entry_aligned new entry)) before (λ j other. refl) sound.apart
+    (new_fits shared new k lawful window entry (free_from shared.table new apart)) refl (first_goes_on info (entry_aligned new entry)) before
+    (λ j other. refl) sound.apart
 
 pub created_sound : (shared : Shared) (worlds : List World) (new : Proposal) → MayCreate shared new → IsSound shared worlds
     → IsSound (created shared new) worlds
@@ -226,7 +231,8 @@ module _ (beside : List World) where
       let none : list_any (is_world_of k) beside ≡ false = sym (sound.running k) ∙ ap running_in is ∙ rests in
       rw (with_state_is shared.table k info Running is)
       (sound_with shared (Host ∷ beside) (Enclave k ∷ beside) k (Some (record info { state = Running })) None shared.memory sound
-      (live_in_range shared.table k info sound.valid.count is) refl (own_fits shared.memory shared.table k info Running sound.valid is) refl tt here (λ j other. alone j k other)
+      (live_in_range shared.table k info sound.valid.count is) refl (own_fits shared.memory shared.table k info Running sound.valid is) refl tt here
+      (λ j other. alone j k other)
       (λ j own. apart_from k j none own, sound.apart.1))
 
   pub left_sound : (shared : Shared) (k : ℕ) (info : SlotInfo) (state : EnclaveState) (kept : Context) → IsSound shared (Enclave k ∷ beside)
@@ -239,5 +245,6 @@ module _ (beside : List World) where
       let none : list_any (is_world_of k) beside ≡ false = sound.apart.0 k own in
       rw (with_state_is shared.table k info state is)
       (sound_with shared (Enclave k ∷ beside) (Host ∷ beside) k (Some (record info { state = state })) (Some kept) shared.memory sound
-      (live_in_range shared.table k info sound.valid.count is) refl (own_fits shared.memory shared.table k info state sound.valid is) kept_is held (rests ∙ sym none) (λ j other. sym (alone j k other))
+      (live_in_range shared.table k info sound.valid.count is) refl (own_fits shared.memory shared.table k info state sound.valid is) kept_is held
+      (rests ∙ sym none) (λ j other. sym (alone j k other))
       (λ j own. let never : false ≡ true = own in cc, sound.apart.1))

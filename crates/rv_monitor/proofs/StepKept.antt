@@ -8,7 +8,9 @@ use Rattle.rv_state.specs.MachineParts.{machine_parts}
 use Rattle.rv_hart.specs.Confinement.{IsConfined, SameIn}
 use Rattle.rv_hart.specs.StepLaws.{TrapKeeps, KeepsMprvClear, KeepsMachineParts, StaysBelow}
 use Rattle.rv_monitor.specs.State.{worlds}
-use Rattle.rv_monitor.proofs.Prelude.{AgreeOn, CsrState, Entries, Handled, Hart, HasNoLock, HostIsStored, IsKept, IsSeated, IsSound, MonitoredState, Seat, Shared, Slots, Span, State, Stepped, Stores, Trap, World, aligned_to_4, cfg_of, entry_at, handled, layout, length-write, monitored_step, returned_to, seated, seated_beside, step, step_counted, trapped, worlds_beside}
+use Rattle.rv_monitor.proofs.Prelude.{AgreeOn, CsrState, Entries, Handled, Hart, HasNoLock, HostIsStored, IsKept, IsSeated, IsSound, MonitoredState, Seat}
+use Rattle.rv_monitor.proofs.Prelude.{Shared, Slots, Span, State, Stepped, Stores, Trap, World, aligned_to_4, cfg_of, entry_at, handled, layout, length-write}
+use Rattle.rv_monitor.proofs.Prelude.{monitored_step, returned_to, seated, seated_beside, step, step_counted, trapped, worlds_beside}
 use Rattle.rv_monitor.proofs.Kept.{entry_is_plain}
 use Rattle.rv_monitor.proofs.Ready.{IsTrapped, IsDone, IsLaidOut}
 use Rattle.rv_monitor.proofs.Sound.{sound_by_size}
@@ -57,7 +59,8 @@ abbrev shared_after : MonitoredState → List ℕ → Shared
 shared_after state memory = record state.shared { memory = memory }
 
 trapped_at : (state : MonitoredState) (trap : Trap) (memory : List ℕ) → IsKept state → length state.shared.memory ≡ length memory
-    → IsTrapped (worlds_beside state.other) (seat_after state (step_counted (trapped state.seat.hart trap) false state.seat.hart.csrs.mcountinhibit None)) (shared_after state memory)
+    → IsTrapped (worlds_beside state.other)
+    (seat_after state (step_counted (trapped state.seat.hart trap) false state.seat.hart.csrs.mcountinhibit None)) (shared_after state memory)
 trapped_at state trap memory kept size = record {
   ready = record {
     sound = sound_by_size state.shared (worlds state) memory kept.shared size;
@@ -71,7 +74,8 @@ trapped_at state trap memory kept size = record {
 
 -- after the trap itself
 pub trapped_here : (state : MonitoredState) (trap : Trap) → IsKept state
-    → IsTrapped (worlds_beside state.other) (seat_after state (step_counted (trapped state.seat.hart trap) false state.seat.hart.csrs.mcountinhibit None)) state.shared
+    → IsTrapped (worlds_beside state.other)
+    (seat_after state (step_counted (trapped state.seat.hart trap) false state.seat.hart.csrs.mcountinhibit None)) state.shared
 trapped_here state trap kept = trapped_at state trap state.shared.memory kept refl
 
 trapped_if : (state : MonitoredState) (o : Option Trap) (trap : Trap) (hart : Hart) (memory : List ℕ) → o ≡ Some trap → IsKept state
@@ -80,7 +84,8 @@ trapped_if : (state : MonitoredState) (o : Option Trap) (trap : Trap) (hart : Ha
     → IsTrapped (worlds_beside state.other) (seat_after state hart) (shared_after state memory)
 trapped_if state None trap hart memory is kept size keeps = cc
 trapped_if state (Some t) trap hart memory is kept size keeps =
-    subst (λ (h : Hart). IsTrapped (worlds_beside state.other) (seat_after state h) (shared_after state memory)) (sym keeps.0) (trapped_at state t memory kept size)
+    subst (λ (h : Hart). IsTrapped (worlds_beside state.other) (seat_after state h) (shared_after state memory)) (sym keeps.0)
+    (trapped_at state t memory kept size)
 
 pub after_trap : (state : MonitoredState) (after : Stepped) (trap : Trap) → after.outcome.trap ≡ Some trap → IsKept state
     → TrapKeeps (record { hart = state.seat.hart; memory = state.shared.memory }) after
@@ -101,8 +106,12 @@ same_mie a b is = ap (λ (c : CsrState). c.mie) is
 same_status : (a b : CsrState) → machine_parts a ≡ machine_parts b
     → (a.mstatus.mie ≡ b.mstatus.mie) × (a.mstatus.tvm ≡ b.mstatus.tvm) × (a.mstatus.tw ≡ b.mstatus.tw) × (a.mstatus.tsr ≡ b.mstatus.tsr)
 unfolding machine_parts
-same_status a b is =
-    (ap (λ (c : CsrState). c.mstatus.mie) is, ap (λ (c : CsrState). c.mstatus.tvm) is, ap (λ (c : CsrState). c.mstatus.tw) is, ap (λ (c : CsrState). c.mstatus.tsr) is)
+same_status a b is = (
+  ap (λ (c : CsrState). c.mstatus.mie) is,
+  ap (λ (c : CsrState). c.mstatus.tvm) is,
+  ap (λ (c : CsrState). c.mstatus.tw) is,
+  ap (λ (c : CsrState). c.mstatus.tsr) is,
+)
 
 kept_at : (state : MonitoredState) (hart : Hart) (memory : List ℕ) → IsKept state → StaysBelow state.seat.hart hart → hart.csrs.mstatus.mprv ≡ false
     → length state.shared.memory ≡ length memory

@@ -1,5 +1,6 @@
 -- What a step does to the world and to what is kept of the host.
-use Rattle.std.proofs.Common.{◌≡◌, ℕ, ◌==◌, ◌⊎◌, true, false, List, Option, Some, None, IfSome, refl, sym, ap, ◌∙◌, subst, inl, inr, arith}
+use Rattle.std.proofs.Common.{◌≡◌, ℕ, ◌==◌, ◌⊎◌, true, false, List, Option, Some, None, IfSome, refl, sym, ap, ◌∙◌, subst, inl, inr}
+use Rattle.std.proofs.Common.{arith}
 use Rattle.std.specs.Prelude.{◌%◌, ◌&&◌, not}
 use Rattle.std.proofs.lemmas.Bool.{and_parts, both_ways}
 use Rattle.std.proofs.lemmas.Bool.Decides.{nat_tests}
@@ -7,7 +8,9 @@ use Rattle.rv_state.specs.SContexts.{s_context, with_s_context, KeepsOwn}
 use Rattle.rv_state.specs.declared.s_context.SContext.{SContext}
 use Rattle.rv_monitor.specs.Contexts.{IsStored, with_answer}
 use Rattle.rv_monitor.specs.SwitchLaws.{SwitchLaw}
-use Rattle.rv_monitor.proofs.Prelude.{Context, CsrState, Enclave, Handled, Host, HostIsStored, IsKept, Mode, MonitoredState, S, Seat, Shared, StaysOrSwitches, StepOutcome, Trap, a0, aligned_to_4, bare, can_go_on, entered, handled, is_host, is_machine, left_slot, monitored_step, past_call, reason, returned, saved, step, value}
+use Rattle.rv_monitor.proofs.Prelude.{Context, CsrState, Enclave, Handled, Host, HostIsStored, IsKept, Mode, MonitoredState, S, Seat, Shared, StaysOrSwitches}
+use Rattle.rv_monitor.proofs.Prelude.{StepOutcome, Trap, a0, aligned_to_4, bare, can_go_on, entered, handled, is_host, is_machine, left_slot, monitored_step}
+use Rattle.rv_monitor.proofs.Prelude.{past_call, reason, returned, saved, step, value}
 use Rattle.rv_monitor.proofs.TrapSteps.{by_step, seat_after}
 use Rattle.rv_monitor.proofs.Works.{by_work}
 
@@ -100,7 +103,8 @@ kept_between state before = by_step state (λ after. is_host after.state.seat.wo
     (λ none after. refl)
     (λ trap is after.
     let seat = seat_after state.seat trap in
-    runs_on seat (reason trap.cause seat.hart.regs) (value trap.cause seat.hart.regs) (handled seat state.shared trap) (handled_turns seat state.shared trap) before after)
+    runs_on seat (reason trap.cause seat.hart.regs) (value trap.cause seat.hart.regs) (handled seat state.shared trap)
+    (handled_turns seat state.shared trap) before after)
 
 -- ---- the step
 

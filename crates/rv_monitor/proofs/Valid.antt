@@ -1,8 +1,10 @@
 -- A table stays valid where one slot changes, and where memory keeps its size.
-use Rattle.std.proofs.Common.{◌≡◌, ◌≢◌, ℕ, ◌+◌, ◌<◌, false, List, Option, Some, None, IfSome, length, refl, sym, ap, ◌∙◌, subst, inl, inr, arith, length-set}
+use Rattle.std.proofs.Common.{◌≡◌, ◌≢◌, ℕ, ◌+◌, ◌<◌, false, List, Option, Some, None, IfSome, length, refl, sym, ap, ◌∙◌, subst}
+use Rattle.std.proofs.Common.{inl, inr, arith, length-set}
 use Rattle.std.specs.Prelude.{◌&&◌, nat_le, ◌==◌, ◌%◌, ◌||◌}
 use Rattle.std.proofs.lemmas.Bool.{cases_eq}
-use Rattle.rv_monitor.proofs.Prelude.{Block, EnclaveState, IsLawfulSlot, IsValid, SlotInfo, Slots, is_block_size, is_lawful, is_ram_size, is_window, meets, monitor_block, ram_base, region, region_of, slot_at, window, window_of, with_slot}
+use Rattle.rv_monitor.proofs.Prelude.{Block, EnclaveState, IsLawfulSlot, IsValid, SlotInfo, Slots, is_block_size, is_lawful, is_ram_size, is_window, meets}
+use Rattle.rv_monitor.proofs.Prelude.{monitor_block, ram_base, region, region_of, slot_at, window, window_of, with_slot}
 use Rattle.rv_monitor.proofs.Slots.{at_same, at_other, meets_symmetric, meets_nothing, nothing_meets}
 
 -- what may stand in slot k
@@ -51,8 +53,12 @@ module _ (memory : List ℕ) (slots : Slots) (k : ℕ) (o : Option SlotInfo) (va
       | inr other ↦ rw first (ap (λ b. meets b (region after j)) region_here ∙ ap (meets (region_of o)) (region_there j other) ∙ fits.regions j other)
     ]
     | inr other ↦ elim (cases_eq j k) [
-      | inl second ↦ rw second (ap (λ b. meets b (region after k)) (region_there i other) ∙ ap (meets (region slots i)) region_here ∙ meets_symmetric (region slots i) (region_of o) ∙ fits.regions i other)
-      | inr both ↦ ap (λ b. meets b (region after j)) (region_there i other) ∙ ap (meets (region slots i)) (region_there j both) ∙ valid.regions_apart i j apart
+      | inl second ↦
+          rw second
+          (ap (λ b. meets b (region after k)) (region_there i other) ∙ ap (meets (region slots i)) region_here
+          ∙ meets_symmetric (region slots i) (region_of o) ∙ fits.regions i other)
+      | inr both ↦ ap (λ b. meets b (region after j)) (region_there i other) ∙ ap (meets (region slots i)) (region_there j both)
+          ∙ valid.regions_apart i j apart
     ]
   ]
 
@@ -63,8 +69,12 @@ module _ (memory : List ℕ) (slots : Slots) (k : ℕ) (o : Option SlotInfo) (va
       | inr other ↦ rw first (ap (λ b. meets b (window after j)) region_here ∙ ap (meets (region_of o)) (window_there j other) ∙ fits.windows j other)
     ]
     | inr other ↦ elim (cases_eq j k) [
-      | inl second ↦ rw second (ap (λ b. meets b (window after k)) (region_there i other) ∙ ap (meets (region slots i)) window_here ∙ meets_symmetric (region slots i) (window_of o) ∙ fits.window i other)
-      | inr both ↦ ap (λ b. meets b (window after j)) (region_there i other) ∙ ap (meets (region slots i)) (window_there j both) ∙ valid.windows_apart i j
+      | inl second ↦
+          rw second
+          (ap (λ b. meets b (window after k)) (region_there i other) ∙ ap (meets (region slots i)) window_here
+          ∙ meets_symmetric (region slots i) (window_of o) ∙ fits.window i other)
+      | inr both ↦ ap (λ b. meets b (window after j)) (region_there i other) ∙ ap (meets (region slots i)) (window_there j both)
+          ∙ valid.windows_apart i j
     ]
   ]
 

@@ -15,7 +15,10 @@ use Rattle.rv_monitor.specs.Step.{performed, called, call_handled, timer_stopped
 use Rattle.rv_monitor.specs.Switches.{left, left_by}
 use Rattle.rv_monitor.specs.declared.call.Call.TheVariants.{Run, Resume, Stop}
 use Rattle.rv_monitor.specs.declared.refusal.Refusal.TheVariants.{NotSupported}
-use Rattle.rv_monitor.proofs.Prelude.{Call, Cause, Context, Contexts, Create, Destroy, Enclave, EnvironmentCallFromS, Exit, Handled, Host, Measure, Refusal, Seat, Shared, Slots, Trap, World, a0, a1, answered, asked_in, created, destroyed, entered, exited_context, first_refusal, forwarded, handled, handled_cause, kept_context, measured, measured_slot, new_slot, option_case, past_call, proposed, reason, refused, register, saved, state_after, value, with_layout}
+use Rattle.rv_monitor.proofs.Prelude.{Call, Cause, Context, Contexts, Create, Destroy, Enclave, EnvironmentCallFromS, Exit, Handled, Host, Measure, Refusal}
+use Rattle.rv_monitor.proofs.Prelude.{Seat, Shared, Slots, Trap, World, a0, a1, answered, asked_in, created, destroyed, entered, exited_context, first_refusal}
+use Rattle.rv_monitor.proofs.Prelude.{forwarded, handled, handled_cause, kept_context, measured, measured_slot, new_slot, option_case, past_call, proposed}
+use Rattle.rv_monitor.proofs.Prelude.{reason, refused, register, saved, state_after, value, with_layout}
 use Rattle.rv_monitor.proofs.Refusals.{MayCreate, IsTaken, MayMeasure, may_create, may_take, may_measure, same_create_refusals, same_measure_refusals}
 
 -- ---- the call that is asked for

@@ -17,8 +17,10 @@ pub mod Step
 pub mod FastSteps
 pub mod Switches
 pub mod SwitchLaws
+pub mod StepLaws
 pub mod Leaving
 pub mod Returns
+pub mod SlotNumbers
 pub mod Table
 pub mod Unlocked
 pub mod Debugger

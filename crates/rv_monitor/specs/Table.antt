@@ -1,12 +1,14 @@
 -- The table of enclaves: thirteen slots, each free or with the record of a live enclave; and what is true of it in every state.
 -- (Keystone, EuroSys 2020, in this project's profile.)
-use Rattle.std.specs.Prelude.{◌≡◌, ◌≢◌, ℕ, ◌%◌, ◌==◌, Bool, true, false, ◌&&◌, ◌||◌, List, length, replicate, Option, Some, None, IfSome, slice_set}
+use Rattle.std.specs.Prelude.{◌≡◌, ◌≢◌, ℕ, ◌%◌, ◌==◌, Bool, true, false, ◌&&◌, ◌||◌, List, length, replicate, Option, Some, None}
+use Rattle.std.specs.Prelude.{IfSome, slice_set}
 use Rattle.std.specs.Prelude.{slice_index_or, is_some}
 use Rattle.std.specs.Option.{is_none}
 use Rattle.std.specs.List.{range_with_len, find, list_any}
 use Rattle.rv_word.specs.Cases.{option_case}
 use Rattle.rv_memory.specs.Memory.{is_ram_size}
 use Rattle.rv_monitor.specs.Blocks.{has, meets, is_lawful, monitor_block, no_block}
+use Rattle.rv_monitor.specs.SlotNumbers.{slot_count}
 use Rattle.rv_monitor.specs.declared.block.Block.{Block}
 use Rattle.rv_monitor.specs.declared.slot_info.EnclaveState.{EnclaveState}
 use Rattle.rv_monitor.specs.declared.slot_info.EnclaveState.TheVariants.{Running}
@@ -19,7 +21,7 @@ Slots = List (Option SlotInfo)
 
 -- no enclave is live
 abbrev pub no_slots : Slots
-no_slots = replicate 13 None
+no_slots = replicate slot_count None
 
 -- the record in a slot, if its enclave is live; past the last slot there is none
 abbrev pub slot_at : Slots → ℕ → Option SlotInfo
@@ -30,7 +32,7 @@ with_slot slots k info = slice_set slots k info
 
 -- the lowest free slot
 unfoldable pub free_slot : Slots → Option ℕ
-free_slot slots = find (λ k. is_none (slot_at slots k)) (range_with_len 0 13)
+free_slot slots = find (λ k. is_none (slot_at slots k)) (range_with_len 0 slot_count)
 
 -- the region and the window of a slot, without bytes where there is none
 abbrev pub region_of : Option SlotInfo → Block
@@ -53,7 +55,7 @@ is_live slots k = is_some (slot_at slots k)
 
 -- whether an address is in the region of some live enclave
 abbrev pub is_in_region : Slots → ℕ → Bool
-is_in_region slots byte = list_any (λ k. has (region slots k) byte) (range_with_len 0 13)
+is_in_region slots byte = list_any (λ k. has (region slots k) byte) (range_with_len 0 slot_count)
 
 -- ---- how far an enclave is
 
@@ -91,7 +93,7 @@ pub record IsLawfulSlot (memory : List ℕ) (info : SlotInfo) : Type 0 where
 -- regions share no byte with each other, with any window or with the monitor's range, and windows none with the monitor's range
 pub record IsValid (memory : List ℕ) (slots : Slots) : Type 0 where
   pub ram : is_ram_size (length memory) ≡ true
-  pub count : length slots ≡ 13
+  pub count : length slots ≡ slot_count
   pub lawful : (k : ℕ) → IfSome (slot_at slots k) (IsLawfulSlot memory)
   pub regions_apart : (j k : ℕ) → j ≢ k → meets (region slots j) (region slots k) ≡ false
   pub windows_apart : (j k : ℕ) → meets (region slots j) (window slots k) ≡ false

@@ -7,6 +7,7 @@ ghost use Rattle.rv_monitor.specs.Scramble.{can_scramble, complemented_registers
 use crate::block::Block;
 use crate::context::{Context, context_at, set_context};
 use crate::shared::Shared;
+use crate::slot::Slot;
 use crate::slot_info::EnclaveState;
 use rv_memory::Ram;
 use rv_state::Regs;
@@ -15,16 +16,15 @@ use rv_word::Reg;
 /// Complements the region of a slot and the registers that are kept for it. It answers false, and changes nothing, where the slot's
 /// enclave is not live or runs.
 #[tactic(auto, unfolding(crate::specs::Scramble::scrambled_shared))]
-pub(crate) fn scramble(shared: &mut Shared, slot: u8) -> bool
+pub(crate) fn scramble(shared: &mut Shared, slot: Slot) -> bool
     ensures asked { result ≡ can_scramble shared.old.table slot }
     ensures meaning { shared.new ≡ (if result then scrambled_shared shared.old slot else shared.old) }
 {
-    let k = u32::from(slot);
-    match shared.table.slot_at(k) {
+    match shared.table.slot_at(slot) {
         Some(info) if info.state != EnclaveState::Running => {
             complement(&mut shared.memory, info.region);
-            let context = context_at(&shared.contexts, k);
-            set_context(&mut shared.contexts, k, complement_kept(context));
+            let context = context_at(&shared.contexts, slot);
+            set_context(&mut shared.contexts, slot, complement_kept(context));
             true
         }
         _ => false,

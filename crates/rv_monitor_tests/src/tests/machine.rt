@@ -4,7 +4,7 @@ ghost use Rattle.std.specs.Prelude.{◌<◌};
 ghost use Rattle.rv_monitor.specs.State.{count_of};
 
 use rv_memory::Ram;
-use rv_monitor::{EnclaveState, Harts, Monitored, SlotInfo, World};
+use rv_monitor::{EnclaveState, Harts, Monitored, Slot, SlotInfo, World};
 use rv_pmp::{Mode, PmpIndex};
 use rv_word::{Reg, le_bytes};
 use std::test::Fail;
@@ -111,13 +111,18 @@ pub fn run_two(rt: HostRuntime, words: &[u32], lines: &[Line]) -> Result<(), Fai
     machine.follow(lines)
 }
 
+/// The number of a slot.
+fn number(slot: Slot) -> u32 {
+    u32::from(slot.number())
+}
+
 /// A monitored machine, the hart that the lines name, and what the last step showed. Its methods promise nothing but that there is such
 /// a hart: a run shows what they do, and the proof of a test is small as long as it need not carry what each call ensures.
 #[derive(Drop)]
 struct Machine {
     monitored: Monitored,
     named: u8,
-    entered: Option<u8>,
+    entered: Option<Slot>,
     trapped: bool,
 }
 
@@ -259,13 +264,16 @@ impl Machine {
     }
 
     fn scramble(&mut self, slot: u8) -> bool {
-        self.monitored.scramble(slot)
+        match Slot::new(u32::from(slot)) {
+            Some(slot) => self.monitored.scramble(slot),
+            None => false,
+        }
     }
 
     /// What is shown, if there is such a thing.
     fn show(&self, what: Shown) -> Option<u32> {
         match what {
-            Shown::World => self.slot().map(u32::from),
+            Shown::World => self.slot().map(number),
             Shown::Pc => Some(self.monitored.pc(self.hart())),
             Shown::Mode => Some(self.mode()),
             Shown::X(register) => Some(self.x(register)),
@@ -278,12 +286,12 @@ impl Machine {
             Shown::Exited(slot) => self.exited(slot),
             Shown::Harts => Some(u32::from(self.monitored.harts())),
             Shown::Turn => Some(u32::from(self.monitored.turn())),
-            Shown::Entered => self.entered.map(u32::from),
+            Shown::Entered => self.entered.map(number),
             Shown::Trapped => Some(u32::from(self.trapped)),
         }
     }
 
-    fn slot(&self) -> Option<u8> {
+    fn slot(&self) -> Option<Slot> {
         match self.monitored.world(self.hart()) {
             World::Host => None,
             World::Enclave(slot) => Some(slot),
@@ -340,6 +348,7 @@ impl Machine {
 
     /// The record of a slot's enclave, if it is live.
     fn record(&self, slot: u8) -> Option<SlotInfo> {
+        let slot = Slot::new(u32::from(slot))?;
         self.monitored.table().get(slot).copied()
     }
 }

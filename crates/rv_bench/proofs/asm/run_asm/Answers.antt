@@ -33,7 +33,8 @@ unread Z g h old new sink _ reads = absurd reads
 
 pub returns-in_err-text : goal.returns-in_err-text
 returns-in_err-text g c =
-    passed_on (RunsAsm g.S.Source g.W.Sink c.args.source.now c.read_whole.new.source c.args.sink.now c.args.sink.now) c.from_residual.result _ c.from_residual.ensures.1
+    passed_on (RunsAsm g.S.Source g.W.Sink c.args.source.now c.read_whole.new.source c.args.sink.now c.args.sink.now)
+    c.from_residual.result _ c.from_residual.ensures.1
     (unread Global g.S.Source g.W.Sink _ _ _ _ c.in_err-text.ensures)
 
 -- a text that is not too long
@@ -50,7 +51,8 @@ pub returns-in-Ok : goal.returns-in-Ok
 returns-in-Ok g c =
     let whole = is_ok g (goal.at.returns-in-Ok g c).In-Ok in
     let words = c.as_slice-in-Ok.ensures.value in
-    mapped (RunsAsm g.S.Source g.W.Sink c.args.source.now c.read_whole.new.source c.args.sink.now c.write_words.new.sink) _ Write c.write_words.result c.map_err.result c.map_err.ensures.cases (λ e d is. search rules)
+    mapped (RunsAsm g.S.Source g.W.Sink c.args.source.now c.read_whole.new.source c.args.sink.now c.write_words.new.sink)
+    _ Write c.write_words.result c.map_err.result c.map_err.ensures.cases (λ e d is. search rules)
     (λ _ wrote. (
       c.in_ok-text.ensures.0,
       IfOk-at_ok _ wrote c.write_words.ensures.ok,

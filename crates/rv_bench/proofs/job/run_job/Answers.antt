@@ -2,10 +2,14 @@ use Rattle.std.proofs.Common.{rules}
 use Rattle.rv_bench.proofs.job.run_job.Goals as goal
 
 pub returns-in-Run : goal.returns-in-Run
-returns-in-Run g c = rw c.in-Run.is (c.new-lines.result, c.run_stream-outcome.new.lines, search rules, c.run_stream-outcome.ensures.outcome, c.run_stream-outcome.ensures.integrity, c.run_stream-outcome.ensures.conceals, c.run_stream-outcome.ensures.secret)
+returns-in-Run g c =
+    let run = c.run_stream-outcome.ensures in
+    rw c.in-Run.is (c.new-lines.result, c.run_stream-outcome.new.lines, search rules, run.outcome, run.integrity, run.conceals, run.secret)
 
 pub returns-in-Twin : goal.returns-in-Twin
-returns-in-Twin g c = rw c.in-Twin.is (c.new-lines-in-Twin.result, c.run_twin-outcome.new.lines, search rules, c.run_twin-outcome.ensures.outcome, c.run_twin-outcome.ensures.conceals, c.run_twin-outcome.ensures.integrity)
+returns-in-Twin g c =
+    let run = c.run_twin-outcome.ensures in
+    rw c.in-Twin.is (c.new-lines-in-Twin.result, c.run_twin-outcome.new.lines, search rules, run.outcome, run.conceals, run.integrity)
 
 pub returns-in-Dis : goal.returns-in-Dis
 returns-in-Dis g c = rw c.in-Dis.is (c.new-lines-in-Dis.result, c.run_dis-outcome.new.lines, search rules, c.run_dis-outcome.ensures.outcome)

@@ -1,30 +1,35 @@
-use Rattle.std.proofs.Common.{◌∙◌, sym, ap, Ok}
+use Rattle.std.proofs.Common.{◌∙◌, refl, sym, ap, Ok}
 use Rattle.rv_bench.specs.Twin.{RunsTwin}
 use Rattle.rv_bench.specs.Unread.{unread}
 use Rattle.rv_bench.proofs.Ends.{TellsEnd-more}
 use Rattle.rv_bench.proofs.Mapped.{passed_on}
+use Rattle.rv_bench.proofs.Runs.{one_bench-runs, one_bench-state}
 use Rattle.rv_bench.proofs.TwinAlike.{twin_conceals, twin_spares}
 use Rattle.rv_bench.proofs.Twins.{first_fails, not_started, second_part}
 use Rattle.rv_bench.proofs.twin.run_twin.Goals as goal
 
 pub returns-in_err-benches-clause-outcome : goal.returns-in_err-benches-clause-outcome
 returns-in_err-benches-clause-outcome g c =
-    passed_on (RunsTwin g.W.Sink c.args.setup.now c.args.slot c.args.lines.now c.read_image.new.lines c.args.sink.now c.args.sink.now) c.from_residual-in_err-benches.result _ c.from_residual-in_err-benches.ensures.1
+    passed_on (RunsTwin g.W.Sink c.args.setup.now c.args.slot c.args.lines.now c.read_image.new.lines c.args.sink.now c.args.sink.now)
+    c.from_residual-in_err-benches.result _ c.from_residual-in_err-benches.ensures.1
     (not_started g.W.Sink c.args.setup.now c.args.slot c.as_slice.result.now c.args.lines.now c.read_image.new.lines c.args.sink.now
     c.in_ok-image.ensures.outcome.0 (λ tells. c.in_ok-image.ensures.outcome.2 tells ∙ ap Ok (sym c.as_slice.ensures.value)) _ c.in_err-benches.ensures)
 
 pub returns-in_err-run_lines-clause-outcome : goal.returns-in_err-run_lines-clause-outcome
 returns-in_err-run_lines-clause-outcome g c =
-    passed_on (RunsTwin g.W.Sink c.args.setup.now c.args.slot c.args.lines.now c.run_lines.new.lines c.args.sink.now c.run_lines.new.sink) c.from_residual-in_err-run_lines.result _ c.from_residual-in_err-run_lines.ensures.1
+    passed_on (RunsTwin g.W.Sink c.args.setup.now c.args.slot c.args.lines.now c.run_lines.new.lines c.args.sink.now c.run_lines.new.sink)
+    c.from_residual-in_err-run_lines.result _ c.from_residual-in_err-run_lines.ensures.1
     (first_fails g.W.Sink c.args.setup.now c.args.slot c.as_slice.result.now c.args.lines.now c.read_image.new.lines c.args.sink.now
     c.in_ok-image.ensures.outcome.0 (λ tells. c.in_ok-image.ensures.outcome.2 tells ∙ ap Ok (sym c.as_slice.ensures.value))
     _ c.in_ok-benches.ensures _ _ c.run_lines.ensures.end _ c.in_err-run_lines.ensures.outcome)
 
 pub returns-clause-outcome : goal.returns-clause-outcome
 returns-clause-outcome g c =
+    let first = c.in_ok-run_lines.ensures.outcome in
     second_part g.W.Sink c.args.setup.now c.args.slot c.as_slice.result.now c.args.lines.now c.read_image.new.lines c.args.sink.now
     c.in_ok-image.ensures.outcome.0 (λ tells. c.in_ok-image.ensures.outcome.2 tells ∙ ap Ok (sym c.as_slice.ensures.value))
-    _ c.in_ok-benches.ensures c.run_lines.new.lines c.run_lines.new.sink c.in_ok-run_lines.ensures.outcome _ c.in_ok-run_lines.ensures.state
+    _ c.in_ok-benches.ensures c.run_lines.new.lines c.run_lines.new.sink (one_bench-runs g.W.Sink first c.run_lines.ensures.end (λ _. refl) (refl, refl)) _
+    (one_bench-state g.W.Sink first c.run_lines.ensures.end)
     c.run_second.new.lines c.run_second.new.sink c.in_ok-image.ensures.end c.run_lines.ensures.end c.run_second.ensures.end
     c.run_second.result c.run_second.ensures.outcome
 

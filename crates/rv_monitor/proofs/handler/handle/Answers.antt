@@ -19,12 +19,12 @@ lay_out-requires c =
             cause =
                 causes.Interrupt MachineTimer;
             tval = 0;
-          })) ∙ ap entries_of w.stop_by_timer-next.ensures.meaning) c.requires.unlocked)
+          })) ∙ ap entries_of w.stop_by_timer-next.ensures) c.requires.unlocked)
       | in-Exception-EnvironmentCallFromS w ↦
           subst P (sym w.seat-is)
           (subst HasNoLock (sym (work_entries seat shared (record {
             cause =
                 causes.Exception EnvironmentCallFromS;
             tval = 0;
-          })) ∙ ap entries_of w.call-next.ensures.meaning) c.requires.unlocked)
+          })) ∙ ap entries_of w.call-next.ensures) c.requires.unlocked)
     ]

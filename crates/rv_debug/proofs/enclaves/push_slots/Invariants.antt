@@ -1,0 +1,12 @@
+use Rattle.std.proofs.Common.{◌≡◌, ◌+◌, ◌*◌, ◌≤◌, ◌++◌, length, take}
+use Rattle.std.specs.List.{flat_map}
+use Rattle.rv_monitor.specs.Table.{slot_at}
+use Rattle.rv_debug.specs.EnclaveText.{slot_text}
+use Rattle.rv_debug.proofs.enclaves.push_slots.Given as goal
+
+-- the lines so far
+abbrev pub invariant-loop-slot : goal.invariant-loop-slot
+invariant-loop-slot l = record {
+  items : l.out.items ≡ l.fn.out.items ++ flat_map (λ slot. slot_text slot (slot_at l.table slot)) (take l.slot-index l.slots);
+  len : length l.out.items ≤ length l.fn.out.items + 137 * l.slot-index;
+}
