@@ -1,11 +1,14 @@
 -- The words of a text are those that it denotes, and no others.
-use Rattle.std.proofs.Common.{◌≡◌, ◌∙◌, sym, ap, ap₂, refl, ℕ, ◌+◌, Bool, true, false, if◌then◌else◌, List, [], ◌∷◌, ◌++◌, length, take, drop, Option, Some, None, is_some, Result, Ok, Err, append_assoc, append-nil, length-append, take-append-drop, drop-drop, drop_at, drop_of_length-le, arith}
+use Rattle.std.proofs.Common.{◌≡◌, ◌∙◌, sym, ap, ap₂, refl, ℕ, ◌+◌, Bool, true, false, if◌then◌else◌, List, [], ◌∷◌, ◌++◌, length, take, drop}
+use Rattle.std.proofs.Common.{Option, Some, None, is_some, Result, Ok, Err, append_assoc, append-nil, length-append, take-append-drop, drop-drop}
+use Rattle.std.proofs.Common.{drop_at, drop_of_length-le, arith}
 use Rattle.std.proofs.Math.Seq.{take-append_seam}
 use Rattle.std.proofs.lemmas.Slice.Eq.{bytes_eq-Decides}
 use Rattle.std.proofs.lemmas.List.Sums.{sum_by-cons, sum_by_push}
 use Rattle.rv_word.specs.Cases.{option_case, result_case}
 use Rattle.rv_asm.specs.Denotes.{Denotes}
-use Rattle.rv_asm.specs.Program.{Reading, readings, line_size, line_words, words_in, is_label, has_label, place_from, place_in, own_fault, label_fault, name_fault, first_fault, fault_in, words_or_none, words_from, words_of, assembled}
+use Rattle.rv_asm.specs.Program.{Reading, readings, line_size, line_words, words_in, is_label, has_label, place_from, place_in, own_fault}
+use Rattle.rv_asm.specs.Program.{label_fault, name_fault, first_fault, fault_in, words_or_none, words_from, words_of, assembled}
 use Rattle.rv_asm.specs.declared.line.Line.{Line}
 use Rattle.rv_asm.specs.declared.fault.AsmFault.{AsmFault}
 use Rattle.rv_asm.specs.declared.fault.AsmFaultKind.{AsmFaultKind}
@@ -16,14 +19,17 @@ use Rattle.rv_asm.proofs.WordCounts.{length-line_words}
 
 -- ---- the words of lines
 
-ok_words : (r : Result (List ℕ) AsmFaultKind) → (let fault : Option AsmFaultKind = result_case r (λ words. None) Some in fault ≡ None) → r ≡ Ok (words_or_none r)
+ok_words : (r : Result (List ℕ) AsmFaultKind) → (let fault : Option AsmFaultKind = result_case r (λ words. None) Some in fault ≡ None)
+    → r ≡ Ok (words_or_none r)
 ok_words (Ok words) is = refl
 ok_words (Err kind) is = cc
 
-no_fault_first : (fault : List Reading → Reading → Option AsmFaultKind) (before lines : List Reading) (line : Reading) → first_fault fault before (line ∷ lines) ≡ None → (fault before line ≡ None) × (first_fault fault (before ++ line ∷ []) lines ≡ None)
+no_fault_first : (fault : List Reading → Reading → Option AsmFaultKind) (before lines : List Reading) (line : Reading)
+    → first_fault fault before (line ∷ lines) ≡ None → (fault before line ≡ None) × (first_fault fault (before ++ line ∷ []) lines ≡ None)
 no_fault_first fault before lines line none = no_fault (fault before line) (fault_after (length before)) (first_fault fault (before ++ line ∷ []) lines) none
 
-no_fault_in : (fault : List Reading → Reading → Option AsmFaultKind) (before front after : List Reading) → first_fault fault before (front ++ after) ≡ None → (first_fault fault before front ≡ None) × (first_fault fault (before ++ front) after ≡ None)
+no_fault_in : (fault : List Reading → Reading → Option AsmFaultKind) (before front after : List Reading)
+    → first_fault fault before (front ++ after) ≡ None → (first_fault fault before front ≡ None) × (first_fault fault (before ++ front) after ≡ None)
 no_fault_in fault before [] after none = (refl, rw (append-nil before) none)
 no_fault_in fault before (line ∷ front) after none =
     let first = no_fault_first fault before (front ++ after) line none in
@@ -31,18 +37,21 @@ no_fault_in fault before (line ∷ front) after none =
     (rw first.0 others.0, rw (← append_assoc before (line ∷ []) front) others.1)
 
 -- before a line, and at it
-no_fault_at : (fault : List Reading → Reading → Option AsmFaultKind) (all before after : List Reading) (line : Reading) → all ≡ before ++ line ∷ after → first_fault fault [] all ≡ None → (first_fault fault [] before ≡ None) × (fault before line ≡ None)
+no_fault_at : (fault : List Reading → Reading → Option AsmFaultKind) (all before after : List Reading) (line : Reading)
+    → all ≡ before ++ line ∷ after → first_fault fault [] all ≡ None → (first_fault fault [] before ≡ None) × (fault before line ≡ None)
 no_fault_at fault all before after line split none =
     let parts = no_fault_in fault [] before (line ∷ after) (rw split at none) in
     (parts.0, (no_fault_first fault before after line parts.1).0)
 
-words_from-append : (labels : List ℕ → Option ℕ) (before front after : List Reading) → words_from labels before (front ++ after) ≡ words_from labels before front ++ words_from labels (before ++ front) after
+words_from-append : (labels : List ℕ → Option ℕ) (before front after : List Reading)
+    → words_from labels before (front ++ after) ≡ words_from labels before front ++ words_from labels (before ++ front) after
 words_from-append labels before [] after = rw (append-nil before) refl
 words_from-append labels before (line ∷ front) after =
     let others = words_from-append labels (before ++ line ∷ []) front after in
     rw (others, append_assoc before (line ∷ []) front) (sym (append_assoc (words_or_none (line_words labels (words_in before) line)) _ _))
 
-length-words_from : (labels : List ℕ → Option ℕ) (before lines : List Reading) → first_fault (name_fault labels) before lines ≡ None → length (words_from labels before lines) ≡ words_in lines
+length-words_from : (labels : List ℕ → Option ℕ) (before lines : List Reading) → first_fault (name_fault labels) before lines ≡ None
+    → length (words_from labels before lines) ≡ words_in lines
 length-words_from labels before [] none = refl
 length-words_from labels before (line ∷ lines) none =
     let first = no_fault_first (name_fault labels) before lines line none in
@@ -54,18 +63,24 @@ length-words_from labels before (line ∷ lines) none =
 mid_part : (n m : ℕ) (xs ys zs : List ℕ) → length xs ≡ n → length ys ≡ m → take m (drop n (xs ++ (ys ++ zs))) ≡ ys
 mid_part n m xs ys zs front mid = ap (take m) (drop_at xs (ys ++ zs) n front) ∙ ap (λ k. take k (ys ++ zs)) (sym mid) ∙ take-append_seam ys zs
 
-stands : (labels : List ℕ → Option ℕ) (all before after : List Reading) (line : Reading) → all ≡ before ++ line ∷ after → first_fault (name_fault labels) [] all ≡ None → line_words labels (words_in before) line ≡ Ok (take (line_size line) (drop (words_in before) (words_from labels [] all)))
+stands : (labels : List ℕ → Option ℕ) (all before after : List Reading) (line : Reading) → all ≡ before ++ line ∷ after
+    → first_fault (name_fault labels) [] all ≡ None
+    → line_words labels (words_in before) line ≡ Ok (take (line_size line) (drop (words_in before) (words_from labels [] all)))
 stands labels all before after line split none =
     let here = line_words labels (words_in before) line in
     let sound = no_fault_at (name_fault labels) all before after line split none in
     let ok = ok_words here sound.1 in
-    let part = mid_part (words_in before) (line_size line) (words_from labels [] before) (words_or_none here) (words_from labels (before ++ line ∷ []) after) (length-words_from labels [] before sound.0) (length-line_words labels (words_in before) line (words_or_none here) ok) in
-    ok ∙ ap Ok (sym part) ∙ ap (λ ws. Ok (take (line_size line) (drop (words_in before) ws))) (sym (ap (words_from labels []) split ∙ words_from-append labels [] before (line ∷ after)))
+    let part =
+    mid_part (words_in before) (line_size line) (words_from labels [] before) (words_or_none here) (words_from labels (before ++ line ∷ []) after)
+    (length-words_from labels [] before sound.0) (length-line_words labels (words_in before) line (words_or_none here) ok) in
+    ok ∙ ap Ok (sym part) ∙ ap (λ ws. Ok (take (line_size line) (drop (words_in before) ws)))
+    (sym (ap (words_from labels []) split ∙ words_from-append labels [] before (line ∷ after)))
 
 -- ---- the places of labels
 
 -- a line's label stands before it or at it
-labelled : (all before after : List Reading) (line : Line) (name : List ℕ) → all ≡ before ++ Ok line ∷ after → line.label ≡ Some name → place_in all name ≡ option_case (place_in before name) (Some (words_in before)) Some
+labelled : (all before after : List Reading) (line : Line) (name : List ℕ) → all ≡ before ++ Ok line ∷ after → line.label ≡ Some name
+    → place_in all name ≡ option_case (place_in before name) (Some (words_in before)) Some
 labelled all before after line name split is =
     ap (λ ls. place_in ls name) split ∙ place_from-append [] before (Ok line ∷ after) name ∙ rw (is, (bytes_eq-Decides name name).1 refl) refl
 
@@ -77,21 +92,26 @@ once before line name is none = none_from_is_some (place_in before name) (untold
 
 -- the line at which a label is found
 abbrev FoundIn : List Reading → List ℕ → ℕ → Type 0
-FoundIn all name place = (before : List Reading) × (line : Line) × ((after : List Reading) × (all ≡ before ++ Ok line ∷ after)) × (line.label ≡ Some name) × (place ≡ words_in before)
+FoundIn all name place =
+    (before : List Reading) × (line : Line) × ((after : List Reading) × (all ≡ before ++ Ok line ∷ after)) × (line.label ≡ Some name)
+    × (place ≡ words_in before)
 
 label_is : (name : List ℕ) (label : Option (List ℕ)) → is_label name label ≡ true → label ≡ Some name
 label_is name None is = cc
 label_is name (Some label) is = ap Some ((bytes_eq-Decides label name).0 is)
 
-found_here : (all before lines : List Reading) (line : Reading) (name : List ℕ) (place : ℕ) → all ≡ before ++ line ∷ lines → has_label name line ≡ true → place ≡ words_in before → FoundIn all name place
+found_here : (all before lines : List Reading) (line : Reading) (name : List ℕ) (place : ℕ) → all ≡ before ++ line ∷ lines
+    → has_label name line ≡ true → place ≡ words_in before → FoundIn all name place
 found_here all before lines (Ok line) name place split is here = (before, line, (lines, split), label_is name line.label is, here)
 found_here all before lines (Err kind) name place split is here = cc
 
-found_either : {P : Type 0} (b : Bool) (here place : ℕ) (others : Option ℕ) → (b ≡ true → place ≡ here → P) → (others ≡ Some place → P) → (if b then Some here else others) ≡ Some place → P
+found_either : {P : Type 0} (b : Bool) (here place : ℕ) (others : Option ℕ) → (b ≡ true → place ≡ here → P) → (others ≡ Some place → P)
+    → (if b then Some here else others) ≡ Some place → P
 found_either true here place others now later is = now refl cc
 found_either false here place others now later is = later is
 
-found : (all before lines : List Reading) (name : List ℕ) (place : ℕ) → all ≡ before ++ lines → place_from before lines name ≡ Some place → FoundIn all name place
+found : (all before lines : List Reading) (name : List ℕ) (place : ℕ) → all ≡ before ++ lines → place_from before lines name ≡ Some place
+    → FoundIn all name place
 found all before [] name place split is = cc
 found all before (line ∷ lines) name place split is =
     found_either (has_label name line) (words_in before) place (place_from (before ++ line ∷ []) lines name) (found_here all before lines line name place split)
@@ -103,10 +123,12 @@ none_before : {F : Type 0} (o p : Option F) → option_case o p Some ≡ None �
 none_before None p is = (refl, is)
 none_before (Some f) p is = cc
 
-no_faults : (lines : List Reading) → fault_in lines ≡ None → (first_fault label_fault [] lines ≡ None) × (first_fault (name_fault (place_in lines)) [] lines ≡ None)
+no_faults : (lines : List Reading) → fault_in lines ≡ None
+    → (first_fault label_fault [] lines ≡ None) × (first_fault (name_fault (place_in lines)) [] lines ≡ None)
 no_faults lines none =
     none_before (first_fault label_fault [] lines) (first_fault (name_fault (place_in lines)) [] lines)
-    (none_before (first_fault own_fault [] lines) (option_case (first_fault label_fault [] lines) (first_fault (name_fault (place_in lines)) [] lines) Some) none).1
+    (none_before (first_fault own_fault [] lines)
+    (option_case (first_fault label_fault [] lines) (first_fault (name_fault (place_in lines)) [] lines) Some) none).1
 
 words_if : (o : Option AsmFault) (made words : List ℕ) → option_case o (Ok made) Err ≡ Ok words → (o ≡ None) × (made ≡ words)
 words_if None made words is = (refl, cc)
@@ -148,12 +170,17 @@ same_place : (text words : List ℕ) (said : Denotes text words) (name : List �
 same_place text words said name =
     agree (said.labels name) (place_in (readings text) name)
     (λ place is. let at = found (readings text) [] (readings text) name place refl is in said.placed at.0 at.1 name at.2 at.3 ∙ ap Some (sym at.4))
-    (λ place is. let at = said.named name place is in ap is_some (labelled (readings text) at.0 at.2.0 at.1 name at.2.1 at.3) ∙ option_case-is_some (place_in at.0 name) (words_in at.0))
+    (λ place is. let at = said.named name place is in
+    ap is_some (labelled (readings text) at.0 at.2.0 at.1 name at.2.1 at.3) ∙ option_case-is_some (place_in at.0 name) (words_in at.0))
 
 join_parts : (n m : ℕ) (words others : List ℕ) → others ≡ drop (n + m) words → take m (drop n words) ++ others ≡ drop n words
 join_parts n m words others is = ap (λ ws. take m (drop n words) ++ ws) (is ∙ sym (drop-drop m n words)) ∙ take-append-drop m (drop n words)
 
-words_from-each : (labels : List ℕ → Option ℕ) (all before lines : List Reading) (words : List ℕ) → all ≡ before ++ lines → length words ≡ words_in all → ((front : List Reading) (line : Reading) → (after : List Reading) × (all ≡ front ++ line ∷ after) → line_words labels (words_in front) line ≡ Ok (take (line_size line) (drop (words_in front) words))) → words_from labels before lines ≡ drop (words_in before) words
+words_from-each : (labels : List ℕ → Option ℕ) (all before lines : List Reading) (words : List ℕ) → all ≡ before ++ lines
+    → length words ≡ words_in all
+    → ((front : List Reading) (line : Reading) → (after : List Reading) × (all ≡ front ++ line ∷ after)
+    → line_words labels (words_in front) line ≡ Ok (take (line_size line) (drop (words_in front) words)))
+    → words_from labels before lines ≡ drop (words_in before) words
 words_from-each labels all before [] words split whole each =
     let end : words_in all ≡ words_in before = ap words_in (split ∙ append-nil before) in
     sym (drop_of_length-le words (omega (arith, whole, end)))
@@ -166,5 +193,6 @@ pub assembled_denoted : (text words : List ℕ) → Denotes text words → fault
 unfolding assembled
 assembled_denoted text words said none =
     let same : said.labels ≡ place_in (readings text) = λ i name. same_place text words said name i in
-    let made : words_from said.labels [] (readings text) ≡ words = words_from-each said.labels (readings text) [] (readings text) words refl said.whole said.each in
+    let made : words_from said.labels [] (readings text) ≡ words =
+    words_from-each said.labels (readings text) [] (readings text) words refl said.whole said.each in
     rw none (ap Ok (ap (λ labels. words_from labels [] (readings text)) (sym same) ∙ made))

@@ -28,7 +28,8 @@ last : (k n : ℕ) (after : List ℕ) → n < 16 → digits_onto (suc k) 16 fals
 unfolding hex_digits
 last k n after small = onto_last k n after small
 
-onto : (k places n : ℕ) (after : List ℕ) → places ≤ k → n < 16 ^ suc places → (0 < places → 16 ^ places ≤ n) → digits_onto (suc k) 16 false n after ≡ hex_digits (suc places) n ++ after
+onto : (k places n : ℕ) (after : List ℕ) → places ≤ k → n < 16 ^ suc places → (0 < places → 16 ^ places ≤ n)
+    → digits_onto (suc k) 16 false n after ≡ hex_digits (suc places) n ++ after
 onto k zero n after within small large = last k n after (omega (arith, small))
 onto zero (suc places) n after within small large = absurd (omega (arith, within))
 onto (suc k) (suc places) n after within small large =

@@ -1,5 +1,6 @@
 -- The map of labels after one more, and the places of labels among one more line.
-use Rattle.std.proofs.Common.{◌≡◌, ◌∙◌, sym, ap, refl, ℕ, ◌+◌, Bool, true, false, cond, List, [], ◌∷◌, ◌++◌, length, Option, Some, None, is_some, option_map, append_assoc, append-nil, length-append, arith, ◌≤◌, ◌<◌, nat_lt, Ok, if◌then◌else◌}
+use Rattle.std.proofs.Common.{◌≡◌, ◌∙◌, sym, ap, refl, ℕ, ◌+◌, Bool, true, false, cond, List, [], ◌∷◌, ◌++◌, length, Option, Some, None, is_some}
+use Rattle.std.proofs.Common.{option_map, append_assoc, append-nil, length-append, arith, ◌≤◌, ◌<◌, nat_lt, Ok, if◌then◌else◌}
 use Rattle.std.specs.Str.{bytes_eq}
 use Rattle.std.proofs.lemmas.Slice.Eq.{bytes_eq-Decides}
 use Rattle.std.proofs.lemmas.List.Sums.{sum_by_push}
@@ -27,7 +28,8 @@ added true old words none = rw (none refl) refl
 added false old words none = sym (option_case-some old)
 
 -- a name that the map did not have
-pub adds_new : (places : List ℕ → Option ℕ) (name other : List ℕ) (words : ℕ) → is_some (places name) ≡ false → cond (bytes_eq name other) (Some words) (places other) ≡ option_case (places other) (cond (bytes_eq name other) (Some words) None) Some
+pub adds_new : (places : List ℕ → Option ℕ) (name other : List ℕ) (words : ℕ) → is_some (places name) ≡ false
+    → cond (bytes_eq name other) (Some words) (places other) ≡ option_case (places other) (cond (bytes_eq name other) (Some words) None) Some
 adds_new places name other words absent =
     added (bytes_eq name other) (places other) words
     (λ same. sym (ap places ((bytes_eq-Decides name other).0 same)) ∙ none_from_is_some (places name) absent)
@@ -38,7 +40,8 @@ old_or_none (Some y) b x some = refl
 old_or_none None true x some = let no : false ≡ true = some refl in cc
 old_or_none None false x some = refl
 
-pub adds_old : (places : List ℕ → Option ℕ) (name other : List ℕ) (words : ℕ) → is_some (places name) ≡ true → places other ≡ option_case (places other) (cond (bytes_eq name other) (Some words) None) Some
+pub adds_old : (places : List ℕ → Option ℕ) (name other : List ℕ) (words : ℕ) → is_some (places name) ≡ true
+    → places other ≡ option_case (places other) (cond (bytes_eq name other) (Some words) None) Some
 adds_old places name other words there =
     old_or_none (places other) (bytes_eq name other) words (λ same. sym (ap (λ n. is_some (places n)) ((bytes_eq-Decides name other).0 same)) ∙ there)
 
@@ -48,7 +51,8 @@ some_stays : (b : Bool) (n : ℕ) (o last : Option ℕ) → cond b (Some n) (opt
 some_stays true n o last = refl
 some_stays false n o last = refl
 
-pub place_from-append : (before front after : List Reading) (name : List ℕ) → place_from before (front ++ after) name ≡ option_case (place_from before front name) (place_from (before ++ front) after name) Some
+pub place_from-append : (before front after : List Reading) (name : List ℕ)
+    → place_from before (front ++ after) name ≡ option_case (place_from before front name) (place_from (before ++ front) after name) Some
 place_from-append before [] after name = rw (append-nil before) refl
 place_from-append before (line ∷ front) after name =
     let others = place_from-append (before ++ line ∷ []) front after name in
@@ -58,7 +62,17 @@ place_from-append before (line ∷ front) after name =
 abbrev pub fault_after : ℕ → AsmFaultKind → AsmFault
 fault_after count kind = record { line = count + 1; kind = kind }
 
-fault_stays : (o : Option AsmFaultKind) (f : AsmFaultKind → AsmFault) (rest last : Option AsmFault) → option_case o (option_case rest last Some) (λ kind. Some (f kind)) ≡ option_case (option_case o rest (λ kind. Some (f kind))) last Some
+-- the first fault of lines by the first of them: it has none, or one
+pub fault_later : (fault : List Reading → Reading → Option AsmFaultKind) (before lines : List Reading) (line : Reading) → fault before line ≡ None
+    → first_fault fault before (line ∷ lines) ≡ first_fault fault (before ++ line ∷ []) lines
+fault_later fault before lines line sound = rw sound refl
+
+pub fault_here : (fault : List Reading → Reading → Option AsmFaultKind) (before lines : List Reading) (line : Reading) (kind : AsmFaultKind)
+    → fault before line ≡ Some kind → first_fault fault before (line ∷ lines) ≡ Some (fault_after (length before) kind)
+fault_here fault before lines line kind own = rw own refl
+
+fault_stays : (o : Option AsmFaultKind) (f : AsmFaultKind → AsmFault) (rest last : Option AsmFault)
+    → option_case o (option_case rest last Some) (λ kind. Some (f kind)) ≡ option_case (option_case o rest (λ kind. Some (f kind))) last Some
 fault_stays None f rest last = refl
 fault_stays (Some kind) f rest last = refl
 
@@ -66,42 +80,55 @@ as_map : (o : Option AsmFaultKind) (f : AsmFaultKind → AsmFault) → option_ca
 as_map None f = refl
 as_map (Some kind) f = refl
 
-pub first_fault-push : (fault : List Reading → Reading → Option AsmFaultKind) (before lines : List Reading) (line : Reading) → first_fault fault before (lines ++ line ∷ []) ≡ option_case (first_fault fault before lines) (option_map (fault_after (length (before ++ lines))) (fault (before ++ lines) line)) Some
+pub first_fault-push : (fault : List Reading → Reading → Option AsmFaultKind) (before lines : List Reading) (line : Reading)
+    → first_fault fault before (lines ++ line ∷ [])
+    ≡ option_case (first_fault fault before lines) (option_map (fault_after (length (before ++ lines))) (fault (before ++ lines) line)) Some
 first_fault-push fault before [] line = rw (append-nil before) (as_map (fault before line) (fault_after (length before)))
 first_fault-push fault before (first ∷ lines) line =
     let others = first_fault-push fault (before ++ first ∷ []) lines line in
-    rw (others, append_assoc before (first ∷ []) lines) (fault_stays (fault before first) (fault_after (length before)) (first_fault fault (before ++ first ∷ []) lines) _)
+    rw (others, append_assoc before (first ∷ []) lines)
+    (fault_stays (fault before first) (fault_after (length before)) (first_fault fault (before ++ first ∷ []) lines) _)
 
 -- ---- the first look goes on
 
 words_in-push : (lines : List Reading) (line : Reading) → words_in (lines ++ line ∷ []) ≡ words_in lines + line_size line
 words_in-push lines line = sum_by_push line_size lines line
 
-twice-next : (there : Bool) (repeated : Option ℕ) (count : ℕ) → option_case (option_map label_twice repeated) (option_map (fault_after count) (if there then Some LabelTwice else None)) Some ≡ option_map label_twice (if there then option_case repeated (Some (count + 1)) Some else repeated)
+twice-next : (there : Bool) (repeated : Option ℕ) (count : ℕ)
+    → option_case (option_map label_twice repeated) (option_map (fault_after count) (if there then Some LabelTwice else None)) Some
+    ≡ option_map label_twice (if there then option_case repeated (Some (count + 1)) Some else repeated)
 twice-next true None count = refl
 twice-next true (Some line) count = refl
 twice-next false None count = refl
 twice-next false (Some line) count = refl
 
-repeated-next : (look : FirstLook) (before : List Reading) (label : Option (List ℕ)) → HasRead look before → option_case (first_fault label_fault [] before) (option_map (fault_after (length before)) (repeated_name before label)) Some ≡ option_map label_twice (repeated_with look label)
+repeated-next : (look : FirstLook) (before : List Reading) (label : Option (List ℕ)) → HasRead look before
+    → option_case (first_fault label_fault [] before) (option_map (fault_after (length before)) (repeated_name before label)) Some
+    ≡ option_map label_twice (repeated_with look label)
 repeated-next look before None has = option_case-some (first_fault label_fault [] before) ∙ has.repeated
 repeated-next look before (Some name) has =
     let there : is_some (places_of look.labels name) ≡ is_some (place_in before name) = λ i. is_some (has.labels i name) in
     rw (has.repeated, there, has.count) (twice-next (is_some (place_in before name)) look.repeated (length before))
 
-pub reads_more : (old mid : FirstLook) (before : List Reading) (line : Line) → HasRead old before → AddsLabel old mid line.label → old.words + line_size (Ok line) ≤ 65536 → HasRead (record mid { words = old.words + line_size (Ok line); lines = old.lines + 1 }) (before ++ Ok line ∷ [])
+pub reads_more : (old mid : FirstLook) (before : List Reading) (line : Line) → HasRead old before → AddsLabel old mid line.label
+    → old.words + line_size (Ok line) ≤ 65536
+    → HasRead (record mid { words = old.words + line_size (Ok line); lines = old.lines + 1 }) (before ++ Ok line ∷ [])
 reads_more old mid before line has adds few = record {
   count = omega (arith, has.count, length-append before (Ok line ∷ []));
   words = omega (arith, has.words, words_in-push before (Ok line));
   few = omega (arith, few, has.words, words_in-push before (Ok line));
-  labels = λ i name. (adds.labels name ∙ (λ j. option_case (has.labels j name) (if is_label name line.label then Some (has.words j) else None) Some) ∙ sym (place_from-append [] before (Ok line ∷ []) name)) i;
+  labels =
+      λ i name. (adds.labels name ∙ (λ j. option_case (has.labels j name) (if is_label name line.label then Some (has.words j) else None) Some)
+      ∙ sym (place_from-append [] before (Ok line ∷ []) name)) i;
   repeated = first_fault-push label_fault [] before (Ok line) ∙ repeated-next old before line.label has ∙ ap (option_map label_twice) (sym adds.repeated);
 }
 
-pub own_fault-none : (before : List Reading) (line : Line) (words : ℕ) → words ≡ words_in before → words + line_size (Ok line) ≤ 65536 → own_fault before (Ok line) ≡ None
+pub own_fault-none : (before : List Reading) (line : Line) (words : ℕ) → words ≡ words_in before → words + line_size (Ok line) ≤ 65536
+    → own_fault before (Ok line) ≡ None
 own_fault-none before line words is few =
     let fits : nat_lt 65536 (words_in before + line_size (Ok line)) ≡ false = grind (arith, nat_tests) in rw fits refl
 
-pub own_fault-long : (before : List Reading) (line : Line) (words : ℕ) → words ≡ words_in before → 65536 < words + line_size (Ok line) → own_fault before (Ok line) ≡ Some TooLong
+pub own_fault-long : (before : List Reading) (line : Line) (words : ℕ) → words ≡ words_in before → 65536 < words + line_size (Ok line)
+    → own_fault before (Ok line) ≡ Some TooLong
 own_fault-long before line words is many =
     let over : nat_lt 65536 (words_in before + line_size (Ok line)) ≡ true = grind (arith, nat_tests) in rw over refl

@@ -1,14 +1,14 @@
 -- The first look, line after line.
-use Rattle.std.proofs.Common.{◌≡◌, ◌∙◌, refl, sym, ap, ap₂, ℕ, ◌+◌, ◌-◌, ◌≤◌, List, [], ◌∷◌, ◌++◌, length, length-append, take, Some, None, append_assoc, append-nil, map, arith}
+use Rattle.std.proofs.Common.{◌≡◌, ◌∙◌, refl, sym, ap, ap₂, ℕ, ◌+◌, ◌-◌, ◌≤◌, List, [], ◌∷◌, ◌++◌, length, length-append}
+use Rattle.std.proofs.Common.{take, Some, None, append_assoc, append-nil, map, arith}
 use Rattle.std.proofs.Math.Seq.{take-append_seam}
-use Rattle.rv_word.specs.Cases.{option_case}
 use Rattle.rv_asm.specs.LineReading.{line_at}
 use Rattle.rv_text.specs.Lines.{lines_of}
 use Rattle.rv_asm.specs.Looks.{HasRead}
 use Rattle.rv_asm.specs.Program.{Reading, readings, own_fault, first_fault}
 use Rattle.rv_asm.specs.declared.first_look.FirstLook.{FirstLook}
 use Rattle.rv_asm.specs.declared.fault.AsmFault.{AsmFault}
-use Rattle.rv_asm.proofs.LabelLemmas.{fault_after, first_fault-push}
+use Rattle.rv_asm.proofs.LabelLemmas.{fault_later, fault_here, first_fault-push}
 
 -- Lines were read, none of them faulty by itself, and the rest is still to be read.
 pub record HasReadUpTo (look : FirstLook) (text rest : List ℕ) : Type 0 where
@@ -18,30 +18,40 @@ pub record HasReadUpTo (look : FirstLook) (text rest : List ℕ) : Type 0 where
   pub sound : first_fault own_fault [] (readings text) ≡ first_fault own_fault before (readings rest)
   pub none : first_fault own_fault [] before ≡ None
 
-pub reads_on : (look new : FirstLook) (text rest after line : List ℕ) → (has : HasReadUpTo look text rest) → lines_of rest ≡ line ∷ lines_of after → HasRead new (has.before ++ line_at line ∷ []) → own_fault has.before (line_at line) ≡ None → HasReadUpTo new text after
+pub reads_on : (look new : FirstLook) (text rest after line : List ℕ) → (has : HasReadUpTo look text rest) → lines_of rest ≡ line ∷ lines_of after
+    → HasRead new (has.before ++ line_at line ∷ []) → own_fault has.before (line_at line) ≡ None → HasReadUpTo new text after
 reads_on look new text rest after line has is read sound = record {
   before = has.before ++ line_at line ∷ [];
   read = read;
   split = has.split ∙ ap (λ lines. has.before ++ map line_at lines) is ∙ sym (append_assoc has.before (line_at line ∷ []) (readings after));
-  sound = has.sound ∙ ap (λ lines. first_fault own_fault has.before (map line_at lines)) is ∙ ap (λ o. option_case o (first_fault own_fault (has.before ++ line_at line ∷ []) (readings after)) (λ kind. Some (fault_after (length has.before) kind))) sound;
+  sound =
+      has.sound ∙ ap (λ lines. first_fault own_fault has.before (map line_at lines)) is
+      ∙ fault_later own_fault has.before (readings after) (line_at line) sound;
   none = first_fault-push own_fault [] has.before (line_at line) ∙ rw (has.none, sound) refl;
 }
 
-pub reads_all : (look : FirstLook) (text rest : List ℕ) → HasReadUpTo look text rest → lines_of rest ≡ [] → HasRead look (readings text) × (first_fault own_fault [] (readings text) ≡ None)
+pub reads_all : (look : FirstLook) (text rest : List ℕ) → HasReadUpTo look text rest → lines_of rest ≡ []
+    → HasRead look (readings text) × (first_fault own_fault [] (readings text) ≡ None)
 reads_all look text rest has is =
     let whole : readings text ≡ has.before = has.split ∙ ap (λ lines. has.before ++ map line_at lines) is ∙ append-nil has.before in
     (rw whole has.read, has.sound ∙ ap (λ lines. first_fault own_fault has.before (map line_at lines)) is)
 
-pub faults_at : (look : FirstLook) (text rest after line : List ℕ) (fault : AsmFault) → (has : HasReadUpTo look text rest) → lines_of rest ≡ line ∷ lines_of after → fault.line ≡ length has.before + 1 → own_fault has.before (line_at line) ≡ Some fault.kind → first_fault own_fault [] (readings text) ≡ Some fault
+pub faults_at : (look : FirstLook) (text rest after line : List ℕ) (fault : AsmFault) → (has : HasReadUpTo look text rest)
+    → lines_of rest ≡ line ∷ lines_of after → fault.line ≡ length has.before + 1 → own_fault has.before (line_at line) ≡ Some fault.kind
+    → first_fault own_fault [] (readings text) ≡ Some fault
 faults_at look text rest after line fault has is at own =
-    has.sound ∙ ap (λ lines. first_fault own_fault has.before (map line_at lines)) is ∙ ap (λ o. option_case o (first_fault own_fault (has.before ++ line_at line ∷ []) (readings after)) (λ kind. Some (fault_after (length has.before) kind))) own ∙ ap (λ n. Some (record { line = n; kind = fault.kind })) (sym at)
+    has.sound ∙ ap (λ lines. first_fault own_fault has.before (map line_at lines)) is
+    ∙ fault_here own_fault has.before (readings after) (line_at line) fault.kind own ∙ ap (λ n. Some (record { line = n; kind = fault.kind })) (sym at)
 
-pub none_before : (look : FirstLook) (text rest : List ℕ) (fault : AsmFault) → (has : HasReadUpTo look text rest) → fault.line ≡ length has.before + 1 → first_fault own_fault [] (take (fault.line - 1) (readings text)) ≡ None
+pub none_before : (look : FirstLook) (text rest : List ℕ) (fault : AsmFault) → (has : HasReadUpTo look text rest)
+    → fault.line ≡ length has.before + 1 → first_fault own_fault [] (take (fault.line - 1) (readings text)) ≡ None
 none_before look text rest fault has at =
     let number : fault.line - 1 ≡ length has.before = omega (arith, at) in
-    ap (first_fault own_fault []) (ap₂ (λ (n : ℕ) (lines : List Reading). take n lines) number has.split ∙ take-append_seam has.before (readings rest)) ∙ has.none
+    ap (first_fault own_fault [])
+    (ap₂ (λ (n : ℕ) (lines : List Reading). take n lines) number has.split ∙ take-append_seam has.before (readings rest)) ∙ has.none
 
-pub is_line_of : (look : FirstLook) (text rest after line : List ℕ) → (has : HasReadUpTo look text rest) → lines_of rest ≡ line ∷ lines_of after → length has.before + 1 ≤ length (readings text)
+pub is_line_of : (look : FirstLook) (text rest after line : List ℕ) → (has : HasReadUpTo look text rest) → lines_of rest ≡ line ∷ lines_of after
+    → length has.before + 1 ≤ length (readings text)
 is_line_of look text rest after line has is =
     let whole : readings text ≡ has.before ++ line_at line ∷ readings after = has.split ∙ ap (λ lines. has.before ++ map line_at lines) is in
     rw whole (omega (arith, length-append has.before (line_at line ∷ readings after)))

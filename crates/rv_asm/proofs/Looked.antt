@@ -1,5 +1,6 @@
 -- What both looks at a text have found.
-use Rattle.std.proofs.Common.{◌≡◌, ◌∙◌, sym, ap, ℕ, ◌+◌, ◌≤◌, List, [], ◌∷◌, ◌++◌, length, length-append, Option, Some, None, Result, Ok, Err, IfOk, IfErr, Vec, option_map, arith, refl, take, drop, ◌-◌}
+use Rattle.std.proofs.Common.{◌≡◌, ◌∙◌, sym, ap, ℕ, ◌+◌, ◌≤◌, List, [], ◌∷◌, ◌++◌, length, length-append, Option, Some, None}
+use Rattle.std.proofs.Common.{Result, Ok, Err, IfOk, IfErr, Vec, option_map, arith, refl, take, drop, ◌-◌}
 use Rattle.std.proofs.lemmas.List.{length-map, take-append-drop}
 use Rattle.rv_word.specs.Cases.{option_case}
 use Rattle.rv_asm.specs.LabelMap.{places_of}
@@ -19,7 +20,9 @@ length-readings text = length-map (lines_of text) line_at
 abbrev IsWithin : ℕ → ℕ → AsmFault → Type 0
 IsWithin before count fault = (before + 1 ≤ fault.line) × (fault.line ≤ before + count)
 
-later_or_here : (before count longer : ℕ) (o : Option AsmFaultKind) (rest : Option AsmFault) (found : AsmFault) → longer ≡ before + 1 → (rest ≡ Some found → IsWithin longer count found) → option_case o rest (λ kind. Some (fault_after before kind)) ≡ Some found → IsWithin before (count + 1) found
+later_or_here : (before count longer : ℕ) (o : Option AsmFaultKind) (rest : Option AsmFault) (found : AsmFault) → longer ≡ before + 1
+    → (rest ≡ Some found → IsWithin longer count found) → option_case o rest (λ kind. Some (fault_after before kind)) ≡ Some found
+    → IsWithin before (count + 1) found
 later_or_here before count longer None rest found more later is =
     let bounds = later is in
     (omega (arith, bounds.0, more), omega (arith, bounds.1, more))
@@ -28,18 +31,23 @@ later_or_here before count longer (Some kind) rest found more later is =
     let number : before + 1 ≡ found.line = ap (λ f. f.line) same in
     (omega (arith, number), omega (arith, number))
 
-fault_line : (fault : List Reading → Reading → Option AsmFaultKind) (before lines : List Reading) (found : AsmFault) → first_fault fault before lines ≡ Some found → IsWithin (length before) (length lines) found
+fault_line : (fault : List Reading → Reading → Option AsmFaultKind) (before lines : List Reading) (found : AsmFault)
+    → first_fault fault before lines ≡ Some found → IsWithin (length before) (length lines) found
 fault_line fault before [] found is = cc
 fault_line fault before (line ∷ lines) found is =
-    let bounds = later_or_here (length before) (length lines) (length (before ++ line ∷ [])) (fault before line) (first_fault fault (before ++ line ∷ []) lines) found (length-append before (line ∷ [])) (fault_line fault (before ++ line ∷ []) lines found) is in
+    let bounds =
+    later_or_here (length before) (length lines) (length (before ++ line ∷ [])) (fault before line)
+    (first_fault fault (before ++ line ∷ []) lines) found (length-append before (line ∷ [])) (fault_line fault (before ++ line ∷ []) lines found) is in
     (bounds.0, omega (arith, bounds.1))
 
 -- where no line has a fault, none of the first has
-none_within : (o : Option AsmFaultKind) (f : AsmFaultKind → AsmFault) (rest : Option AsmFault) → option_case o rest (λ kind. Some (f kind)) ≡ None → (o ≡ None) × (rest ≡ None)
+none_within : (o : Option AsmFaultKind) (f : AsmFaultKind → AsmFault) (rest : Option AsmFault) → option_case o rest (λ kind. Some (f kind)) ≡ None
+    → (o ≡ None) × (rest ≡ None)
 none_within None f rest is = (refl, is)
 none_within (Some kind) f rest is = cc
 
-none_in_front : (fault : List Reading → Reading → Option AsmFaultKind) (before lines others : List Reading) → first_fault fault before (lines ++ others) ≡ None → first_fault fault before lines ≡ None
+none_in_front : (fault : List Reading → Reading → Option AsmFaultKind) (before lines others : List Reading)
+    → first_fault fault before (lines ++ others) ≡ None → first_fault fault before lines ≡ None
 none_in_front fault before [] others is = refl
 none_in_front fault before (line ∷ lines) others is =
     let none = none_within (fault before line) (fault_after (length before)) (first_fault fault (before ++ line ∷ []) (lines ++ others)) is in
@@ -47,9 +55,11 @@ none_in_front fault before (line ∷ lines) others is =
 
 pub none_of_first : (text : List ℕ) (count : ℕ) → first_fault own_fault [] (readings text) ≡ None → first_fault own_fault [] (take count (readings text)) ≡ None
 none_of_first text count is =
-    none_in_front own_fault [] (take count (readings text)) (drop count (readings text)) (ap (first_fault own_fault []) (take-append-drop count (readings text)) ∙ is)
+    none_in_front own_fault [] (take count (readings text)) (drop count (readings text))
+    (ap (first_fault own_fault []) (take-append-drop count (readings text)) ∙ is)
 
-pub none_of_first_if : {A : Type 0} (text : List ℕ) (r : Result A AsmFault) → first_fault own_fault [] (readings text) ≡ None → IfErr r (λ fault. first_fault own_fault [] (take (fault.line - 1) (readings text)) ≡ None)
+pub none_of_first_if : {A : Type 0} (text : List ℕ) (r : Result A AsmFault) → first_fault own_fault [] (readings text) ≡ None
+    → IfErr r (λ fault. first_fault own_fault [] (take (fault.line - 1) (readings text)) ≡ None)
 none_of_first_if text (Ok words) is = tt
 none_of_first_if text (Err fault) is = none_of_first text (fault.line - 1) is
 
@@ -59,13 +69,15 @@ unfolding assembled
 own_decides text fault is = rw is refl
 
 -- a label that stood before
-pub twice_decides : (text : List ℕ) (look : FirstLook) (line : ℕ) → HasRead look (readings text) → first_fault own_fault [] (readings text) ≡ None → look.repeated ≡ Some line → assembled text ≡ Err (label_twice line)
+pub twice_decides : (text : List ℕ) (look : FirstLook) (line : ℕ) → HasRead look (readings text) → first_fault own_fault [] (readings text) ≡ None
+    → look.repeated ≡ Some line → assembled text ≡ Err (label_twice line)
 unfolding assembled
 twice_decides text look line has none is =
     let twice : first_fault label_fault [] (readings text) ≡ Some (label_twice line) = has.repeated ∙ ap (option_map label_twice) is in
     rw (none, twice) refl
 
-pub twice_line : (text : List ℕ) (look : FirstLook) (line : ℕ) → HasRead look (readings text) → look.repeated ≡ Some line → (1 ≤ line) × (line ≤ length (lines_of text))
+pub twice_line : (text : List ℕ) (look : FirstLook) (line : ℕ) → HasRead look (readings text) → look.repeated ≡ Some line
+    → (1 ≤ line) × (line ≤ length (lines_of text))
 twice_line text look line has is =
     let bounds = fault_line label_fault [] (readings text) (label_twice line) (has.repeated ∙ ap (option_map label_twice) is) in
     (omega (arith, bounds.0), omega (arith, bounds.1, length-readings text))
@@ -74,19 +86,29 @@ twice_line text look line has is =
 not_twice : (text : List ℕ) (look : FirstLook) → HasRead look (readings text) → look.repeated ≡ None → first_fault label_fault [] (readings text) ≡ None
 not_twice text look has is = has.repeated ∙ ap (option_map label_twice) is
 
-pub name_decides : (text : List ℕ) (look : FirstLook) (fault : AsmFault) → HasRead look (readings text) → first_fault own_fault [] (readings text) ≡ None → look.repeated ≡ None → first_fault (name_fault (places_of look.labels)) [] (readings text) ≡ Some fault → assembled text ≡ Err fault
+pub name_decides : (text : List ℕ) (look : FirstLook) (fault : AsmFault) → HasRead look (readings text)
+    → first_fault own_fault [] (readings text) ≡ None → look.repeated ≡ None
+    → first_fault (name_fault (places_of look.labels)) [] (readings text) ≡ Some fault → assembled text ≡ Err fault
 unfolding assembled
 name_decides text look fault has none once is =
-    let named : first_fault (name_fault (place_in (readings text))) [] (readings text) ≡ Some fault = ap (λ labels. first_fault (name_fault labels) [] (readings text)) (sym has.labels) ∙ is in
+    let named : first_fault (name_fault (place_in (readings text))) [] (readings text) ≡ Some fault =
+    ap (λ labels. first_fault (name_fault labels) [] (readings text)) (sym has.labels) ∙ is in
     rw (none, not_twice text look has once, named) refl
 
-pub words_decide : (text : List ℕ) (look : FirstLook) (words : List ℕ) → HasRead look (readings text) → first_fault own_fault [] (readings text) ≡ None → look.repeated ≡ None → first_fault (name_fault (places_of look.labels)) [] (readings text) ≡ None → words ≡ words_from (places_of look.labels) [] (readings text) → assembled text ≡ Ok words
+pub words_decide : (text : List ℕ) (look : FirstLook) (words : List ℕ) → HasRead look (readings text)
+    → first_fault own_fault [] (readings text) ≡ None → look.repeated ≡ None
+    → first_fault (name_fault (places_of look.labels)) [] (readings text) ≡ None → words ≡ words_from (places_of look.labels) [] (readings text)
+    → assembled text ≡ Ok words
 unfolding assembled
 words_decide text look words has none once named is =
-    let labelled : first_fault (name_fault (place_in (readings text))) [] (readings text) ≡ None = ap (λ labels. first_fault (name_fault labels) [] (readings text)) (sym has.labels) ∙ named in
+    let labelled : first_fault (name_fault (place_in (readings text))) [] (readings text) ≡ None =
+    ap (λ labels. first_fault (name_fault labels) [] (readings text)) (sym has.labels) ∙ named in
     let made : words_of (readings text) ≡ words = ap (λ labels. words_from labels [] (readings text)) (sym has.labels) ∙ sym is in
     rw (none, not_twice text look has once, labelled) (ap Ok made)
 
-pub words_decide_if : {Z : Type 0} (text : List ℕ) (look : FirstLook) (r : Result (Vec ℕ Z) AsmFault) → HasRead look (readings text) → first_fault own_fault [] (readings text) ≡ None → look.repeated ≡ None → IfOk r (λ words. (words.items ≡ words_from (places_of look.labels) [] (readings text)) × (first_fault (name_fault (places_of look.labels)) [] (readings text) ≡ None)) → IfOk r (λ words. assembled text ≡ Ok words.items)
+pub words_decide_if : {Z : Type 0} (text : List ℕ) (look : FirstLook) (r : Result (Vec ℕ Z) AsmFault) → HasRead look (readings text)
+    → first_fault own_fault [] (readings text) ≡ None → look.repeated ≡ None
+    → IfOk r (λ words. (words.items ≡ words_from (places_of look.labels) [] (readings text))
+    × (first_fault (name_fault (places_of look.labels)) [] (readings text) ≡ None)) → IfOk r (λ words. assembled text ≡ Ok words.items)
 words_decide_if text look (Ok words) has none once found = words_decide text look words.items has none once found.1 found.0
 words_decide_if text look (Err fault) has none once found = tt

@@ -1,10 +1,12 @@
 -- No statement has more than three operands, so what follows the fourth does not matter.
 use Rattle.std.proofs.Common.{◌≡◌, ℕ, List, [], ◌∷◌, take, refl}
 use Rattle.rv_asm.specs.declared.mnemonic.Mnemonic.{Mnemonic}
-use Rattle.rv_asm.specs.declared.mnemonic.Mnemonic.TheVariants.{Lui, Auipc, Jal, Jalr, Branch, Load, Store, OpImm, ShiftImm, Op, Fence, Csr, CsrImm, Ecall, Ebreak, Sret, Mret, Wfi, SfenceVma, Word, Nop, Ret, Li}
+use Rattle.rv_asm.specs.declared.mnemonic.Mnemonic.TheVariants.{Lui, Auipc, Jal, Jalr, Branch, Load, Store, OpImm, ShiftImm, Op, Fence, Csr, CsrImm}
+use Rattle.rv_asm.specs.declared.mnemonic.Mnemonic.TheVariants.{Ecall, Ebreak, Sret, Mret, Wfi, SfenceVma, Word, Nop, Ret, Li}
 use Rattle.rv_asm.specs.Statements.{statement_of}
 
-more_do_not_matter : (m : Mnemonic) (u v w x : List ℕ) (more others : List (List ℕ)) → statement_of m (u ∷ v ∷ w ∷ x ∷ more) ≡ statement_of m (u ∷ v ∷ w ∷ x ∷ others)
+more_do_not_matter : (m : Mnemonic) (u v w x : List ℕ) (more others : List (List ℕ))
+    → statement_of m (u ∷ v ∷ w ∷ x ∷ more) ≡ statement_of m (u ∷ v ∷ w ∷ x ∷ others)
 more_do_not_matter Lui u v w x more others = refl
 more_do_not_matter Auipc u v w x more others = refl
 more_do_not_matter Jal u v w x more others = refl

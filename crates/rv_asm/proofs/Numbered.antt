@@ -17,15 +17,19 @@ both false b is = cc
 below : (n limit : ℕ) → nat_lt n limit ≡ true → n < limit
 below n limit is = grind (arith, nat_tests)
 
-first_in_range : (limit n : ℕ) (b : Bool) (o : Option (List ℕ × ℕ)) (name : List ℕ) → n < limit → IfSome (option_map (λ (row : List ℕ × ℕ). row.1) o) (λ m. m < limit) → IfSome (option_map (λ (row : List ℕ × ℕ). row.1) (cond b (Some (name, n)) o)) (λ m. m < limit)
+first_in_range : (limit n : ℕ) (b : Bool) (o : Option (List ℕ × ℕ)) (name : List ℕ) → n < limit
+    → IfSome (option_map (λ (row : List ℕ × ℕ). row.1) o) (λ m. m < limit)
+    → IfSome (option_map (λ (row : List ℕ × ℕ). row.1) (cond b (Some (name, n)) o)) (λ m. m < limit)
 first_in_range limit n true o name here others = here
 first_in_range limit n false o name here others = others
 
-looked_up-in_range : (limit : ℕ) (rows : List (List ℕ × ℕ)) (name : List ℕ) → list_all (λ row. nat_lt row.1 limit) rows ≡ true → IfSome (looked_up rows name) (λ m. m < limit)
+looked_up-in_range : (limit : ℕ) (rows : List (List ℕ × ℕ)) (name : List ℕ) → list_all (λ row. nat_lt row.1 limit) rows ≡ true
+    → IfSome (looked_up rows name) (λ m. m < limit)
 looked_up-in_range limit [] name all = tt
 looked_up-in_range limit ((known, n) ∷ rows) name all =
     let parts = both _ _ all in
-    first_in_range limit n (bytes_eq name known) (find (λ row. bytes_eq name row.0) rows) known (below n limit parts.0) (looked_up-in_range limit rows name parts.1)
+    first_in_range limit n (bytes_eq name known) (find (λ row. bytes_eq name row.0) rows) known (below n limit parts.0)
+    (looked_up-in_range limit rows name parts.1)
 
 pub registers_in_range : (name : List ℕ) (n : ℕ) → looked_up registers name ≡ Some n → n ≤ 31
 unfolding registers

@@ -26,7 +26,8 @@ pub record IsPiece (text : List ℕ) : Type 0 where
   pub plain : list_all is_plain text ≡ true
 
 pub IsPiece-from_test : (text : List ℕ) → is_piece text ≡ true → IsPiece text
-IsPiece-from_test text passes = record { some = grind (arith, nat_tests, passes); short = grind (arith, nat_tests, passes); plain = grind (arith, nat_tests, passes) }
+IsPiece-from_test text passes =
+    record { some = grind (arith, nat_tests, passes); short = grind (arith, nat_tests, passes); plain = grind (arith, nat_tests, passes) }
 
 abbrev pub ArePieces : List (List ℕ) → Type 0
 ArePieces [] = Unit {0}
@@ -83,7 +84,8 @@ trimmed-some : (b : ℕ) (text : List ℕ) → is_plain b ≡ true → 0 < lengt
 unfolding trimmed
 trimmed-some b text plain =
     let kept : length (trimmed (32 ∷ b ∷ text)) ≡ length (after_blanks (reverse text ++ b ∷ [])) =
-    ap (λ t. length (before_blanks t)) (after_blanks-start b text plain) ∙ length-reverse (after_blanks (reverse (b ∷ text))) ∙ ap (λ t. length (after_blanks t)) (reverse_onto text b []) in
+    ap (λ t. length (before_blanks t)) (after_blanks-start b text plain) ∙ length-reverse (after_blanks (reverse (b ∷ text)))
+    ∙ ap (λ t. length (after_blanks t)) (reverse_onto text b []) in
     rw kept (after_blanks-end (reverse text) b plain)
 
 -- ---- the operands, as they stand after a mnemonic
@@ -96,11 +98,13 @@ no_comma : (text : List ℕ) → list_all is_plain text ≡ true → (k d : ℕ)
 no_comma text plain zero d below = refl
 no_comma text plain (suc k) d below = lacks (λ b. b == 44) text is_plain-comma plain k d (omega (arith, below))
 
-split-spaced : (first : List ℕ) (more : List (List ℕ)) → IsPiece first → ArePieces more → slice_split (λ b. b == 44) (spaced first more) ≡ map (λ t. 32 ∷ t) (first ∷ more)
+split-spaced : (first : List ℕ) (more : List (List ℕ)) → IsPiece first → ArePieces more
+    → slice_split (λ b. b == 44) (spaced first more) ≡ map (λ t. 32 ∷ t) (first ∷ more)
 split-spaced first [] piece pieces =
     ap (λ t. slice_split (λ b. b == 44) (32 ∷ t)) (append-nil first) ∙ slice_split_none (λ b. b == 44) (32 ∷ first) (no_comma first piece.plain)
 split-spaced first (next ∷ more) piece pieces =
-    slice_split_at (λ b. b == 44) (32 ∷ first) 44 (spaced next more) (no_comma first piece.plain) refl ∙ ap (λ parts. (32 ∷ first) ∷ parts) (split-spaced next more pieces.0 pieces.1)
+    slice_split_at (λ b. b == 44) (32 ∷ first) 44 (spaced next more) (no_comma first piece.plain) refl
+    ∙ ap (λ parts. (32 ∷ first) ∷ parts) (split-spaced next more pieces.0 pieces.1)
 
 trimmed-all : (texts : List (List ℕ)) → ArePieces texts → map trimmed (map (λ t. 32 ∷ t) texts) ≡ texts
 trimmed-all [] pieces = refl

@@ -57,7 +57,8 @@ one_line b (c ∷ line) of_line =
 
 -- ---- no comment, and no label
 
-none_found : (other : ℕ) (line : List ℕ) → ((b : ℕ) → is_line_byte b ≡ true → (b == other) ≡ false) → list_all is_line_byte line ≡ true → position_or_len (λ b. b == other) line ≡ length line
+none_found : (other : ℕ) (line : List ℕ) → ((b : ℕ) → is_line_byte b ≡ true → (b == other) ≡ false) → list_all is_line_byte line ≡ true
+    → position_or_len (λ b. b == other) line ≡ length line
 none_found other [] differs of_line = refl
 none_found other (b ∷ line) differs of_line =
     let parts = and_parts (is_line_byte b) (list_all is_line_byte line) of_line in
@@ -87,7 +88,8 @@ whole_statement b line plain of_line = let none = no_colon (b ∷ line) of_line 
 good_line : (line : List ℕ) → length line ≤ 120 → list_all is_line_byte line ≡ true → is_good_line line ≡ true
 good_line line short of_line = grind (arith, nat_tests, are_text line of_line)
 
-pub line_at-plain : (b : ℕ) (line : List ℕ) (s : Statement) → is_plain b ≡ true → list_all is_line_byte (b ∷ line) ≡ true → length (b ∷ line) ≤ 120 → statement_at (b ∷ line) ≡ Ok s → line_at (b ∷ line) ≡ Ok (record { label = None; statement = Some s })
+pub line_at-plain : (b : ℕ) (line : List ℕ) (s : Statement) → is_plain b ≡ true → list_all is_line_byte (b ∷ line) ≡ true → length (b ∷ line) ≤ 120
+    → statement_at (b ∷ line) ≡ Ok s → line_at (b ∷ line) ≡ Ok (record { label = None; statement = Some s })
 unfolding line_at
 line_at-plain b line s plain of_line short says =
     let good = good_line (b ∷ line) short of_line in
@@ -100,10 +102,12 @@ line_at-plain b line s plain of_line short says =
 -- ---- what it stands for
 
 -- a text of one line that says an instruction, or a word
-pub assembled-instruction : (text : List ℕ) (instr : Instr) → lines_of text ≡ text ∷ [] → line_at text ≡ Ok (record { label = None; statement = Some (Instruction instr) }) → assembled text ≡ Ok (word_of instr ∷ [])
+pub assembled-instruction : (text : List ℕ) (instr : Instr) → lines_of text ≡ text ∷ []
+    → line_at text ≡ Ok (record { label = None; statement = Some (Instruction instr) }) → assembled text ≡ Ok (word_of instr ∷ [])
 unfolding assembled statement_size statement_words
 assembled-instruction text instr one says = rw one (rw says refl)
 
-pub assembled-word : (text : List ℕ) (word : ℕ) → lines_of text ≡ text ∷ [] → line_at text ≡ Ok (record { label = None; statement = Some (Word word) }) → assembled text ≡ Ok (word ∷ [])
+pub assembled-word : (text : List ℕ) (word : ℕ) → lines_of text ≡ text ∷ []
+    → line_at text ≡ Ok (record { label = None; statement = Some (Word word) }) → assembled text ≡ Ok (word ∷ [])
 unfolding assembled statement_size statement_words
 assembled-word text word one says = rw one (rw says refl)

@@ -1,5 +1,6 @@
 -- The numbers that the disassembler writes read back.
-use Rattle.std.proofs.Common.{◌≡◌, ℕ, ◌-◌, ◌%◌, ◌/◌, ◌^◌, ◌<◌, ◌≤◌, Bool, true, false, List, [], ◌∷◌, ◌++◌, length, Some, Ok, refl, ap, sym, ◌∙◌, arith, decimal}
+use Rattle.std.proofs.Common.{◌≡◌, ℕ, ◌-◌, ◌%◌, ◌/◌, ◌^◌, ◌<◌, ◌≤◌, Bool, true, false, List, [], ◌∷◌, ◌++◌}
+use Rattle.std.proofs.Common.{length, Some, Ok, refl, ap, sym, ◌∙◌, arith, decimal}
 use Rattle.std.specs.Prelude.{◌&&◌, nat_lt, nat_le, nat_eq, codes, if◌then◌else◌}
 use Rattle.std.specs.Char.{is_digit, digit_value}
 use Rattle.std.specs.Fmt.{digits}
@@ -81,7 +82,8 @@ signed_number width field = if nat_lt field (2 ^ (width - 1)) then plus field el
 pub written-signed : (width field : ℕ) → field < 2 ^ 64 → 2 ^ width < 2 ^ 64 → written_number (signed_text width field) ≡ Some (signed_number width field)
 written-signed width field small wide = either (nat_lt field (2 ^ (width - 1))) (2 ^ width - field) (omega (arith, wide))
   where
-    either : (t : Bool) (left : ℕ) → left < 2 ^ 64 → written_number (if t then decimal field else codes "-" ++ decimal left) ≡ Some (if t then plus field else minus left)
+    either : (t : Bool) (left : ℕ) → left < 2 ^ 64
+        → written_number (if t then decimal field else codes "-" ++ decimal left) ≡ Some (if t then plus field else minus left)
     either true left fits = written-decimal field small
     either false left fits = written-minus left fits
 
@@ -125,9 +127,19 @@ written-hex_text n small = by_size (nat_lt n 0x10) (nat_lt n 0x100) (nat_lt n 0x
     of : (places : ℕ) → 0 < places → places ≤ 8 → n < 16 ^ places → hex_digits places n ≡ digits 16 false n → written_number (hex_text n) ≡ Some (plus n)
     of places some few fits same = ap (λ t. written_number (48 ∷ 120 ∷ t)) (sym same) ∙ written-hex places n some few fits
 
-    by_size : (a b c d : Bool) → nat_lt n 0x10 ≡ a → nat_lt n 0x100 ≡ b → nat_lt n 0x1000 ≡ c → nat_lt n 0x10000 ≡ d → written_number (hex_text n) ≡ Some (plus n)
-    by_size true b c d one two three four = let below : n < 0x10 = grind (arith, nat_tests) in of 1 (omega arith) (omega arith) (omega (arith, below)) (one_digit n below)
-    by_size false true c d one two three four = let above : 0x10 ≤ n = grind (arith, nat_tests) in let below : n < 0x100 = grind (arith, nat_tests) in of 2 (omega arith) (omega arith) (omega (arith, below)) (two_digits n above below)
-    by_size false false true d one two three four = let above : 0x100 ≤ n = grind (arith, nat_tests) in let below : n < 0x1000 = grind (arith, nat_tests) in of 3 (omega arith) (omega arith) (omega (arith, below)) (three_digits n above below)
-    by_size false false false true one two three four = let above : 0x1000 ≤ n = grind (arith, nat_tests) in let below : n < 0x10000 = grind (arith, nat_tests) in of 4 (omega arith) (omega arith) (omega (arith, below)) (four_digits n above below)
-    by_size false false false false one two three four = let above : 0x10000 ≤ n = grind (arith, nat_tests) in of 5 (omega arith) (omega arith) (omega (arith, small)) (five_digits n above (omega (arith, small)))
+    by_size : (a b c d : Bool) → nat_lt n 0x10 ≡ a → nat_lt n 0x100 ≡ b → nat_lt n 0x1000 ≡ c → nat_lt n 0x10000 ≡ d
+        → written_number (hex_text n) ≡ Some (plus n)
+    by_size true b c d one two three four =
+        let below : n < 0x10 = grind (arith, nat_tests) in of 1 (omega arith) (omega arith) (omega (arith, below)) (one_digit n below)
+    by_size false true c d one two three four =
+        let above : 0x10 ≤ n = grind (arith, nat_tests) in let below : n < 0x100 = grind (arith, nat_tests) in
+        of 2 (omega arith) (omega arith) (omega (arith, below)) (two_digits n above below)
+    by_size false false true d one two three four =
+        let above : 0x100 ≤ n = grind (arith, nat_tests) in let below : n < 0x1000 = grind (arith, nat_tests) in
+        of 3 (omega arith) (omega arith) (omega (arith, below)) (three_digits n above below)
+    by_size false false false true one two three four =
+        let above : 0x1000 ≤ n = grind (arith, nat_tests) in let below : n < 0x10000 = grind (arith, nat_tests) in
+        of 4 (omega arith) (omega arith) (omega (arith, below)) (four_digits n above below)
+    by_size false false false false one two three four =
+        let above : 0x10000 ≤ n = grind (arith, nat_tests) in
+        of 5 (omega arith) (omega arith) (omega (arith, small)) (five_digits n above (omega (arith, small)))

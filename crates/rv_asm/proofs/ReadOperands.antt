@@ -1,5 +1,6 @@
 -- The operands that the disassembler writes are pieces of a line, and read back.
-use Rattle.std.proofs.Common.{◌≡◌, ℕ, zero, suc, ◌+◌, ◌-◌, ◌/◌, ◌%◌, ◌^◌, ◌<◌, ◌≤◌, Bool, true, false, List, [], ◌∷◌, ◌++◌, length, map, Some, Ok, refl, ap, sym, ◌∙◌, subst, arith, decimal, append_assoc, length-append}
+use Rattle.std.proofs.Common.{◌≡◌, ℕ, zero, suc, ◌+◌, ◌-◌, ◌/◌, ◌%◌, ◌^◌, ◌<◌, ◌≤◌, Bool, true, false, List, [], ◌∷◌, ◌++◌, length, map}
+use Rattle.std.proofs.Common.{Some, Ok, refl, ap, sym, ◌∙◌, subst, arith, decimal, append_assoc, length-append}
 use Rattle.std.specs.Prelude.{◌==◌, ◌&&◌, nat_lt, nat_le, codes, if◌then◌else◌}
 use Rattle.std.specs.Char.{digit_char}
 use Rattle.std.specs.Fmt.{digits}
@@ -27,7 +28,8 @@ use Rattle.rv_asm.proofs.ReadNumbers.{digit_between, signed_number, written-sign
 
 -- ---- facts on each number below a bound, by computing
 
-maps_agree : {A : Type 0} (f g : ℕ → A) (count start n : ℕ) → n < count → map f (range_with_len start count) ≡ map g (range_with_len start count) → f (start + n) ≡ g (start + n)
+maps_agree : {A : Type 0} (f g : ℕ → A) (count start n : ℕ) → n < count → map f (range_with_len start count) ≡ map g (range_with_len start count)
+    → f (start + n) ≡ g (start + n)
 maps_agree f g zero start n below same = absurd (omega (arith, below))
 maps_agree f g (suc count) start zero below same =
     let heads : f start ≡ g start = cc in
@@ -218,7 +220,8 @@ opening-signed (c ∷ front) back signed =
     one : is_signed c ≡ true → (c == 40) ≡ false
     one here = grind (arith, nat_tests)
 
-address_of-parts : (front back : List ℕ) (offset : _) (base : ℕ) → list_all is_signed front ≡ true → written_number front ≡ Some offset → base_of (40 ∷ back) ≡ Some base → address_of (front ++ 40 ∷ back) ≡ Some (offset, base)
+address_of-parts : (front back : List ℕ) (offset : _) (base : ℕ) → list_all is_signed front ≡ true → written_number front ≡ Some offset
+    → base_of (40 ∷ back) ≡ Some base → address_of (front ++ 40 ∷ back) ≡ Some (offset, base)
 unfolding address_of
 address_of-parts front back offset base signed written behind =
     let at_front = opening-signed front back signed in
@@ -228,8 +231,11 @@ pub read-address : (offset base : ℕ) → offset < 2 ^ 12 → base < 32 → add
 read-address offset base small small_base =
     let front = signed-signed 12 offset (omega (arith, small)) (omega arith) in
     let written = written-signed 12 offset (omega (arith, small)) (omega arith) in
-    let found = address_of-parts (signed_text 12 offset) (register_text base ++ codes ")") (signed_number 12 offset) base front.signed written (piece-base base small_base).2 in
+    let found =
+    address_of-parts (signed_text 12 offset) (register_text base ++ codes ")") (signed_number 12 offset) base front.signed written
+    (piece-base base small_base).2 in
     ap address_at (address-parts offset base) ∙ again found
   where
-    again : address_of (signed_text 12 offset ++ base_text base) ≡ Some (signed_number 12 offset, base) → address_at (signed_text 12 offset ++ base_text base) ≡ Ok (signed_number 12 offset, base)
+    again : address_of (signed_text 12 offset ++ base_text base) ≡ Some (signed_number 12 offset, base)
+        → address_at (signed_text 12 offset ++ base_text base) ≡ Ok (signed_number 12 offset, base)
     again found = rw found refl

@@ -1,5 +1,6 @@
 -- What the disassembler writes of a word assembles to that word.
-use Rattle.std.proofs.Common.{◌≡◌, ℕ, ◌*◌, ◌/◌, ◌^◌, ◌<◌, ◌≤◌, Bool, true, false, List, [], ◌∷◌, ◌++◌, length, Some, None, Ok, refl, ap, ◌∙◌, arith, decimal, append_assoc, length-append}
+use Rattle.std.proofs.Common.{◌≡◌, ℕ, ◌*◌, ◌/◌, ◌^◌, ◌<◌, ◌≤◌, Bool, true, false, List, [], ◌∷◌, ◌++◌, length, Some}
+use Rattle.std.proofs.Common.{None, Ok, refl, ap, ◌∙◌, arith, decimal, append_assoc, length-append}
 use Rattle.std.specs.Prelude.{◌==◌, ◌&&◌, ◌||◌, codes}
 use Rattle.std.specs.List.{list_all, flat_map}
 use Rattle.std.proofs.lemmas.Bool.{and_parts, and_from}
@@ -15,7 +16,8 @@ use Rattle.rv_encoding.specs.declared.kind.ShiftKind.{ShiftKind}
 use Rattle.rv_encoding.specs.declared.kind.OpKind.{OpKind}
 use Rattle.rv_encoding.specs.declared.kind.CsrKind.{CsrKind}
 use Rattle.rv_encoding.specs.declared.instr.Instr.{Instr}
-use Rattle.rv_encoding.specs.declared.instr.Instr.TheVariants.{Lui, Auipc, Jal, Jalr, Branch, Load, Store, OpImm, ShiftImm, Op, Fence, Csr, CsrImm, Ecall, Ebreak, Sret, Mret, Wfi, SfenceVma}
+use Rattle.rv_encoding.specs.declared.instr.Instr.TheVariants.{Lui, Auipc, Jal, Jalr, Branch, Load, Store, OpImm, ShiftImm, Op, Fence}
+use Rattle.rv_encoding.specs.declared.instr.Instr.TheVariants.{Csr, CsrImm, Ecall, Ebreak, Sret, Mret, Wfi, SfenceVma}
 use Rattle.rv_asm.specs.Cuts.{is_name, is_name_byte, label_text, statement_text, trimmed, operands_of}
 use Rattle.rv_text.specs.Digits.{hex_digits}
 use Rattle.rv_text.specs.Lines.{lines_of}
@@ -24,7 +26,8 @@ use Rattle.rv_text.specs.GoodLines.{is_text}
 use Rattle.rv_asm.specs.Mnemonics.{mnemonics}
 use Rattle.rv_asm.specs.Program.{assembled}
 use Rattle.rv_asm.specs.Statements.{statement_at, statement_of}
-use Rattle.rv_asm.specs.Spelling.{register_text, hex_text, csr_text, signed_text, address_text, accesses_text, line_text, instr_text, word_text, is_told_by_operands}
+use Rattle.rv_asm.specs.Spelling.{register_text, hex_text, csr_text, signed_text, address_text, accesses_text}
+use Rattle.rv_asm.specs.Spelling.{line_text, instr_text, word_text, is_told_by_operands}
 use Rattle.rv_asm.specs.declared.mnemonic.Mnemonic.TheVariants as mnemonic
 use Rattle.rv_asm.specs.declared.statement.Statement.{Statement}
 use Rattle.rv_asm.specs.declared.statement.Statement.TheVariants.{Instruction, Word}
@@ -32,7 +35,8 @@ use Rattle.rv_asm.proofs.Plain.{is_plain, IsPiece, IsPiece-from_test, ArePieces,
 use Rattle.rv_asm.proofs.PlainLines.{is_line_byte, one_line, line_at-plain, assembled-instruction, assembled-word}
 use Rattle.rv_asm.proofs.ReadMnemonics.{mnemonic_of, piece-name, read-name}
 use Rattle.rv_asm.proofs.ReadNumbers.{immediate-signed, branch_offset-signed, jump_offset-signed, five_bits-plus, csr_number-plus, word_of-plus, upper-plus}
-use Rattle.rv_asm.proofs.ReadOperands.{piece-register, read-register, piece-small, read-small, piece-accesses, read-accesses, piece-hex, read-hex, piece-hex_text, read-hex_text, read-csr, piece-signed, read-signed, read-target, piece-address, read-address}
+use Rattle.rv_asm.proofs.ReadOperands.{piece-register, read-register, piece-small, read-small, piece-accesses, read-accesses, piece-hex, read-hex}
+use Rattle.rv_asm.proofs.ReadOperands.{piece-hex_text, read-hex_text, read-csr, piece-signed, read-signed, read-target, piece-address, read-address}
 
 -- ---- a line of a mnemonic and operands
 
@@ -57,22 +61,34 @@ length-commas [] pieces = omega arith
 length-commas (first ∷ more) pieces =
     omega (arith, pieces.0.short, length-commas more pieces.1, length-append first (flat_map (λ operand. codes ", " ++ operand) more))
 
-line-spaced : (name first : List ℕ) (more : List (List ℕ)) → IsPiece name → IsPiece first → ArePieces more → list_all is_line_byte (name ++ spaced first more) ≡ true
+line-spaced : (name first : List ℕ) (more : List (List ℕ)) → IsPiece name → IsPiece first → ArePieces more
+    → list_all is_line_byte (name ++ spaced first more) ≡ true
 line-spaced name first more of_name of_first of_more =
     list_all-append is_line_byte name (spaced first more)
     ∙ and_from _ _ (line-plain name of_name.plain)
-    (list_all-append is_line_byte first (flat_map (λ operand. codes ", " ++ operand) more) ∙ and_from _ _ (line-plain first of_first.plain) (line-commas more of_more))
+    (list_all-append is_line_byte first (flat_map (λ operand. codes ", " ++ operand) more)
+    ∙ and_from _ _ (line-plain first of_first.plain) (line-commas more of_more))
 
-length-spaced : (name first : List ℕ) (more : List (List ℕ)) → IsPiece name → IsPiece first → ArePieces more → length more ≤ 2 → length (name ++ spaced first more) ≤ 120
+length-spaced : (name first : List ℕ) (more : List (List ℕ)) → IsPiece name → IsPiece first → ArePieces more → length more ≤ 2
+    → length (name ++ spaced first more) ≤ 120
 length-spaced name first more of_name of_first of_more few =
-    omega (arith, of_name.short, of_first.short, few, length-commas more of_more, length-append name (spaced first more), length-append first (flat_map (λ operand. codes ", " ++ operand) more))
+    omega (
+      arith,
+      of_name.short,
+      of_first.short,
+      few,
+      length-commas more of_more,
+      length-append name (spaced first more),
+      length-append first (flat_map (λ operand. codes ", " ++ operand) more),
+    )
 
 -- such a line says what its statement says
 record Says (text : List ℕ) (s : Statement) : Type 0 where
   one : lines_of text ≡ text ∷ []
   says : line_at text ≡ Ok (record { label = None; statement = Some s })
 
-says_line : (name first : List ℕ) (more : List (List ℕ)) (s : Statement) → IsPiece name → IsPiece first → ArePieces more → length more ≤ 2 → statement_at (name ++ spaced first more) ≡ Ok s → Says (name ++ spaced first more) s
+says_line : (name first : List ℕ) (more : List (List ℕ)) (s : Statement) → IsPiece name → IsPiece first → ArePieces more → length more ≤ 2
+    → statement_at (name ++ spaced first more) ≡ Ok s → Says (name ++ spaced first more) s
 says_line [] first more s of_name of_first of_more few is = absurd (omega (arith, of_name.some))
 says_line (b ∷ name) first more s of_name of_first of_more few is =
     let of_line = line-spaced (b ∷ name) first more of_name of_first of_more in
@@ -85,7 +101,8 @@ unfolding line_text
 line_text-is name first more = append_assoc name (32 ∷ []) (first ++ flat_map (λ operand. codes ", " ++ operand) more)
 
 -- an instruction with operands
-assembled-line : (i : Instr) (first : List ℕ) (more : List (List ℕ)) → IsPiece first → ArePieces more → length more ≤ 2 → statement_of (mnemonic_of i) (first ∷ more) ≡ Ok (Instruction i) → assembled (line_text (name_of i) (first ∷ more)) ≡ Ok (word_of i ∷ [])
+assembled-line : (i : Instr) (first : List ℕ) (more : List (List ℕ)) → IsPiece first → ArePieces more → length more ≤ 2
+    → statement_of (mnemonic_of i) (first ∷ more) ≡ Ok (Instruction i) → assembled (line_text (name_of i) (first ∷ more)) ≡ Ok (word_of i ∷ [])
 assembled-line i first more of_first of_more few read =
     let named = read-name i (first ++ flat_map (λ operand. codes ", " ++ operand) more) in
     let cut = ap (statement_of (mnemonic_of i)) (operands_of-spaced first more of_first of_more) in
@@ -101,7 +118,8 @@ assembled-Lui rd imm fields =
     let r = read-register rd fields.0 in
     let n = read-hex_text (imm / 2 ^ 12) small in
     let u = upper-plus imm fields.1.0 fields.1.1 in
-    assembled-line (Lui rd imm) (register_text rd) (hex_text (imm / 2 ^ 12) ∷ []) (piece-register rd fields.0) (piece-hex_text (imm / 2 ^ 12) small, tt) (omega arith) (rw (r, n, u) refl)
+    assembled-line (Lui rd imm) (register_text rd) (hex_text (imm / 2 ^ 12) ∷ []) (piece-register rd fields.0)
+    (piece-hex_text (imm / 2 ^ 12) small, tt) (omega arith) (rw (r, n, u) refl)
 
 assembled-Auipc : (rd imm : ℕ) → IsInstr (Auipc rd imm) → assembled (instr_text (Auipc rd imm)) ≡ Ok (word_of (Auipc rd imm) ∷ [])
 unfolding instr_text
@@ -110,7 +128,8 @@ assembled-Auipc rd imm fields =
     let r = read-register rd fields.0 in
     let n = read-hex_text (imm / 2 ^ 12) small in
     let u = upper-plus imm fields.1.0 fields.1.1 in
-    assembled-line (Auipc rd imm) (register_text rd) (hex_text (imm / 2 ^ 12) ∷ []) (piece-register rd fields.0) (piece-hex_text (imm / 2 ^ 12) small, tt) (omega arith) (rw (r, n, u) refl)
+    assembled-line (Auipc rd imm) (register_text rd) (hex_text (imm / 2 ^ 12) ∷ []) (piece-register rd fields.0)
+    (piece-hex_text (imm / 2 ^ 12) small, tt) (omega arith) (rw (r, n, u) refl)
 
 assembled-Jal : (rd offset : ℕ) → IsInstr (Jal rd offset) → assembled (instr_text (Jal rd offset)) ≡ Ok (word_of (Jal rd offset) ∷ [])
 unfolding instr_text
@@ -119,9 +138,11 @@ assembled-Jal rd offset fields =
     let r = read-register rd fields.0 in
     let t = read-target 21 offset small (omega arith) in
     let n = jump_offset-signed offset fields.1.0 fields.1.1 in
-    assembled-line (Jal rd offset) (register_text rd) (signed_text 21 offset ∷ []) (piece-register rd fields.0) (piece-signed 21 offset small (omega arith), tt) (omega arith) (rw (r, t, n) refl)
+    assembled-line (Jal rd offset) (register_text rd) (signed_text 21 offset ∷ []) (piece-register rd fields.0)
+    (piece-signed 21 offset small (omega arith), tt) (omega arith) (rw (r, t, n) refl)
 
-assembled-Branch : (kind : BranchKind) (rs1 rs2 offset : ℕ) → IsInstr (Branch kind rs1 rs2 offset) → assembled (instr_text (Branch kind rs1 rs2 offset)) ≡ Ok (word_of (Branch kind rs1 rs2 offset) ∷ [])
+assembled-Branch : (kind : BranchKind) (rs1 rs2 offset : ℕ) → IsInstr (Branch kind rs1 rs2 offset)
+    → assembled (instr_text (Branch kind rs1 rs2 offset)) ≡ Ok (word_of (Branch kind rs1 rs2 offset) ∷ [])
 unfolding instr_text
 assembled-Branch kind rs1 rs2 offset fields =
     let small : offset < 10 ^ 8 = omega (arith, fields.2.0) in
@@ -138,25 +159,31 @@ assembled-Jalr rd rs1 offset fields =
     let r = read-register rd fields.0 in
     let a = read-address offset rs1 fields.2 fields.1 in
     let n = immediate-signed offset fields.2 in
-    assembled-line (Jalr rd rs1 offset) (register_text rd) (address_text offset rs1 ∷ []) (piece-register rd fields.0) (piece-address offset rs1 fields.2 fields.1, tt) (omega arith) (rw (r, a, n) refl)
+    assembled-line (Jalr rd rs1 offset) (register_text rd) (address_text offset rs1 ∷ []) (piece-register rd fields.0)
+    (piece-address offset rs1 fields.2 fields.1, tt) (omega arith) (rw (r, a, n) refl)
 
-assembled-Load : (kind : LoadKind) (rd rs1 offset : ℕ) → IsInstr (Load kind rd rs1 offset) → assembled (instr_text (Load kind rd rs1 offset)) ≡ Ok (word_of (Load kind rd rs1 offset) ∷ [])
+assembled-Load : (kind : LoadKind) (rd rs1 offset : ℕ) → IsInstr (Load kind rd rs1 offset)
+    → assembled (instr_text (Load kind rd rs1 offset)) ≡ Ok (word_of (Load kind rd rs1 offset) ∷ [])
 unfolding instr_text
 assembled-Load kind rd rs1 offset fields =
     let r = read-register rd fields.0 in
     let a = read-address offset rs1 fields.2 fields.1 in
     let n = immediate-signed offset fields.2 in
-    assembled-line (Load kind rd rs1 offset) (register_text rd) (address_text offset rs1 ∷ []) (piece-register rd fields.0) (piece-address offset rs1 fields.2 fields.1, tt) (omega arith) (rw (r, a, n) refl)
+    assembled-line (Load kind rd rs1 offset) (register_text rd) (address_text offset rs1 ∷ []) (piece-register rd fields.0)
+    (piece-address offset rs1 fields.2 fields.1, tt) (omega arith) (rw (r, a, n) refl)
 
-assembled-Store : (kind : StoreKind) (rs1 rs2 offset : ℕ) → IsInstr (Store kind rs1 rs2 offset) → assembled (instr_text (Store kind rs1 rs2 offset)) ≡ Ok (word_of (Store kind rs1 rs2 offset) ∷ [])
+assembled-Store : (kind : StoreKind) (rs1 rs2 offset : ℕ) → IsInstr (Store kind rs1 rs2 offset)
+    → assembled (instr_text (Store kind rs1 rs2 offset)) ≡ Ok (word_of (Store kind rs1 rs2 offset) ∷ [])
 unfolding instr_text
 assembled-Store kind rs1 rs2 offset fields =
     let r = read-register rs2 fields.1 in
     let a = read-address offset rs1 fields.2 fields.0 in
     let n = immediate-signed offset fields.2 in
-    assembled-line (Store kind rs1 rs2 offset) (register_text rs2) (address_text offset rs1 ∷ []) (piece-register rs2 fields.1) (piece-address offset rs1 fields.2 fields.0, tt) (omega arith) (rw (r, a, n) refl)
+    assembled-line (Store kind rs1 rs2 offset) (register_text rs2) (address_text offset rs1 ∷ []) (piece-register rs2 fields.1)
+    (piece-address offset rs1 fields.2 fields.0, tt) (omega arith) (rw (r, a, n) refl)
 
-assembled-OpImm : (kind : OpImmKind) (rd rs1 imm : ℕ) → IsInstr (OpImm kind rd rs1 imm) → assembled (instr_text (OpImm kind rd rs1 imm)) ≡ Ok (word_of (OpImm kind rd rs1 imm) ∷ [])
+assembled-OpImm : (kind : OpImmKind) (rd rs1 imm : ℕ) → IsInstr (OpImm kind rd rs1 imm)
+    → assembled (instr_text (OpImm kind rd rs1 imm)) ≡ Ok (word_of (OpImm kind rd rs1 imm) ∷ [])
 unfolding instr_text
 assembled-OpImm kind rd rs1 imm fields =
     let small : imm < 10 ^ 8 = omega (arith, fields.2) in
@@ -167,7 +194,8 @@ assembled-OpImm kind rd rs1 imm fields =
     assembled-line (OpImm kind rd rs1 imm) (register_text rd) (register_text rs1 ∷ signed_text 12 imm ∷ []) (piece-register rd fields.0)
     (piece-register rs1 fields.1, (piece-signed 12 imm small (omega arith), tt)) (omega arith) (rw (a, b, t, n) refl)
 
-assembled-ShiftImm : (kind : ShiftKind) (rd rs1 shamt : ℕ) → IsInstr (ShiftImm kind rd rs1 shamt) → assembled (instr_text (ShiftImm kind rd rs1 shamt)) ≡ Ok (word_of (ShiftImm kind rd rs1 shamt) ∷ [])
+assembled-ShiftImm : (kind : ShiftKind) (rd rs1 shamt : ℕ) → IsInstr (ShiftImm kind rd rs1 shamt)
+    → assembled (instr_text (ShiftImm kind rd rs1 shamt)) ≡ Ok (word_of (ShiftImm kind rd rs1 shamt) ∷ [])
 unfolding instr_text
 assembled-ShiftImm kind rd rs1 shamt fields =
     let a = read-register rd fields.0 in
@@ -177,7 +205,8 @@ assembled-ShiftImm kind rd rs1 shamt fields =
     assembled-line (ShiftImm kind rd rs1 shamt) (register_text rd) (register_text rs1 ∷ decimal shamt ∷ []) (piece-register rd fields.0)
     (piece-register rs1 fields.1, (piece-small shamt fields.2, tt)) (omega arith) (rw (a, b, t, n) refl)
 
-assembled-Op : (kind : OpKind) (rd rs1 rs2 : ℕ) → IsInstr (Op kind rd rs1 rs2) → assembled (instr_text (Op kind rd rs1 rs2)) ≡ Ok (word_of (Op kind rd rs1 rs2) ∷ [])
+assembled-Op : (kind : OpKind) (rd rs1 rs2 : ℕ) → IsInstr (Op kind rd rs1 rs2)
+    → assembled (instr_text (Op kind rd rs1 rs2)) ≡ Ok (word_of (Op kind rd rs1 rs2) ∷ [])
 unfolding instr_text
 assembled-Op kind rd rs1 rs2 fields =
     let a = read-register rd fields.0 in
@@ -192,9 +221,11 @@ unfolding instr_text
 assembled-Fence pred succ small_pred small_succ =
     let a = read-accesses pred small_pred in
     let b = read-accesses succ small_succ in
-    assembled-line (Fence 0 pred succ 0 0) (accesses_text pred) (accesses_text succ ∷ []) (piece-accesses pred small_pred) (piece-accesses succ small_succ, tt) (omega arith) (rw (a, b) refl)
+    assembled-line (Fence 0 pred succ 0 0) (accesses_text pred) (accesses_text succ ∷ []) (piece-accesses pred small_pred)
+    (piece-accesses succ small_succ, tt) (omega arith) (rw (a, b) refl)
 
-assembled-Csr : (kind : CsrKind) (rd rs1 csr : ℕ) → IsInstr (Csr kind rd rs1 csr) → assembled (instr_text (Csr kind rd rs1 csr)) ≡ Ok (word_of (Csr kind rd rs1 csr) ∷ [])
+assembled-Csr : (kind : CsrKind) (rd rs1 csr : ℕ) → IsInstr (Csr kind rd rs1 csr)
+    → assembled (instr_text (Csr kind rd rs1 csr)) ≡ Ok (word_of (Csr kind rd rs1 csr) ∷ [])
 unfolding instr_text
 assembled-Csr kind rd rs1 csr fields =
     let a = read-register rd fields.0 in
@@ -204,7 +235,8 @@ assembled-Csr kind rd rs1 csr fields =
     assembled-line (Csr kind rd rs1 csr) (register_text rd) (csr_text csr ∷ register_text rs1 ∷ []) (piece-register rd fields.0)
     (piece-hex 3 csr (omega arith), (piece-register rs1 fields.1, tt)) (omega arith) (rw (a, c, b, n) refl)
 
-assembled-CsrImm : (kind : CsrKind) (rd uimm csr : ℕ) → IsInstr (CsrImm kind rd uimm csr) → assembled (instr_text (CsrImm kind rd uimm csr)) ≡ Ok (word_of (CsrImm kind rd uimm csr) ∷ [])
+assembled-CsrImm : (kind : CsrKind) (rd uimm csr : ℕ) → IsInstr (CsrImm kind rd uimm csr)
+    → assembled (instr_text (CsrImm kind rd uimm csr)) ≡ Ok (word_of (CsrImm kind rd uimm csr) ∷ [])
 unfolding instr_text
 assembled-CsrImm kind rd uimm csr fields =
     let a = read-register rd fields.0 in
@@ -220,10 +252,12 @@ unfolding instr_text
 assembled-SfenceVma rs1 rs2 fields =
     let a = read-register rs1 fields.0 in
     let b = read-register rs2 fields.1 in
-    assembled-line (SfenceVma rs1 rs2) (register_text rs1) (register_text rs2 ∷ []) (piece-register rs1 fields.0) (piece-register rs2 fields.1, tt) (omega arith) (rw (a, b) refl)
+    assembled-line (SfenceVma rs1 rs2) (register_text rs1) (register_text rs2 ∷ []) (piece-register rs1 fields.0) (piece-register rs2 fields.1, tt)
+    (omega arith) (rw (a, b) refl)
 
 -- a mnemonic alone
-assembled-alone : (i : Instr) → lines_of (name_of i) ≡ name_of i ∷ [] → line_at (name_of i) ≡ Ok (record { label = None; statement = Some (Instruction i) }) → assembled (line_text (name_of i) []) ≡ Ok (word_of i ∷ [])
+assembled-alone : (i : Instr) → lines_of (name_of i) ≡ name_of i ∷ []
+    → line_at (name_of i) ≡ Ok (record { label = None; statement = Some (Instruction i) }) → assembled (line_text (name_of i) []) ≡ Ok (word_of i ∷ [])
 unfolding line_text
 assembled-alone i one says = assembled-instruction (name_of i) i one says
 
@@ -291,5 +325,8 @@ assembled-word_text word small =
     let w = word_of-plus word small in
     let read : statement_of mnemonic.Word ((codes "0x" ++ hex_digits 8 word) ∷ []) ≡ Ok (Word word) = rw (n, w) refl in
     let cut = ap (statement_of mnemonic.Word) (operands_of-spaced (codes "0x" ++ hex_digits 8 word) [] piece tt) in
-    let line = says_line (codes ".word") (codes "0x" ++ hex_digits 8 word) [] (Word word) (IsPiece-from_test (codes ".word") refl) piece tt (omega arith) (word-statement ((codes "0x" ++ hex_digits 8 word) ++ []) ∙ cut ∙ read) in
-    ap assembled (line_text-is (codes ".word") (codes "0x" ++ hex_digits 8 word) []) ∙ assembled-word (codes ".word" ++ spaced (codes "0x" ++ hex_digits 8 word) []) word line.one line.says
+    let line =
+    says_line (codes ".word") (codes "0x" ++ hex_digits 8 word) [] (Word word) (IsPiece-from_test (codes ".word") refl) piece tt (omega arith)
+    (word-statement ((codes "0x" ++ hex_digits 8 word) ++ []) ∙ cut ∙ read) in
+    ap assembled (line_text-is (codes ".word") (codes "0x" ++ hex_digits 8 word) [])
+    ∙ assembled-word (codes ".word" ++ spaced (codes "0x" ++ hex_digits 8 word) []) word line.one line.says

@@ -20,11 +20,13 @@ one_word : (r : Result ℕ AsmFaultKind) (word : ℕ → ℕ) (words : List ℕ)
 one_word (Ok n) word words is = sym (ap length (ok_same _ _ is))
 one_word (Err kind) word words is = cc
 
-jump_word : (there : Result ℕ AsmFaultKind) (offset : ℕ → Result ℕ AsmFaultKind) (word : ℕ → ℕ) (words : List ℕ) → (there >>= (λ place. offset place >>= (λ n. Ok (word n ∷ [])))) ≡ Ok words → length words ≡ 1
+jump_word : (there : Result ℕ AsmFaultKind) (offset : ℕ → Result ℕ AsmFaultKind) (word : ℕ → ℕ) (words : List ℕ)
+    → (there >>= (λ place. offset place >>= (λ n. Ok (word n ∷ [])))) ≡ Ok words → length words ≡ 1
 jump_word (Ok place) offset word words is = one_word (offset place) word words is
 jump_word (Err kind) offset word words is = cc
 
-length-statement_words : (labels : List ℕ → Option ℕ) (place : ℕ) (s : Statement) (words : List ℕ) → statement_words labels place s ≡ Ok words → length words ≡ statement_size s
+length-statement_words : (labels : List ℕ → Option ℕ) (place : ℕ) (s : Statement) (words : List ℕ) → statement_words labels place s ≡ Ok words
+    → length words ≡ statement_size s
 unfolding statement_words statement_size
 length-statement_words labels place (Instruction instruction) words is = sym (ap length (ok_same _ _ is))
 length-statement_words labels place (JumpTo rd name) words is =
@@ -34,10 +36,12 @@ length-statement_words labels place (BranchTo kind rs1 rs2 name) words is =
 length-statement_words labels place (Li rd value) words is = sym (ap length (ok_same _ _ is)) ∙ length-map (li_code rd value) word_of
 length-statement_words labels place (Word word) words is = sym (ap length (ok_same _ _ is))
 
-length-optional : (labels : List ℕ → Option ℕ) (place : ℕ) (s : Option Statement) (words : List ℕ) → option_case s (Ok []) (statement_words labels place) ≡ Ok words → length words ≡ option_case s 0 statement_size
+length-optional : (labels : List ℕ → Option ℕ) (place : ℕ) (s : Option Statement) (words : List ℕ)
+    → option_case s (Ok []) (statement_words labels place) ≡ Ok words → length words ≡ option_case s 0 statement_size
 length-optional labels place None words is = sym (ap length (ok_same _ _ is))
 length-optional labels place (Some s) words is = length-statement_words labels place s words is
 
-pub length-line_words : (labels : List ℕ → Option ℕ) (place : ℕ) (line : Reading) (words : List ℕ) → line_words labels place line ≡ Ok words → length words ≡ line_size line
+pub length-line_words : (labels : List ℕ → Option ℕ) (place : ℕ) (line : Reading) (words : List ℕ) → line_words labels place line ≡ Ok words
+    → length words ≡ line_size line
 length-line_words labels place (Ok line) words is = length-optional labels place line.statement words is
 length-line_words labels place (Err kind) words is = cc

@@ -1,15 +1,16 @@
 -- The second look, line after line.
-use Rattle.std.proofs.Common.{◌≡◌, ◌∙◌, sym, ap, refl, ℕ, ◌+◌, ◌≤◌, nat_lt, Bool, true, false, if◌then◌else◌, List, [], ◌∷◌, ◌++◌, length, length-append, Option, Some, None, Result, Ok, Err, append_assoc, append-nil, map, arith}
+use Rattle.std.proofs.Common.{◌≡◌, ◌∙◌, sym, ap, refl, ℕ, ◌+◌, ◌≤◌, nat_lt, Bool, true, false, if◌then◌else◌, List, [], ◌∷◌, ◌++◌, length}
+use Rattle.std.proofs.Common.{length-append, Option, Some, None, Ok, Err, append_assoc, append-nil, map, arith}
 use Rattle.std.proofs.lemmas.Bool.Decides.{nat_tests}
 use Rattle.std.proofs.lemmas.List.Sums.{sum_by_push}
-use Rattle.rv_word.specs.Cases.{option_case, result_case}
+use Rattle.rv_word.specs.Cases.{option_case}
 use Rattle.rv_asm.specs.LineReading.{line_at}
 use Rattle.rv_text.specs.Lines.{lines_of}
-use Rattle.rv_asm.specs.Program.{Reading, readings, own_fault, name_fault, first_fault, line_words, line_size, words_in, words_from, words_or_none}
+use Rattle.rv_asm.specs.Program.{Reading, readings, own_fault, name_fault, first_fault, line_words, line_size, words_in, words_from}
 use Rattle.rv_asm.specs.declared.fault.AsmFault.{AsmFault}
 use Rattle.rv_asm.specs.declared.fault.AsmFaultKind.{AsmFaultKind}
 use Rattle.rv_asm.specs.declared.fault.AsmFaultKind.TheVariants.{TooLong}
-use Rattle.rv_asm.proofs.LabelLemmas.{fault_after}
+use Rattle.rv_asm.proofs.LabelLemmas.{fault_after, fault_later, fault_here}
 
 -- The words of lines are written, and the rest is still to be read.
 pub record HasWrittenUpTo (labels : List ℕ → Option ℕ) (words : List ℕ) (lines : ℕ) (text rest : List ℕ) : Type 0 where
@@ -22,7 +23,8 @@ pub record HasWrittenUpTo (labels : List ℕ → Option ℕ) (words : List ℕ) 
   pub named : first_fault (name_fault labels) [] (readings text) ≡ first_fault (name_fault labels) before (readings rest)
   pub written : words_from labels [] (readings text) ≡ words ++ words_from labels before (readings rest)
 
-pub no_fault : (o : Option AsmFaultKind) (f : AsmFaultKind → AsmFault) (rest : Option AsmFault) → option_case o rest (λ kind. Some (f kind)) ≡ None → (o ≡ None) × (rest ≡ None)
+pub no_fault : (o : Option AsmFaultKind) (f : AsmFaultKind → AsmFault) (rest : Option AsmFault) → option_case o rest (λ kind. Some (f kind)) ≡ None
+    → (o ≡ None) × (rest ≡ None)
 no_fault None f rest is = (refl, is)
 no_fault (Some kind) f rest is = cc
 
@@ -30,15 +32,21 @@ no_fault (Some kind) f rest is = cc
 stays_few : (before : List Reading) (line : Reading) → own_fault before line ≡ None → words_in before + line_size line ≤ 65536
 stays_few before (Err kind) is = cc
 stays_few before (Ok line) is = few (nat_lt 65536 (words_in before + line_size (Ok line))) refl is where
-  few : (b : Bool) → nat_lt 65536 (words_in before + line_size (Ok line)) ≡ b → (if b then Some TooLong else None) ≡ None → words_in before + line_size (Ok line) ≤ 65536
+  few : (b : Bool) → nat_lt 65536 (words_in before + line_size (Ok line)) ≡ b → (if b then Some TooLong else None) ≡ None
+      → words_in before + line_size (Ok line) ≤ 65536
   few true test is = cc
   few false test is = grind (arith, nat_tests)
 
-pub writes_on : (labels : List ℕ → Option ℕ) (words new added : List ℕ) (lines : ℕ) (text rest after line : List ℕ) → (has : HasWrittenUpTo labels words lines text rest) → lines_of rest ≡ line ∷ lines_of after → line_words labels (length words) (line_at line) ≡ Ok added → new ≡ words ++ added → length new ≡ length words + line_size (line_at line) → HasWrittenUpTo labels new (lines + 1) text after
+pub writes_on : (labels : List ℕ → Option ℕ) (words new added : List ℕ) (lines : ℕ) (text rest after line : List ℕ)
+    → (has : HasWrittenUpTo labels words lines text rest) → lines_of rest ≡ line ∷ lines_of after
+    → line_words labels (length words) (line_at line) ≡ Ok added → new ≡ words ++ added → length new ≡ length words + line_size (line_at line)
+    → HasWrittenUpTo labels new (lines + 1) text after
 writes_on labels words new added lines text rest after line has is gives made size =
     let this = line_at line in
     let more : readings rest ≡ this ∷ readings after = ap (map line_at) is in
-    let none = no_fault (own_fault has.before this) (fault_after (length has.before)) (first_fault own_fault (has.before ++ this ∷ []) (readings after)) (rw more at has.sound) in
+    let none =
+    no_fault (own_fault has.before this) (fault_after (length has.before)) (first_fault own_fault (has.before ++ this ∷ []) (readings after))
+    (rw more at has.sound) in
     let sum : words_in (has.before ++ this ∷ []) ≡ words_in has.before + line_size this = sum_by_push line_size has.before this in
     let few = stays_few has.before this none.0 in
     let here : line_words labels (words_in has.before) this ≡ Ok added = rw (← has.place) gives in
@@ -49,20 +57,32 @@ writes_on labels words new added lines text rest after line has is gives made si
       few = omega (arith, few, sum);
       split = has.split ∙ ap (λ ls. has.before ++ ls) more ∙ sym (append_assoc has.before (this ∷ []) (readings after));
       sound = none.1;
-      named = has.named ∙ ap (first_fault (name_fault labels) has.before) more ∙ ap (λ (r : Result (List ℕ) AsmFaultKind). option_case (result_case r (λ words. None) Some) (first_fault (name_fault labels) (has.before ++ this ∷ []) (readings after)) (λ kind. Some (fault_after (length has.before) kind))) here;
-      written = has.written ∙ ap (λ ls. words ++ words_from labels has.before ls) more ∙ ap (λ (r : Result (List ℕ) AsmFaultKind). words ++ (words_or_none r ++ words_from labels (has.before ++ this ∷ []) (readings after))) here ∙ sym (append_assoc words added (words_from labels (has.before ++ this ∷ []) (readings after))) ∙ ap (λ ws. ws ++ words_from labels (has.before ++ this ∷ []) (readings after)) (sym made);
+      named =
+          has.named ∙ ap (first_fault (name_fault labels) has.before) more
+          ∙ fault_later (name_fault labels) has.before (readings after) this (rw here refl);
+      written =
+          has.written ∙ ap (λ ls. words ++ words_from labels has.before ls) more
+          ∙ rw (here, made) (sym (append_assoc words added (words_from labels (has.before ++ this ∷ []) (readings after))));
     }
 
-pub writes_all : (labels : List ℕ → Option ℕ) (words : List ℕ) (lines : ℕ) (text rest : List ℕ) → HasWrittenUpTo labels words lines text rest → lines_of rest ≡ [] → (words ≡ words_from labels [] (readings text)) × (first_fault (name_fault labels) [] (readings text) ≡ None)
-writes_all labels words lines text rest has is =
-    (sym (has.written ∙ ap (λ ls. words ++ words_from labels has.before (map line_at ls)) is ∙ append-nil words), has.named ∙ ap (λ ls. first_fault (name_fault labels) has.before (map line_at ls)) is)
+pub writes_all : (labels : List ℕ → Option ℕ) (words : List ℕ) (lines : ℕ) (text rest : List ℕ) → HasWrittenUpTo labels words lines text rest
+    → lines_of rest ≡ [] → (words ≡ words_from labels [] (readings text)) × (first_fault (name_fault labels) [] (readings text) ≡ None)
+writes_all labels words lines text rest has is = (
+  sym (has.written ∙ ap (λ ls. words ++ words_from labels has.before (map line_at ls)) is ∙ append-nil words),
+  has.named ∙ ap (λ ls. first_fault (name_fault labels) has.before (map line_at ls)) is,
+)
 
-pub fails_at : (labels : List ℕ → Option ℕ) (words : List ℕ) (lines : ℕ) (text rest after line : List ℕ) (kind : AsmFaultKind) → (has : HasWrittenUpTo labels words lines text rest) → lines_of rest ≡ line ∷ lines_of after → line_words labels (length words) (line_at line) ≡ Err kind → first_fault (name_fault labels) [] (readings text) ≡ Some (record { line = lines + 1; kind = kind })
+pub fails_at : (labels : List ℕ → Option ℕ) (words : List ℕ) (lines : ℕ) (text rest after line : List ℕ) (kind : AsmFaultKind)
+    → (has : HasWrittenUpTo labels words lines text rest) → lines_of rest ≡ line ∷ lines_of after
+    → line_words labels (length words) (line_at line) ≡ Err kind
+    → first_fault (name_fault labels) [] (readings text) ≡ Some (record { line = lines + 1; kind = kind })
 fails_at labels words lines text rest after line kind has is gives =
     let here : line_words labels (words_in has.before) (line_at line) ≡ Err kind = rw (← has.place) gives in
-    has.named ∙ ap (λ ls. first_fault (name_fault labels) has.before (map line_at ls)) is ∙ ap (λ (r : Result (List ℕ) AsmFaultKind). option_case (result_case r (λ words. None) Some) (first_fault (name_fault labels) (has.before ++ line_at line ∷ []) (readings after)) (λ kind. Some (fault_after (length has.before) kind))) here ∙ ap (λ n. Some (fault_after n kind)) (sym has.count)
+    has.named ∙ ap (λ ls. first_fault (name_fault labels) has.before (map line_at ls)) is
+    ∙ fault_here (name_fault labels) has.before (readings after) (line_at line) kind (rw here refl) ∙ ap (λ n. Some (fault_after n kind)) (sym has.count)
 
-pub is_line_of : (labels : List ℕ → Option ℕ) (words : List ℕ) (lines : ℕ) (text rest after line : List ℕ) → (has : HasWrittenUpTo labels words lines text rest) → lines_of rest ≡ line ∷ lines_of after → lines + 1 ≤ length (readings text)
+pub is_line_of : (labels : List ℕ → Option ℕ) (words : List ℕ) (lines : ℕ) (text rest after line : List ℕ)
+    → (has : HasWrittenUpTo labels words lines text rest) → lines_of rest ≡ line ∷ lines_of after → lines + 1 ≤ length (readings text)
 is_line_of labels words lines text rest after line has is =
     let whole : readings text ≡ has.before ++ line_at line ∷ readings after = has.split ∙ ap (λ ls. has.before ++ map line_at ls) is in
     rw whole (omega (arith, has.count, length-append has.before (line_at line ∷ readings after)))

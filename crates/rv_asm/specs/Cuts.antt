@@ -1,5 +1,6 @@
 -- How a line of an assembler text falls into pieces. (This project's own grammar.)
-use Rattle.std.specs.Prelude.{ℕ, Bool, false, ◌+◌, ◌==◌, ◌||◌, ◌&&◌, nat_le, nat_lt, List, [], ◌∷◌, length, take, drop, map, reverse, Option, Some, None, if◌then◌else◌}
+use Rattle.std.specs.Prelude.{ℕ, Bool, false, ◌+◌, ◌==◌, ◌||◌, ◌&&◌, nat_le, nat_lt, List, [], ◌∷◌, length}
+use Rattle.std.specs.Prelude.{take, drop, map, reverse, Option, Some, None, if◌then◌else◌}
 use Rattle.std.specs.List.{slice_split, position_or_len, list_all}
 use Rattle.rv_text.specs.Characters.{number_sign, comma, full_stop, colon, low_line}
 use Rattle.rv_text.specs.GoodLines.{is_blank}

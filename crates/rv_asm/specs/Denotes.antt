@@ -13,7 +13,10 @@ StandsIn text before line = (after : List Reading) × (readings text ≡ before 
 -- other words.
 pub record Denotes (text words : List ℕ) : Type 0 where
   pub labels : List ℕ → Option ℕ
-  pub placed : (before : List Reading) (line : Line) (name : List ℕ) → StandsIn text before (Ok line) → line.label ≡ Some name → labels name ≡ Some (words_in before)
-  pub named : (name : List ℕ) (place : ℕ) → labels name ≡ Some place → (before : List Reading) × (line : Line) × StandsIn text before (Ok line) × (line.label ≡ Some name) × (place ≡ words_in before)
-  pub each : (before : List Reading) (line : Reading) → StandsIn text before line → line_words labels (words_in before) line ≡ Ok (take (line_size line) (drop (words_in before) words))
+  pub placed : (before : List Reading) (line : Line) (name : List ℕ) → StandsIn text before (Ok line) → line.label ≡ Some name
+      → labels name ≡ Some (words_in before)
+  pub named : (name : List ℕ) (place : ℕ) → labels name ≡ Some place
+      → (before : List Reading) × (line : Line) × StandsIn text before (Ok line) × (line.label ≡ Some name) × (place ≡ words_in before)
+  pub each : (before : List Reading) (line : Reading) → StandsIn text before line
+      → line_words labels (words_in before) line ≡ Ok (take (line_size line) (drop (words_in before) words))
   pub whole : length words ≡ words_in (readings text)

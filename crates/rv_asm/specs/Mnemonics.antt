@@ -1,18 +1,14 @@
 -- The mnemonics: the names of the instructions, RISC-V Unprivileged ISA 20191213, chapter 24, and Privileged Architecture
 -- 20211203, chapter "RISC-V Privileged Instruction Set Listings"; and four more, the Unprivileged ISA's chapter 25.
-use Rattle.std.specs.Prelude.{ℕ, List, [], ◌∷◌, map, codes, Option}
-use Rattle.rv_encoding.specs.Listing.{name_of, branch_name, load_name, store_name, op_imm_name, shift_name, op_name, csr_name, csr_imm_name}
+use Rattle.std.specs.Prelude.{ℕ, List, [], ◌∷◌, ◌++◌, map, codes, Option}
+use Rattle.rv_encoding.specs.Codes.{branch_name, load_name, store_name, op_imm_name, shift_name, op_name, csr_name, csr_imm_name}
+use Rattle.rv_encoding.specs.Codes.{branch_kinds, load_kinds, store_kinds, op_imm_kinds, shift_kinds, rv32i_op_kinds, rv32m_op_kinds, csr_kinds}
+use Rattle.rv_encoding.specs.Listing.{name_of}
 use Rattle.rv_encoding.specs.declared.instr.Instr.TheVariants as instr
-use Rattle.rv_encoding.specs.declared.kind.BranchKind.TheVariants.{Beq, Bne, Blt, Bge, Bltu, Bgeu}
-use Rattle.rv_encoding.specs.declared.kind.LoadKind.TheVariants.{Lb, Lh, Lw, Lbu, Lhu}
-use Rattle.rv_encoding.specs.declared.kind.StoreKind.TheVariants.{Sb, Sh, Sw}
-use Rattle.rv_encoding.specs.declared.kind.OpImmKind.TheVariants.{Addi, Slti, Sltiu, Xori, Ori, Andi}
-use Rattle.rv_encoding.specs.declared.kind.ShiftKind.TheVariants.{Slli, Srli, Srai}
-use Rattle.rv_encoding.specs.declared.kind.OpKind.TheVariants.{Add, Sub, Sll, Slt, Sltu, Xor, Srl, Sra, Or, And, Mul, Mulh, Mulhsu, Mulhu, Div, Divu, Rem, Remu}
-use Rattle.rv_encoding.specs.declared.kind.CsrKind.TheVariants.{Write, Set, Clear}
 use Rattle.rv_asm.specs.Tables.{looked_up}
 use Rattle.rv_asm.specs.declared.mnemonic.Mnemonic.{Mnemonic}
-use Rattle.rv_asm.specs.declared.mnemonic.Mnemonic.TheVariants.{Lui, Auipc, Jal, Jalr, Branch, Load, Store, OpImm, ShiftImm, Op, Fence, Csr, CsrImm, Ecall, Ebreak, Sret, Mret, Wfi, SfenceVma, Word, Nop, Ret, Li}
+use Rattle.rv_asm.specs.declared.mnemonic.Mnemonic.TheVariants.{Lui, Auipc, Jal, Jalr, Branch, Load, Store, OpImm, ShiftImm, Op, Fence, Csr, CsrImm}
+use Rattle.rv_asm.specs.declared.mnemonic.Mnemonic.TheVariants.{Ecall, Ebreak, Sret, Mret, Wfi, SfenceVma, Word, Nop, Ret, Li}
 
 -- The name of each: that of its instructions in the listing, and four names that an assembler adds.
 abbrev pub mnemonic_name : Mnemonic → List ℕ
@@ -43,18 +39,16 @@ mnemonic_name Li = codes "li"
 abbrev pub all_mnemonics : List Mnemonic
 all_mnemonics =
     -- RV32I
-    Lui ∷ Auipc ∷ Jal ∷ Jalr ∷ Branch Beq ∷ Branch Bne ∷ Branch Blt ∷ Branch Bge ∷ Branch Bltu ∷ Branch Bgeu
-    ∷ Load Lb ∷ Load Lh ∷ Load Lw ∷ Load Lbu ∷ Load Lhu ∷ Store Sb ∷ Store Sh ∷ Store Sw
-    ∷ OpImm Addi ∷ OpImm Slti ∷ OpImm Sltiu ∷ OpImm Xori ∷ OpImm Ori ∷ OpImm Andi ∷ ShiftImm Slli ∷ ShiftImm Srli ∷ ShiftImm Srai
-    ∷ Op Add ∷ Op Sub ∷ Op Sll ∷ Op Slt ∷ Op Sltu ∷ Op Xor ∷ Op Srl ∷ Op Sra ∷ Op Or ∷ Op And ∷ Fence ∷ Ecall ∷ Ebreak
+    Lui ∷ Auipc ∷ Jal ∷ Jalr ∷ map Branch branch_kinds ++ map Load load_kinds ++ map Store store_kinds
+    ++ map OpImm op_imm_kinds ++ map ShiftImm shift_kinds ++ map Op rv32i_op_kinds ++ Fence ∷ Ecall ∷ Ebreak
     -- Zicsr
-    ∷ Csr Write ∷ Csr Set ∷ Csr Clear ∷ CsrImm Write ∷ CsrImm Set ∷ CsrImm Clear
+    ∷ map Csr csr_kinds ++ map CsrImm csr_kinds
     -- the privileged instructions
-    ∷ Sret ∷ Mret ∷ Wfi ∷ SfenceVma
+    ++ Sret ∷ Mret ∷ Wfi ∷ SfenceVma
     -- RV32M
-    ∷ Op Mul ∷ Op Mulh ∷ Op Mulhsu ∷ Op Mulhu ∷ Op Div ∷ Op Divu ∷ Op Rem ∷ Op Remu
+    ∷ map Op rv32m_op_kinds
     -- what an assembler adds
-    ∷ Word ∷ Nop ∷ Ret ∷ Li ∷ []
+    ++ Word ∷ Nop ∷ Ret ∷ Li ∷ []
 
 -- the table of names
 unfoldable pub mnemonics : List (List ℕ × Mnemonic)

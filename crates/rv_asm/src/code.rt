@@ -4,7 +4,8 @@ ghost use Rattle.std.specs.Prelude.{◌≡◌, ◌≤◌, ◌∷◌, [], IfOk, M
 ghost use Rattle.rv_word.specs.Cases.{option_case};
 ghost use Rattle.rv_encoding.specs.Rows.{word_of};
 ghost use Rattle.rv_asm.specs.LabelMap.{places_of};
-ghost use Rattle.rv_asm.specs.Program.{is_short as is_short_of, without_low_part as without_low_part_of, li_code, statement_size as size_of, distance as distance_of, statement_words as words_of};
+ghost use Rattle.rv_asm.specs.Program.{is_short as is_short_of, without_low_part as without_low_part_of, li_code, statement_size as size_of};
+ghost use Rattle.rv_asm.specs.Program.{distance as distance_of, statement_words as words_of};
 
 use crate::fault::AsmFaultKind;
 use crate::name::Name;
@@ -123,7 +124,8 @@ pub(crate) fn statement_words(
     place: u32,
     statement: &Statement,
 ) -> Result<Words, AsmFaultKind>
-    ensures value { MatchResult result (λ words. words_of (places_of labels.now) place statement.now ≡ Ok words.items) (λ kind. words_of (places_of labels.now) place statement.now ≡ Err kind) }
+    ensures value { MatchResult result (λ words. words_of (places_of labels.now) place statement.now ≡ Ok words.items)
+        (λ kind. words_of (places_of labels.now) place statement.now ≡ Err kind) }
     ensures len { IfOk result (λ words. length words.items ≡ size_of statement.now) }
 {
     match statement {

@@ -3,7 +3,9 @@
 ghost use Rattle.std.specs.Prelude.{◌≡◌, ◌==◌, ◌≤◌, length, map, take, option_map};
 ghost use Rattle.std.specs.List.{position_or_len, list_all};
 ghost use Rattle.rv_text.specs.GoodLines.{is_blank as is_blank_of};
-ghost use Rattle.rv_asm.specs.Cuts.{after_blanks as after_blanks_of, before_blanks as before_blanks_of, trimmed as trimmed_of, fields_of, operands_of, before_comment as before_comment_of, label_text, statement_text, is_letter as is_letter_of, is_name_byte as is_name_byte_of, is_name as is_name_of};
+ghost use Rattle.rv_asm.specs.Cuts.{after_blanks as after_blanks_of, before_blanks as before_blanks_of, trimmed as trimmed_of, fields_of};
+ghost use Rattle.rv_asm.specs.Cuts.{operands_of, before_comment as before_comment_of, label_text, statement_text, is_letter as is_letter_of};
+ghost use Rattle.rv_asm.specs.Cuts.{is_name_byte as is_name_byte_of, is_name as is_name_of};
 
 use arrayvec::ArrayVec;
 use rv_text::{is_blank, position_of};

@@ -98,9 +98,13 @@ impl FirstLook {
     fn add_line(&mut self, text: &[u8]) -> Result<(), AsmFault>
         requires count { self.old.lines < 2 ^ 64 - 1 }
         requires few { self.old.words ≤ MAX_WORDS }
-        ensures ok { OnOk result ((before : List Reading) → HasRead self.old before → HasRead self.new (before ++ line_at text.now ∷ []) × (own_fault before (line_at text.now) ≡ None)) }
+        ensures ok { OnOk result
+            ((before : List Reading) → HasRead self.old before
+            → HasRead self.new (before ++ line_at text.now ∷ []) × (own_fault before (line_at text.now) ≡ None)) }
         ensures line { IfErr result (λ fault. fault.line ≡ self.old.lines + 1) }
-        ensures fault { IfErr result (λ fault. fault.kind ≢ AsmFaultKind.NoMemory → (before : List Reading) → HasRead self.old before → own_fault before (line_at text.now) ≡ Some fault.kind) }
+        ensures fault { IfErr result
+            (λ fault. fault.kind ≢ AsmFaultKind.NoMemory → (before : List Reading) → HasRead self.old before
+            → own_fault before (line_at text.now) ≡ Some fault.kind) }
     {
         let number = self.lines + 1;
         let Line { label, statement } = match read_line(text) {

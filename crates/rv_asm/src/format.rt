@@ -2,7 +2,12 @@
 //! operands with `BadOperand`, and then a number out of its range with `OutOfRange`.
 
 ghost use Rattle.std.specs.Prelude.{◌≡◌, map};
-ghost use Rattle.rv_asm.specs.Statements.{upper_operands as upper_operands_of, address_operands as address_operands_of, jump as jump_of, jal_statement as jal_of, branch as branch_of, branch_statement as branch_statement_of, immediate_statement as immediate_of, shift_statement as shift_of, register_statement as register_of, fence_statement as fence_of, csr_statement as csr_of, csr_immediate_statement as csr_immediate_of, sfence_statement as sfence_of, plain_statement as plain_of, word_statement as word_of, li_statement as li_of};
+ghost use Rattle.rv_asm.specs.Statements.{upper_operands as upper_operands_of, address_operands as address_operands_of, jump as jump_of};
+ghost use Rattle.rv_asm.specs.Statements.{jal_statement as jal_of, branch as branch_of, branch_statement as branch_statement_of};
+ghost use Rattle.rv_asm.specs.Statements.{immediate_statement as immediate_of, shift_statement as shift_of, register_statement as register_of};
+ghost use Rattle.rv_asm.specs.Statements.{fence_statement as fence_of, csr_statement as csr_of, csr_immediate_statement as csr_immediate_of};
+ghost use Rattle.rv_asm.specs.Statements.{sfence_statement as sfence_of, plain_statement as plain_of, word_statement as word_of};
+ghost use Rattle.rv_asm.specs.Statements.{li_statement as li_of};
 
 use crate::fault::AsmFaultKind;
 use crate::operand::{Target, address, csr, fence_set, jump_target, number, register};

@@ -18,9 +18,12 @@ use std::alloc::Global;
 /// Its own fault, or `UnknownLabel`, or `OutOfRange` where the label that it names is too far, or `NoMemory`.
 fn add_words(words: &mut Vec<u32>, labels: &Labels, text: &[u8]) -> Result<(), AsmFaultKind>
     requires { length words.old.items ≤ 65536 }
-    ensures ok { OnOk result ((added : List ℕ) × (line_words (places_of labels.now) (length words.old.items) (line_at text.now) ≡ Ok added) × (words.new.items ≡ words.old.items ++ added)) }
+    ensures ok { OnOk result
+        ((added : List ℕ) × (line_words (places_of labels.now) (length words.old.items) (line_at text.now) ≡ Ok added)
+        × (words.new.items ≡ words.old.items ++ added)) }
     ensures len { OnOk result (length words.new.items ≡ length words.old.items + line_size (line_at text.now)) }
-    ensures fault { IfErr result (λ kind. kind ≢ AsmFaultKind.NoMemory → line_words (places_of labels.now) (length words.old.items) (line_at text.now) ≡ Err kind) }
+    ensures fault { IfErr result
+        (λ kind. kind ≢ AsmFaultKind.NoMemory → line_words (places_of labels.now) (length words.old.items) (line_at text.now) ≡ Err kind) }
 {
     let Line { statement, .. } = read_line(text)?;
     let Some(statement) = statement else {
@@ -41,9 +44,12 @@ fn add_words(words: &mut Vec<u32>, labels: &Labels, text: &[u8]) -> Result<(), A
 /// hand.
 pub(crate) fn words_of(alloc: Global, text: &[u8], labels: &Labels) -> Result<Vec<u32>, AsmFault>
     requires { first_fault own_fault [] (readings text.now) ≡ None }
-    ensures ok { IfOk result (λ words. (words.items ≡ words_from (places_of labels.now) [] (readings text.now)) × (first_fault (name_fault (places_of labels.now)) [] (readings text.now) ≡ None)) }
+    ensures ok { IfOk result
+        (λ words. (words.items ≡ words_from (places_of labels.now) [] (readings text.now))
+        × (first_fault (name_fault (places_of labels.now)) [] (readings text.now) ≡ None)) }
     ensures few { IfOk result (λ words. length words.items ≤ 65536) }
-    ensures fault { IfErr result (λ fault. fault.kind ≢ AsmFaultKind.NoMemory → first_fault (name_fault (places_of labels.now)) [] (readings text.now) ≡ Some fault) }
+    ensures fault { IfErr result
+        (λ fault. fault.kind ≢ AsmFaultKind.NoMemory → first_fault (name_fault (places_of labels.now)) [] (readings text.now) ≡ Some fault) }
     ensures line { IfErr result (λ fault. (1 ≤ fault.line) × (fault.line ≤ length (readings text.now))) }
 {
     let mut words = Vec::new(alloc);

@@ -1,5 +1,6 @@
 -- What a typed getter of `clap` reads of an option's text.
-use Rattle.std.proofs.Common.{cond, ◌≡◌, ◌&&◌, ◌^◌, ℕ, Bool, true, false, List, [], ◌∷◌, length, Option, Some, None, refl, sym, ap, true≢false}
+use Rattle.std.proofs.Common.{cond, ◌≡◌, ◌&&◌, ◌^◌, ℕ, Bool, true, false, List, [], ◌∷◌, length, Option, Some, None, refl, sym, ap}
+use Rattle.std.proofs.Common.{true≢false}
 use Rattle.std.specs.Prelude.{nat_lt, Result, Ok, Err}
 use Rattle.std.specs.List.{list_all}
 use Rattle.std.specs.Char.{digit_value}
@@ -56,5 +57,9 @@ module _ (bits : ℕ) where
       go false t = (
         true,
         λ h. absurd (true≢false
-            (rw (lt-ltb 0 (length (without_leading_plus text)) h.0.0, digits_pass (without_leading_plus text) h.0.1, lt-ltb (digits_value 10 (without_leading_plus text)) (2 ^ bits) h.1) at t)),
+            (rw (
+              lt-ltb 0 (length (without_leading_plus text)) h.0.0,
+              digits_pass (without_leading_plus text) h.0.1,
+              lt-ltb (digits_value 10 (without_leading_plus text)) (2 ^ bits) h.1,
+            ) at t)),
       )

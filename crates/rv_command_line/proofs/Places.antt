@@ -1,6 +1,7 @@
 -- A command line reads the names that an option takes alike, wherever they lie in memory. This is said of any command line: by
 -- every rule of a list, and every subcommand.
-use Rattle.std.proofs.Common.{◌∙◌, ◌∷◌, ◌≡◌, ◌&&◌, [], ap, Bool, false, length, List, map, None, not, ℕ, Option, option_map, refl, Some, suc, sym, true, zero}
+use Rattle.std.proofs.Common.{◌∙◌, ◌∷◌, ◌≡◌, ◌&&◌, [], ap, Bool, false, length, List, map, None, not, ℕ, Option, option_map, refl}
+use Rattle.std.proofs.Common.{Some, suc, sym, true, zero}
 use Rattle.std.specs.List.{list_any}
 use Rattle.std.specs.Option.{option_map_or}
 use Rattle.std.specs.Prelude.{drop, encode_utf8, Err, find, fold, IfOk, is_some, nat_eq, Ok, Result, slice_get}
@@ -16,6 +17,7 @@ use Rattle.clap.specs.Lexer.{long_of, short_of}
 use Rattle.clap.specs.Simple.{App, app_of, argument_words, built, entered, label_of, names_of, rows_at, Shape, subcommand_of}
 use Rattle.clap.specs.Takes.{is_given}
 use Rattle.clap.specs.Values.{reading_of, same_text}
+use Rattle.clap.specs.Walk.{attached_value}
 use Rattle.clap.specs.Walk.{action_of, after_flag, after_step, answers_to, arg_by_id, arg_by_index, arg_by_long, arg_by_short, bundle_met}
 use Rattle.clap.specs.Walk.{bundle_step, done, finished, flag_met, Held, idle, long_met, long_or_other, next, nothing_held, option, option_met}
 use Rattle.clap.specs.Walk.{option_word, Outcome, plain, plain_word, positional, reacted, reading_by, refused, Row, rows_after, Rule, settled}
@@ -81,11 +83,13 @@ used_same : (a : Rule) (values : List Text) (rows : List Row) → used (moved a)
 used_same a [] rows = rw (reading_moved a.parser) refl
 used_same a (v ∷ vs) rows = rw (reading_moved a.parser) refl
 
-count_same : (again : Bool) (a : Rule) (values : List Text) (rows : List Row) → action_fault Count again (moved a) values rows ≡ action_fault Count again a values rows
+count_same : (again : Bool) (a : Rule) (values : List Text) (rows : List Row)
+    → action_fault Count again (moved a) values rows ≡ action_fault Count again a values rows
 count_same again a [] rows = value_moved a.ignore_case _ a.parser
 count_same again a (v ∷ vs) rows = values_same a (v ∷ vs)
 
-action_same : (x : ArgAction) (again : Bool) (a : Rule) (values : List Text) (rows : List Row) → action_fault x again (moved a) values rows ≡ action_fault x again a values rows
+action_same : (x : ArgAction) (again : Bool) (a : Rule) (values : List Text) (rows : List Row)
+    → action_fault x again (moved a) values rows ≡ action_fault x again a values rows
 action_same Set again a values rows = rw (values_same a values) refl
 action_same SetTrue again a values rows = rw (values_same a values) refl
 action_same SetFalse again a values rows = rw (values_same a values) refl
@@ -110,6 +114,15 @@ defaults_same : (rows : List Row) (c : List Rule) → fold with_default rows (ma
 defaults_same rows [] = refl
 defaults_same rows (a ∷ rest) = ap (λ rows. fold with_default rows (map moved rest)) (default_same rows a) ∙ defaults_same (with_default rows a) rest
 
+-- what is done with the one that is found is the same, where it is the same with each and with none
+found_same : {X R : Type 0} (move : X → X) (f g : Option X → R) (test : X → Bool) → f None ≡ g None → ((x : X) → f (Some (move x)) ≡ g (Some x))
+    → (xs : List X) → f (find test (map move xs)) ≡ g (find (λ x. test (move x)) xs)
+found_same {X = X} move f g test none some xs = ap f (sym (find-map test move xs)) ∙ go (find (λ x. test (move x)) xs)
+  where
+    go : (o : Option X) → f (option_map move o) ≡ g o
+    go None = none
+    go (Some x) = some x
+
 -- ---- the walk
 
 module _ (c : List Rule) where
@@ -118,18 +131,17 @@ module _ (c : List Rule) where
 
   pending_same : (pending : Option (Text × List Text)) (rows : List Row) → settled_rows there pending rows ≡ settled_rows c pending rows
   pending_same None rows = refl
-  pending_same (Some x) rows = ap (λ o. used_by_id o x.1 rows) (sym (find-map (λ a. bytes_eq a.id x.0) moved c)) ∙ go (arg_by_id c x.0)
-    where
-      go : (o : Option Rule) → used_by_id (option_map moved o) x.1 rows ≡ used_by_id o x.1 rows
-      go None = refl
-      go (Some a) = used_same a x.1 rows
+  pending_same (Some x) rows =
+      let done_by = λ (o : Option Rule). used_by_id o x.1 rows in
+      found_same moved done_by done_by (λ a. bytes_eq a.id x.0) refl (λ a. used_same a x.1 rows) c
 
   settled_same : (h : Held) → settled there h ≡ settled c h
   settled_same h = ap (λ (rows : List Row). record h { rows = rows; pending = None }) (pending_same h.pending h.rows)
 
   reacted_same : (a : Rule) (values : List Text) (h : Held) → reacted there (moved a) values h ≡ reacted c a values h
   reacted_same a values h =
-      ap (λ (rows : List Row). record h { rows = rows; pending = None }) (used_same a values (settled there h).rows ∙ ap (λ (s : Held). used a values s.rows) (settled_same h))
+      ap (λ (rows : List Row). record h { rows = rows; pending = None }) (used_same a values (settled there h).rows
+      ∙ ap (λ (s : Held). used a values s.rows) (settled_same h))
 
   option_same : (a : Rule) (v : Option Text) (h : Held) → option_met there (moved a) v h ≡ option_met c a v h
   option_same a (Some v) h = ap (λ (s : Held). (s, done)) (reacted_same a (v ∷ []) h)
@@ -139,41 +151,32 @@ module _ (c : List Rule) where
   flag_same a (Some v) h = refl
   flag_same a None h = ap (λ (s : Held). (s, done)) (reacted_same a [] h)
 
-  met_same : (o : Option Rule) (v : Option Text) (h : Held) → long_met there (option_map moved o) v h ≡ long_met c o v h
-  met_same None v h = refl
-  met_same (Some a) v h = rw (option_same a v h, flag_same a v h) refl
-
   long_same : (name : Text) (v : Option Text) (h : Held) → long_met there (arg_by_long there name) v h ≡ long_met c (arg_by_long c name) v h
   long_same name v h =
-      ap (λ o. long_met there o v h) (sym (find-map (λ a. not (is_some a.index) && clap.has_long a name) moved c)) ∙ met_same (arg_by_long c name) v h
-
-  short_same : (o : Option Rule) (rest : Text) (h : Held) (f g : Held → Held × Outcome) → ((s : Held) → f s ≡ g s)
-      → short_met there (option_map moved o) rest h f ≡ short_met c o rest h g
-  short_same None rest h f g e = refl
-  short_same (Some a) rest h f g e = rw (option_same a _ h, reacted_same a [] h, e (reacted c a [] h)) refl
+      found_same moved (λ o. long_met there o v h) (λ o. long_met c o v h) (λ a. not (is_some a.index) && clap.has_long a name) refl
+      (λ a. rw (option_same a v h, flag_same a v h) refl) c
 
   step_same : (x : Option ℕ) (flags : Text) (skip : ℕ) (so_far : Outcome) (h : Held) (f g : Text → ℕ → Outcome → Held → Held × Outcome)
-      → ((t : Text) (n : ℕ) (o : Outcome) (s : Held) → f t n o s ≡ g t n o s) → bundle_step there x flags skip so_far h f ≡ bundle_step c x flags skip so_far h g
+      → ((t : Text) (n : ℕ) (o : Outcome) (s : Held) → f t n o s ≡ g t n o s)
+      → bundle_step there x flags skip so_far h f ≡ bundle_step c x flags skip so_far h g
   step_same None flags skip so_far h f g e = refl
   step_same (Some x) flags zero so_far h f g e =
       let rest = drop (length (encode_utf8 x)) flags in
-      ap (λ o. short_met there o rest h (f rest 0 done)) (sym (find-map (λ a. not (is_some a.index) && clap.has_short a x) moved c))
-      ∙ short_same (arg_by_short c x) rest h (f rest 0 done) (g rest 0 done) (e rest 0 done)
+      found_same moved (λ o. short_met there o rest h (f rest 0 done)) (λ o. short_met c o rest h (g rest 0 done))
+      (λ a. not (is_some a.index) && clap.has_short a x) refl
+      (λ a. rw (option_same a (attached_value rest) h, reacted_same a [] h, e rest 0 done (reacted c a [] h)) refl) c
   step_same (Some x) flags (suc skip) so_far h f g e = e _ skip so_far h
 
-  bundle_same : (k : ℕ) (flags : Text) (skip : ℕ) (so_far : Outcome) (h : Held) → bundle_met there k flags skip so_far h ≡ bundle_met c k flags skip so_far h
+  bundle_same : (k : ℕ) (flags : Text) (skip : ℕ) (so_far : Outcome) (h : Held)
+      → bundle_met there k flags skip so_far h ≡ bundle_met c k flags skip so_far h
   unfolding bundle_met
   bundle_same zero flags skip so_far h = refl
   bundle_same (suc k) flags skip so_far h = step_same (slice_get (chars flags) 0) flags skip so_far h _ _ (bundle_same k)
 
-  option_word_same : (o : Option Rule) (id word : Text) (h : Held) → option_word (option_map moved o) id word h ≡ option_word o id word h
-  option_word_same None id word h = refl
-  option_word_same (Some a) id word h = refl
-
   plain_same : (waiting : Waiting) (word : Text) (h : Held) → plain_word there waiting word h ≡ plain_word c waiting word h
   plain_same (option id) word h =
-      ap (λ (m : Held × Waiting). (m.0, next m.1))
-      (ap (λ o. option_word o id word h) (sym (find-map (λ a. bytes_eq a.id id) moved c)) ∙ option_word_same (arg_by_id c id) id word h)
+      let met = λ (o : Option Rule). option_word o id word h in
+      ap (λ (m : Held × Waiting). (m.0, next m.1)) (found_same moved met met (λ a. bytes_eq a.id id) refl (λ a. refl) c)
   plain_same idle word h = refl
   plain_same positional word h = refl
 
@@ -183,10 +186,12 @@ module _ (c : List Rule) where
   after_same waiting word h plain = plain_same waiting word h
   after_same waiting word h refused = plain_same waiting word h
 
-  flagged_same : (waiting : Waiting) (word : Text) (m n : Held × Outcome) → m ≡ n → after_flag there waiting word m.0 m.1 ≡ after_flag c waiting word n.0 n.1
+  flagged_same : (waiting : Waiting) (word : Text) (m n : Held × Outcome) → m ≡ n
+      → after_flag there waiting word m.0 m.1 ≡ after_flag c waiting word n.0 n.1
   flagged_same waiting word m n e = after_same waiting word m.0 m.1 ∙ ap (λ (x : Held × Outcome). after_flag c waiting word x.0 x.1) e
 
-  short_word_same : (waiting : Waiting) (word : Text) (flags : Option Text) (h : Held) → short_or_plain there waiting word flags h ≡ short_or_plain c waiting word flags h
+  short_word_same : (waiting : Waiting) (word : Text) (flags : Option Text) (h : Held)
+      → short_or_plain there waiting word flags h ≡ short_or_plain c waiting word flags h
   short_word_same waiting word (Some flags) h = flagged_same waiting word _ _ (bundle_same (length flags) flags h.skip plain (record h { skip = 0 }))
   short_word_same waiting word None h = plain_same waiting word h
 
@@ -205,19 +210,16 @@ module _ (c : List Rule) where
   word_same names true waiting position word h = refl
   word_same names false waiting position word h = other_same _ waiting position word h
 
-  positional_same : (o : Option Rule) (word : Text) (w : Walk) (h : Held) → to_positional there (option_map moved o) word w h ≡ to_positional c o word w h
-  positional_same None word w h = refl
-  positional_same (Some a) word w h = rw (settled_same h) refl
-
   after_step_same : (word : Text) (w : Walk) (h : Held) (s : Step) → after_step there word w h s ≡ after_step c word w h s
   after_step_same word w h (next waiting) = refl
   after_step_same word w h (trailing position) = refl
   after_step_same word w h (subcommand name) = refl
   after_step_same word w h value =
-      ap (λ o. to_positional there o word w h) (sym (find-map (λ a. option_map_or (λ k. nat_eq k w.position) a.index false) moved c))
-      ∙ positional_same (arg_by_index c w.position) word w h
+      found_same moved (λ o. to_positional there o word w h) (λ o. to_positional c o word w h)
+      (λ a. option_map_or (λ k. nat_eq k w.position) a.index false) refl (λ a. rw (settled_same h) refl) c
 
-  walked_same : (names : clap.Names) (stopped : Option (Text × List Text)) (w : Walk) (word : Text) → walked_from there names stopped w word ≡ walked_from c names stopped w word
+  walked_same : (names : clap.Names) (stopped : Option (Text × List Text)) (w : Walk) (word : Text)
+      → walked_from there names stopped w word ≡ walked_from c names stopped w word
   walked_same names (Some x) w word = refl
   walked_same names None w word =
       let met = word_met there names w.is_trailing w.waiting w.position word w.held in
@@ -244,44 +246,37 @@ module _ (c : List Rule) (again : Bool) where
       ≡ option_map_or (λ x. option_map_or (λ a. use_fault again a x.1 h.rows) (arg_by_id c x.0) []) pending []
   pending_fault_same None h = refl
   pending_fault_same (Some x) h =
-      ap (λ o. option_map_or (λ a. use_fault again a x.1 h.rows) o []) (sym (find-map (λ a. bytes_eq a.id x.0) moved c)) ∙ go (arg_by_id c x.0)
-    where
-      go : (o : Option Rule) → option_map_or (λ a. use_fault again a x.1 h.rows) (option_map moved o) [] ≡ option_map_or (λ a. use_fault again a x.1 h.rows) o []
-      go None = refl
-      go (Some a) = use_same again a x.1 h.rows
+      let done_by = λ (o : Option Rule). option_map_or (λ a. use_fault again a x.1 h.rows) o [] in
+      found_same moved done_by done_by (λ a. bytes_eq a.id x.0) refl (λ a. use_same again a x.1 h.rows) c
 
   settle_fault_same : (h : Held) → settle_fault (there c) again h ≡ settle_fault c again h
   settle_fault_same h = pending_fault_same h.pending h
 
   react_fault_same : (a : Rule) (values : List Text) (h : Held) → react_fault (there c) again (moved a) values h ≡ react_fault c again a values h
   react_fault_same a values h = ap (λ ks. or_else ks (use_fault again (moved a) values (settled (there c) h).rows)) (settle_fault_same h)
-      ∙ ap (or_else (settle_fault c again h)) (use_same again a values (settled (there c) h).rows ∙ ap (λ (s : Held). use_fault again a values s.rows) (settled_same c h))
+      ∙ ap (or_else (settle_fault c again h)) (use_same again a values (settled (there c) h).rows
+      ∙ ap (λ (s : Held). use_fault again a values s.rows) (settled_same c h))
 
   option_fault_same : (a : Rule) (v : Option Text) (h : Held) → option_fault (there c) again (moved a) v h ≡ option_fault c again a v h
   option_fault_same a (Some v) h = react_fault_same a (v ∷ []) h
   option_fault_same a None h = settle_fault_same h
 
-  met_fault_same : (o : Option Rule) (v : Option Text) (h : Held) → long_fault (there c) again (option_map moved o) v h ≡ long_fault c again o v h
-  met_fault_same None v h = refl
-  met_fault_same (Some a) v h = rw (option_fault_same a v h, react_fault_same a [] h) refl
-
-  long_fault_same : (name : Text) (v : Option Text) (h : Held) → long_fault (there c) again (arg_by_long (there c) name) v h ≡ long_fault c again (arg_by_long c name) v h
+  long_fault_same : (name : Text) (v : Option Text) (h : Held)
+      → long_fault (there c) again (arg_by_long (there c) name) v h ≡ long_fault c again (arg_by_long c name) v h
   long_fault_same name v h =
-      ap (λ o. long_fault (there c) again o v h) (sym (find-map (λ a. not (is_some a.index) && clap.has_long a name) moved c)) ∙ met_fault_same (arg_by_long c name) v h
+      found_same moved (λ o. long_fault (there c) again o v h) (λ o. long_fault c again o v h) (λ a. not (is_some a.index) && clap.has_long a name) refl
+      (λ a. rw (option_fault_same a v h, react_fault_same a [] h) refl) c
 
-  short_fault_same : (o : Option Rule) (rest : Text) (h : Held) (f g : Held → Kinds) → ((s : Held) → f s ≡ g s)
-      → short_fault (there c) again (option_map moved o) rest h f ≡ short_fault c again o rest h g
-  short_fault_same None rest h f g e = refl
-  short_fault_same (Some a) rest h f g e =
-      rw (option_fault_same a _ h, react_fault_same a [] h, e (reacted (there c) (moved a) [] h), reacted_same c a [] h) refl
-
-  step_fault_same : (x : Option ℕ) (flags : Text) (skip : ℕ) (h : Held) (f g : Text → ℕ → Held → Kinds) → ((t : Text) (n : ℕ) (s : Held) → f t n s ≡ g t n s)
+  step_fault_same : (x : Option ℕ) (flags : Text) (skip : ℕ) (h : Held) (f g : Text → ℕ → Held → Kinds)
+      → ((t : Text) (n : ℕ) (s : Held) → f t n s ≡ g t n s)
       → bundle_step_fault (there c) again x flags skip h f ≡ bundle_step_fault c again x flags skip h g
   step_fault_same None flags skip h f g e = refl
   step_fault_same (Some x) flags zero h f g e =
       let rest = drop (length (encode_utf8 x)) flags in
-      ap (λ o. short_fault (there c) again o rest h (f rest 0)) (sym (find-map (λ a. not (is_some a.index) && clap.has_short a x) moved c))
-      ∙ short_fault_same (arg_by_short c x) rest h (f rest 0) (g rest 0) (e rest 0)
+      found_same moved (λ o. short_fault (there c) again o rest h (f rest 0)) (λ o. short_fault c again o rest h (g rest 0))
+      (λ a. not (is_some a.index) && clap.has_short a x) refl
+      (λ a. rw (option_fault_same a (attached_value rest) h, react_fault_same a [] h, e rest 0 (reacted (there c) (moved a) [] h), reacted_same c a [] h)
+      refl) c
   step_fault_same (Some x) flags (suc skip) h f g e = e _ skip h
 
   flags_same : (k : ℕ) (flags : Text) (skip : ℕ) (h : Held) → flags_fault (there c) again k flags skip h ≡ flags_fault c again k flags skip h
@@ -294,21 +289,18 @@ module _ (c : List Rule) (again : Bool) where
   short_flags_same None h = refl
   short_flags_same (Some flags) h = flags_same (length flags) flags h.skip (record h { skip = 0 })
 
-  flag_fault_same : (name : Option (Text × Option Text)) (word : Text) (h : Held) → flag_word_fault (there c) again name word h ≡ flag_word_fault c again name word h
+  flag_fault_same : (name : Option (Text × Option Text)) (word : Text) (h : Held)
+      → flag_word_fault (there c) again name word h ≡ flag_word_fault c again name word h
   flag_fault_same (Some x) word h = long_fault_same x.0 x.1 h
   flag_fault_same None word h = short_flags_same (short_of word) h
-
-  positional_fault_same : (o : Option Rule) (h : Held) (stray : Kinds)
-      → option_map_or (λ a. positional_fault (there c) again a h) (option_map moved o) stray ≡ option_map_or (λ a. positional_fault c again a h) o stray
-  positional_fault_same None h stray = refl
-  positional_fault_same (Some a) h stray = rw (settle_fault_same h) refl
 
   defaults_fault_same : (rows : List Row) (rest : List Rule) → defaults_fault rows (map moved rest) ≡ defaults_fault rows rest
   unfolding defaults_fault
   defaults_fault_same rows [] = refl
   defaults_fault_same rows (a ∷ rest) =
       ap (λ ks. or_else ks (defaults_fault (with_default rows (moved a)) (map moved rest))) (default_fault_same rows a)
-      ∙ ap (or_else (default_fault rows a)) (ap (λ rows. defaults_fault rows (map moved rest)) (default_same rows a) ∙ defaults_fault_same (with_default rows a) rest)
+      ∙ ap (or_else (default_fault rows a)) (ap (λ rows. defaults_fault rows (map moved rest)) (default_same rows a)
+      ∙ defaults_fault_same (with_default rows a) rest)
 
 module _ (s : Shape) where
   other_fault_same : (name : Option Text) (word : Text) (h : Held) → other_fault (moved_shape s) name word h ≡ other_fault s name word h
@@ -325,15 +317,20 @@ module _ (s : Shape) where
   taken_fault_same position h (trailing n) = refl
   taken_fault_same position h (subcommand name) = refl
   taken_fault_same position h value =
-      ap (λ o. option_map_or (λ a. positional_fault (there s.rules) s.args_override_self a h) o (stray_fault s)) (sym (find-map (λ a. option_map_or (λ k. nat_eq k position) a.index false) moved s.rules))
-      ∙ positional_fault_same s.rules s.args_override_self (arg_by_index s.rules position) h (stray_fault s)
+      let again = s.args_override_self in
+      found_same moved (λ o. option_map_or (λ a. positional_fault (there s.rules) again a h) o (stray_fault s))
+      (λ o. option_map_or (λ a. positional_fault s.rules again a h) o (stray_fault s)) (λ a. option_map_or (λ k. nat_eq k position) a.index false) refl
+      (λ a. rw (settle_fault_same s.rules again h) refl) s.rules
 
   met_step_same : (position : ℕ) (m n : Held × Step) → m ≡ n → step_fault (moved_shape s) position m.0 m.1 ≡ step_fault s position n.0 n.1
   met_step_same position m n e = taken_fault_same position m.0 m.1 ∙ ap (λ (x : Held × Step). step_fault s position x.0 x.1) e
 
   turn_same : (names : clap.Names) (w : Walk) (word : Text) → turn_fault (moved_shape s) names w word ≡ turn_fault s names w word
   turn_same names w word =
-      rw (word_fault_same names w.is_trailing w.waiting word w.held, met_step_same w.position _ _ (word_same s.rules names w.is_trailing w.waiting w.position word w.held)) refl
+      rw (
+        word_fault_same names w.is_trailing w.waiting word w.held,
+        met_step_same w.position _ _ (word_same s.rules names w.is_trailing w.waiting w.position word w.held),
+      ) refl
 
   walk_fault_same : (names : clap.Names) (w : Walk) (words : List Text) → walk_fault (moved_shape s) names w words ≡ walk_fault s names w words
   unfolding walk_fault walked
@@ -343,7 +340,8 @@ module _ (s : Shape) where
 
   check_same : (rows : List Row) (has_subcommand : Bool) → check_fault (moved_shape s) rows has_subcommand ≡ check_fault s rows has_subcommand
   check_same rows has_subcommand =
-      let same : list_any (λ a. a.required && not (is_given a.id rows)) (map moved s.rules) ≡ list_any (λ a. a.required && not (is_given a.id rows)) s.rules =
+      let same : list_any (λ a. a.required && not (is_given a.id rows)) (map moved s.rules)
+      ≡ list_any (λ a. a.required && not (is_given a.id rows)) s.rules =
       sym (list_any-map (λ a. a.required && not (is_given a.id rows)) moved s.rules) in
       rw same refl
 
@@ -353,7 +351,11 @@ module _ (s : Shape) where
 
   rest_same : (rows : List Row) (has_subcommand : Bool) → rest_fault (moved_shape s) rows has_subcommand ≡ rest_fault s rows has_subcommand
   rest_same rows has_subcommand =
-      rw (defaults_fault_same s.rules s.args_override_self rows s.rules, check_same (fold with_default rows (map moved s.rules)) has_subcommand, defaults_same rows s.rules) refl
+      rw (
+        defaults_fault_same s.rules s.args_override_self rows s.rules,
+        check_same (fold with_default rows (map moved s.rules)) has_subcommand,
+        defaults_same rows s.rules,
+      ) refl
 
   end_same : (end : Held) (has_subcommand : Bool)
       → or_else (settle_fault (there s.rules) s.args_override_self end) (rest_fault (moved_shape s) (settled (there s.rules) end).rows has_subcommand)
@@ -368,7 +370,8 @@ module _ (s : Shape) where
       let there_end = (walk (there s.rules) names h words).held in
       rw (walk_fault_same names (walk_from h) words, end_same there_end has_subcommand)
       (ap (λ (w : Walk). or_else (walk_fault s names (walk_from h) words)
-      (or_else below (or_else (settle_fault s.rules s.args_override_self w.held) (rest_fault s (settled s.rules w.held).rows has_subcommand)))) (walk_same s.rules names (walk_from h) words))
+      (or_else below (or_else (settle_fault s.rules s.args_override_self w.held) (rest_fault s (settled s.rules w.held).rows has_subcommand))))
+      (walk_same s.rules names (walk_from h) words))
 
 -- ---- the whole command line
 
@@ -380,25 +383,19 @@ module _ (a : App) where
   entered_same : (stop : Option (Text × List Text)) → entered (moved_app a) stop ≡ entered a stop
   entered_same None = refl
   entered_same (Some x) =
-      ap (option_map (λ s. rows_at s x.1)) (sym (find-map (λ s. answers_to x.0 (label_of s)) moved_shape a.subs)) ∙ go (find (λ s. answers_to x.0 (label_of s)) a.subs)
-    where
-      go : (o : Option Shape) → option_map (λ s. rows_at s x.1) (option_map moved_shape o) ≡ option_map (λ s. rows_at s x.1) o
-      go None = refl
-      go (Some s) = ap (λ rows. Some (s.name, rows)) (rows_same s.rules [] x.1)
+      let rows = λ (o : Option Shape). option_map (λ s. rows_at s x.1) o in
+      found_same moved_shape rows rows (λ s. answers_to x.0 (label_of s)) refl (λ s. ap (λ rows. Some (s.name, rows)) (rows_same s.rules [] x.1)) a.subs
 
   entered_fault_same : (stop : Option (Text × List Text)) → entered_fault (moved_app a) stop ≡ entered_fault a stop
   entered_fault_same None = refl
   entered_fault_same (Some x) =
-      ap (λ o. option_map_or (λ s. level_fault s [] nothing_held x.1 false []) o []) (sym (find-map (λ s. answers_to x.0 (label_of s)) moved_shape a.subs))
-      ∙ go (find (λ s. answers_to x.0 (label_of s)) a.subs)
-    where
-      go : (o : Option Shape) → option_map_or (λ s. level_fault s [] nothing_held x.1 false []) (option_map moved_shape o) [] ≡ option_map_or (λ s. level_fault s [] nothing_held x.1 false []) o []
-      go None = refl
-      go (Some s) = level_same s [] nothing_held x.1 false []
+      let fault = λ (o : Option Shape). option_map_or (λ s. level_fault s [] nothing_held x.1 false []) o [] in
+      found_same moved_shape fault fault (λ s. answers_to x.0 (label_of s)) refl (λ s. level_same s [] nothing_held x.1 false []) a.subs
 
   stop_same : (words : List Text) → stop_after (there a.top.rules) (names_of (moved_app a)) words ≡ stop_after a.top.rules (names_of a) words
   stop_same words =
-      ap (λ names. stop_after (there a.top.rules) names words) (names_same a.subs) ∙ ap (λ (w : Walk). w.stopped) (walk_same a.top.rules (names_of a) (walk_from nothing_held) words)
+      ap (λ names. stop_after (there a.top.rules) names words) (names_same a.subs)
+      ∙ ap (λ (w : Walk). w.stopped) (walk_same a.top.rules (names_of a) (walk_from nothing_held) words)
 
   -- the subcommand that is entered, and its options
   subcommand_same : (words : List Text)
@@ -409,7 +406,8 @@ module _ (a : App) where
   fault_same : (words : List Text) → built_fault (moved_app a) nothing_held words ≡ built_fault a nothing_held words
   fault_same words =
       let stop = stop_after (there a.top.rules) (names_of (moved_app a)) words in
-      let level = λ (names : clap.Names) (stop : Option (Text × List Text)). level_fault a.top names nothing_held words (is_some (entered a stop)) (entered_fault a stop) in
+      let level = λ (names : clap.Names) (stop : Option (Text × List Text)). level_fault a.top names nothing_held words (is_some (entered a stop))
+      (entered_fault a stop) in
       level_same a.top (names_of (moved_app a)) nothing_held words _ _
       ∙ (rw (entered_same stop, entered_fault_same stop, names_same a.subs)
       (ap (level (names_of a)) (ap (λ (w : Walk). w.stopped) (walk_same a.top.rules (names_of a) (walk_from nothing_held) words))))

@@ -1,6 +1,7 @@
 -- Where the words are taken, each option of `run` and of `twin` that is given has a value that is read.
 use Rattle.std.proofs.Common.{Option, refl, Some, subst, true}
-use Rattle.std.proofs.Common.{◌||◌, ◌∙◌, ◌∷◌, ◌≡◌, ◌≤◌, suc, zero, [], ap, arith, Bool, codes, cond, false, List, None}
+use Rattle.std.proofs.Common.{◌||◌, ◌∙◌, ◌∷◌, ◌≡◌, ◌≤◌, ◌<◌, ◌^◌, suc, zero, [], ap, arith, Bool, codes, cond, false}
+use Rattle.std.proofs.Common.{List, None}
 use Rattle.std.proofs.lemmas.Slice.Eq.{bytes_eq-Decides}
 use Rattle.std.specs.List.{list_any}
 use Rattle.std.specs.Option.{option_map_or}
@@ -25,7 +26,7 @@ use Rattle.rv_command_line.proofs.Given.{AllGood, EntersGood, entered_good, part
 use Rattle.rv_command_line.proofs.Numbers.{both, number_reads}
 use Rattle.rv_command_line.proofs.Truths.{truth_spelled}
 use Rattle.rv_command_line.specs.CommandLine.{faults_of, harts, kind, kind_names, kinds, lent, monitor, Names, ram, rvbench, slot}
-use Rattle.rv_command_line.specs.Job.{are_harts_read, are_options_read, are_run_read, are_twin_read, harts_in_text, harts_of, is_image_read, is_lawful}
+use Rattle.rv_command_line.specs.Job.{are_options_read, are_run_read, are_twin_read, harts_in_text, harts_of, is_lawful}
 use Rattle.rv_command_line.specs.Job.{is_monitor_read, is_setup_read, is_slot, is_slot_read, job_of, kind_of, named_job, number_in_text, options_of}
 use Rattle.rv_command_line.specs.Job.{run_of, truth_in_text, twin_of}
 use Rattle.rv_command_line.specs.declared.job.Job.TheVariants as job
@@ -46,14 +47,18 @@ abbrev at_first : Names
 at_first = lent (map lent kind_names)
 
 -- one of the names of a table is found in it
-named : (v : Text) (rows : List (Text × ImageKind)) → list_any (λ name. bytes_eq name.now v) (map lent (map (λ row. row.0) rows)) ≡ true
-    → is_some (option_map (λ (row : Text × ImageKind). row.1) (find (λ row. bytes_eq row.0 v) rows)) ≡ true
+abbrev is_listed : Text → List (Text × ImageKind) → Bool
+is_listed v rows = list_any (λ name. bytes_eq name.now v) (map lent (map (λ row. row.0) rows))
+
+abbrev kind_found : Option (Text × ImageKind) → Bool
+kind_found row = is_some (option_map (λ (row : Text × ImageKind). row.1) row)
+
+named : (v : Text) (rows : List (Text × ImageKind)) → is_listed v rows ≡ true → kind_found (find (λ row. bytes_eq row.0 v) rows) ≡ true
 named v [] e = e
 named v (row ∷ rows) e = go (bytes_eq row.0 v) e (named v rows)
   where
-    go : (b : Bool) → (b || list_any (λ name. bytes_eq name.now v) (map lent (map (λ row. row.0) rows))) ≡ true
-        → (list_any (λ name. bytes_eq name.now v) (map lent (map (λ row. row.0) rows)) ≡ true → is_some (option_map (λ (row : Text × ImageKind). row.1) (find (λ row. bytes_eq row.0 v) rows)) ≡ true)
-        → is_some (option_map (λ (row : Text × ImageKind). row.1) (cond b (Some row) (find (λ row. bytes_eq row.0 v) rows))) ≡ true
+    go : (b : Bool) → (b || is_listed v rows) ≡ true → (is_listed v rows ≡ true → kind_found (find (λ row. bytes_eq row.0 v) rows) ≡ true)
+        → kind_found (cond b (Some row) (find (λ row. bytes_eq row.0 v) rows)) ≡ true
     go true e later = refl
     go false e later = later e
 
@@ -63,16 +68,19 @@ kind_named v = named v kinds
 some_given : {X : Type 0} (o : Option X) (n : X) → o ≡ Some n → is_some o ≡ true
 some_given o n e = rw e refl
 
+-- a text that a parser accepts between two numbers is read as one of them
+number_between : (bits low high : ℕ) → high < 2 ^ bits → (v : Text) → accepts false (parser.Signed (pos low) (pos high)) v ≡ true
+    → (n : ℕ) × (number_in_text bits (without_minus v) ≡ Some n) × (low ≤ n) × (n ≤ high)
+number_between bits low high fits v e =
+    signed_reads Bool (λ u x. ParsesUnsigned bits 10 u x) bits low high v (number_in_text bits (without_minus v)) (number_reads bits (without_minus v))
+    (λ u x given. given) fits (accepts-Accepts false (parser.Signed (pos low) (pos high)) v e)
+
 ram_read : (v : Text) → accepts false (parser.Signed (pos 0) (pos 4294967295)) v ≡ true → is_some (number_in_text 32 (without_minus v)) ≡ true
-ram_read v e =
-    let got = signed_reads Bool (λ u x. ParsesUnsigned 32 10 u x) 32 0 4294967295 v (number_in_text 32 (without_minus v)) (number_reads 32 (without_minus v)) (λ u x given. given) (omega arith)
-    (accepts-Accepts false (parser.Signed (pos 0) (pos 4294967295)) v e) in
-    some_given (number_in_text 32 (without_minus v)) got.0 got.1
+ram_read v e = let got = number_between 32 0 4294967295 (omega arith) v e in some_given (number_in_text 32 (without_minus v)) got.0 got.1
 
 slot_accepted : (v : Text) → accepts false (parser.Signed (pos 0) (pos 12)) v ≡ true → is_slot (without_minus v) ≡ true
 slot_accepted v e =
-    let got = signed_reads Bool (λ u x. ParsesUnsigned 8 10 u x) 8 0 12 v (number_in_text 8 (without_minus v)) (number_reads 8 (without_minus v)) (λ u x given. given) (omega arith)
-    (accepts-Accepts false (parser.Signed (pos 0) (pos 12)) v e) in
+    let got = number_between 8 0 12 (omega arith) v e in
     ap (λ o. option_map_or (λ n. nat_lt n 13) o false) got.1 ∙ lt-ltb got.0 13 (omega arith)
 
 harts_counted : (n : ℕ) → 1 ≤ n → n ≤ 2 → is_some (harts_of n) ≡ true
@@ -83,36 +91,11 @@ harts_counted (suc (suc (suc n))) least most = absurd (omega arith)
 
 harts_read : (v : Text) → accepts false (parser.Signed (pos 1) (pos 2)) v ≡ true → is_some (harts_in_text (without_minus v)) ≡ true
 harts_read v e =
-    let got = signed_reads Bool (λ u x. ParsesUnsigned 8 10 u x) 8 1 2 v (number_in_text 8 (without_minus v)) (number_reads 8 (without_minus v)) (λ u x given. given) (omega arith)
-    (accepts-Accepts false (parser.Signed (pos 1) (pos 2)) v e) in
+    let got = number_between 8 1 2 (omega arith) v e in
     ap (λ o. is_some (option_and_then harts_of o)) got.1 ∙ harts_counted got.0 got.2 got.3
 
 truth_read : (v : Text) → accepts false parser.Bool v ≡ true → is_some (truth_in_text v) ≡ true
 truth_read v e = truth_spelled (bytes_eq v (codes "true")) (bytes_eq v (codes "false")) e
-
-first_kind : (vs : List Text) → values_fault (filled (kind at_first)) vs ≡ [] → option_map_or (λ text. is_some (kind_of text)) (slice_get vs 0) true ≡ true
-first_kind [] e = refl
-first_kind (v ∷ vs) e = kind_named v (passed (filled (kind at_first)) v vs e)
-
-first_ram : (how : Reading) (vs : List Text) → how ≡ reading.WithoutMinus → values_fault (filled ram) vs ≡ []
-    → option_map_or (λ text. is_some (number_in_text 32 text)) (option_map (read_as how) (slice_get vs 0)) true ≡ true
-first_ram how [] is e = refl
-first_ram how (v ∷ vs) is e = rw is (ram_read v (passed (filled ram) v vs e))
-
-first_harts : (how : Reading) (vs : List Text) → how ≡ reading.WithoutMinus → values_fault (filled harts) vs ≡ []
-    → option_map_or (λ text. is_some (harts_in_text text)) (option_map (read_as how) (slice_get vs 0)) true ≡ true
-first_harts how [] is e = refl
-first_harts how (v ∷ vs) is e = rw is (harts_read v (passed (filled harts) v vs e))
-
-first_slot : (how : Reading) (vs : List Text) → how ≡ reading.WithoutMinus → values_fault (filled slot) vs ≡ []
-    → option_map_or is_slot (option_map (read_as how) (slice_get vs 0)) true ≡ true
-first_slot how [] is e = refl
-first_slot how (v ∷ vs) is e = rw is (slot_accepted v (passed (filled slot) v vs e))
-
-first_truth : (how : Reading) (vs : List Text) → how ≡ reading.AsWritten → values_fault (filled monitor) vs ≡ []
-    → option_map_or (λ text. is_some (truth_in_text text)) (option_map (read_as how) (slice_get vs 0)) true ≡ true
-first_truth how [] is e = refl
-first_truth how (v ∷ vs) is e = rw is (truth_read v (passed (filled monitor) v vs e))
 
 -- ---- the rows of the options
 
@@ -129,47 +112,59 @@ row_found c a P own none some (r ∷ rs) good = go (bytes_eq r.id a.id) refl (ro
         some r had.0 had.1
     go false e rest = rest
 
--- the options of a subcommand
+-- what holds of each text that an option's parser accepts, as it is read, holds of the one that is given, if one is
 module _ (c : List Rule) (rows : List Row) (good : AllGood c rows) where
-  image_read : arg_by_id c (codes "kind") ≡ Some (filled (kind at_first)) → arg_by_id c (codes "ram") ≡ Some (filled ram) → is_image_read rows ≡ true
-  image_read kind_own ram_own =
-      let kind_is : option_map_or (λ text. is_some (kind_of text)) (first_of (codes "kind") rows) true ≡ true =
-      row_found c (filled (kind at_first)) (λ o. option_map_or (λ text. is_some (kind_of text)) (option_and_then (λ r. slice_get r.values 0) o) true ≡ true) kind_own refl
-      (λ r how e. first_kind r.values e) rows good in
-      let ram_is : option_map_or (λ text. is_some (number_in_text 32 text)) (one_of (codes "ram") rows) true ≡ true =
-      row_found c (filled ram) (λ o. option_map_or (λ text. is_some (number_in_text 32 text)) (option_and_then row_text o) true ≡ true) ram_own refl
-      (λ r how e. first_ram r.reading r.values how e) rows good in
-      rw (kind_is, ram_is) refl
+  option_read : (a : Rule) (how : Reading) (P : Text → Bool) → arg_by_id c a.id ≡ Some a → reading_by a ≡ how
+      → ((v : Text) → accepts a.ignore_case (parser_of_value a.parser) v ≡ true → P (read_as how v) ≡ true)
+      → option_map_or P (one_of a.id rows) true ≡ true
+  option_read a how P own reads read =
+      row_found c a (λ o. option_map_or P (option_and_then row_text o) true ≡ true) own refl (λ r is e. first r.reading r.values (is ∙ reads) e) rows good
+    where
+      first : (by : Reading) (vs : List Text) → by ≡ how → values_fault a vs ≡ []
+          → option_map_or P (option_map (read_as by) (slice_get vs 0)) true ≡ true
+      first by [] is e = refl
+      first by (v ∷ vs) is e = rw is (read v (passed a v vs e))
 
-  harts_are_read : arg_by_id c (codes "harts") ≡ Some (filled harts) → are_harts_read rows ≡ true
-  harts_are_read own =
-      row_found c (filled harts) (λ o. option_map_or (λ text. is_some (harts_in_text text)) (option_and_then row_text o) true ≡ true) own refl
-      (λ r how e. first_harts r.reading r.values how e) rows good
+  kind_read : arg_by_id c (codes "kind") ≡ Some (filled (kind at_first))
+      → option_map_or (λ text. is_some (kind_of text)) (first_of (codes "kind") rows) true ≡ true
+  kind_read own =
+      row_found c (filled (kind at_first)) (λ o. option_map_or (λ text. is_some (kind_of text)) (option_and_then (λ r. slice_get r.values 0) o) true
+      ≡ true) own refl (λ r how e. first r.values e) rows good
+    where
+      first : (vs : List Text) → values_fault (filled (kind at_first)) vs ≡ []
+          → option_map_or (λ text. is_some (kind_of text)) (slice_get vs 0) true ≡ true
+      first [] e = refl
+      first (v ∷ vs) e = kind_named v (passed (filled (kind at_first)) v vs e)
+
+  setup_read : arg_by_id c (codes "kind") ≡ Some (filled (kind at_first)) → arg_by_id c (codes "ram") ≡ Some (filled ram)
+      → arg_by_id c (codes "harts") ≡ Some (filled harts) → is_setup_read rows ≡ true
+  setup_read kind_own ram_own harts_own = rw (
+    kind_read kind_own,
+    option_read (filled ram) reading.WithoutMinus (λ text. is_some (number_in_text 32 text)) ram_own refl ram_read,
+    option_read (filled harts) reading.WithoutMinus (λ text. is_some (harts_in_text text)) harts_own refl harts_read,
+  ) refl
 
   monitor_read : arg_by_id c (codes "monitor") ≡ Some (filled monitor) → is_monitor_read rows ≡ true
-  monitor_read own =
-      row_found c (filled monitor) (λ o. option_map_or (λ text. is_some (truth_in_text text)) (option_and_then row_text o) true ≡ true) own refl
-      (λ r how e. first_truth r.reading r.values how e) rows good
+  monitor_read own = option_read (filled monitor) reading.AsWritten (λ text. is_some (truth_in_text text)) own refl truth_read
 
   slot_read : arg_by_id c (codes "slot") ≡ Some (filled slot) → is_slot_read rows ≡ true
-  slot_read own =
-      row_found c (filled slot) (λ o. option_map_or is_slot (option_and_then row_text o) true ≡ true) own refl
-      (λ r how e. first_slot r.reading r.values how e) rows good
+  slot_read own = option_read (filled slot) reading.WithoutMinus is_slot own refl slot_accepted
 
 run_read : (rows : List Row) → AllGood (rules_named (built rvbench) (codes "run")) rows → are_run_read rows ≡ true
 run_read rows good =
     let rules = rules_named (built rvbench) (codes "run") in
-    rw (image_read rules rows good refl refl, harts_are_read rules rows good refl, monitor_read rules rows good refl) refl
+    rw (setup_read rules rows good refl refl refl, monitor_read rules rows good refl) refl
 
 twin_read : (rows : List Row) → AllGood (rules_named (built rvbench) (codes "twin")) rows → are_twin_read rows ≡ true
 twin_read rows good =
     let rules = rules_named (built rvbench) (codes "twin") in
-    rw (image_read rules rows good refl refl, harts_are_read rules rows good refl, slot_read rules rows good refl) refl
+    rw (setup_read rules rows good refl refl refl, slot_read rules rows good refl) refl
 
 -- ---- the program
 
 -- what holds of good options of a subcommand, and of none, holds of those that are given
-given_read : (name : Text) (P : List Row → Bool) → P [] ≡ true → ((rows : List Row) → AllGood (rules_named (built rvbench) name) rows → P rows ≡ true)
+given_read : (name : Text) (P : List Row → Bool) → P [] ≡ true
+    → ((rows : List Row) → AllGood (rules_named (built rvbench) name) rows → P rows ≡ true)
     → (met : Option (Text × List Row)) → EntersGood (built rvbench) met → P (option_map_or (λ met. cond (bytes_eq met.0 name) met.1 []) met []) ≡ true
 given_read name P none all None good = none
 given_read name P none all (Some met) good = go (bytes_eq met.0 name) refl
@@ -182,8 +177,12 @@ pub taken_read : (words : List Text) → faults_of words ≡ [] → are_options_
 taken_read words e =
     let a = built rvbench in
     let stop = stop_after a.top.rules (names_of a) (argument_words a words) in
-    let good = entered_good a refl stop (parts (entered_fault a stop) _ (parts (walk_fault a.top (names_of a) (walk_from nothing_held) (argument_words a words)) _ e).1).0 in
-    rw (given_read (codes "run") are_run_read refl run_read (entered a stop) good, given_read (codes "twin") are_twin_read refl twin_read (entered a stop) good) refl
+    let walks = walk_fault a.top (names_of a) (walk_from nothing_held) (argument_words a words) in
+    let good = entered_good a refl stop (parts (entered_fault a stop) _ (parts walks _ e).1).0 in
+    rw (
+      given_read (codes "run") are_run_read refl run_read (entered a stop) good,
+      given_read (codes "twin") are_twin_read refl twin_read (entered a stop) good,
+    ) refl
 
 -- ---- the slot that is named
 
@@ -208,7 +207,8 @@ named_lawful (Some met) e = go (bytes_eq met.0 (codes "asm")) (bytes_eq met.0 (c
     go false false false e = refl
 
 pub taken_lawful : (words : List Text) → faults_of words ≡ [] → is_lawful (job_of words) ≡ true
-taken_lawful words e = named_lawful (subcommand_of rvbench words) (both (are_run_read (options_of (codes "run") words)) (are_twin_read (options_of (codes "twin") words)) (taken_read words e)).1
+taken_lawful words e = named_lawful (subcommand_of rvbench words)
+    (both (are_run_read (options_of (codes "run") words)) (are_twin_read (options_of (codes "twin") words)) (taken_read words e)).1
 
 -- ---- what a call answers
 

@@ -16,7 +16,8 @@ reads_truth E text (Some true) read = rw read refl
 reads_truth E text (Some false) read = rw read refl
 reads_truth E text None read = go (bytes_eq text (codes "true")) (bytes_eq text (codes "false")) refl refl
   where
-    go : (is_true is_false : Bool) → bytes_eq text (codes "true") ≡ is_true → bytes_eq text (codes "false") ≡ is_false → None ≡ truth_by is_true is_false
+    go : (is_true is_false : Bool) → bytes_eq text (codes "true") ≡ is_true → bytes_eq text (codes "false") ≡ is_false
+        → None ≡ truth_by is_true is_false
     go true is_false e f = absurd (read.1.0 ((bytes_eq-Decides text (codes "true")).0 e))
     go false true e f = absurd (read.1.1 ((bytes_eq-Decides text (codes "false")).0 f))
     go false false e f = refl

@@ -1,13 +1,14 @@
 //! The mnemonics (Unprivileged ISA, chapter 24, and the listings of Privileged Architecture 20211203).
 
 ghost use Rattle.std.specs.Prelude.{◌≡◌, ◌≤◌, length};
-ghost use Rattle.rv_encoding.specs.Listing as listing;
+ghost use Rattle.rv_encoding.specs.Codes as spec;
+ghost use Rattle.rv_encoding.specs.Listing.{name_of};
 
 use rv_encoding::{BranchKind, CsrKind, Instr, LoadKind, OpImmKind, OpKind, ShiftKind, StoreKind};
 
 /// The mnemonic of an instruction, as in the listings.
 pub(super) fn mnemonic(instr: &Instr) -> &'static str
-    ensures name { result.now ≡ listing.name_of instr.now }
+    ensures name { result.now ≡ name_of instr.now }
     ensures short { length result.now ≤ 10 }
 {
     match *instr {
@@ -35,7 +36,7 @@ pub(super) fn mnemonic(instr: &Instr) -> &'static str
 
 /// The mnemonic of a branch.
 fn branch_name(kind: BranchKind) -> &'static str
-    ensures name { result.now ≡ listing.branch_name kind }
+    ensures name { result.now ≡ spec.branch_name kind }
     ensures short { length result.now ≤ 10 }
 {
     match kind {
@@ -50,7 +51,7 @@ fn branch_name(kind: BranchKind) -> &'static str
 
 /// The mnemonic of a load.
 fn load_name(kind: LoadKind) -> &'static str
-    ensures name { result.now ≡ listing.load_name kind }
+    ensures name { result.now ≡ spec.load_name kind }
     ensures short { length result.now ≤ 10 }
 {
     match kind {
@@ -64,7 +65,7 @@ fn load_name(kind: LoadKind) -> &'static str
 
 /// The mnemonic of a store.
 fn store_name(kind: StoreKind) -> &'static str
-    ensures name { result.now ≡ listing.store_name kind }
+    ensures name { result.now ≡ spec.store_name kind }
     ensures short { length result.now ≤ 10 }
 {
     match kind {
@@ -76,7 +77,7 @@ fn store_name(kind: StoreKind) -> &'static str
 
 /// The mnemonic of an operation on a register and an immediate.
 fn op_imm_name(kind: OpImmKind) -> &'static str
-    ensures name { result.now ≡ listing.op_imm_name kind }
+    ensures name { result.now ≡ spec.op_imm_name kind }
     ensures short { length result.now ≤ 10 }
 {
     match kind {
@@ -91,7 +92,7 @@ fn op_imm_name(kind: OpImmKind) -> &'static str
 
 /// The mnemonic of a shift by an immediate.
 fn shift_name(kind: ShiftKind) -> &'static str
-    ensures name { result.now ≡ listing.shift_name kind }
+    ensures name { result.now ≡ spec.shift_name kind }
     ensures short { length result.now ≤ 10 }
 {
     match kind {
@@ -103,7 +104,7 @@ fn shift_name(kind: ShiftKind) -> &'static str
 
 /// The mnemonic of an operation on two registers.
 fn op_name(kind: OpKind) -> &'static str
-    ensures name { result.now ≡ listing.op_name kind }
+    ensures name { result.now ≡ spec.op_name kind }
     ensures short { length result.now ≤ 10 }
 {
     match kind {
@@ -130,7 +131,7 @@ fn op_name(kind: OpKind) -> &'static str
 
 /// The mnemonic of a change of a control and status register by a register.
 fn csr_name(kind: CsrKind) -> &'static str
-    ensures name { result.now ≡ listing.csr_name kind }
+    ensures name { result.now ≡ spec.csr_name kind }
     ensures short { length result.now ≤ 10 }
 {
     match kind {
@@ -142,7 +143,7 @@ fn csr_name(kind: CsrKind) -> &'static str
 
 /// The mnemonic of a change of a control and status register by an immediate.
 fn csr_imm_name(kind: CsrKind) -> &'static str
-    ensures name { result.now ≡ listing.csr_imm_name kind }
+    ensures name { result.now ≡ spec.csr_imm_name kind }
     ensures short { length result.now ≤ 10 }
 {
     match kind {

@@ -10,13 +10,24 @@ use Rattle.rv_asm.proofs.cuts.first_fields.Goals as goal
 pub returns-in-None : goal.returns-in-None
 unfolding fields_of
 returns-in-None c =
-    let end = YieldsList-end (YieldsList-at c.into_iter-field-iterator.ensures.into_iter_gives (YieldsList-from_map_by _ (λ x. x.now) trimmed (YieldsList-at c.map-field-items.ensures.source (YieldsList-from_slice_split _ (λ b. b == 44) c.args.text.now c.split.ensures.rest c.split.ensures.done c.split.ensures.closure (λ x b q k. search rules))) c.map-field-items.ensures.closure (λ x b q k. search rules))) c.loop-field.yielded _ c.loop-field.yielded_by _ _ c.in-None.is c.next.ensures.steps in
+    let end =
+    YieldsList-end (YieldsList-at c.into_iter-field-iterator.ensures.into_iter_gives
+    (YieldsList-from_map_by _ (λ x. x.now) trimmed
+    (YieldsList-at c.map-field-items.ensures.source
+    (YieldsList-from_slice_split _ (λ b. b == 44) c.args.text.now c.split.ensures.rest c.split.ensures.done c.split.ensures.closure
+    (λ x b q k. search rules))) c.map-field-items.ensures.closure (λ x b q k. search rules))) c.loop-field.yielded _
+    c.loop-field.yielded_by _ _ c.in-None.is c.next.ensures.steps in
     let few : length c.loop-field.yielded ≤ 4 = omega (arith, ap length c.loop-field.invariant.kept, c.loop-field.invariant.few) in
     rw c.loop-field.invariant.kept (grind (arith, common_steps, end.0, end.1, few))
 
 pub returns-then-is_full : goal.returns-then-is_full
 unfolding fields_of
 returns-then-is_full c =
-    let front = YieldsList-so_far (YieldsList-at c.into_iter-field-iterator.ensures.into_iter_gives (YieldsList-from_map_by _ (λ x. x.now) trimmed (YieldsList-at c.map-field-items.ensures.source (YieldsList-from_slice_split _ (λ b. b == 44) c.args.text.now c.split.ensures.rest c.split.ensures.done c.split.ensures.closure (λ x b q k. search rules))) c.map-field-items.ensures.closure (λ x b q k. search rules))) c.loop-field.yielded _ c.loop-field.yielded_by in
+    let front =
+    YieldsList-so_far (YieldsList-at c.into_iter-field-iterator.ensures.into_iter_gives
+    (YieldsList-from_map_by _ (λ x. x.now) trimmed
+    (YieldsList-at c.map-field-items.ensures.source
+    (YieldsList-from_slice_split _ (λ b. b == 44) c.args.text.now c.split.ensures.rest c.split.ensures.done c.split.ensures.closure
+    (λ x b q k. search rules))) c.map-field-items.ensures.closure (λ x b q k. search rules))) c.loop-field.yielded _ c.loop-field.yielded_by in
     let full : length c.loop-field.yielded ≡ 4 = grind (arith, nat_tests, ap length c.loop-field.invariant.kept) in
     rw c.loop-field.invariant.kept (rw full at front)

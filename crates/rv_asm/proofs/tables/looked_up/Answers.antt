@@ -7,10 +7,14 @@ use Rattle.rv_asm.proofs.tables.looked_up.Goals as goal
 
 pub returns-in_err-row : goal.returns-in_err-row
 returns-in_err-row g c =
-    let found = find_from_yields_List (λ row. bytes_eq c.args.name.now row.0.now) _ _ c.find.result c.find.ensures.ran (YieldsList-from_slice c.args.rows.now c.iter.ensures.rest) (λ x b q k. search (rules, tests)) in
+    let found =
+    find_from_yields_List (λ row. bytes_eq c.args.name.now row.0.now) _ _ c.find.result c.find.ensures.ran
+    (YieldsList-from_slice c.args.rows.now c.iter.ensures.rest) (λ x b q k. search (rules, tests)) in
     c.from_residual.ensures ∙ rw (c.in_err-row.was) at (looked_up-found c.args.name.now c.args.rows.now c.find.result found)
 
 pub returns : goal.returns
 returns g c =
-    let found = find_from_yields_List (λ row. bytes_eq c.args.name.now row.0.now) _ _ c.find.result c.find.ensures.ran (YieldsList-from_slice c.args.rows.now c.iter.ensures.rest) (λ x b q k. search (rules, tests)) in
+    let found =
+    find_from_yields_List (λ row. bytes_eq c.args.name.now row.0.now) _ _ c.find.result c.find.ensures.ran
+    (YieldsList-from_slice c.args.rows.now c.iter.ensures.rest) (λ x b q k. search (rules, tests)) in
     rw c.in_ok-row.was at (looked_up-found c.args.name.now c.args.rows.now c.find.result found)

@@ -1,4 +1,4 @@
-use Rattle.std.proofs.Common.{rules, refl}
+use Rattle.std.proofs.Common.{rules}
 use Rattle.rv_command_line.proofs.Options.{with_option}
 use Rattle.rv_command_line.proofs.command_line.with_image_options.Goals as goal
 

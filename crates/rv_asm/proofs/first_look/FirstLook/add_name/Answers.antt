@@ -9,7 +9,8 @@ pub returns-in-Ok : goal.returns-in-Ok
 returns-in-Ok c =
     let look = c.args.self.now in
     let absent : is_some (places_of look.labels c.args.name) ≡ false = rw c.bytes.ensures at (sym c.contains_key.ensures ∙ c.if-contains_key.false) in
-    let taken : (other : List ℕ) → places_of c.insert.new.self other ≡ cond (bytes_eq c.args.name other) (Some look.words) (places_of look.labels other) = λ other.
+    let taken : (other : List ℕ)
+    → places_of c.insert.new.self other ≡ cond (bytes_eq c.args.name other) (Some look.words) (places_of look.labels other) = λ other.
     rw (is_eq-slice_cmp c.into_bytes.result.items other, c.into_bytes.ensures) at (c.in-Ok.ensures.updates.0 (record { items = other })) in
     record {
       count = refl;

@@ -8,6 +8,16 @@ loop-line-preserved c =
     let has = c.loop-line.invariant.read in
     let more = c.in_ok-add_line.ensures.ok has.before has.read in
     record {
-      read = reads_on c.loop-line.look c.add_line.new.self c.args.text.now c.loop-line.rest.now c.in-Some.after.now c.in-Some.line.now has c.in-Some.ensures.lines more.0 more.1;
-      count = omega (arith, more.0.count, has.read.count, length-append has.before (line_at c.in-Some.line.now ∷ []), c.in-Some.ensures.shorter, c.loop-line.invariant.count);
+      read =
+          reads_on c.loop-line.look c.add_line.new.self c.args.text.now c.loop-line.rest.now c.in-Some.after.now c.in-Some.line.now has
+          c.in-Some.ensures.lines more.0 more.1;
+      count =
+          omega (
+            arith,
+            more.0.count,
+            has.read.count,
+            length-append has.before (line_at c.in-Some.line.now ∷ []),
+            c.in-Some.ensures.shorter,
+            c.loop-line.invariant.count,
+          );
     }
