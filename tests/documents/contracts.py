@@ -24,27 +24,30 @@ def files_of(folder, ending):
 
 
 class Function:
-    """A function: its crate, its names as a page may have them, the names of its clauses, and the text of its contract."""
+    """A function: its crate, its names as a page may have them, the names of its clauses, and the text of its contract. The fields of a
+    record that a clause states are clauses too."""
 
-    def __init__(self, crate, path, owner, head):
+    def __init__(self, crate, path, owner, head, known):
         name = head.group(2)
         stem = os.path.splitext(os.path.basename(path))[0]
         self.crate, self.path = crate, os.path.relpath(path, os.path.join(ROOT, "crates"))
         self.names = {f"{owner}::{name}"} if owner else {f"{stem}::{name}"} | ({name} if stem != "laws" else set())
         self.short = name
         self.contract = "\n".join(re.findall(r"^ *(?:ensures|requires)(?s:.*)", head.group(0), re.M))
-        self.clauses = set(re.findall(r"^ *ensures (\w+) \{", head.group(0), re.M))
+        stated = re.findall(r"^ *ensures (\w+) \{ ?([\w◌-]*)", head.group(0), re.M)
+        self.clauses = {name for name, _ in stated}
+        self.clauses |= {field for _, first in stated for text in known.get(first, []) for field in re.findall(r"^  pub (\w+) :", text, re.M)}
 
 
 def functions():
     """All functions of the crates' sources, those of a trait among them."""
-    found = []
+    found, known = [], definitions()
     for crate, path in files_of("src", ".rt"):
         text = text_of(path)
         blocks = [(it.start(), it.group(1) or it.group(2)) for it in BLOCK.finditer(text)]
         for head in HEAD.finditer(text):
             owner = next((name for start, name in reversed(blocks) if start < head.start()), None) if head.group(1) else None
-            found.append(Function(crate, path, owner, head))
+            found.append(Function(crate, path, owner, head, known))
     return found
 
 
