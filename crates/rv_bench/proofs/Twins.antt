@@ -8,9 +8,9 @@ use Rattle.rv_debug.specs.Targets.{KeepsMonitor}
 use Rattle.rv_debug.specs.TwoBenches.{can_scramble, can_scramble_in, scrambled}
 use Rattle.rv_debug.specs.declared.target.Target.{Target}
 use Rattle.rv_debug.specs.declared.target.Target.TheVariants.{Bare, Monitored}
-use Rattle.rv_monitor.proofs.Slots.{none_past}
-use Rattle.rv_monitor.specs.SlotNumbers.{slot_numbered}
-use Rattle.rv_monitor.specs.State.{is_held}
+use Rattle.rv_enclaves.proofs.Slots.{none_past}
+use Rattle.rv_enclaves.specs.SlotNumbers.{slot_numbered}
+use Rattle.rv_enclaves.specs.Sound.{is_held}
 use Rattle.rv_word.specs.Cases.{result_case}
 use Rattle.rv_memory.specs.Memory.{is_ram_size}
 use Rattle.rv_memory.specs.declared.ram_fault.RamFault.TheVariants.{BadSize, NoMemory as NoRamMemory}

@@ -10,17 +10,17 @@ use Rattle.rv_pmp.specs.Entries.{Entries}
 use Rattle.rv_pmp.specs.declared.access.Access.{Access as AccessKind}
 use Rattle.rv_pmp.specs.declared.mode.Mode.{Mode}
 use Rattle.rv_hart.specs.State.{State}
-use Rattle.rv_monitor.specs.AgreeBut.{SharedButFor, is_private}
-use Rattle.rv_monitor.specs.Blocks.{meets}
+use Rattle.rv_enclaves.specs.SharedButFor.{SharedButFor, is_private}
+use Rattle.rv_enclaves.specs.Blocks.{meets}
 use Rattle.std.specs.List.{list_any}
 use Rattle.std.specs.Prelude.{nat_lt, ◌++◌, if◌then◌else◌}
 use Rattle.rv_monitor.specs.State.{MonitoredState, OnTurn, IsKept, count_of, worlds_beside}
-use Rattle.rv_monitor.specs.Table.{Slots, region, is_world_of}
-use Rattle.rv_monitor.specs.declared.block.Block.{Block}
+use Rattle.rv_enclaves.specs.Table.{Slots, region, is_world_of}
+use Rattle.rv_enclaves.specs.declared.block.Block.{Block}
 use Rattle.rv_monitor.specs.declared.seat.Seat.{Seat}
-use Rattle.rv_monitor.specs.declared.shared.Shared.{Shared}
-use Rattle.rv_monitor.proofs.Agreement.{same_read, read-none, write-none, write-some, same_write}
-use Rattle.rv_monitor.proofs.Alike.{seen_block}
+use Rattle.rv_enclaves.specs.declared.shared.Shared.{Shared}
+use Rattle.rv_enclaves.proofs.Agreement.{same_read, read-none, write-none, write-some, same_write}
+use Rattle.rv_enclaves.proofs.Alike.{seen_block}
 use Rattle.rv_monitor.proofs.MonitoredAlike.{gone_equal}
 use Rattle.rv_debug.specs.Answer.{Answered, access_reply, answer, hart_told, harts_told, told as steps_told}
 use Rattle.rv_debug.specs.BenchState.{BenchState}

@@ -9,9 +9,9 @@ use Rattle.rv_monitor.specs.Debugger.{with_reg, with_timer}
 use Rattle.rv_monitor.specs.HartLaws.{sched}
 use Rattle.rv_monitor.specs.State.{MonitoredState, OnTurn, IsKept, machine_of, seated_beside, seen_by}
 use Rattle.rv_monitor.specs.Step.{monitored_step, step_of}
-use Rattle.rv_monitor.specs.Table.{Slots}
+use Rattle.rv_enclaves.specs.Table.{Slots}
 use Rattle.rv_monitor.specs.declared.seat.Seat.{Seat}
-use Rattle.rv_monitor.specs.declared.shared.Shared.{Shared}
+use Rattle.rv_enclaves.specs.declared.shared.Shared.{Shared}
 use Rattle.rv_monitor.proofs.HartsAlike.{step_kept}
 use Rattle.rv_monitor.proofs.HartsSpare.{seated_after, seen_shared}
 use Rattle.rv_monitor.proofs.LastAct.{beside_as_is}

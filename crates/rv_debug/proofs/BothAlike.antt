@@ -4,8 +4,8 @@ use Rattle.std.proofs.Common.{◌∙◌, ap, ap₂, subst, inl, inr, arith, not}
 use Rattle.std.specs.Prelude.{◌&&◌, ◌||◌, if◌then◌else◌}
 use Rattle.std.proofs.lemmas.List.{drop_more, drop_all}
 use Rattle.std.proofs.lemmas.Bool.{cases_Bool, and_parts}
-use Rattle.rv_monitor.specs.Blocks.{meets}
-use Rattle.rv_monitor.specs.Table.{Slots, region}
+use Rattle.rv_enclaves.specs.Blocks.{meets}
+use Rattle.rv_enclaves.specs.Table.{Slots, region}
 use Rattle.rv_debug.specs.Answer.{answer}
 use Rattle.rv_debug.specs.BenchState.{BenchState}
 use Rattle.rv_debug.specs.Confidentiality.{AlikeBy, AnswerAlike, PassAll, PassBy, StayAlike}

@@ -5,12 +5,12 @@ use Rattle.std.proofs.lemmas.Bool.{cases_lt, cases_eq}
 use Rattle.rv_memory.specs.Memory.{read, write, byte_at}
 use Rattle.rv_memory.proofs.MemoryLaws.{byte_at-write}
 use Rattle.rv_hart.specs.State.{State}
-use Rattle.rv_monitor.specs.Blocks.{has}
+use Rattle.rv_enclaves.specs.Blocks.{has}
 use Rattle.rv_monitor.specs.HartLaws.{IsLeftAlone, sched}
 use Rattle.rv_monitor.specs.Integrity.{IsSpared}
 use Rattle.rv_monitor.specs.State.{OnTurn, IsKept, machine_of}
-use Rattle.rv_monitor.specs.Table.{region}
-use Rattle.rv_monitor.specs.declared.shared.Shared.{Shared}
+use Rattle.rv_enclaves.specs.Table.{region}
+use Rattle.rv_enclaves.specs.declared.shared.Shared.{Shared}
 use Rattle.rv_monitor.proofs.HartsSpare.{sched_changes, sched_spares}
 use Rattle.rv_monitor.proofs.KeptReaches.{kept_reach}
 use Rattle.rv_monitor.proofs.RunsSpare.{spared_twice}

@@ -5,13 +5,13 @@ use Rattle.std.specs.Prelude.{is_some, nat_le, nat_lt, ◌==◌, ◌%◌}
 use Rattle.std.proofs.lemmas.Bool.{cases_lt, and_parts, and_from, leb-true, ltb-true, le-leb}
 use Rattle.rv_memory.specs.Memory.{ram_base, is_inside, write, write_bytes}
 use Rattle.rv_memory.proofs.MemoryLaws.{length-write, index-below, index-above, write-is}
-use Rattle.rv_monitor.specs.AgreeBut.{AgreeOutside, is_private}
-use Rattle.rv_monitor.specs.Blocks.{has, is_block_size, is_lawful}
+use Rattle.rv_enclaves.specs.SharedButFor.{AgreeOutside, is_private}
+use Rattle.rv_enclaves.specs.Blocks.{has, is_block_size, is_lawful}
 use Rattle.rv_monitor.specs.Debugger.{with_memory}
 use Rattle.rv_monitor.specs.State.{MonitoredState, OnTurn, IsKept}
-use Rattle.rv_monitor.specs.Table.{Slots, IsLawfulSlot, region, region_of as region_in, slot_at}
-use Rattle.rv_monitor.specs.declared.slot_info.SlotInfo.{SlotInfo}
-use Rattle.rv_monitor.proofs.Agreement.{inside-is, write-some}
+use Rattle.rv_enclaves.specs.Table.{Slots, IsLawfulSlot, region, region_of as region_in, slot_at}
+use Rattle.rv_enclaves.specs.declared.slot_info.SlotInfo.{SlotInfo}
+use Rattle.rv_enclaves.proofs.Agreement.{inside-is, write-some}
 use Rattle.rv_monitor.proofs.Scrambled.{done_rests, itself_agrees}
 use Rattle.rv_debug.specs.Answer.{answer}
 use Rattle.rv_debug.specs.BenchState.{BenchState}

@@ -3,14 +3,16 @@ use Rattle.std.proofs.Common.{◌≡◌, ℕ, zero, suc, false, List, [], ◌∷
 use Rattle.rv_word.specs.Cases.{option_case}
 use Rattle.rv_memory.specs.Memory.{write}
 use Rattle.rv_pmp.specs.declared.mode.Mode.TheVariants.{S}
-use Rattle.rv_monitor.specs.Contexts.{IsStored, saved}
+use Rattle.rv_enclaves.specs.Contexts.{IsStored}
+use Rattle.rv_monitor.specs.Switches.{saved}
 use Rattle.rv_monitor.specs.Debugger.{with_memory, with_reg, with_timer}
 use Rattle.rv_monitor.specs.HartLaws.{sched}
 use Rattle.rv_monitor.specs.Refused.{past_ecall}
 use Rattle.rv_monitor.specs.Returns.{ComesBack}
-use Rattle.rv_monitor.specs.State.{MonitoredState, OnTurn, IsKept, is_host, machine_of, seated_beside, seen_by, turned}
+use Rattle.rv_monitor.specs.State.{MonitoredState, OnTurn, IsKept, machine_of, seated_beside, seen_by, turned}
+use Rattle.rv_enclaves.specs.Table.{is_host}
 use Rattle.rv_monitor.specs.Step.{monitored_step, step_of}
-use Rattle.rv_monitor.specs.declared.context.Context.{Context}
+use Rattle.rv_enclaves.specs.declared.context.Context.{Context}
 use Rattle.rv_monitor.specs.declared.seat.Seat.{Seat}
 use Rattle.rv_monitor.proofs.HartsAlike.{sched_kept, step_kept}
 use Rattle.rv_monitor.proofs.HartsSpare.{seated_after}

@@ -1,8 +1,8 @@
 -- What two benches that agree but for an enclave show and leave, given the same commands: nothing of that enclave, up to the command
 -- that enters it. (Laws of this project's own debugger over its own monitor.)
 use Rattle.std.specs.Prelude.{ℕ, ◌≡◌, suc, Bool, true, false, List, [], ◌∷◌, take}
-use Rattle.rv_monitor.specs.Blocks.{has}
-use Rattle.rv_monitor.specs.Table.{is_live}
+use Rattle.rv_enclaves.specs.Blocks.{has}
+use Rattle.rv_enclaves.specs.Table.{is_live}
 use Rattle.rv_debug.specs.Answer.{Answered, answer}
 use Rattle.rv_debug.specs.BenchState.{BenchState}
 use Rattle.rv_debug.specs.Isolation.{after_commands}

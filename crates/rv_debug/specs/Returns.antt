@@ -4,7 +4,8 @@
 use Rattle.std.specs.Prelude.{ℕ, ◌≡◌, true, false, List, [], ◌∷◌, ◌++◌}
 use Rattle.rv_monitor.specs.HartLaws.{sched}
 use Rattle.rv_monitor.specs.Returns.{ComesBack}
-use Rattle.rv_monitor.specs.State.{MonitoredState, AreStored, is_host, machine_of, seen_by}
+use Rattle.rv_monitor.specs.State.{MonitoredState, AreStored, machine_of, seen_by}
+use Rattle.rv_enclaves.specs.Table.{is_host}
 use Rattle.rv_monitor.specs.Step.{monitored_step, step_of}
 use Rattle.rv_debug.specs.Answer.{answer}
 use Rattle.rv_debug.specs.BenchState.{BenchState}

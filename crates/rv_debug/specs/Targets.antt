@@ -9,8 +9,8 @@ use Rattle.rv_hart.specs.Step.{step}
 use Rattle.rv_monitor.specs.Debugger.{with_reg, with_timer, with_memory}
 use Rattle.rv_monitor.specs.State.{MonitoredState, OnTurn, IsKept, count_of, machine_of, seen_from}
 use Rattle.rv_monitor.specs.Step.{monitored_step}
-use Rattle.rv_monitor.specs.declared.world.World.{World}
-use Rattle.rv_monitor.specs.declared.world.World.TheVariants.{Host, Enclave}
+use Rattle.rv_enclaves.specs.declared.world.World.{World}
+use Rattle.rv_enclaves.specs.declared.world.World.TheVariants.{Host, Enclave}
 use Rattle.rv_debug.specs.EnclaveText.{table_text}
 use Rattle.rv_debug.specs.Steps.{Stepped}
 use Rattle.rv_debug.specs.declared.target.Target.{Target}

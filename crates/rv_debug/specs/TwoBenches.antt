@@ -4,10 +4,11 @@ use Rattle.std.specs.Prelude.{ℕ, ◌≡◌, suc, ◌==◌, Bool, true, false, 
 use Rattle.std.specs.Prelude.{Err}
 use Rattle.std.specs.Int.{bit_at}
 use Rattle.rv_monitor.specs.AgreeBut.{AgreeBut}
-use Rattle.rv_monitor.specs.Blocks.{no_block, meets}
-use Rattle.rv_monitor.specs.Scramble.{can_scramble as can_scramble_of, scrambled as scrambled_of}
-use Rattle.rv_monitor.specs.Table.{region}
-use Rattle.rv_monitor.specs.declared.block.Block.{Block}
+use Rattle.rv_enclaves.specs.Blocks.{no_block, meets}
+use Rattle.rv_enclaves.specs.Scramble.{can_scramble as can_scramble_of}
+use Rattle.rv_monitor.specs.Scrambled.{scrambled as scrambled_of}
+use Rattle.rv_enclaves.specs.Table.{region}
+use Rattle.rv_enclaves.specs.declared.block.Block.{Block}
 use Rattle.rv_debug.specs.Answer.{Answered, answer}
 use Rattle.rv_debug.specs.BenchState.{BenchState}
 use Rattle.rv_debug.specs.Command.{parse_of}

@@ -2,7 +2,7 @@
 
 ghost use Rattle.std.specs.Prelude.{◌≡◌, [], ◌∷◌, map};
 ghost use Rattle.rv_word.specs.Cases.{option_case};
-ghost use Rattle.rv_monitor.specs.Blocks.{no_block};
+ghost use Rattle.rv_enclaves.specs.Blocks.{no_block};
 ghost use Rattle.rv_debug.specs.TwoBenches.{named};
 ghost use Rattle.rv_debug.specs.Command.{decimal_within, register_of, switch_of, mode_of, access_of, width_of, operands_of, meaning_of, parse_of, number_of_fault};
 

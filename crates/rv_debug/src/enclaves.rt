@@ -5,7 +5,7 @@ ghost use Rattle.std.specs.List.{flat_map};
 ghost use Rattle.arrayvec.specs.ArrayVec.{array_vec_len};
 ghost use Rattle.rv_text.specs.Digits.{hex2, hex8};
 ghost use Rattle.rv_debug.specs.EnclaveText.{state_text, block_text, enclave_text, slot_text, table_text};
-ghost use Rattle.rv_monitor.specs.Table.{slot_at};
+ghost use Rattle.rv_enclaves.specs.Table.{slot_at};
 ghost use Rattle.rv_debug.specs.Targets.{enclaves_text};
 
 use crate::target::Target;

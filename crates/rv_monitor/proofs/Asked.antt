@@ -1,18 +1,17 @@
 -- What the monitor's work after a trap asks of memory and of the kept contexts.
-use Rattle.std.proofs.Common.{◌≡◌, ℕ, ◌+◌, ◌==◌, Bool, true, false, List, length, replicate, Option, Some, None, refl, sym, ap, ap₂, subst}
-use Rattle.std.proofs.Common.{inl, inr, arith}
+use Rattle.std.proofs.Common.{◌≡◌, ℕ, ◌+◌, ◌==◌, Bool, true, false, List, length, replicate, Option, Some, None, refl, sym, ap, ap₂, subst, inl, inr, arith}
 use Rattle.std.specs.Prelude.{not, slice_index}
 use Rattle.std.proofs.lemmas.Bool.{cases_eq, eq-eqb, both_ways, ne_eqb}
+use Rattle.rv_enclaves.specs.Create.{bytes_of_block}
+use Rattle.rv_enclaves.proofs.Agreement.{or_same, write-alike}
+use Rattle.rv_enclaves.proofs.SavedLists.{same_after_set}
 use Rattle.rv_monitor.specs.Asked.{asked_by, is_entering, SameAsked, SameWhereSame, SameWork, AskedLaw, SameStep, AskedStepLaw}
-use Rattle.rv_monitor.specs.Create.{bytes_of_block}
 use Rattle.rv_monitor.specs.declared.next.Next.{Next}
-use Rattle.rv_monitor.proofs.Prelude.{AgreeOutside, Call, Cause, Context, Contexts, Create, Handled, MonitoredState, MonitoredStepped, Proposal, Running, Seat}
-use Rattle.rv_monitor.proofs.Prelude.{Shared, Slots, StepOutcome, Trap, a0, a1, answered, bare, context_at, created, destroyed, entered, exited_context}
-use Rattle.rv_monitor.proofs.Prelude.{first_context, handled, kept_context, left_slot, measured, measured_slot, measurement_at, measurement_of, monitored_step}
-use Rattle.rv_monitor.proofs.Prelude.{new_slot, option_case, proposed, ram_base, recorded, region, returned, returned_to, seated, seated_beside, state_after}
-use Rattle.rv_monitor.proofs.Prelude.{status_of, step, with_context, with_layout, with_slot, with_state, write}
-use Rattle.rv_monitor.proofs.Agreement.{or_same, write-alike}
-use Rattle.rv_monitor.proofs.SavedLists.{same_after_set}
+use Rattle.rv_monitor.proofs.Prelude.{AgreeOutside, Call, Cause, Context, Contexts, Create, Handled, MonitoredState, MonitoredStepped, Proposal, Running}
+use Rattle.rv_monitor.proofs.Prelude.{Seat, Shared, Slots, StepOutcome, Trap, a0, a1, answered, bare, context_at, created, destroyed, entered, exited_context}
+use Rattle.rv_monitor.proofs.Prelude.{first_context, handled, kept_context, left_slot, measured, measured_slot, measurement_at, measurement_of}
+use Rattle.rv_monitor.proofs.Prelude.{monitored_step, new_slot, option_case, proposed, ram_base, recorded, region, returned, returned_to, seated}
+use Rattle.rv_monitor.proofs.Prelude.{seated_beside, state_after, status_of, step, with_context, with_layout, with_slot, with_state, write}
 use Rattle.rv_monitor.proofs.TrapSteps.{seat_after, trapped_step}
 use Rattle.rv_monitor.proofs.Works.{AsksFor, by_work_of_both, entering, kept_by, over}
 

@@ -1,6 +1,6 @@
 -- A step changes the bytes that its instruction stored, the region that a destroy clears, or those that a measure puts.
-use Rattle.std.proofs.Common.{◌≡◌, ◌≢◌, ℕ, zero, suc, ◌+◌, ◌<◌, ◌≤◌, ◌⊎◌, true, false, List, [], length, replicate, Option}
-use Rattle.std.proofs.Common.{Some, None, IfSome, refl, sym, ◌∙◌, ap, subst, inl, inr, arith}
+use Rattle.std.proofs.Common.{◌≡◌, ◌≢◌, ℕ, zero, suc, ◌+◌, ◌<◌, ◌≤◌, ◌⊎◌, true, false, List, [], length, replicate, Option, Some, None, IfSome, refl, sym}
+use Rattle.std.proofs.Common.{◌∙◌, ap, subst, inl, inr, arith}
 use Rattle.std.specs.Prelude.{is_some}
 use Rattle.std.proofs.lemmas.Bool.{both_ways, cases_lt, cases_Bool, and_from, and_parts, le-leb, lt-ltb}
 use Rattle.std.proofs.lemmas.List.{length-replicate}
@@ -9,9 +9,13 @@ use Rattle.rv_pmp.proofs.VerdictLemmas.{each_from_all}
 use Rattle.rv_memory.proofs.MemoryLaws.{byte_at-write}
 use Rattle.rv_hart.specs.Confinement.{IsConfined}
 use Rattle.rv_hart.specs.Permitted.{TouchesPermitted}
+use Rattle.rv_enclaves.specs.Measure.{measure_refusals, may_store, may_store_all}
+use Rattle.rv_enclaves.proofs.Reaches.{reach_law}
+use Rattle.rv_enclaves.proofs.Refusals.{IsTaken}
+use Rattle.rv_enclaves.proofs.Slots.{at_same}
+use Rattle.rv_enclaves.proofs.Sound.{live_in_range}
 use Rattle.rv_monitor.specs.Asked.{is_call}
 use Rattle.rv_monitor.specs.Changes.{IsStoredInReach, IsMeasured, ByMonitor, IsChanged, IsChangedWithin, ChangeLaw, RunsChangeLaw}
-use Rattle.rv_monitor.specs.Measure.{measure_refusals, may_store, may_store_all}
 use Rattle.rv_monitor.proofs.Prelude.{AgreeOn, Block, Call, Destroy, Entries, IsKept, IsLawfulSlot, IsValid, M, MayTouch, Measure, MonitoredState, S, Seat}
 use Rattle.rv_monitor.proofs.Prelude.{Shared, SlotInfo, Span, Stepped, Stores, Trap, World, Write, a0, a1, asked_in, bare, byte_at, bytes_from, bytes_in}
 use Rattle.rv_monitor.proofs.Prelude.{confined, created, data_mode, destroyed, entered, first_refusal, handled, has, is_inside, is_live, layout, left_slot}
@@ -19,11 +23,7 @@ use Rattle.rv_monitor.proofs.Prelude.{measured, measured_slot, monitored_step, o
 use Rattle.rv_monitor.proofs.Prelude.{with_bytes, with_slot, worlds_beside, write, zeroed}
 use Rattle.rv_monitor.proofs.KeptReaches.{kept_reach, below_M, clear_mode}
 use Rattle.rv_monitor.proofs.Ready.{IsTrapped}
-use Rattle.rv_monitor.proofs.Reaches.{reach_law}
-use Rattle.rv_monitor.proofs.Refusals.{IsTaken}
 use Rattle.rv_monitor.proofs.RunsAlike.{kept_law}
-use Rattle.rv_monitor.proofs.Slots.{at_same}
-use Rattle.rv_monitor.proofs.Sound.{live_in_range}
 use Rattle.rv_monitor.proofs.StepKept.{same_in, trapped_here}
 use Rattle.rv_monitor.proofs.TrapSteps.{by_step, seat_after}
 use Rattle.rv_monitor.proofs.Works.{AsksFor, by_work}

@@ -1,66 +1,12 @@
 -- The monitor's work after a trap, from two shared parts that agree but for what is private to an enclave.
-use Rattle.std.proofs.Common.{◌≡◌, ◌≢◌, ℕ, ◌==◌, true, false, List, length, Option, Some, None, refl, sym, ◌∙◌, ap, subst, inl, inr}
-use Rattle.std.proofs.lemmas.Bool.{cases_Bool, cases_eq, both_ways, ne_eqb, eq-eqb}
-use Rattle.rv_monitor.specs.AgreeBut.{SameContexts}
+use Rattle.std.proofs.Common.{◌≡◌, ℕ, ◌==◌, false, List, length, Some, None, refl, sym, ◌∙◌, ap, subst, inl, inr}
+use Rattle.std.proofs.lemmas.Bool.{cases_eq, both_ways, ne_eqb, eq-eqb}
+use Rattle.rv_enclaves.specs.declared.slot_info.EnclaveState.TheVariants as states
+use Rattle.rv_enclaves.proofs.WorksAlike.{WorksAlike, works_alike}
 use Rattle.rv_monitor.specs.Confidentiality.{HandledAlike, HandlerLaw}
-use Rattle.rv_monitor.specs.declared.slot_info.EnclaveState.TheVariants as states
-use Rattle.rv_monitor.proofs.Prelude.{AgreeOutside, Context, Contexts, Destroy, Enclave, EnclaveState, IsSound, Proposal, Seat, Shared, SharedButFor, Slots}
-use Rattle.rv_monitor.proofs.Prelude.{Trap, World, a0, a1, answered, created, destroyed, entered, handled, is_live, is_private, is_world_of, kept_context}
-use Rattle.rv_monitor.proofs.Prelude.{left_slot, measured, measured_slot, new_slot, proposed, seated, state_after, status_of, with_context, with_layout}
-use Rattle.rv_monitor.proofs.Prelude.{with_state}
-use Rattle.rv_monitor.proofs.Alike.{itself, as_before, created_alike, destroyed_alike, measured_alike, switched_alike}
-use Rattle.rv_monitor.proofs.Refusals.{MayCreate, IsTaken}
+use Rattle.rv_monitor.proofs.Prelude.{Context, Contexts, Enclave, EnclaveState, Seat, Shared, SharedButFor, Slots, Trap, a0, a1, answered, entered, handled}
+use Rattle.rv_monitor.proofs.Prelude.{is_world_of, left_slot, measured_slot, new_slot, proposed, seated, state_after, status_of, with_layout}
 use Rattle.rv_monitor.proofs.Works.{by_work_of_both, entering, kept_by, leaving, over}
-
--- ---- what the work asks of two shared parts
-
-abbrev switched : Shared → ℕ → EnclaveState → Option Context → Shared
-switched shared k state c = record shared { table = with_state shared.table k state; contexts = with_context shared.contexts k c }
-
-pub record WorksAlike (e : ℕ) (one other : Shared) : Type 0 where
-  pub before : SharedButFor e one other
-  pub creates : (new : Proposal) → MayCreate one new → SharedButFor e (created one new) (created other new)
-  pub destroys : (k : ℕ) → IsTaken one.table Destroy k → SharedButFor e (destroyed one k) (destroyed other k)
-  pub measures : (k address : ℕ) → SharedButFor e (measured one k address) (measured other k address)
-  pub contexts : (k : ℕ) → k ≢ e → kept_context one.contexts k ≡ kept_context other.contexts k
-  pub switches : (k : ℕ) (state : EnclaveState) (c : Option Context) → e ≢ k → SharedButFor e (switched one k state c) (switched other k state c)
-
--- what is equal works alike
-equal_work : (e : ℕ) (shared : Shared) → WorksAlike e shared shared
-equal_work e shared = record {
-  before = itself e shared;
-  creates = λ new may. itself e _;
-  destroys = λ k taken. itself e _;
-  measures = λ k address. itself e _;
-  contexts = λ k other. refl;
-  switches = λ k state c other. itself e _;
-}
-
--- where e is live
-module _ (e : ℕ) (table : Slots) (m n : List ℕ) (cs ds : Contexts) (agree : AgreeOutside (is_private table e) m n) (saved : SameContexts e cs ds)
-    (live : is_live table e ≡ true) where
-  live_work : (worlds : List World) → IsSound (over table m cs) worlds → IsSound (over table n ds) worlds
-      → WorksAlike e (over table m cs) (over table n ds)
-  live_work worlds one other = record {
-    before = as_before e table m n cs ds agree saved live;
-    creates = created_alike e table m n cs ds agree saved live;
-    destroys = λ k taken. destroyed_alike e table m n cs ds agree saved live k one.valid taken;
-    measures = measured_alike e table m n cs ds agree saved live;
-    contexts = λ k other. let same = saved.others k other in rw same refl;
-    switches = switched_alike e table m n cs ds agree saved live;
-  }
-
-works_alike : (e : ℕ) (one other : Shared) (worlds : List World) → IsSound one worlds → IsSound other worlds → SharedButFor e one other
-    → WorksAlike e one other
-works_alike e one other worlds here there agree = elim (cases_Bool (is_live one.table e)) [
-  | inr dead ↦ subst (WorksAlike e one) (agree.gone dead) (equal_work e one)
-  | inl live ↦
-      let tables = agree.table in
-      let there' : IsSound (over one.table other.memory other.contexts) worlds =
-      subst (λ (t : Slots). IsSound (over t other.memory other.contexts) worlds) (sym tables) there in
-      subst (λ (t : Slots). WorksAlike e one (over t other.memory other.contexts)) tables
-      (live_work e one.table one.memory other.memory one.contexts other.contexts agree.memory agree.contexts live worlds here there')
-]
 
 -- ---- the work
 

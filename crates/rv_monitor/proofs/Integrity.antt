@@ -2,17 +2,17 @@
 use Rattle.std.proofs.Common.{◌≡◌, ◌≢◌, ℕ, ◌==◌, true, false, List, Option, Some, None, refl, sym, ◌∙◌, ap, inl, inr, arith}
 use Rattle.std.specs.Prelude.{is_some}
 use Rattle.std.proofs.lemmas.Bool.{both_ways, cases_eq, eq-eqb}
+use Rattle.rv_enclaves.proofs.Owners.{apart_at}
+use Rattle.rv_enclaves.proofs.Reaches.{reached_apart}
+use Rattle.rv_enclaves.proofs.Refusals.{MayCreate, IsTaken}
+use Rattle.rv_enclaves.proofs.Slots.{at_same, at_other}
+use Rattle.rv_enclaves.proofs.Sound.{live_in_range, free_slot_from}
 use Rattle.rv_monitor.specs.Integrity.{enters, IntegrityLaw}
 use Rattle.rv_monitor.proofs.Prelude.{Context, Destroy, EnclaveState, Handled, IsKept, IsValid, MonitoredState, Proposal, Running, Seat, Shared, SlotInfo}
-use Rattle.rv_monitor.proofs.Prelude.{Slots, Trap, Write, a0, byte_at, bytes_in, context_at, created, destroyed, entered, first_context, handled, has, is_live}
-use Rattle.rv_monitor.proofs.Prelude.{is_world_of, left_slot, measured, monitored_step, new_slot, option_case, proposed, recorded, region, register, slot_at}
-use Rattle.rv_monitor.proofs.Prelude.{state_after, with_context, with_slot, with_state}
+use Rattle.rv_monitor.proofs.Prelude.{Slots, Trap, Write, a0, byte_at, bytes_in, context_at, created, destroyed, entered, first_context, handled, has}
+use Rattle.rv_monitor.proofs.Prelude.{is_live, is_world_of, left_slot, measured, monitored_step, new_slot, option_case, proposed, recorded, region, register}
+use Rattle.rv_monitor.proofs.Prelude.{slot_at, state_after, with_context, with_slot, with_state}
 use Rattle.rv_monitor.proofs.Changes.{changes}
-use Rattle.rv_monitor.proofs.Owners.{apart_at}
-use Rattle.rv_monitor.proofs.Reaches.{reached_apart}
-use Rattle.rv_monitor.proofs.Refusals.{MayCreate, IsTaken}
-use Rattle.rv_monitor.proofs.Slots.{at_same, at_other}
-use Rattle.rv_monitor.proofs.Sound.{live_in_range, free_slot_from}
 use Rattle.rv_monitor.proofs.TrapSteps.{by_step, seat_after}
 use Rattle.rv_monitor.proofs.Works.{by_work, kept_by}
 

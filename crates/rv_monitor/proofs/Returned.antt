@@ -2,11 +2,11 @@
 use Rattle.std.proofs.Common.{◌≡◌, ℕ, zero, suc, true, false, Option, Some, None, IfSome, sym, ap, ◌∙◌, subst, inl, inr}
 use Rattle.std.specs.Prelude.{not, is_some}
 use Rattle.std.proofs.lemmas.Bool.{both_ways}
-use Rattle.rv_monitor.specs.Contexts.{with_answer, IsStored}
+use Rattle.rv_enclaves.specs.Contexts.{with_answer, IsStored}
 use Rattle.rv_monitor.specs.Refused.{past_ecall}
 use Rattle.rv_monitor.specs.Returns.{RunsThrough, ComesBack, ReturnLaw}
-use Rattle.rv_monitor.proofs.Prelude.{Context, HostIsStored, IsKept, MonitoredState, MonitoredStepped, S, StaysOrSwitches, is_host, monitored_step, reason, run}
-use Rattle.rv_monitor.proofs.Prelude.{saved, value}
+use Rattle.rv_monitor.proofs.Prelude.{Context, HostIsStored, IsKept, MonitoredState, MonitoredStepped, S, StaysOrSwitches, is_host, monitored_step, reason}
+use Rattle.rv_monitor.proofs.Prelude.{run, saved, value}
 use Rattle.rv_monitor.proofs.RunsAlike.{kept_law}
 use Rattle.rv_monitor.proofs.Switched.{kept_between, switch_law}
 

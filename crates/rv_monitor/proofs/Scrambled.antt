@@ -1,129 +1,15 @@
 -- A scrambled state agrees with the one before but for its slot, and keeps what is true in every state.
-use Rattle.std.proofs.Common.{◌≡◌, ℕ, ◌+◌, ◌-◌, ◌<◌, Bool, true, false, List, length, Option, Some, None, IfSome, refl, sym, ap, ◌∙◌}
-use Rattle.std.proofs.Common.{inl, inr, arith, subst, length-set}
-use Rattle.std.specs.Prelude.{is_some, nat_le, nat_lt, not, if◌then◌else◌}
-use Rattle.std.specs.Option.{option_map}
-use Rattle.std.proofs.lemmas.Bool.{cases_lt, cases_eq, cases_Bool, and_from, le-leb, lt-ltb}
-use Rattle.rv_memory.proofs.Complements.{with_complements, length-with_complements, below, above, inside-index, complemented-is}
-use Rattle.rv_monitor.specs.Scramble.{can_scramble, complemented_context, complemented_block, scrambled_shared, scrambled}
+use Rattle.std.proofs.Common.{◌≡◌, ℕ, ◌-◌, Bool, true, false, refl, sym, ap, ◌∙◌}
+use Rattle.std.specs.Prelude.{if◌then◌else◌}
+use Rattle.rv_enclaves.specs.Scramble.{can_scramble, scrambled_shared}
+use Rattle.rv_enclaves.proofs.Scrambled.{scrambled_sound, scrambled_agrees, slot_rests}
+use Rattle.rv_enclaves.proofs.ScrambledTwice.{shared_twice}
+use Rattle.rv_enclaves.proofs.Alike.{itself}
+use Rattle.rv_enclaves.proofs.Slots.{or-first, or-second}
+use Rattle.rv_monitor.specs.Scrambled.{scrambled, ScrambleLaw}
 use Rattle.std.specs.List.{list_any}
 use Rattle.rv_monitor.specs.State.{worlds}
-use Rattle.rv_monitor.proofs.Prelude.{AgreeBut, AgreeOutside, Block, Context, Contexts, IsKept, IsSound, MonitoredState, Shared, SharedButFor, SlotInfo, World}
-use Rattle.rv_monitor.proofs.Prelude.{can_go_on, context_at, has, is_held, is_inside, is_live, is_running, is_world_of, option_case, ram_base, region, runs}
-use Rattle.rv_monitor.proofs.Prelude.{slot_at, with_context, worlds_beside}
-use Rattle.rv_monitor.proofs.Agreement.{inside-is, read-none}
-use Rattle.rv_monitor.proofs.Alike.{itself}
-use Rattle.rv_monitor.proofs.Slots.{at_same, at_other, or-first, or-second}
-use Rattle.rv_monitor.proofs.Sound.{live_in_range}
-use Rattle.rv_monitor.proofs.Valid.{valid_by_size}
-
--- ---- memory
-
--- outside the block no byte changes
-inside_agrees : (memory : List ℕ) (block : Block) → is_inside memory block.base block.size ≡ true
-    → AgreeOutside (has block) memory (with_complements memory (block.base - ram_base) block.size)
-inside_agrees memory block inside =
-    let is = inside-is memory block.base block.size inside in
-    let index = block.base - ram_base in
-    let fits = inside-index memory block.base block.size inside in
-    record {
-      size = sym (length-with_complements memory index block.size fits);
-      bytes = λ i seen. elim (cases_lt i index) [
-        | inl low ↦ sym (below memory index block.size i fits low)
-        | inr low ↦ elim (cases_lt i (index + block.size)) [
-          | inl high ↦
-              let from : nat_le block.base (ram_base + i) ≡ true = le-leb block.base (ram_base + i) (omega (arith, is.0)) in
-              let to : nat_lt (ram_base + i) (block.base + block.size) ≡ true = lt-ltb (ram_base + i) (block.base + block.size) (omega (arith, is.0)) in
-              let never : true ≡ false = sym (and_from _ _ from to) ∙ seen in cc
-          | inr high ↦ sym (above memory index block.size i fits high)
-        ]
-      ];
-    }
-
-block_agrees : (memory : List ℕ) (block : Block) → AgreeOutside (has block) memory (complemented_block memory block)
-block_agrees memory block = elim (cases_Bool (is_inside memory block.base block.size)) [
-  | inl inside ↦ let is = complemented-is memory block.base block.size inside in rw is (inside_agrees memory block inside)
-  | inr outside ↦ let is = read-none memory block.base block.size outside in rw is (record { size = refl; bytes = λ i seen. refl })
-]
-
--- ---- contexts
-
-some_after : (o : Option Context) → is_some (option_map complemented_context o) ≡ is_some o
-some_after None = refl
-some_after (Some context) = refl
-
-goes_on_after : (o : Option Context) → IfSome o (λ context. can_go_on context ≡ true)
-    → IfSome (option_map complemented_context o) (λ context. can_go_on context ≡ true)
-goes_on_after None held = tt
-goes_on_after (Some context) held = held
-
--- ---- the slot
-
-record IsScrambled (shared : Shared) (k : ℕ) : Type 0 where
-  pub live : is_live shared.table k ≡ true
-  pub rests : runs shared.table k ≡ false
-  pub in_range : k < 13
-
-not-true : (b : Bool) → not b ≡ true → b ≡ false
-not-true true is = cc
-not-true false is = refl
-
-slot_rests : (o : Option SlotInfo) → is_held o ≡ true → (is_some o ≡ true) × (option_case o false (λ info. is_running info.state) ≡ false)
-slot_rests None held = cc
-slot_rests (Some info) held = (refl, not-true (is_running info.state) held)
-
-in_range : (shared : Shared) (k : ℕ) (o : Option SlotInfo) → slot_at shared.table k ≡ o → length shared.table ≡ 13 → is_held o ≡ true → k < 13
-in_range shared k None is count held = cc
-in_range shared k (Some info) is count held = live_in_range shared.table k info count is
-
-module _ (shared : Shared) (worlds : List World) (k : ℕ) (sound : IsSound shared worlds) (may : can_scramble shared.table k ≡ true) where
-  may_be : IsScrambled shared k
-  may_be =
-      let parts = slot_rests (slot_at shared.table k) may in
-      record { live = parts.0; rests = parts.1; in_range = in_range shared k (slot_at shared.table k) refl sound.valid.count may }
-
-  abbrev kept_one : Option Context
-  kept_one = context_at shared.contexts k
-
-  abbrev new_contexts : Contexts
-  new_contexts = with_context shared.contexts k (option_map complemented_context kept_one)
-
-  here : context_at new_contexts k ≡ option_map complemented_context kept_one
-  here = at_same shared.contexts k (option_map complemented_context kept_one) (let range = may_be.in_range in omega (arith, sound.contexts.count, range))
-
-  pub scrambled_sound : IsSound (scrambled_shared shared k) worlds
-  unfolding scrambled_shared
-  scrambled_sound = record {
-    valid = valid_by_size shared.memory (complemented_block shared.memory (region shared.table k)) shared.table
-        (block_agrees shared.memory (region shared.table k)).size sound.valid;
-    contexts = record {
-      count = length-set shared.contexts k (option_map complemented_context kept_one) ∙ sound.contexts.count;
-      kept = λ j. elim (cases_eq j k) [
-        | inl at ↦ rw at (ap (λ (x : Option Context). is_some x) here ∙ some_after kept_one ∙ sound.contexts.kept k)
-        | inr other ↦ ap (λ (x : Option Context). is_some x) (at_other shared.contexts k j _ other) ∙ sound.contexts.kept j
-      ];
-      held = λ j.
-          let P : Option Context → Type 0 = λ x. IfSome x (λ context. can_go_on context ≡ true) in
-          elim (cases_eq j k) [
-            | inl at ↦ rw at (subst P (sym here) (goes_on_after kept_one (sound.contexts.held k)))
-            | inr other ↦ subst P (sym (at_other shared.contexts k j _ other)) (sound.contexts.held j)
-          ];
-    };
-    running = sound.running;
-    apart = sound.apart;
-  }
-
-  pub scrambled_agrees : SharedButFor k shared (scrambled_shared shared k)
-  unfolding scrambled_shared
-  scrambled_agrees = record {
-    table = refl;
-    memory = block_agrees shared.memory (region shared.table k);
-    contexts = record {
-      size = sym (length-set shared.contexts k (option_map complemented_context kept_one));
-      others = λ j other. sym (at_other shared.contexts k j _ other);
-    };
-    gone = λ free. let never : true ≡ false = sym may_be.live ∙ free in cc;
-  }
+use Rattle.rv_monitor.proofs.Prelude.{AgreeBut, IsKept, MonitoredState, Shared, is_world_of, runs, slot_at, worlds_beside}
 
 -- ---- the machine
 
@@ -184,3 +70,6 @@ perhaps_agrees false state k asked kept rests = itself_agrees state k kept rests
 pub done_rests : (done : Bool) (state : MonitoredState) (k : ℕ) → done ≡ can_scramble state.shared.table k → done ≡ true
     → runs state.shared.table k ≡ false
 done_rests done state k asked is = (slot_rests (slot_at state.shared.table k) (sym asked ∙ is)).1
+
+pub scramble_law : ScrambleLaw
+scramble_law state k bytes words = ap (λ (shared : Shared). record state { shared = shared }) (shared_twice state.shared k bytes words)

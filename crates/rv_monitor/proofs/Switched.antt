@@ -1,12 +1,11 @@
 -- What a step does to the world and to what is kept of the host.
-use Rattle.std.proofs.Common.{◌≡◌, ℕ, ◌==◌, ◌⊎◌, true, false, List, Option, Some, None, IfSome, refl, sym, ap, ◌∙◌, subst, inl, inr}
-use Rattle.std.proofs.Common.{arith}
+use Rattle.std.proofs.Common.{◌≡◌, ℕ, ◌==◌, ◌⊎◌, true, false, List, Option, Some, None, IfSome, refl, sym, ap, ◌∙◌, subst, inl, inr, arith}
 use Rattle.std.specs.Prelude.{◌%◌, ◌&&◌, not}
 use Rattle.std.proofs.lemmas.Bool.{and_parts, both_ways}
 use Rattle.std.proofs.lemmas.Bool.Decides.{nat_tests}
 use Rattle.rv_state.specs.SContexts.{s_context, with_s_context, KeepsOwn}
 use Rattle.rv_state.specs.declared.s_context.SContext.{SContext}
-use Rattle.rv_monitor.specs.Contexts.{IsStored, with_answer}
+use Rattle.rv_enclaves.specs.Contexts.{IsStored, with_answer}
 use Rattle.rv_monitor.specs.SwitchLaws.{SwitchLaw}
 use Rattle.rv_monitor.proofs.Prelude.{Context, CsrState, Enclave, Handled, Host, HostIsStored, IsKept, Mode, MonitoredState, S, Seat, Shared, StaysOrSwitches}
 use Rattle.rv_monitor.proofs.Prelude.{StepOutcome, Trap, a0, aligned_to_4, bare, can_go_on, entered, handled, is_host, is_machine, left_slot, monitored_step}

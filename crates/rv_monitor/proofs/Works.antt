@@ -7,19 +7,19 @@ use Rattle.std.proofs.lemmas.Bool.{cases_Bool, cond-true, cond-false, and_parts}
 use Rattle.std.proofs.lemmas.Bool.Decides.{nat_tests}
 use Rattle.rv_state.specs.declared.cause.Cause.TheVariants as causes
 use Rattle.rv_state.specs.declared.cause.Exception.{Exception}
+use Rattle.rv_enclaves.specs.Calls.{asked_call, is_offered, call_number, calls, call_key}
+use Rattle.rv_enclaves.specs.declared.call.Call.TheVariants.{Run, Resume, Stop}
+use Rattle.rv_enclaves.specs.declared.refusal.Refusal.TheVariants.{NotSupported}
+use Rattle.rv_enclaves.proofs.Refusals.{MayCreate, IsTaken, MayMeasure, may_create, may_take, may_measure, same_create_refusals, same_measure_refusals}
 use Rattle.rv_monitor.specs.Asked.{is_entering}
 use Rattle.rv_monitor.specs.CallRefusals.{call_refusals}
-use Rattle.rv_monitor.specs.Calls.{asked_call, is_offered, call_number, calls, call_key}
 use Rattle.rv_monitor.specs.Leaving.{line_after}
 use Rattle.rv_monitor.specs.Step.{performed, called, call_handled, timer_stopped, handled_exception, stopped_context, trapped_pc, trapped_mode}
 use Rattle.rv_monitor.specs.Switches.{left, left_by}
-use Rattle.rv_monitor.specs.declared.call.Call.TheVariants.{Run, Resume, Stop}
-use Rattle.rv_monitor.specs.declared.refusal.Refusal.TheVariants.{NotSupported}
 use Rattle.rv_monitor.proofs.Prelude.{Call, Cause, Context, Contexts, Create, Destroy, Enclave, EnvironmentCallFromS, Exit, Handled, Host, Measure, Refusal}
-use Rattle.rv_monitor.proofs.Prelude.{Seat, Shared, Slots, Trap, World, a0, a1, answered, asked_in, created, destroyed, entered, exited_context, first_refusal}
-use Rattle.rv_monitor.proofs.Prelude.{forwarded, handled, handled_cause, kept_context, measured, measured_slot, new_slot, option_case, past_call, proposed}
-use Rattle.rv_monitor.proofs.Prelude.{reason, refused, register, saved, state_after, value, with_layout}
-use Rattle.rv_monitor.proofs.Refusals.{MayCreate, IsTaken, MayMeasure, may_create, may_take, may_measure, same_create_refusals, same_measure_refusals}
+use Rattle.rv_monitor.proofs.Prelude.{Seat, Shared, Slots, Trap, World, a0, a1, answered, asked_in, created, destroyed, entered, exited_context}
+use Rattle.rv_monitor.proofs.Prelude.{first_refusal, forwarded, handled, handled_cause, kept_context, measured, measured_slot, new_slot, option_case}
+use Rattle.rv_monitor.proofs.Prelude.{past_call, proposed, reason, refused, register, saved, state_after, value, with_layout}
 
 -- ---- the call that is asked for
 

@@ -6,17 +6,17 @@ use Rattle.rv_state.specs.declared.cause.Cause.{Cause}
 use Rattle.rv_state.specs.declared.cause.Cause.TheVariants as causes
 use Rattle.rv_state.specs.declared.cause.Exception.TheVariants.{EnvironmentCallFromS}
 use Rattle.rv_hart.specs.declared.trap.Trap.{Trap}
+use Rattle.rv_enclaves.specs.Calls.{asked_in}
+use Rattle.rv_enclaves.specs.Contexts.{context_at}
+use Rattle.rv_enclaves.specs.Create.{bytes_of_block, proposed}
+use Rattle.rv_enclaves.specs.declared.call.Call.{Call}
+use Rattle.rv_enclaves.specs.declared.call.Call.TheVariants.{Create, Run, Resume}
+use Rattle.rv_enclaves.specs.declared.shared.Shared.{Shared}
 use Rattle.rv_monitor.specs.CallRefusals.{a0}
-use Rattle.rv_monitor.specs.Calls.{asked_in}
-use Rattle.rv_monitor.specs.Contexts.{context_at}
-use Rattle.rv_monitor.specs.Create.{bytes_of_block, proposed}
 use Rattle.rv_monitor.specs.State.{MonitoredState}
 use Rattle.rv_monitor.specs.Step.{MonitoredStepped, handled, monitored_step}
 use Rattle.rv_monitor.specs.Switches.{Handled}
-use Rattle.rv_monitor.specs.declared.call.Call.{Call}
-use Rattle.rv_monitor.specs.declared.call.Call.TheVariants.{Create, Run, Resume}
 use Rattle.rv_monitor.specs.declared.seat.Seat.{Seat}
-use Rattle.rv_monitor.specs.declared.shared.Shared.{Shared}
 
 -- the call that a trap asks for, if it is an ecall from S
 abbrev pub is_call : Cause → Bool

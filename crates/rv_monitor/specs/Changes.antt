@@ -9,20 +9,20 @@ use Rattle.rv_memory.specs.Memory.{byte_at}
 use Rattle.rv_memory.specs.declared.touched.Span.{Span}
 use Rattle.rv_state.specs.Registers.{register}
 use Rattle.rv_hart.specs.declared.trap.Trap.{Trap}
+use Rattle.rv_enclaves.specs.Blocks.{has}
+use Rattle.rv_enclaves.specs.Calls.{asked_in}
+use Rattle.rv_enclaves.specs.Layout.{layout}
+use Rattle.rv_enclaves.specs.Measure.{measured_slot, measure_refusals}
+use Rattle.rv_enclaves.specs.Reach.{in_reach}
+use Rattle.rv_enclaves.specs.Refusals.{first_refusal}
+use Rattle.rv_enclaves.specs.Table.{Slots, region, is_live}
+use Rattle.rv_enclaves.specs.declared.call.Call.TheVariants.{Destroy, Measure}
+use Rattle.rv_enclaves.specs.declared.shared.Shared.{Shared}
+use Rattle.rv_enclaves.specs.declared.world.World.{World}
 use Rattle.rv_monitor.specs.Asked.{is_call}
-use Rattle.rv_monitor.specs.Blocks.{has}
-use Rattle.rv_monitor.specs.Calls.{asked_in}
-use Rattle.rv_monitor.specs.Layout.{layout}
-use Rattle.rv_monitor.specs.Measure.{measured_slot, measure_refusals}
-use Rattle.rv_monitor.specs.Reach.{in_reach}
-use Rattle.rv_monitor.specs.Refusals.{first_refusal}
 use Rattle.rv_monitor.specs.Runs.{run}
 use Rattle.rv_monitor.specs.State.{MonitoredState, IsKept}
 use Rattle.rv_monitor.specs.Step.{MonitoredStepped, monitored_step}
-use Rattle.rv_monitor.specs.Table.{Slots, region, is_live}
-use Rattle.rv_monitor.specs.declared.call.Call.TheVariants.{Destroy, Measure}
-use Rattle.rv_monitor.specs.declared.shared.Shared.{Shared}
-use Rattle.rv_monitor.specs.declared.world.World.{World}
 
 -- the instruction stored the byte, and the store was in its world's reach
 pub record IsStoredInReach (world : World) (shared : Shared) (stored : Option Span) (byte : ℕ) : Type 0 where

@@ -4,14 +4,16 @@ use Rattle.std.specs.Prelude.{◌≡◌, ℕ, ◌⊎◌, Bool, false, List, Some
 use Rattle.rv_hart.specs.State.{State, Stepped}
 use Rattle.rv_hart.specs.Step.{step}
 use Rattle.rv_hart.specs.declared.trap.Trap.{Trap}
-use Rattle.rv_monitor.specs.AgreeBut.{AgreeOutside, AgreeBut, SharedButFor, is_private}
-use Rattle.rv_monitor.specs.State.{MonitoredState, IsSound, IsKept}
+use Rattle.rv_enclaves.specs.SharedButFor.{AgreeOutside, SharedButFor, is_private}
+use Rattle.rv_enclaves.specs.Sound.{IsSound}
+use Rattle.rv_enclaves.specs.Table.{is_world_of}
+use Rattle.rv_enclaves.specs.declared.shared.Shared.{Shared}
+use Rattle.rv_enclaves.specs.declared.world.World.{World}
+use Rattle.rv_monitor.specs.AgreeBut.{AgreeBut}
+use Rattle.rv_monitor.specs.State.{MonitoredState, IsKept}
 use Rattle.rv_monitor.specs.Step.{MonitoredStepped, handled, monitored_step}
 use Rattle.rv_monitor.specs.Switches.{Handled}
-use Rattle.rv_monitor.specs.Table.{is_world_of}
 use Rattle.rv_monitor.specs.declared.seat.Seat.{Seat}
-use Rattle.rv_monitor.specs.declared.shared.Shared.{Shared}
-use Rattle.rv_monitor.specs.declared.world.World.{World}
 
 -- ---- the monitor's work after a trap
 

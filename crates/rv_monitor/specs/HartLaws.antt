@@ -2,12 +2,12 @@
 use Rattle.std.specs.Prelude.{◌≡◌, ◌⊎◌, ℕ, false, true, List, [], ◌∷◌, ◌++◌, Some}
 use Rattle.std.specs.List.{list_any}
 use Rattle.rv_memory.specs.Memory.{byte_at}
+use Rattle.rv_enclaves.specs.Table.{is_live, is_world_of}
 use Rattle.rv_monitor.specs.AgreeBut.{AgreeBut}
 use Rattle.rv_monitor.specs.Changes.{IsChanged}
 use Rattle.rv_monitor.specs.Integrity.{enters, IsSpared}
 use Rattle.rv_monitor.specs.State.{MonitoredState, IsKept, HostIsStored, seated_beside, seen_by, worlds_beside}
 use Rattle.rv_monitor.specs.Step.{MonitoredStepped, monitored_step, step_of}
-use Rattle.rv_monitor.specs.Table.{is_live, is_world_of}
 use Rattle.rv_monitor.specs.declared.outcome.Outcome.{Outcome}
 
 -- the state after one step of each of these harts in turn, and what each showed

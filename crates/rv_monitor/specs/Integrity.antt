@@ -2,13 +2,13 @@
 -- region and its kept context. (A law of the monitor's definitions, no rule of a standard.)
 use Rattle.std.specs.Prelude.{ℕ, zero, suc, ◌≡◌, ◌==◌, Bool, true, false, Option, Some, None}
 use Rattle.rv_memory.specs.Memory.{byte_at}
-use Rattle.rv_monitor.specs.Blocks.{has}
-use Rattle.rv_monitor.specs.Contexts.{context_at}
+use Rattle.rv_enclaves.specs.Blocks.{has}
+use Rattle.rv_enclaves.specs.Contexts.{context_at}
+use Rattle.rv_enclaves.specs.Table.{slot_at, region, is_live, is_world_of}
+use Rattle.rv_enclaves.specs.declared.shared.Shared.{Shared}
 use Rattle.rv_monitor.specs.Runs.{run}
 use Rattle.rv_monitor.specs.State.{MonitoredState, IsKept}
 use Rattle.rv_monitor.specs.Step.{MonitoredStepped, monitored_step}
-use Rattle.rv_monitor.specs.Table.{slot_at, region, is_live, is_world_of}
-use Rattle.rv_monitor.specs.declared.shared.Shared.{Shared}
 
 -- whether the slot that was entered, if there is one, is this
 abbrev pub enters : ℕ → Option ℕ → Bool

@@ -11,20 +11,21 @@ use Rattle.rv_state.specs.declared.cause.Cause.{Cause}
 use Rattle.rv_state.specs.declared.cause.Cause.TheVariants as causes
 use Rattle.rv_hart.specs.HartState.{Hart}
 use Rattle.rv_hart.specs.declared.trap.Trap.{Trap}
-use Rattle.rv_monitor.specs.Calls.{call_number}
-use Rattle.rv_monitor.specs.Contexts.{exited_context, saved, with_answer, with_context}
-use Rattle.rv_monitor.specs.Layout.{layout, mie_of}
+use Rattle.rv_enclaves.specs.Calls.{call_number}
+use Rattle.rv_enclaves.specs.Contexts.{exited_context, with_answer, with_context}
+use Rattle.rv_enclaves.specs.Layout.{layout, mie_of}
+use Rattle.rv_enclaves.specs.Table.{Slots, with_state}
+use Rattle.rv_enclaves.specs.declared.call.Call.TheVariants.{Exit}
+use Rattle.rv_enclaves.specs.declared.context.Context.{Context}
+use Rattle.rv_enclaves.specs.declared.shared.Shared.{Shared}
+use Rattle.rv_enclaves.specs.declared.slot_info.EnclaveState.{EnclaveState}
+use Rattle.rv_enclaves.specs.declared.slot_info.EnclaveState.TheVariants.{Stopped, Exited}
+use Rattle.rv_enclaves.specs.declared.world.World.TheVariants.{Host, Enclave}
+use Rattle.rv_monitor.specs.Switches.{saved}
 use Rattle.rv_monitor.specs.Refused.{passed_csrs, past_ecall}
 use Rattle.rv_monitor.specs.State.{MonitoredState, IsKept, seated_beside}
 use Rattle.rv_monitor.specs.Step.{MonitoredStepped, monitored_step}
 use Rattle.rv_monitor.specs.SwitchLaws.{reason, value}
-use Rattle.rv_monitor.specs.Table.{Slots, with_state}
-use Rattle.rv_monitor.specs.declared.call.Call.TheVariants.{Exit}
-use Rattle.rv_monitor.specs.declared.context.Context.{Context}
-use Rattle.rv_monitor.specs.declared.shared.Shared.{Shared}
-use Rattle.rv_monitor.specs.declared.slot_info.EnclaveState.{EnclaveState}
-use Rattle.rv_monitor.specs.declared.slot_info.EnclaveState.TheVariants.{Stopped, Exited}
-use Rattle.rv_monitor.specs.declared.world.World.TheVariants.{Host, Enclave}
 
 -- ---- what is kept of the enclave
 

@@ -1,14 +1,4 @@
-pub mod Blocks
 pub mod CallRefusals
-pub mod Calls
-pub mod Contexts
-pub mod Create
-pub mod Destroy
-pub mod Examples
-pub mod Layout
-pub mod Measure
-pub mod Reach
-pub mod Refusals
 pub mod Refused
 pub mod State
 pub mod Turns
@@ -20,11 +10,7 @@ pub mod SwitchLaws
 pub mod StepLaws
 pub mod Leaving
 pub mod Returns
-pub mod SlotNumbers
-pub mod Table
-pub mod Unlocked
 pub mod Debugger
-pub mod BlockLaws
 pub mod AgreeBut
 pub mod Asked
 pub mod Confidentiality
@@ -32,5 +18,5 @@ pub mod Runs
 pub mod Access
 pub mod Integrity
 pub mod Changes
-pub mod Scramble
 pub mod Touches
+pub mod Scrambled

@@ -14,16 +14,16 @@ use Rattle.rv_state.specs.declared.cause.Exception.TheVariants.{EnvironmentCallF
 use Rattle.rv_hart.specs.Arithmetic.{sum_of}
 use Rattle.rv_hart.specs.HartState.{Hart}
 use Rattle.rv_hart.specs.declared.trap.Trap.{Trap}
+use Rattle.rv_enclaves.specs.Calls.{asked_in, status_of}
+use Rattle.rv_enclaves.specs.Contexts.{with_answer}
+use Rattle.rv_enclaves.specs.Refusals.{first_refusal}
+use Rattle.rv_enclaves.specs.declared.refusal.Refusal.{Refusal}
+use Rattle.rv_enclaves.specs.declared.refusal.Refusal.TheVariants.{NotSupported}
+use Rattle.rv_enclaves.specs.declared.shared.Shared.{Shared}
 use Rattle.rv_monitor.specs.CallRefusals.{call_refusals}
-use Rattle.rv_monitor.specs.Calls.{asked_in, status_of}
-use Rattle.rv_monitor.specs.Contexts.{with_answer}
-use Rattle.rv_monitor.specs.Refusals.{first_refusal}
 use Rattle.rv_monitor.specs.State.{MonitoredState, IsKept}
 use Rattle.rv_monitor.specs.Step.{MonitoredStepped, monitored_step}
-use Rattle.rv_monitor.specs.declared.refusal.Refusal.{Refusal}
-use Rattle.rv_monitor.specs.declared.refusal.Refusal.TheVariants.{NotSupported}
 use Rattle.rv_monitor.specs.declared.seat.Seat.{Seat}
-use Rattle.rv_monitor.specs.declared.shared.Shared.{Shared}
 
 -- why an ecall from S is refused, if it is: where a7 and a6 ask for no call of the world, or by the table of the call
 unfoldable pub refusal_of : Seat → Shared → Option Refusal

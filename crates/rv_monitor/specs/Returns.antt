@@ -3,10 +3,12 @@
 use Rattle.std.specs.Prelude.{◌≡◌, ℕ, zero, suc, true, false, Some}
 use Rattle.rv_pmp.specs.declared.mode.Mode.TheVariants.{S}
 use Rattle.rv_hart.specs.declared.trap.Trap.{Trap}
-use Rattle.rv_monitor.specs.Contexts.{saved, with_answer}
+use Rattle.rv_enclaves.specs.Contexts.{with_answer}
+use Rattle.rv_enclaves.specs.Table.{is_host}
+use Rattle.rv_monitor.specs.Switches.{saved}
 use Rattle.rv_monitor.specs.Refused.{past_ecall}
 use Rattle.rv_monitor.specs.Runs.{run}
-use Rattle.rv_monitor.specs.State.{MonitoredState, IsKept, HostIsStored, is_host}
+use Rattle.rv_monitor.specs.State.{MonitoredState, IsKept, HostIsStored}
 use Rattle.rv_monitor.specs.Step.{MonitoredStepped, monitored_step}
 use Rattle.rv_monitor.specs.SwitchLaws.{going_on, reason, value}
 

@@ -7,14 +7,15 @@ use Rattle.rv_state.specs.declared.cause.Cause.{Cause}
 use Rattle.rv_state.specs.declared.cause.Cause.TheVariants as causes
 use Rattle.rv_hart.specs.HartState.{Hart}
 use Rattle.rv_hart.specs.declared.trap.Trap.{Trap}
-use Rattle.rv_monitor.specs.Calls.{call_number}
-use Rattle.rv_monitor.specs.Contexts.{saved, with_answer}
+use Rattle.rv_enclaves.specs.Calls.{call_number}
+use Rattle.rv_enclaves.specs.Contexts.{with_answer}
+use Rattle.rv_enclaves.specs.declared.call.Call.TheVariants.{Exit}
+use Rattle.rv_enclaves.specs.declared.context.Context.{Context}
+use Rattle.rv_enclaves.specs.declared.world.World.TheVariants.{Host, Enclave}
+use Rattle.rv_monitor.specs.Switches.{saved}
 use Rattle.rv_monitor.specs.Refused.{past_ecall}
 use Rattle.rv_monitor.specs.State.{MonitoredState, IsKept, HostIsStored}
 use Rattle.rv_monitor.specs.Step.{MonitoredStepped, monitored_step}
-use Rattle.rv_monitor.specs.declared.call.Call.TheVariants.{Exit}
-use Rattle.rv_monitor.specs.declared.context.Context.{Context}
-use Rattle.rv_monitor.specs.declared.world.World.TheVariants.{Host, Enclave}
 
 -- the world goes on: it is the same, and what is kept of the host is as it was
 pub record Stays (before : MonitoredState) (after : MonitoredStepped) : Type 0 where

@@ -14,7 +14,7 @@ use Rattle.rv_state.specs.declared.cause.Exception.TheVariants.{InstructionAcces
 use Rattle.rv_hart.specs.Step.{span}
 use Rattle.rv_hart.specs.declared.trap.StepOutcome.{StepOutcome}
 use Rattle.rv_hart.specs.declared.trap.Trap.{Trap}
-use Rattle.rv_monitor.specs.Reach.{in_reach}
+use Rattle.rv_enclaves.specs.Reach.{in_reach}
 use Rattle.rv_monitor.specs.State.{MonitoredState, IsKept}
 use Rattle.rv_monitor.specs.Step.{MonitoredStepped, monitored_step}
 

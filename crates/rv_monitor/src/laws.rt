@@ -1,40 +1,23 @@
 //! Laws of the monitored machine over every state, for any crate above to cite. Each is proved of the definitions in `specs/`; those
 //! of a step are clauses of `Monitored::step` too.
 
-ghost use Rattle.rv_monitor.specs.Access.{ApartLaw, KeptReachLaw};
+ghost use Rattle.rv_monitor.specs.Access.{KeptReachLaw};
 ghost use Rattle.rv_monitor.specs.Asked.{AskedLaw, AskedStepLaw};
-ghost use Rattle.rv_monitor.specs.BlockLaws.{MeetsLaw};
 ghost use Rattle.rv_monitor.specs.Changes.{ChangeLaw, RunsChangeLaw};
 ghost use Rattle.rv_monitor.specs.Confidentiality.{BareLaw, ConfidentialityLaw, HandlerLaw};
 ghost use Rattle.rv_monitor.specs.HartLaws.{BesideLaw, SchedChangeLaw, SchedKeptLaw, SchedLaw, SchedSparesLaw};
 ghost use Rattle.rv_monitor.specs.Integrity.{IntegrityLaw, RunsSpareLaw};
 ghost use Rattle.rv_monitor.specs.Leaving.{LeaveLaw};
-ghost use Rattle.rv_monitor.specs.Reach.{ReachLaw};
 ghost use Rattle.rv_monitor.specs.Refused.{RefusalLaw};
 ghost use Rattle.rv_monitor.specs.Returns.{ReturnLaw};
 ghost use Rattle.rv_monitor.specs.Runs.{KeptLaw, RunLaw};
-ghost use Rattle.rv_monitor.specs.Scramble.{ScrambleLaw};
+ghost use Rattle.rv_monitor.specs.Scrambled.{ScrambleLaw};
 ghost use Rattle.rv_monitor.specs.SwitchLaws.{SwitchLaw};
 ghost use Rattle.rv_monitor.specs.Touches.{TouchLaw};
 
-/// Two blocks meet exactly where there is a byte that both have.
-pub const fn blocks_meet()
-    ensures { MeetsLaw }
-{}
-
-/// Reach: under the entries of a valid table and a world, S and U do an access to bytes in RAM exactly where it is in reach.
-pub const fn reach()
-    ensures { ReachLaw }
-{}
-
-/// So in every state of the machine, under its entries as they stand.
+/// Reach: in every state of the machine, S and U do an access to bytes in RAM exactly where it is in reach.
 pub const fn reach_kept()
     ensures { KeptReachLaw }
-{}
-
-/// No access that S or U does has a byte in the region of another enclave than the one that runs.
-pub const fn apart()
-    ensures { ApartLaw }
 {}
 
 /// What the instruction of a step touches lies in its world's reach: the word at pc, which it fetches, and what it loads or stores.

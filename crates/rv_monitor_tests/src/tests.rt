@@ -3,7 +3,7 @@
 mod machine;
 
 use machine::{A0, A1, A2, A3, A6, A7, KEY, Line, RA, Shown, T0, T1, T6, X0, run, run_two};
-use rv_monitor::{Block, EnclaveState, Slot, SlotInfo};
+use rv_monitor::{Block, EnclaveState, SlotInfo};
 use std::test::Fail;
 
 /// The arguments of create for a region and a window of 4096 bytes each.
@@ -235,27 +235,6 @@ const SLOTS: [Line; 25] = [
 #[test]
 fn slots_are_taken_and_freed(rt: HostRuntime) -> Result<(), Fail> {
     run(rt, &[0x73; 20], &SLOTS)
-}
-
-/// Numbers, and the slots that they are the numbers of.
-const NUMBERS: [(u32, Option<u8>); 6] = [
-    (0, Some(0)),
-    (12, Some(12)),
-    (13, None),
-    (255, None),
-    (256, None),
-    (0xffff_ffff, None),
-];
-
-/// A slot has a number from 0 to 12, and no number over 12 is that of a slot.
-#[test]
-fn slots_have_numbers() -> Result<(), Fail> {
-    for (number, slot) in NUMBERS {
-        if Slot::new(number).map(|slot| slot.number()) != slot {
-            return Err("another slot".into());
-        }
-    }
-    Ok(())
 }
 
 const DESTROYED: [Line; 14] = [

@@ -1,6 +1,6 @@
 use Rattle.std.proofs.Common.{◌≡◌, ◌+◌, ◌*◌, ◌≤◌, ◌++◌, length, take}
 use Rattle.std.specs.List.{flat_map}
-use Rattle.rv_monitor.specs.Table.{slot_at}
+use Rattle.rv_enclaves.specs.Table.{slot_at}
 use Rattle.rv_debug.specs.EnclaveText.{slot_text}
 use Rattle.rv_debug.proofs.enclaves.push_slots.Given as goal
 

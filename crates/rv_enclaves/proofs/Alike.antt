@@ -1,0 +1,183 @@
+-- The monitor's work over two shared parts that agree but for what is private to an enclave.
+use Rattle.std.proofs.Common.{◌≡◌, ◌≢◌, ℕ, ◌+◌, ◌<◌, ◌≤◌, Bool, true, false, List, length, replicate, Option, Some, None, IfSome, refl, sym, ◌∙◌, ap, subst}
+use Rattle.std.proofs.Common.{inl, inr, arith}
+use Rattle.std.specs.Prelude.{nat_le, nat_lt, is_some}
+use Rattle.std.proofs.lemmas.Bool.{cases_Bool, cases_eq, both_ways, and_parts, and_from, leb-true, ltb-true, le-leb, lt-ltb}
+use Rattle.std.proofs.lemmas.List.{same_lists, get_or_default}
+use Rattle.std.proofs.lemmas.Grind.{same_number_lists}
+use Rattle.rv_memory.specs.Memory.{read}
+use Rattle.rv_enclaves.specs.SharedButFor.{SameContexts}
+use Rattle.rv_enclaves.specs.Create.{with_enclave}
+use Rattle.rv_enclaves.specs.Destroy.{without}
+use Rattle.rv_enclaves.specs.declared.call.Call.TheVariants as calls
+use Rattle.rv_enclaves.proofs.Prelude.{AgreeOutside, Block, Context, Contexts, EnclaveState, IsLawfulSlot, IsValid, Proposal, Shared, SharedButFor, SlotInfo}
+use Rattle.rv_enclaves.proofs.Prelude.{Slots, context_at, created, destroyed, first_context, has, is_block_size, is_inside, is_lawful, is_live, is_private}
+use Rattle.rv_enclaves.proofs.Prelude.{measured, measurement_at, measurement_of, meets, new_slot, option_case, recorded, region, region_of, slot_at}
+use Rattle.rv_enclaves.proofs.Prelude.{with_bytes, with_context, with_slot, with_state, zeroed}
+use Rattle.rv_enclaves.proofs.Agreement.{IsSeen, inside-is, same_read, read-none, write-alike, zeros-alike}
+use Rattle.rv_enclaves.proofs.BlockLaws.{meets_at}
+use Rattle.rv_enclaves.proofs.SavedLists.{same_at_set, same_after_set, length_after}
+use Rattle.rv_enclaves.proofs.Refusals.{MayCreate, IsTaken}
+use Rattle.rv_enclaves.proofs.Slots.{at_other, free_from}
+use Rattle.rv_enclaves.proofs.Sound.{free_slot_from}
+
+-- ---- what agrees
+
+-- what is shared agrees with itself
+pub itself : (e : ℕ) (shared : Shared) → SharedButFor e shared shared
+itself e shared = record {
+  table = refl;
+  memory = record { size = refl; bytes = λ i seen. refl };
+  contexts = record { size = refl; others = λ k other. refl };
+  gone = λ dead. refl;
+}
+
+pub equal_agree : (e : ℕ) (one other : Shared) → one ≡ other → SharedButFor e one other
+equal_agree e one other same = subst (SharedButFor e one) same (itself e one)
+
+-- contexts that agree but for e, and there too, are equal
+same_contexts : (e : ℕ) (cs ds : Contexts) → SameContexts e cs ds → context_at cs e ≡ context_at ds e → cs ≡ ds
+same_contexts e cs ds saved own = same_lists cs ds saved.size (λ k d inside.
+    let inside' : k < length ds = omega (arith, saved.size) in
+    get_or_default cs k d None inside
+    ∙ elim (cases_eq k e) [ inl is ↦ rw is own | inr other ↦ saved.others k other ]
+    ∙ sym (get_or_default ds k d None inside'))
+
+contexts_with : (e : ℕ) (cs ds : Contexts) (k : ℕ) (c : Option Context) → SameContexts e cs ds
+    → SameContexts e (with_context cs k c) (with_context ds k c)
+contexts_with e cs ds k c saved = record {
+  size = length_after cs ds k c saved.size;
+  others = λ j other. same_after_set cs ds k j c None saved.size (saved.others j other);
+}
+
+-- a block that does not meet another has none of its bytes
+pub seen_block : (p q : Block) → meets p q ≡ false → IsSeen (has q) p.base p.size
+seen_block p q apart b low high = elim (cases_Bool (has q b)) [
+  | inr shown ↦ shown
+  | inl hidden ↦
+      let in_p : has p b ≡ true = and_from (nat_le p.base b) (nat_lt b (p.base + p.size)) (le-leb p.base b low) (lt-ltb b (p.base + p.size) high) in
+      absurd (both_ways _ apart (meets_at p q b in_p hidden))
+]
+
+read_alike : (hidden : ℕ → Bool) (m n : List ℕ) (address count : ℕ) → AgreeOutside hidden m n → IsSeen hidden address count
+    → read m address count ≡ read n address count
+read_alike hidden m n address count agree seen = elim (cases_Bool (is_inside m address count)) [
+  | inl inside ↦ same_read hidden m n address count agree inside seen
+  | inr outside ↦
+      let sizes = agree.size in
+      read-none m address count outside ∙ sym (read-none n address count (rw (← sizes) outside))
+]
+
+-- ---- a live slot
+
+module _ (e : ℕ) (table : Slots) (m n : List ℕ) (cs ds : Contexts) (agree : AgreeOutside (is_private table e) m n) (saved : SameContexts e cs ds)
+    (live : is_live table e ≡ true) where
+  abbrev here : Shared
+  here = record { memory = m; table = table; contexts = cs }
+
+  abbrev there : Shared
+  there = record { memory = n; table = table; contexts = ds }
+
+  -- slot e is as before
+  pub still : (after : Slots) (m' n' : List ℕ) (cs' ds' : Contexts) → slot_at after e ≡ slot_at table e
+      → AgreeOutside (is_private table e) m' n' → SameContexts e cs' ds'
+      → SharedButFor e (record { memory = m'; table = after; contexts = cs' }) (record { memory = n'; table = after; contexts = ds' })
+  still after m' n' cs' ds' same agree' saved' = record {
+    table = refl;
+    memory = let P : Option SlotInfo → Type 0 = λ o. AgreeOutside (has (region_of o)) m' n' in subst P (sym same) agree';
+    contexts = saved';
+    gone = λ dead. absurd (both_ways _ dead (ap (λ (o : Option SlotInfo). is_some o) same ∙ live));
+  }
+
+  pub as_before : SharedButFor e here there
+  as_before = still table m n cs ds refl agree saved
+
+  -- ---- create
+
+  measurement_alike : (new : Proposal) → meets new.region (region table e) ≡ false → measurement_of m new ≡ measurement_of n new
+  unfolding measurement_of
+  measurement_alike new apart =
+      let reads = read_alike (is_private table e) m n new.region.base new.region.size agree (seen_block new.region (region table e) apart) in
+      rw reads refl
+
+  recorded_alike : (new : Proposal) → meets new.region (region table e) ≡ false → recorded m new ≡ recorded n new
+  recorded_alike new apart = let digests = measurement_alike new apart in rw digests refl
+
+  not_free : (k : ℕ) → slot_at table k ≡ None → e ≢ k
+  not_free k free same =
+      let dead : is_live table e ≡ false = rw (same, free) refl in
+      both_ways _ dead live
+
+  put_alike : (k : ℕ) (info : SlotInfo) → slot_at table k ≡ None → SharedButFor e (with_enclave here k info) (with_enclave there k info)
+  put_alike k info free =
+      still (with_slot table k (Some info)) m n (with_context cs k (Some (first_context info))) (with_context ds k (Some (first_context info)))
+      (at_other table k e (Some info) (not_free k free)) agree (contexts_with e cs ds k (Some (first_context info)) saved)
+
+  pub created_alike : (new : Proposal) → MayCreate here new → SharedButFor e (created here new) (created there new)
+  unfolding created
+  created_alike new may =
+      let same = recorded_alike new ((free_from table new may.apart).others e).regions in
+      rw (← same) (put_alike (new_slot table) (recorded m new) (free_slot_from table (new_slot table) may.free).free)
+
+  -- ---- destroy
+
+  -- e is gone in both, and with it all that differed
+  gone_alike : (block : Block) → region table e ≡ block → is_inside m block.base block.size ≡ true → without here e block ≡ without there e block
+  gone_alike block is inside =
+      let at = inside-is m block.base block.size inside in
+      let covers : (b : ℕ) → is_private table e b ≡ true → (block.base ≤ b) × (b < block.base + block.size) =
+      λ b hidden. let parts = and_parts (nat_le block.base b) (nat_lt b (block.base + block.size)) (sym (ap (λ (r : Block). has r b) is) ∙ hidden) in
+      (leb-true _ _ parts.0, ltb-true _ _ parts.1) in
+      let zeros : AgreeOutside (λ b. false) (zeroed m block) (zeroed n block) =
+      zeros-alike (is_private table e) (λ b. false) m n block.base block.size agree at covers in
+      let memories : zeroed m block ≡ zeroed n block = same_number_lists _ _ zeros.size (λ i within. zeros.bytes i refl) in
+      let contexts : with_context cs e None ≡ with_context ds e None =
+      same_contexts e (with_context cs e None) (with_context ds e None) (contexts_with e cs ds e None saved) (same_at_set cs ds e None None saved.size) in
+      rw (memories, contexts) refl
+
+  without_alike : (k : ℕ) → is_inside m (region table k).base (region table k).size ≡ true
+      → SharedButFor e (without here k (region table k)) (without there k (region table k))
+  without_alike k inside = elim (cases_eq k e) [
+    | inl own ↦ rw own (equal_agree e _ _ (gone_alike (region table e) refl (rw own at inside)))
+    | inr other ↦
+        let block = region table k in
+        still (with_slot table k None) (zeroed m block) (zeroed n block) (with_context cs k None) (with_context ds k None)
+        (at_other table k e None (λ same. other (sym same))) (write-alike (is_private table e) m n block.base (replicate block.size 0) agree)
+        (contexts_with e cs ds k None saved)
+  ]
+
+  region_inside : (o : Option SlotInfo) → IfSome o (IsLawfulSlot m) → is_some o ≡ true → is_inside m (region_of o).base (region_of o).size ≡ true
+  unfolding is_lawful
+  region_inside None law live = cc
+  region_inside (Some info) law live = (and_parts _ _ (and_parts (is_block_size info.region.size) _ law.region).1).1
+
+  pub destroyed_alike : (k : ℕ) → IsValid m table → IsTaken table calls.Destroy k → SharedButFor e (destroyed here k) (destroyed there k)
+  unfolding destroyed
+  destroyed_alike k valid taken = without_alike k (region_inside (slot_at table k) (valid.lawful k) (ap (λ (o : Option SlotInfo). is_some o) taken.is))
+
+  -- ---- measure
+
+  pub measured_alike : (k address : ℕ) → SharedButFor e (measured here k address) (measured there k address)
+  unfolding measured
+  measured_alike k address =
+      let bytes = measurement_at table k in
+      still table (with_bytes m address bytes) (with_bytes n address bytes) cs ds refl (write-alike (is_private table e) m n address bytes agree) saved
+
+  -- ---- a switch of another slot
+
+  state_other : (k : ℕ) (state : EnclaveState) → e ≢ k → slot_at (with_state table k state) e ≡ slot_at table e
+  state_other k state other = of_slot (slot_at table k)
+    where
+      of_slot : (o : Option SlotInfo)
+          → slot_at (option_case o table (λ info. with_slot table k (Some (record info { state = state })))) e ≡ slot_at table e
+      of_slot None = refl
+      of_slot (Some info) = at_other table k e (Some (record info { state = state })) other
+
+  pub switched_alike : (k : ℕ) (state : EnclaveState) (c : Option Context) → e ≢ k
+      → SharedButFor e (record here {
+        table =
+            with_state table k state;
+        contexts = with_context cs k c;
+      }) (record there { table = with_state table k state; contexts = with_context ds k c })
+  switched_alike k state c other =
+      still (with_state table k state) m n (with_context cs k c) (with_context ds k c) (state_other k state other) agree (contexts_with e cs ds k c saved)

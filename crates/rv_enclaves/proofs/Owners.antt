@@ -1,0 +1,189 @@
+-- Which bytes each of the monitor's entries covers, and which blocks of a valid table share none.
+use Rattle.std.proofs.Common.{◌≡◌, ◌≢◌, ℕ, ◌+◌, ◌-◌, ◌^◌, ◌<◌, ◌≤◌, Bool, true, false, List, length, Option, Some, None, IfSome, refl, sym, ◌∙◌, ap, ap₂, inl}
+use Rattle.std.proofs.Common.{inr, arith, lit<, lit≤}
+use Rattle.std.specs.Prelude.{◌%◌, ◌==◌, ◌&&◌, nat_le, nat_lt}
+use Rattle.std.proofs.Math.Nat.{div-eq_of_lt}
+use Rattle.std.proofs.lemmas.List.FromFn.{get_or-map-range_with_len}
+use Rattle.std.proofs.lemmas.Bool.{cases_eq, cond-true, cond-false, eqb-true, eq-eqb, ne_eqb, lt-ltb, leb-true, cases_Bool, and_parts, or_cases, both_ways}
+use Rattle.std.proofs.lemmas.Bool.{false_from_ne_true}
+use Rattle.std.proofs.lemmas.Bool.Decides.{nat_tests}
+use Rattle.rv_pmp.specs.Cfg.{matching_of}
+use Rattle.rv_pmp.specs.Entries.{addr_of, addr_before}
+use Rattle.rv_pmp.specs.Covers.{matches, napot_size, ones_at_end}
+use Rattle.rv_pmp.proofs.VerdictLemmas.{some_from_any}
+use Rattle.rv_enclaves.specs.Blocks.{no_block}
+use Rattle.rv_enclaves.specs.Layout.{Entry, napot, nothing}
+use Rattle.rv_enclaves.proofs.Prelude.{Block, Enclave, Host, IsLawfulSlot, IsValid, SlotInfo, Slots, World, cfg_of, covers, entry_at, has, host_entry}
+use Rattle.rv_enclaves.proofs.Prelude.{is_block_size, is_host, is_lawful, is_window, is_world_of, layout, meets, monitor_block, ram_base, region}
+use Rattle.rv_enclaves.proofs.Prelude.{region_entry, region_of, slot_at, window, window_entry, window_entry_of, window_of}
+use Rattle.rv_enclaves.proofs.BlockLaws.{meets_at}
+use Rattle.rv_enclaves.proofs.Napots.{napot_addr, napot_matches}
+
+-- ---- blocks
+
+-- a block without bytes has none
+empty_has : (base size b : ℕ) → size ≡ 0 → (nat_le base b && nat_lt b (base + size)) ≡ false
+empty_has base size b empty = grind (arith, nat_tests, empty)
+
+pub has_nothing : (b : ℕ) → has no_block b ≡ false
+has_nothing b = empty_has 0 0 b refl
+
+-- blocks that do not meet share no byte
+pub apart_at : (x y : Block) (b : ℕ) → meets x y ≡ false → has x b ≡ true → has y b ≡ false
+apart_at x y b none in_x = false_from_ne_true _ (λ in_y. both_ways _ none (meets_at x y b in_x in_y))
+
+pub apart_from : (x y : Block) (b : ℕ) → meets x y ≡ false → has y b ≡ true → has x b ≡ false
+apart_from x y b none in_y = false_from_ne_true _ (λ in_x. both_ways _ none (meets_at x y b in_x in_y))
+
+-- what a valid table keeps apart, byte by byte
+pub record IsApart (slots : Slots) : Type 0 where
+  pub regions_apart : (j k b : ℕ) → j ≢ k → has (region slots j) b ≡ true → has (region slots k) b ≡ false
+  pub windows_apart : (j k b : ℕ) → has (region slots j) b ≡ true → has (window slots k) b ≡ false
+  pub regions_free : (k b : ℕ) → has (region slots k) b ≡ true → has monitor_block b ≡ false
+  pub windows_free : (k b : ℕ) → has (window slots k) b ≡ true → has monitor_block b ≡ false
+
+pub apart : (memory : List ℕ) (slots : Slots) → IsValid memory slots → IsApart slots
+apart memory slots valid = record {
+  regions_apart = λ j k b other. apart_at (region slots j) (region slots k) b (valid.regions_apart j k other);
+  windows_apart = λ j k b. apart_at (region slots j) (window slots k) b (valid.windows_apart j k);
+  regions_free = λ k b. apart_from monitor_block (region slots k) b (valid.regions_free k);
+  windows_free = λ k b. apart_from monitor_block (window slots k) b (valid.windows_free k);
+}
+
+-- ---- what an entry for a block covers
+
+-- what a lawful block is
+pub record IsBlock (memory : List ℕ) (base size : ℕ) : Type 0 where
+  pub power : (m : ℕ) × (12 ≤ m) × (m < 32) × (size ≡ 2 ^ m)
+  pub aligned : base % size ≡ 0
+  pub low : ram_base ≤ base
+  pub high : base + size ≤ ram_base + length memory
+
+pub lawful_block : (memory : List ℕ) (block : Block) → is_lawful memory block ≡ true → IsBlock memory block.base block.size
+unfolding is_lawful
+lawful_block memory block lawful =
+    let parts = and_parts (is_block_size block.size) _ lawful in
+    let rest = and_parts (block.base % block.size == 0) _ parts.1 in
+    let inside = and_parts (nat_le ram_base block.base) _ rest.1 in
+    let power = some_from_any (λ k. block.size == 2 ^ k) 12 20 parts.0 in
+    record {
+      power = (power.0, power.1, omega (arith, power.2), eqb-true _ _ power.3);
+      aligned = eqb-true _ _ rest.0;
+      low = leb-true _ _ inside.0;
+      high = leb-true _ _ inside.1;
+    }
+
+block_covers : (memory : List ℕ) (block : Block) (before b : ℕ) → length memory ≤ 0x1000000 → is_lawful memory block ≡ true
+    → matches (matching_of 0x18) before (napot_addr block.base block.size) b ≡ has block b
+block_covers memory block before b ram_size lawful =
+    let is = lawful_block memory block lawful in
+    let m = is.power.0 in
+    let at_least : 12 ≤ m = is.power.1 in
+    let below : m < 32 = is.power.2 in
+    let same : m ≡ (m - 3) + 3 = omega arith in
+    let power : block.size ≡ 2 ^ ((m - 3) + 3) = is.power.3 ∙ ap (λ n. 2 ^ n) same in
+    napot_matches block.base block.size (m - 3) before b (omega arith) power is.aligned (omega (arith, is.high))
+
+region_covers : (memory : List ℕ) (w : World) (k : ℕ) (o : Option SlotInfo) (before b : ℕ) → length memory ≤ 0x1000000
+    → IfSome o (IsLawfulSlot memory)
+    → matches (matching_of (region_entry w k o).cfg) before (region_entry w k o).addr b ≡ has (region_of o) b
+region_covers memory w k None before b ram_size lawful = sym (has_nothing b)
+region_covers memory w k (Some info) before b ram_size lawful =
+    let covered = block_covers memory info.region before b ram_size lawful.region in
+    elim (cases_Bool (is_world_of k w)) [
+      | inl runs ↦ rw runs covered
+      | inr rests ↦ rw rests covered
+    ]
+
+-- a window with bytes is lawful
+some_window : (memory : List ℕ) (block : Block) → is_window memory block ≡ true → block.size ≢ 0 → is_lawful memory block ≡ true
+unfolding is_window
+some_window memory block is some = elim (or_cases (block.base == 0 && block.size == 0) _ is) [
+  | inl none ↦ absurd (some (eqb-true _ _ (and_parts (block.base == 0) _ none).1))
+  | inr lawful ↦ lawful
+]
+
+window_covers : (memory : List ℕ) (o : Option SlotInfo) (before b : ℕ) → length memory ≤ 0x1000000 → IfSome o (IsLawfulSlot memory)
+    → matches (matching_of (window_entry_of o).cfg) before (window_entry_of o).addr b ≡ has (window_of o) b
+window_covers memory None before b ram_size lawful = sym (has_nothing b)
+window_covers memory (Some info) before b ram_size lawful = elim (cases_eq info.window.size 0) [
+  | inl none ↦ rw (eq-eqb _ _ none) (sym (empty_has info.window.base info.window.size b none))
+  | inr some ↦ rw (ne_eqb _ _ some) (block_covers memory info.window before b ram_size (some_window memory info.window lawful.window some))
+]
+
+-- ---- what the layout holds at an entry
+
+pub cfg_of-layout : (t : Slots) (w : World) (i : ℕ) → i < 16 → cfg_of (layout t w) i ≡ (entry_at t w i).cfg
+unfolding layout
+cfg_of-layout t w i in_range = get_or-map-range_with_len (λ j. (entry_at t w j).cfg) 0 16 i i 0 in_range (omega arith)
+
+addr_of-layout : (t : Slots) (w : World) (i : ℕ) → i < 16 → addr_of (layout t w) i ≡ (entry_at t w i).addr
+unfolding layout
+addr_of-layout t w i in_range = get_or-map-range_with_len (λ j. (entry_at t w j).addr) 0 16 i i 0 in_range (omega arith)
+
+covers-layout : (t : Slots) (w : World) (i b : ℕ) → i < 16
+    → covers (layout t w) i b ≡ matches (matching_of (entry_at t w i).cfg) (addr_before (layout t w) i) (entry_at t w i).addr b
+unfolding covers
+covers-layout t w i b in_range =
+    ap₂ (λ cfg addr. matches (matching_of cfg) (addr_before (layout t w) i) addr b) (cfg_of-layout t w i in_range) (addr_of-layout t w i in_range)
+
+pub entry_at-slot : (t : Slots) (w : World) (k : ℕ) → k < 13 → entry_at t w (k + 1) ≡ region_entry w k (slot_at t k)
+unfolding entry_at
+entry_at-slot t w k in_range =
+    let same : k + 1 - 1 ≡ k = omega arith in
+    cond-false _ _ _ (ne_eqb (k + 1) 0 (λ e. omega arith))
+    ∙ cond-true _ _ _ (lt-ltb (k + 1) 14 (omega arith))
+    ∙ ap (λ j. region_entry w j (slot_at t j)) same
+
+pub entry_at-monitor : (t : Slots) (w : World) → entry_at t w 0 ≡ napot nothing monitor_block
+unfolding entry_at
+entry_at-monitor t w = refl
+
+pub entry_at-window : (t : Slots) (w : World) → entry_at t w 14 ≡ window_entry t w
+unfolding entry_at
+entry_at-window t w = refl
+
+pub entry_at-host : (t : Slots) (w : World) → entry_at t w 15 ≡ host_entry w
+unfolding entry_at
+entry_at-host t w = refl
+
+-- the window that the world has
+abbrev pub world_window : Slots → World → Block
+world_window t Host = no_block
+world_window t (Enclave k) = window t k
+
+window_owned : (memory : List ℕ) (t : Slots) (w : World) (before b : ℕ) → length memory ≤ 0x1000000 → IsValid memory t
+    → matches (matching_of (window_entry t w).cfg) before (window_entry t w).addr b ≡ has (world_window t w) b
+window_owned memory t Host before b ram_size valid = sym (has_nothing b)
+window_owned memory t (Enclave k) before b ram_size valid = window_covers memory (slot_at t k) before b ram_size (valid.lawful k)
+
+all_ones_size : napot_size 0xffffffff ≡ 2 ^ 35
+unfolding ones_at_end
+all_ones_size = refl
+
+-- all ones cover 2 ^ 35 bytes from 0
+host_owned : (w : World) (before b : ℕ) → b < 2 ^ 35 → matches (matching_of (host_entry w).cfg) before (host_entry w).addr b ≡ is_host w
+host_owned (Enclave k) before b below = refl
+host_owned Host before b below =
+    rw all_ones_size (eq-eqb _ _ (div-eq_of_lt below))
+
+module _ (memory : List ℕ) (t : Slots) (w : World) (ram_size : length memory ≤ 0x1000000) (valid : IsValid memory t) (b : ℕ) where
+  at_entry : (i : ℕ) (x : Entry) (owned : Bool) → i < 16 → entry_at t w i ≡ x
+      → ((before : ℕ) → matches (matching_of x.cfg) before x.addr b ≡ owned) → covers (layout t w) i b ≡ owned
+  at_entry i x owned in_range is held =
+      covers-layout t w i b in_range
+      ∙ ap (λ (y : Entry). matches (matching_of y.cfg) (addr_before (layout t w) i) y.addr b) is
+      ∙ held (addr_before (layout t w) i)
+
+  pub covers_monitor : covers (layout t w) 0 b ≡ has monitor_block b
+  covers_monitor = at_entry 0 _ _ (lit< tt) (entry_at-monitor t w) (λ before. napot_matches ram_base 0x10000 13 before b (lit< tt) refl refl (lit≤ tt))
+
+  pub covers_slot : (k : ℕ) → k < 13 → covers (layout t w) (k + 1) b ≡ has (region t k) b
+  covers_slot k in_range =
+      at_entry (k + 1) _ _ (omega arith) (entry_at-slot t w k in_range) (λ before. region_covers memory w k (slot_at t k) before b ram_size (valid.lawful k))
+
+  pub covers_window : covers (layout t w) 14 b ≡ has (world_window t w) b
+  covers_window = at_entry 14 _ _ (lit< tt) (entry_at-window t w) (λ before. window_owned memory t w before b ram_size valid)
+
+  pub covers_host : b < 2 ^ 35 → covers (layout t w) 15 b ≡ is_host w
+  covers_host below = at_entry 15 _ _ (lit< tt) (entry_at-host t w) (λ before. host_owned w before b below)

@@ -1,0 +1,126 @@
+-- What holds where no row of a call's table does.
+use Rattle.std.proofs.Common.{◌≡◌, ℕ, Bool, true, false, List, ◌∷◌, length, Option, Some, None, refl}
+use Rattle.std.specs.Prelude.{not}
+use Rattle.std.specs.Option.{is_none}
+use Rattle.std.proofs.lemmas.Bool.{false≢true}
+use Rattle.rv_enclaves.specs.Calls.{takes}
+use Rattle.rv_enclaves.specs.Create.{create_refusals, is_entry}
+use Rattle.rv_enclaves.specs.Measure.{measure_refusals, may_store_all}
+use Rattle.rv_enclaves.specs.Refusals.{state_refusals, is_taken}
+use Rattle.rv_enclaves.specs.Table.{free_slot}
+use Rattle.rv_enclaves.specs.declared.call.Call.TheVariants.{Run, Resume, Stop}
+use Rattle.rv_enclaves.specs.declared.slot_info.EnclaveState.TheVariants as states
+use Rattle.rv_enclaves.proofs.Prelude.{Call, Contexts, Create, Destroy, EnclaveState, Entries, Exit, Measure, Proposal, Refusal, Shared, SlotInfo, Slots}
+use Rattle.rv_enclaves.proofs.Prelude.{first_refusal, is_lawful, is_live, is_running, is_window, new_slot, option_case, overlaps, slot_at}
+use Rattle.rv_enclaves.proofs.Valid.{lawful_by_size, window_by_size}
+
+-- where no row holds, the first does not, nor one of the rest
+pub no_row : (condition : Bool) (refusal : Refusal) (rows : List (Bool × Refusal)) → first_refusal ((condition, refusal) ∷ rows) ≡ None
+    → (condition ≡ false) × (first_refusal rows ≡ None)
+no_row true refusal rows none = cc
+no_row false refusal rows none = (refl, none)
+
+not_false : (b : Bool) → not b ≡ false → b ≡ true
+not_false true is = refl
+not_false false is = cc
+
+-- ---- create
+
+pub record MayCreate (shared : Shared) (new : Proposal) : Type 0 where
+  pub lawful : is_lawful shared.memory new.region ≡ true
+  pub window : is_window shared.memory new.window ≡ true
+  pub apart : overlaps shared.table new ≡ false
+  pub entry : is_entry new ≡ true
+  pub free : free_slot shared.table ≡ Some (new_slot shared.table)
+
+is_slot : (o : Option ℕ) → is_none o ≡ false → o ≡ Some (option_case o 13 (λ k. k))
+is_slot None is = cc
+is_slot (Some k) is = refl
+
+pub may_create : (shared : Shared) (new : Proposal) → first_refusal (create_refusals shared new) ≡ None → MayCreate shared new
+unfolding create_refusals
+may_create shared new none =
+    let region = no_row _ _ _ none in
+    let window = no_row _ _ _ region.1 in
+    let apart = no_row _ _ _ window.1 in
+    let entry = no_row _ _ _ apart.1 in
+    let slot = no_row _ _ _ entry.1 in
+    record {
+      lawful = not_false _ region.0;
+      window = not_false _ window.0;
+      apart = apart.0;
+      entry = not_false _ entry.0;
+      free = is_slot (free_slot shared.table) slot.0;
+    }
+
+-- ---- destroy, run and resume
+
+-- a slot whose enclave a call takes
+pub record IsTaken (slots : Slots) (call : Call) (k : ℕ) : Type 0 where
+  pub info : SlotInfo
+  pub is : slot_at slots k ≡ Some info
+  pub taken : takes call info.state ≡ true
+
+taken_at : (slots : Slots) (call : Call) (k : ℕ) (o : Option SlotInfo) → slot_at slots k ≡ o
+    → option_case o false (λ info. takes call info.state) ≡ true → IsTaken slots call k
+taken_at slots call k None is taken = absurd (false≢true taken)
+taken_at slots call k (Some info) is taken = record { info = info; is = is; taken = taken }
+
+pub may_take : (slots : Slots) (call : Call) (k : ℕ) → first_refusal (state_refusals slots call k) ≡ None → IsTaken slots call k
+unfolding state_refusals
+may_take slots call k none =
+    let live = no_row (not (is_live slots k)) _ _ none in
+    let taken = no_row (not (is_taken slots call k)) _ _ live.1 in
+    taken_at slots call k (slot_at slots k) refl (not_false (is_taken slots call k) taken.0)
+
+-- no call takes an enclave that runs
+pub takes_rests : (call : Call) (state : EnclaveState) → takes call state ≡ true → is_running state ≡ false
+takes_rests call states.Fresh is = refl
+takes_rests call states.Stopped is = refl
+takes_rests call states.Exited is = refl
+takes_rests Create states.Running is = cc
+takes_rests Destroy states.Running is = cc
+takes_rests Run states.Running is = cc
+takes_rests Resume states.Running is = cc
+takes_rests Measure states.Running is = cc
+takes_rests Stop states.Running is = cc
+takes_rests Exit states.Running is = cc
+
+-- ---- measure
+
+pub record MayMeasure (shared : Shared) (entries : Entries) (k address : ℕ) : Type 0 where
+  pub live : is_live shared.table k ≡ true
+  pub stores : may_store_all shared.memory entries address ≡ true
+
+pub may_measure : (shared : Shared) (entries : Entries) (k address : ℕ) → first_refusal (measure_refusals shared entries k address) ≡ None
+    → MayMeasure shared entries k address
+unfolding measure_refusals
+may_measure shared entries k address none =
+    let live = no_row (not (is_live shared.table k)) _ _ none in
+    let stores = no_row (not (may_store_all shared.memory entries address)) _ _ live.1 in
+    record { live = not_false (is_live shared.table k) live.0; stores = not_false (may_store_all shared.memory entries address) stores.0 }
+
+-- ---- what the rows ask of memory is its size
+
+module _ (table : Slots) (m n : List ℕ) (cs ds : Contexts) where
+  abbrev here : Shared
+  here = record { memory = m; table = table; contexts = cs }
+
+  abbrev there : Shared
+  there = record { memory = n; table = table; contexts = ds }
+
+  pub same_create_refusals : (new : Proposal) → length m ≡ length n → create_refusals here new ≡ create_refusals there new
+  unfolding create_refusals
+  same_create_refusals new size =
+      let lawful = lawful_by_size m n new.region size in
+      let window = window_by_size m n new.window size in
+      rw (← lawful, ← window) refl
+
+  same_stores : (entries : Entries) (address : ℕ) → length m ≡ length n → may_store_all m entries address ≡ may_store_all n entries address
+  unfolding may_store_all
+  same_stores entries address size = rw size (refl {a = may_store_all n entries address})
+
+  pub same_measure_refusals : (entries : Entries) (k address : ℕ) → length m ≡ length n
+      → measure_refusals here entries k address ≡ measure_refusals there entries k address
+  unfolding measure_refusals
+  same_measure_refusals entries k address size = let stores = same_stores entries address size in rw (← stores) refl

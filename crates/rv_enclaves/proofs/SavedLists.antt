@@ -1,0 +1,26 @@
+-- One write to each of two lists.
+use Rattle.std.proofs.Common.{◌≡◌, ℕ, ◌<◌, List, length, get_or, set, sym, ◌∙◌, inl, inr, arith, get_or-set_same, get_or-set_other, length-set}
+use Rattle.std.proofs.lemmas.List.{get_or_past}
+use Rattle.std.proofs.lemmas.Bool.{cases_lt, cases_eq}
+
+-- one write, in range or not, at the place itself
+pub same_at_set : {X : Type 0} (xs ys : List X) (i : ℕ) (v d : X) → length xs ≡ length ys → get_or (set xs i v) i d ≡ get_or (set ys i v) i d
+same_at_set xs ys i v d size = elim (cases_lt i (length xs)) [
+  | inl inside ↦
+      let inside' : i < length ys = omega arith in
+      get_or-set_same xs i v d inside ∙ sym (get_or-set_same ys i v d inside')
+  | inr past ↦
+      get_or_past (set xs i v) i d (omega (arith, length-set xs i v))
+      ∙ sym (get_or_past (set ys i v) i d (omega (arith, length-set ys i v)))
+]
+
+-- one write, at any place where the lists agreed
+pub same_after_set : {X : Type 0} (xs ys : List X) (i j : ℕ) (v d : X) → length xs ≡ length ys → get_or xs j d ≡ get_or ys j d
+    → get_or (set xs i v) j d ≡ get_or (set ys i v) j d
+same_after_set xs ys i j v d size same = elim (cases_eq j i) [
+  | inl at ↦ rw at (same_at_set xs ys i v d size)
+  | inr other ↦ get_or-set_other xs i j v d other ∙ same ∙ sym (get_or-set_other ys i j v d other)
+]
+
+pub length_after : {X : Type 0} (xs ys : List X) (i : ℕ) (v : X) → length xs ≡ length ys → length (set xs i v) ≡ length (set ys i v)
+length_after xs ys i v size = length-set xs i v ∙ size ∙ sym (length-set ys i v)

@@ -1,0 +1,36 @@
+-- Tests that agree, and the verdict by its decider. (What rv_pmp's VerdictLemmas lacks.)
+use Rattle.std.proofs.Common.{◌≡◌, ℕ, zero, suc, ◌+◌, ◌-◌, ◌<◌, ◌≤◌, ◌⊎◌, Bool, ◌||◌, ◌&&◌, List, refl, ap, ap₂, inl, inr, arith}
+use Rattle.std.specs.List.{range_with_len, list_any, list_all}
+use Rattle.rv_pmp.specs.Verdicts.{decider, verdict_by, decided, undecided}
+use Rattle.rv_pmp.proofs.VerdictLemmas.{IsFirst, find_cases}
+use Rattle.rv_enclaves.proofs.Prelude.{Access, Entries, Mode, covers, verdict}
+
+pub same_any : (p q : ℕ → Bool) (a n : ℕ) → ((b : ℕ) → a ≤ b → b < a + n → p b ≡ q b)
+    → list_any p (range_with_len a n) ≡ list_any q (range_with_len a n)
+same_any p q a zero same = refl
+same_any p q a (suc n) same =
+    ap₂ (λ x y. x || y) (same a (omega arith) (omega arith))
+    (same_any p q (a + 1) n (λ b low high. same b (omega arith) (omega arith)))
+
+pub same_all : (p q : ℕ → Bool) (a n : ℕ) → ((b : ℕ) → a ≤ b → b < a + n → p b ≡ q b)
+    → list_all p (range_with_len a n) ≡ list_all q (range_with_len a n)
+same_all p q a zero same = refl
+same_all p q a (suc n) same =
+    ap₂ (λ x y. x && y) (same a (omega arith) (omega arith))
+    (same_all p q (a + 1) n (λ b low high. same b (omega arith) (omega arith)))
+
+pub verdict_cases : (e : Entries) (mode : Mode) (access : Access) (bytes : List ℕ)
+    → ((i : ℕ) × (verdict e mode access bytes ≡ decided e mode access i (list_all (covers e i) bytes))
+    × IsFirst (λ j. list_any (covers e j) bytes) 0 16 i) ⊎ (verdict e mode access bytes ≡ undecided mode)
+unfolding verdict decider
+verdict_cases e mode access bytes = elim (find_cases (λ j. list_any (covers e j) bytes) 0 16) [
+  | inl found ↦ inl (found.0, ap (verdict_by e mode access bytes) found.1, found.2)
+  | inr nothing ↦ inr (ap (verdict_by e mode access bytes) nothing.0)
+]
+
+-- 32 numbers from one on, however it is written
+pub all_of_32 : (p : ℕ → Bool) (first start : ℕ) → first ≡ start
+    → list_all p (range_with_len first (first + 32 - first)) ≡ list_all p (range_with_len start 32)
+all_of_32 p first start same =
+    let count : first + 32 - first ≡ 32 = omega arith in
+    ap₂ (λ n a. list_all p (range_with_len a n)) count same

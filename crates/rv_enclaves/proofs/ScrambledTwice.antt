@@ -1,0 +1,56 @@
+-- What is scrambled twice is as it was.
+use Rattle.std.proofs.Common.{◌≡◌, ℕ, zero, suc, ◌-◌, ◌^◌, ◌<◌, true, List, [], ◌∷◌, map, get_or, Option, Some, None, IfSome, refl, ap, ap₂, inl, inr, arith}
+use Rattle.std.specs.Prelude.{slice_index, slice_index_or, slice_set}
+use Rattle.std.specs.Option.{option_map}
+use Rattle.std.proofs.lemmas.Bool.{cases_Bool}
+use Rattle.rv_memory.proofs.Complements.{with_complements, length-with_complements, complemented_twice, inside-index, complemented-is}
+use Rattle.rv_enclaves.specs.CallLaws.{ScrambledTwiceLaw}
+use Rattle.rv_enclaves.specs.Scramble.{complemented_registers, complemented_context, complemented_block, scrambled_shared}
+use Rattle.rv_enclaves.proofs.Prelude.{Block, Context, context_at, is_inside, ram_base, region}
+use Rattle.rv_enclaves.proofs.Agreement.{read-none}
+
+words_twice : (words : List ℕ) → ((n : ℕ) → get_or words n 0 < 2 ^ 32)
+    → map (λ word. 2 ^ 32 - 1 - word) (map (λ word. 2 ^ 32 - 1 - word) words) ≡ words
+words_twice [] small = refl
+words_twice (word ∷ words) small =
+    let first : word < 2 ^ 32 = small 0 in
+    let back : 2 ^ 32 - 1 - (2 ^ 32 - 1 - word) ≡ word = omega (arith, first) in
+    ap₂ (λ (x : ℕ) (xs : List ℕ). x ∷ xs) back (words_twice words (λ n. small (suc n)))
+
+registers_twice : (regs : List ℕ) → ((n : ℕ) → get_or regs n 0 < 2 ^ 32) → complemented_registers (complemented_registers regs) ≡ regs
+registers_twice [] small = refl
+registers_twice (x0 ∷ words) small = ap (λ rest. x0 ∷ rest) (words_twice words (λ n. small (suc n)))
+
+context_twice : (o : Option Context) → IfSome o (λ context. (n : ℕ) → slice_index context.regs n < 2 ^ 32)
+    → option_map complemented_context (option_map complemented_context o) ≡ o
+context_twice None small = refl
+context_twice (Some context) small = ap (λ regs. Some (record context { regs = regs })) (registers_twice context.regs small)
+
+-- a place changed and changed back
+place_twice : {X : Type 0} (f : Option X → Option X) (xs : List (Option X)) (k : ℕ) → f (f (slice_index_or xs k None)) ≡ slice_index_or xs k None
+    → (let once = slice_set xs k (f (slice_index_or xs k None)) in slice_set once k (f (slice_index_or once k None))) ≡ xs
+place_twice f [] k back = refl
+place_twice f (x ∷ xs) zero back = ap (λ y. y ∷ xs) back
+place_twice f (x ∷ xs) (suc k) back = ap (λ ys. x ∷ ys) (place_twice f xs k back)
+
+block_twice : (memory : List ℕ) (block : Block) → ((i : ℕ) → get_or memory i 0 < 2 ^ 8)
+    → complemented_block (complemented_block memory block) block ≡ memory
+block_twice memory block bytes = elim (cases_Bool (is_inside memory block.base block.size)) [
+  | inl inside ↦
+      let index = block.base - ram_base in
+      let once = with_complements memory index block.size in
+      let fits = inside-index memory block.base block.size inside in
+      let size = length-with_complements memory index block.size fits in
+      let inside' : is_inside once block.base block.size ≡ true = rw size inside in
+      let is = complemented-is memory block.base block.size inside in
+      let again = complemented-is once block.base block.size inside' in
+      rw (is, again) (complemented_twice memory index block.size fits bytes)
+  | inr outside ↦ let is = read-none memory block.base block.size outside in rw (is, is) refl
+]
+
+pub shared_twice : ScrambledTwiceLaw
+unfolding scrambled_shared
+shared_twice shared k bytes words =
+    let memory = block_twice shared.memory (region shared.table k) bytes in
+    let contexts = place_twice (option_map complemented_context) shared.contexts k (context_twice (context_at shared.contexts k) words) in
+    ap₂ (λ m cs. record shared { memory = m; contexts = cs }) memory contexts

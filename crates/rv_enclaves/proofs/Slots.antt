@@ -1,0 +1,105 @@
+-- What a table holds after a change of one slot, and which blocks meet.
+use Rattle.std.proofs.Common.{◌≡◌, ◌≢◌, ℕ, zero, suc, ◌+◌, ◌<◌, Bool, true, false, List, [], ◌∷◌, Option, Some, None, length, refl, sym, inl, inr, arith}
+use Rattle.std.proofs.Common.{get_or-set_same, get_or-set_other}
+use Rattle.std.proofs.lemmas.Bool.{cases_lt, lt-ltb}
+use Rattle.std.proofs.lemmas.List.{get_or_past}
+use Rattle.std.specs.Prelude.{slice_index_or, slice_set, ◌&&◌, ◌||◌, nat_lt}
+use Rattle.std.specs.List.{list_any}
+use Rattle.rv_enclaves.specs.Blocks.{no_block}
+use Rattle.rv_enclaves.specs.Create.{collides}
+use Rattle.rv_enclaves.specs.SlotNumbers.{slot_count, slot_numbered}
+use Rattle.rv_enclaves.proofs.Prelude.{Block, Proposal, SlotInfo, Slots, meets, monitor_block, overlaps, region_of, slot_at, window_of}
+
+-- ---- lists of options
+
+pub at_same : {A : Type 0} (xs : List (Option A)) (k : ℕ) (x : Option A) → k < length xs → slice_index_or (slice_set xs k x) k None ≡ x
+at_same {A} xs k x inside = get_or-set_same {A = Option A} xs k x None inside
+
+pub at_other : {A : Type 0} (xs : List (Option A)) (k j : ℕ) (x : Option A) → j ≢ k
+    → slice_index_or (slice_set xs k x) j None ≡ slice_index_or xs j None
+at_other {A} xs k j x other = get_or-set_other {A = Option A} xs k j x None other
+
+-- no slot has a number past the last
+pub none_past : (slots : Slots) (number : ℕ) → length slots ≡ slot_count → slot_numbered number ≡ None → slot_at slots number ≡ None
+none_past slots number count none = elim (cases_lt number slot_count) [
+  | inl inside ↦ let is = rw (lt-ltb number slot_count inside) at none in cc
+  | inr past ↦ get_or_past {X = Option SlotInfo} slots number None (omega (arith, count, past))
+]
+
+-- ---- blocks
+
+pub or-first : (a b : Bool) → (a || b) ≡ false → a ≡ false
+or-first true b is = is
+or-first false b is = refl
+
+pub or-second : (a b : Bool) → (a || b) ≡ false → b ≡ false
+or-second true b is = cc
+or-second false b is = is
+
+and-none : (a : Bool) → (a && false) ≡ false
+and-none true = refl
+and-none false = refl
+
+and-true : (s : Bool) → s ≡ (s && true)
+and-true true = refl
+and-true false = refl
+
+four : (p q r s : Bool) → (p && (q && (r && s))) ≡ (q && (p && (s && r)))
+four true true true s = and-true s
+four true true false s = sym (and-none s)
+four true false r s = refl
+four false true r s = refl
+four false false r s = refl
+
+-- what holds of no element holds of none at a place
+pub none_at : {A : Type 0} (p : Option A → Bool) (xs : List (Option A)) (k : ℕ) → p None ≡ false → list_any p xs ≡ false
+    → p (slice_index_or xs k None) ≡ false
+none_at p [] k nothing none = nothing
+none_at p (x ∷ xs) zero nothing none = or-first (p x) (list_any p xs) none
+none_at p (x ∷ xs) (suc k) nothing none = none_at p xs k nothing (or-second (p x) (list_any p xs) none)
+
+pub meets_symmetric : (a b : Block) → meets a b ≡ meets b a
+meets_symmetric a b = four (nat_lt 0 a.size) (nat_lt 0 b.size) (nat_lt a.base (b.base + b.size)) (nat_lt b.base (a.base + a.size))
+
+pub meets_nothing : (a : Block) → meets a no_block ≡ false
+meets_nothing a = and-none (nat_lt 0 a.size)
+
+pub nothing_meets : (a : Block) → meets no_block a ≡ false
+nothing_meets a = refl
+
+-- ---- what create asks
+
+pub record AreApart (new : Proposal) (o : Option SlotInfo) : Type 0 where
+  pub regions : meets new.region (region_of o) ≡ false
+  pub window : meets new.region (window_of o) ≡ false
+  pub own : meets new.window (region_of o) ≡ false
+
+pub apart_from : (new : Proposal) (o : Option SlotInfo) → collides new o ≡ false → AreApart new o
+apart_from new None none = record { regions = meets_nothing new.region; window = meets_nothing new.region; own = meets_nothing new.window }
+apart_from new (Some info) none =
+    let a = meets new.region info.region in
+    let b = meets new.region info.window in
+    let c = meets new.window info.region in
+    record { regions = or-first a (b || c) none; window = or-first b c (or-second a (b || c) none); own = or-second b c (or-second a (b || c) none) }
+
+pub record IsFree (slots : Slots) (new : Proposal) : Type 0 where
+  pub region : meets monitor_block new.region ≡ false
+  pub window : meets monitor_block new.window ≡ false
+  pub own : meets new.region new.window ≡ false
+  pub others : (k : ℕ) → AreApart new (slot_at slots k)
+
+pub free_from : (slots : Slots) (new : Proposal) → overlaps slots new ≡ false → IsFree slots new
+unfolding overlaps
+free_from slots new none =
+    let a = meets monitor_block new.region in
+    let b = meets monitor_block new.window in
+    let c = meets new.region new.window in
+    let d = list_any (collides new) slots in
+    let rest = or-second a (b || (c || d)) none in
+    let last = or-second b (c || d) rest in
+    record {
+      region = or-first a (b || (c || d)) none;
+      window = or-first b (c || d) rest;
+      own = or-first c d last;
+      others = λ k. apart_from new (slot_at slots k) (none_at (collides new) slots k refl (or-second c d last));
+    }

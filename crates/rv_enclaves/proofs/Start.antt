@@ -1,0 +1,55 @@
+-- What is shared at reset is sound: no enclave is live.
+use Rattle.std.proofs.Common.{◌≡◌, ℕ, get_or, replicate, true, false, List, length, Option, None, IfSome, refl, sym, ◌∙◌, ap, subst, inl, inr}
+use Rattle.std.specs.Prelude.{is_some}
+use Rattle.std.specs.List.{list_any}
+use Rattle.std.proofs.lemmas.List.{get_or_past, get_or-replicate}
+use Rattle.std.proofs.lemmas.Bool.{cases_lt}
+use Rattle.rv_enclaves.specs.Contexts.{no_contexts}
+use Rattle.rv_enclaves.specs.Sound.{shared_at_start}
+use Rattle.rv_enclaves.specs.Table.{no_slots}
+use Rattle.rv_enclaves.proofs.Prelude.{AreApart, Context, IsLawfulSlot, IsSound, IsValid, SlotInfo, World, can_go_on, context_at, is_held, is_ram_size}
+use Rattle.rv_enclaves.proofs.Prelude.{is_running, is_world_of, meets, monitor_block, option_case, region, region_of, slot_at, window, window_of}
+use Rattle.rv_enclaves.proofs.Slots.{meets_nothing}
+
+nothing_at : {A : Type 0} (k : ℕ) → get_or {A = Option A} (replicate 13 None) k None ≡ None
+nothing_at {A} k = elim (cases_lt k 13) [
+  | inl inside ↦ get_or-replicate {A = Option A} 13 k None None inside
+  | inr past ↦ get_or_past {X = Option A} (replicate 13 None) k None past
+]
+
+no_slot : (k : ℕ) → slot_at no_slots k ≡ None
+no_slot k = nothing_at {A = SlotInfo} k
+
+no_context : (k : ℕ) → context_at no_contexts k ≡ None
+no_context k = nothing_at {A = Context} k
+
+no_region : (k : ℕ) → region no_slots k ≡ region_of None
+no_region k = ap region_of (no_slot k)
+
+no_window : (k : ℕ) → window no_slots k ≡ window_of None
+no_window k = ap window_of (no_slot k)
+
+pub no_slots_valid : (memory : List ℕ) → is_ram_size (length memory) ≡ true → IsValid memory no_slots
+no_slots_valid memory ram = record {
+  ram = ram;
+  count = refl;
+  lawful = λ k. let P : Option SlotInfo → Type 0 = λ o. IfSome o (IsLawfulSlot memory) in subst P (sym (no_slot k)) tt;
+  regions_apart = λ j k apart. ap (λ b. meets b (region no_slots k)) (no_region j);
+  windows_apart = λ j k. ap (λ b. meets b (window no_slots k)) (no_region j);
+  regions_free = λ k. ap (meets monitor_block) (no_region k) ∙ meets_nothing monitor_block;
+  windows_free = λ k. ap (meets monitor_block) (no_window k) ∙ meets_nothing monitor_block;
+}
+
+pub start_sound : (memory : List ℕ) (ws : List World) → ((k : ℕ) → list_any (is_world_of k) ws ≡ false) → AreApart ws
+    → is_ram_size (length memory) ≡ true
+    → IsSound (shared_at_start memory) ws
+start_sound memory ws none apart ram = record {
+  valid = no_slots_valid memory ram;
+  contexts = record {
+    count = refl;
+    kept = λ k. ap (λ (o : Option Context). is_some o) (no_context k) ∙ ap is_held (sym (no_slot k));
+    held = λ k. let P : Option Context → Type 0 = λ o. IfSome o (λ c. can_go_on c ≡ true) in subst P (sym (no_context k)) tt;
+  };
+  running = λ k. ap (λ o. option_case o false (λ (info : SlotInfo). is_running info.state)) (no_slot k) ∙ sym (none k);
+  apart = apart;
+}

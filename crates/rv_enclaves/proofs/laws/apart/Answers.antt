@@ -1,0 +1,5 @@
+use Rattle.rv_enclaves.proofs.Reaches.{apart_law}
+use Rattle.rv_enclaves.proofs.laws.apart.Goals as goal
+
+pub returns : goal.returns
+returns c = apart_law

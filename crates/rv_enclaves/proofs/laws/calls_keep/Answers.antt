@@ -1,0 +1,5 @@
+use Rattle.rv_enclaves.proofs.Sound.{calls_keep}
+use Rattle.rv_enclaves.proofs.laws.calls_keep.Goals as goal
+
+pub returns : goal.returns
+returns c = calls_keep

@@ -1,0 +1,54 @@
+-- Laws of the calls that make, end and measure an enclave, and of what is scrambled, over all that the harts share. (Laws of the
+-- definitions, no rule of a standard.)
+use Rattle.std.specs.Prelude.{◌≡◌, ℕ, ◌<◌, ◌^◌, true, false, List, None, IfSome, slice_index}
+use Rattle.rv_enclaves.specs.Contexts.{context_at}
+use Rattle.rv_enclaves.specs.Create.{create_refusals, created}
+use Rattle.rv_enclaves.specs.Destroy.{destroyed}
+use Rattle.rv_enclaves.specs.Measure.{measured}
+use Rattle.rv_enclaves.specs.Refusals.{first_refusal, state_refusals}
+use Rattle.rv_enclaves.specs.Scramble.{can_scramble, scrambled_shared}
+use Rattle.rv_enclaves.specs.SharedButFor.{SharedButFor}
+use Rattle.rv_enclaves.specs.Sound.{IsSound}
+use Rattle.rv_enclaves.specs.Table.{runs}
+use Rattle.rv_enclaves.specs.declared.call.Call.TheVariants.{Destroy}
+use Rattle.rv_enclaves.specs.declared.proposal.Proposal.{Proposal}
+use Rattle.rv_enclaves.specs.declared.shared.Shared.{Shared}
+use Rattle.rv_enclaves.specs.declared.world.World.{World}
+
+-- what is true in every state stays so after a call that is not refused
+pub record CallsKeep (shared : Shared) (worlds : List World) : Type 0 where
+  pub creates : (new : Proposal) → first_refusal (create_refusals shared new) ≡ None → IsSound (created shared new) worlds
+  pub destroys : (k : ℕ) → first_refusal (state_refusals shared.table Destroy k) ≡ None → IsSound (destroyed shared k) worlds
+  pub measures : (k address : ℕ) → IsSound (measured shared k address) worlds
+
+abbrev pub CallsKeepLaw : Type 0
+CallsKeepLaw = (shared : Shared) (worlds : List World) → IsSound shared worlds → CallsKeep shared worlds
+
+-- nothing that a call leaves depends on what is private to slot e
+pub record CallsAlike (e : ℕ) (one other : Shared) : Type 0 where
+  pub creates : (new : Proposal) → first_refusal (create_refusals one new) ≡ None → SharedButFor e (created one new) (created other new)
+  pub destroys : (k : ℕ) → first_refusal (state_refusals one.table Destroy k) ≡ None → SharedButFor e (destroyed one k) (destroyed other k)
+  pub measures : (k address : ℕ) → SharedButFor e (measured one k address) (measured other k address)
+
+abbrev pub CallsAlikeLaw : Type 0
+CallsAlikeLaw =
+    (e : ℕ) (one other : Shared) (worlds : List World) → IsSound one worlds → IsSound other worlds → SharedButFor e one other
+    → CallsAlike e one other
+
+-- only an enclave that does not run is scrambled, and nothing but what is private to it
+pub record IsScrambled (shared : Shared) (worlds : List World) (k : ℕ) : Type 0 where
+  pub rests : runs shared.table k ≡ false
+  pub sound : IsSound (scrambled_shared shared k) worlds
+  pub agrees : SharedButFor k shared (scrambled_shared shared k)
+
+abbrev pub ScrambledLaw : Type 0
+ScrambledLaw =
+    (shared : Shared) (worlds : List World) (k : ℕ) → IsSound shared worlds → can_scramble shared.table k ≡ true
+    → IsScrambled shared worlds k
+
+-- what is scrambled twice is as it was, over bytes and words
+abbrev pub ScrambledTwiceLaw : Type 0
+ScrambledTwiceLaw =
+    (shared : Shared) (k : ℕ) → ((i : ℕ) → slice_index shared.memory i < 2 ^ 8)
+    → IfSome (context_at shared.contexts k) (λ context. (n : ℕ) → slice_index context.regs n < 2 ^ 32)
+    → scrambled_shared (scrambled_shared shared k) k ≡ shared

@@ -1,0 +1,71 @@
+-- The monitor's calls: their numbers, which world each belongs to, the states that it takes an enclave in, and the statuses of
+-- refusals, in the order of checking. (Keystone, EuroSys 2020, in this project's profile.)
+use Rattle.std.specs.Prelude.{ℕ, ◌==◌, Bool, true, false, ◌&&◌, List, [], ◌∷◌, Option, None, if◌then◌else◌}
+use Rattle.std.specs.List.{find}
+use Rattle.rv_state.specs.Registers.{register}
+use Rattle.rv_enclaves.specs.declared.call.Call.{Call}
+use Rattle.rv_enclaves.specs.declared.call.Call.TheVariants.{Create, Destroy, Run, Resume, Measure, Stop, Exit}
+use Rattle.rv_enclaves.specs.declared.refusal.Refusal.{Refusal}
+use Rattle.rv_enclaves.specs.declared.refusal.Refusal.TheVariants.{NotSupported, BadRegion, BadWindow, Overlap, BadEntry, NoSlot, NoEnclave, BadState}
+use Rattle.rv_enclaves.specs.declared.refusal.Refusal.TheVariants.{BadAddress}
+use Rattle.rv_enclaves.specs.declared.slot_info.EnclaveState.{EnclaveState}
+use Rattle.rv_enclaves.specs.declared.slot_info.EnclaveState.TheVariants.{Fresh, Stopped, Exited}
+use Rattle.rv_enclaves.specs.declared.world.World.{World}
+use Rattle.rv_enclaves.specs.declared.world.World.TheVariants.{Host, Enclave}
+
+-- what a7 holds
+abbrev pub call_key : ℕ
+call_key = 0x0A454E43
+
+-- what a6 holds
+abbrev pub call_number : Call → ℕ
+call_number Create = 1
+call_number Destroy = 2
+call_number Run = 3
+call_number Resume = 4
+call_number Measure = 5
+call_number Stop = 6
+call_number Exit = 7
+
+abbrev pub calls : List Call
+calls = Create ∷ Destroy ∷ Run ∷ Resume ∷ Measure ∷ Stop ∷ Exit ∷ []
+
+-- which world a call belongs to
+abbrev pub is_offered : World → Call → Bool
+is_offered Host Stop = false
+is_offered Host Exit = false
+is_offered Host _ = true
+is_offered (Enclave k) Measure = true
+is_offered (Enclave k) Stop = true
+is_offered (Enclave k) Exit = true
+is_offered (Enclave k) _ = false
+
+-- the call that a world asks for by a7 and a6, if there is one
+unfoldable pub asked_call : World → ℕ → ℕ → Option Call
+asked_call world a7 a6 =
+    if a7 == call_key then find (λ call. call_number call == a6 && is_offered world call) calls else None
+
+-- the call that its registers ask for
+abbrev pub asked_in : World → List ℕ → Option Call
+asked_in world regs = asked_call world (register regs 17) (register regs 16)
+
+-- the states that a call takes an enclave in
+abbrev pub takes : Call → EnclaveState → Bool
+takes Destroy Fresh = true
+takes Destroy Stopped = true
+takes Destroy Exited = true
+takes Run Fresh = true
+takes Resume Stopped = true
+takes _ _ = false
+
+-- the status of a refusal
+abbrev pub status_of : Refusal → ℕ
+status_of NotSupported = 0xFFFFFFFF
+status_of BadRegion = 0xFFFFFFFE
+status_of BadWindow = 0xFFFFFFFD
+status_of Overlap = 0xFFFFFFFC
+status_of BadEntry = 0xFFFFFFFB
+status_of NoSlot = 0xFFFFFFFA
+status_of NoEnclave = 0xFFFFFFF9
+status_of BadState = 0xFFFFFFF8
+status_of BadAddress = 0xFFFFFFF7

@@ -1,0 +1,91 @@
+-- create: the host gives a region, a window and an entry, and is answered the lowest free slot, or the first refusal that applies.
+-- (Keystone, EuroSys 2020, in this project's profile; the measurement is SHA-256 of FIPS 180-4.)
+use Rattle.std.specs.Prelude.{ℕ, ◌%◌, ◌==◌, Bool, false, not, ◌&&◌, ◌||◌, List, [], ◌∷◌, ◌++◌, if◌then◌else◌, Option, Some, None}
+use Rattle.std.specs.List.{list_any}
+use Rattle.std.specs.Option.{is_none}
+use Rattle.sha2.specs.Sha256.{sha256}
+use Rattle.rv_word.specs.Cases.{option_case}
+use Rattle.rv_memory.specs.Memory.{read, bytes_of}
+use Rattle.rv_state.specs.Registers.{register}
+use Rattle.rv_enclaves.specs.Blocks.{has, meets, is_lawful, no_block, monitor_block}
+use Rattle.rv_enclaves.specs.Contexts.{first_context, with_context}
+use Rattle.rv_enclaves.specs.SlotNumbers.{slot_count}
+use Rattle.rv_enclaves.specs.Table.{Slots, free_slot, with_slot, is_window}
+use Rattle.rv_enclaves.specs.declared.block.Block.{Block}
+use Rattle.rv_enclaves.specs.declared.proposal.Proposal.{Proposal}
+use Rattle.rv_enclaves.specs.declared.refusal.Refusal.{Refusal}
+use Rattle.rv_enclaves.specs.declared.refusal.Refusal.TheVariants.{BadRegion, BadWindow, Overlap, BadEntry, NoSlot}
+use Rattle.rv_enclaves.specs.declared.shared.Shared.{Shared}
+use Rattle.rv_enclaves.specs.declared.slot_info.SlotInfo.{SlotInfo}
+use Rattle.rv_enclaves.specs.declared.slot_info.EnclaveState.TheVariants.{Fresh}
+
+-- a0 and a1 are the region, a2 and a3 the window, of which a size of 0 means that there is none, and a4 is the entry
+abbrev pub proposed : List ℕ → Proposal
+proposed regs = record {
+  region = record { base = register regs 10; size = register regs 11 };
+  window = if register regs 13 == 0 then no_block else record { base = register regs 12; size = register regs 13 };
+  entry = register regs 14;
+}
+
+-- the new enclave would share bytes that it may not share with a live one
+abbrev pub collides : Proposal → Option SlotInfo → Bool
+collides new None = false
+collides new (Some info) =
+    meets new.region info.region || (meets new.region info.window || meets new.window info.region)
+
+unfoldable pub overlaps : Slots → Proposal → Bool
+overlaps slots new =
+    meets monitor_block new.region || (meets monitor_block new.window || (meets new.region new.window
+    || list_any (collides new) slots))
+
+unfoldable pub is_entry : Proposal → Bool
+is_entry new = new.entry % 4 == 0 && has new.region new.entry
+
+-- the bytes of a block; [] where it is not inside, which BadRegion refuses
+abbrev pub bytes_of_block : List ℕ → Block → List ℕ
+bytes_of_block memory block = option_case (read memory block.base block.size) [] (λ bytes. bytes)
+
+-- what is measured: base, size, window base, window size and entry, four bytes each, the lowest first, and the region's bytes
+abbrev pub heading : Proposal → List ℕ
+heading new =
+    bytes_of 4 new.region.base ++ bytes_of 4 new.region.size ++ bytes_of 4 new.window.base ++ bytes_of 4 new.window.size ++ bytes_of 4 new.entry
+
+abbrev pub measured_bytes : List ℕ → Proposal → List ℕ
+measured_bytes memory new = heading new ++ bytes_of_block memory new.region
+
+unfoldable pub measurement_of : List ℕ → Proposal → List ℕ
+measurement_of memory new = sha256 (measured_bytes memory new)
+
+-- the record of a new enclave
+abbrev pub recorded : List ℕ → Proposal → SlotInfo
+recorded memory new = record {
+  region = new.region;
+  window = new.window;
+  entry = new.entry;
+  measurement = measurement_of memory new;
+  state = Fresh;
+}
+
+-- a record and its first context in a slot
+abbrev pub with_enclave : Shared → ℕ → SlotInfo → Shared
+with_enclave shared k info = record shared {
+  table = with_slot shared.table k (Some info);
+  contexts = with_context shared.contexts k (Some (first_context info));
+}
+
+unfoldable pub create_refusals : Shared → Proposal → List (Bool × Refusal)
+create_refusals shared new =
+    (not (is_lawful shared.memory new.region), BadRegion)
+    ∷ (not (is_window shared.memory new.window), BadWindow)
+    ∷ (overlaps shared.table new, Overlap)
+    ∷ (not (is_entry new), BadEntry)
+    ∷ (is_none (free_slot shared.table), NoSlot)
+    ∷ []
+
+-- the lowest free slot; past the last where there is none, which NoSlot refuses
+abbrev pub new_slot : Slots → ℕ
+new_slot slots = option_case (free_slot slots) slot_count (λ k. k)
+
+-- what is shared after a create that is not refused. No byte of memory changes.
+unfoldable pub created : Shared → Proposal → Shared
+created shared new = with_enclave shared (new_slot shared.table) (recorded shared.memory new)

@@ -1,0 +1,25 @@
+-- destroy: the host gives a slot whose enclave does not run; the region is zeroed, the record and the context go. (Keystone,
+-- EuroSys 2020, in this project's profile.)
+use Rattle.std.specs.Prelude.{ℕ, List, replicate, None}
+use Rattle.rv_word.specs.Cases.{option_case}
+use Rattle.rv_memory.specs.Memory.{write}
+use Rattle.rv_enclaves.specs.Contexts.{with_context}
+use Rattle.rv_enclaves.specs.Table.{region, with_slot}
+use Rattle.rv_enclaves.specs.declared.block.Block.{Block}
+use Rattle.rv_enclaves.specs.declared.shared.Shared.{Shared}
+
+-- a memory with the bytes of a block 0; as it is where the block is not inside, which no live region is
+abbrev pub zeroed : List ℕ → Block → List ℕ
+zeroed memory block = option_case (write memory block.base (replicate block.size 0)) memory (λ after. after)
+
+-- what is shared when the enclave of a slot with this region is gone
+abbrev pub without : Shared → ℕ → Block → Shared
+without shared k block = record {
+  memory = zeroed shared.memory block;
+  table = with_slot shared.table k None;
+  contexts = with_context shared.contexts k None;
+}
+
+-- what is shared after a destroy that is not refused
+unfoldable pub destroyed : Shared → ℕ → Shared
+destroyed shared k = without shared k (region shared.table k)

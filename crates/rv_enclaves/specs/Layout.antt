@@ -1,0 +1,71 @@
+-- The sixteen entries that the monitor keeps for a table and a world, with their cfg and pmpaddr values, and the value of mie.
+-- RISC-V Privileged Architecture 20211203, sections 3.7.1 and 3.1.9, in this project's profile.
+use Rattle.std.specs.Prelude.{ℕ, ◌+◌, ◌-◌, ◌/◌, ◌==◌, nat_lt, if◌then◌else◌, map, Option, Some, None}
+use Rattle.std.specs.List.{range_with_len}
+use Rattle.rv_pmp.specs.Entries.{Entries}
+use Rattle.rv_enclaves.specs.Blocks.{monitor_block}
+use Rattle.rv_enclaves.specs.Table.{Slots, slot_at, is_world_of}
+use Rattle.rv_enclaves.specs.declared.block.Block.{Block}
+use Rattle.rv_enclaves.specs.declared.slot_info.SlotInfo.{SlotInfo}
+use Rattle.rv_enclaves.specs.declared.world.World.{World}
+use Rattle.rv_enclaves.specs.declared.world.World.TheVariants.{Host, Enclave}
+
+-- a cfg byte and a pmpaddr value
+pub record Entry : Type 0 where
+  pub cfg : ℕ
+  pub addr : ℕ
+
+abbrev pub unused : Entry
+unused = record { cfg = 0x00; addr = 0x00000000 }
+
+-- a NAPOT entry for a lawful block
+abbrev pub napot : ℕ → Block → Entry
+napot cfg block = record { cfg = cfg; addr = block.base / 4 + (block.size / 8 - 1) }
+
+-- NAPOT without a permission, with those to read and write, and with all
+abbrev pub nothing : ℕ
+nothing = 0x18
+
+abbrev pub read_write : ℕ
+read_write = 0x1B
+
+abbrev pub all : ℕ
+all = 0x1F
+
+-- the region of slot k is open while its enclave runs
+abbrev pub region_entry : World → ℕ → Option SlotInfo → Entry
+region_entry world k None = unused
+region_entry world k (Some info) = napot (if is_world_of k world then all else nothing) info.region
+
+-- the window of the enclave that runs
+abbrev pub window_entry_of : Option SlotInfo → Entry
+window_entry_of None = unused
+window_entry_of (Some info) = if info.window.size == 0 then unused else napot read_write info.window
+
+abbrev pub window_entry : Slots → World → Entry
+window_entry slots Host = unused
+window_entry slots (Enclave k) = window_entry_of (slot_at slots k)
+
+-- everything, while the host runs
+abbrev pub host_entry : World → Entry
+host_entry Host = record { cfg = all; addr = 0xFFFFFFFF }
+host_entry (Enclave k) = unused
+
+-- entry 0: the monitor's range; k + 1: the region of slot k; 14: the window; 15: everything
+unfoldable pub entry_at : Slots → World → ℕ → Entry
+entry_at slots world i =
+    if i == 0 then napot nothing monitor_block
+    else (if nat_lt i 14 then region_entry world (i - 1) (slot_at slots (i - 1))
+    else (if i == 14 then window_entry slots world
+    else host_entry world))
+
+unfoldable pub layout : Slots → World → Entries
+layout slots world = record {
+  cfgs = map (λ i. (entry_at slots world i).cfg) (range_with_len 0 16);
+  addrs = map (λ i. (entry_at slots world i).addr) (range_with_len 0 16);
+}
+
+-- MTIE while an enclave runs
+abbrev pub mie_of : World → ℕ
+mie_of Host = 0x00000000
+mie_of (Enclave k) = 0x00000080

@@ -1,0 +1,26 @@
+-- Why a call is refused. Each call that can be refused has a table: rows of a condition and the refusal that it means, in the order of
+-- asking. The first row whose condition holds decides. (Keystone, EuroSys 2020, in this project's profile.)
+use Rattle.std.specs.Prelude.{ℕ, Bool, true, false, not, List, [], ◌∷◌, Option, Some, None}
+use Rattle.rv_word.specs.Cases.{option_case}
+use Rattle.rv_enclaves.specs.Calls.{takes}
+use Rattle.rv_enclaves.specs.Table.{Slots, slot_at, is_live}
+use Rattle.rv_enclaves.specs.declared.call.Call.{Call}
+use Rattle.rv_enclaves.specs.declared.refusal.Refusal.{Refusal}
+use Rattle.rv_enclaves.specs.declared.refusal.Refusal.TheVariants.{NoEnclave, BadState}
+
+-- the first refusal whose condition holds
+abbrev pub first_refusal : List (Bool × Refusal) → Option Refusal
+first_refusal [] = None
+first_refusal ((true, refusal) ∷ rows) = Some refusal
+first_refusal ((false, refusal) ∷ rows) = first_refusal rows
+
+-- the enclave of a slot is in a state that a call takes
+abbrev pub is_taken : Slots → Call → ℕ → Bool
+is_taken slots call k = option_case (slot_at slots k) false (λ info. takes call info.state)
+
+-- destroy, run and resume, of the enclave of slot k
+unfoldable pub state_refusals : Slots → Call → ℕ → List (Bool × Refusal)
+state_refusals slots call k =
+    (not (is_live slots k), NoEnclave)
+    ∷ (not (is_taken slots call k), BadState)
+    ∷ []

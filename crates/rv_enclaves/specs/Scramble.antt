@@ -1,0 +1,33 @@
+-- What the harts share with every byte and register that is private to an enclave complemented, and all else as before. (No rule of a
+-- standard: what the second of two benches is made with.)
+use Rattle.std.specs.Prelude.{ℕ, ◌-◌, ◌^◌, Bool, List, [], ◌∷◌, map}
+use Rattle.std.specs.Option.{option_map}
+use Rattle.rv_word.specs.Cases.{option_case}
+use Rattle.rv_memory.specs.Complement.{complemented}
+use Rattle.rv_enclaves.specs.Contexts.{context_at, with_context}
+use Rattle.rv_enclaves.specs.Sound.{is_held}
+use Rattle.rv_enclaves.specs.Table.{Slots, slot_at, region}
+use Rattle.rv_enclaves.specs.declared.block.Block.{Block}
+use Rattle.rv_enclaves.specs.declared.context.Context.{Context}
+use Rattle.rv_enclaves.specs.declared.shared.Shared.{Shared}
+
+-- the slots of which a context is kept: the enclave is live and does not run
+abbrev pub can_scramble : Slots → ℕ → Bool
+can_scramble slots k = is_held (slot_at slots k)
+
+-- x1 to x31 complemented
+abbrev pub complemented_registers : List ℕ → List ℕ
+complemented_registers [] = []
+complemented_registers (x0 ∷ words) = x0 ∷ map (λ word. 2 ^ 32 - 1 - word) words
+
+abbrev pub complemented_context : Context → Context
+complemented_context context = record context { regs = complemented_registers context.regs }
+
+abbrev pub complemented_block : List ℕ → Block → List ℕ
+complemented_block memory block = option_case (complemented memory block.base block.size) memory (λ after. after)
+
+unfoldable pub scrambled_shared : Shared → ℕ → Shared
+scrambled_shared shared k = record shared {
+  memory = complemented_block shared.memory (region shared.table k);
+  contexts = with_context shared.contexts k (option_map complemented_context (context_at shared.contexts k));
+}

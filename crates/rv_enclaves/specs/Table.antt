@@ -1,0 +1,104 @@
+-- The table of enclaves: thirteen slots, each free or with the record of a live enclave; and what is true of it in every state.
+-- (Keystone, EuroSys 2020, in this project's profile.)
+use Rattle.std.specs.Prelude.{◌≡◌, ◌≢◌, ℕ, ◌%◌, ◌==◌, Bool, true, false, ◌&&◌, ◌||◌, List, length, replicate, Option, Some, None, IfSome, slice_set}
+use Rattle.std.specs.Prelude.{slice_index_or, is_some}
+use Rattle.std.specs.Option.{is_none}
+use Rattle.std.specs.List.{range_with_len, find, list_any}
+use Rattle.rv_word.specs.Cases.{option_case}
+use Rattle.rv_memory.specs.Memory.{is_ram_size}
+use Rattle.rv_enclaves.specs.Blocks.{has, meets, is_lawful, monitor_block, no_block}
+use Rattle.rv_enclaves.specs.SlotNumbers.{slot_count}
+use Rattle.rv_enclaves.specs.declared.block.Block.{Block}
+use Rattle.rv_enclaves.specs.declared.slot_info.EnclaveState.{EnclaveState}
+use Rattle.rv_enclaves.specs.declared.slot_info.EnclaveState.TheVariants.{Running}
+use Rattle.rv_enclaves.specs.declared.slot_info.SlotInfo.{SlotInfo}
+use Rattle.rv_enclaves.specs.declared.world.World.{World}
+use Rattle.rv_enclaves.specs.declared.world.World.TheVariants.{Host, Enclave}
+
+abbrev pub Slots : Type 0
+Slots = List (Option SlotInfo)
+
+-- no enclave is live
+abbrev pub no_slots : Slots
+no_slots = replicate slot_count None
+
+-- the record in a slot, if its enclave is live; past the last slot there is none
+abbrev pub slot_at : Slots → ℕ → Option SlotInfo
+slot_at slots k = slice_index_or slots k None
+
+abbrev pub with_slot : Slots → ℕ → Option SlotInfo → Slots
+with_slot slots k info = slice_set slots k info
+
+-- the lowest free slot
+unfoldable pub free_slot : Slots → Option ℕ
+free_slot slots = find (λ k. is_none (slot_at slots k)) (range_with_len 0 slot_count)
+
+-- the region and the window of a slot, without bytes where there is none
+abbrev pub region_of : Option SlotInfo → Block
+region_of None = no_block
+region_of (Some info) = info.region
+
+abbrev pub window_of : Option SlotInfo → Block
+window_of None = no_block
+window_of (Some info) = info.window
+
+abbrev pub region : Slots → ℕ → Block
+region slots k = region_of (slot_at slots k)
+
+abbrev pub window : Slots → ℕ → Block
+window slots k = window_of (slot_at slots k)
+
+-- whether the enclave of a slot is live
+abbrev pub is_live : Slots → ℕ → Bool
+is_live slots k = is_some (slot_at slots k)
+
+-- whether an address is in the region of some live enclave
+abbrev pub is_in_region : Slots → ℕ → Bool
+is_in_region slots byte = list_any (λ k. has (region slots k) byte) (range_with_len 0 slot_count)
+
+-- ---- how far an enclave is
+
+abbrev pub is_running : EnclaveState → Bool
+is_running Running = true
+is_running _ = false
+
+abbrev pub runs : Slots → ℕ → Bool
+runs slots k = option_case (slot_at slots k) false (λ info. is_running info.state)
+
+abbrev pub with_state : Slots → ℕ → EnclaveState → Slots
+with_state slots k state =
+    option_case (slot_at slots k) slots (λ info. with_slot slots k (Some (record info { state = state })))
+
+-- who runs: the host, or the enclave of slot k
+abbrev pub is_host : World → Bool
+is_host Host = true
+is_host (Enclave k) = false
+
+abbrev pub is_world_of : ℕ → World → Bool
+is_world_of k Host = false
+is_world_of k (Enclave j) = j == k
+
+-- ---- what is true in every state
+
+-- a window is lawful, or there is none
+unfoldable pub is_window : List ℕ → Block → Bool
+is_window memory block = block.base == 0 && block.size == 0 || is_lawful memory block
+
+-- a live enclave has a lawful region, a window or none, an entry in its region that is a multiple of 4, and the 32 bytes of a SHA-256
+-- digest
+pub record IsLawfulSlot (memory : List ℕ) (info : SlotInfo) : Type 0 where
+  pub region : is_lawful memory info.region ≡ true
+  pub window : is_window memory info.window ≡ true
+  pub aligned : info.entry % 4 ≡ 0
+  pub entry : has info.region info.entry ≡ true
+  pub measured : length info.measurement ≡ 32
+
+-- regions share no byte with each other, with any window or with the monitor's range, and windows none with the monitor's range
+pub record IsValid (memory : List ℕ) (slots : Slots) : Type 0 where
+  pub ram : is_ram_size (length memory) ≡ true
+  pub count : length slots ≡ slot_count
+  pub lawful : (k : ℕ) → IfSome (slot_at slots k) (IsLawfulSlot memory)
+  pub regions_apart : (j k : ℕ) → j ≢ k → meets (region slots j) (region slots k) ≡ false
+  pub windows_apart : (j k : ℕ) → meets (region slots j) (window slots k) ≡ false
+  pub regions_free : (k : ℕ) → meets monitor_block (region slots k) ≡ false
+  pub windows_free : (k : ℕ) → meets monitor_block (window slots k) ≡ false

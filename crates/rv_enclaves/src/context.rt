@@ -1,0 +1,101 @@
+//! What a world keeps while it does not run.
+
+ghost use Rattle.std.specs.Prelude.{◌≡◌};
+ghost use Rattle.rv_enclaves.specs.Contexts.{first_context as first_context_of, exited_context as exited_context_of, no_supervisor as no_supervisor_of, with_context, context_at as context_at_of, kept_context as kept_context_of, with_answer};
+
+use crate::slot::{SLOT_COUNT, Slot};
+use crate::slot_info::SlotInfo;
+use rv_pmp::Mode;
+use rv_state::{Regs, SContext};
+use rv_word::Reg;
+
+/// What is kept of a world while it does not run.
+#[derive(Clone, Copy, Debug)]
+pub struct Context {
+    /// Its registers x0 to x31.
+    pub regs: Regs,
+    /// The address of its next instruction.
+    pub pc: u32,
+    /// The mode that it goes on in, S or U.
+    pub mode: Mode,
+    /// Its registers of mode S.
+    pub supervisor: SContext,
+}
+
+/// What is kept of each slot's enclave while it does not run.
+pub type Contexts = [Option<Context>; SLOT_COUNT];
+
+/// The registers of mode S, all 0.
+const fn no_supervisor() -> SContext
+    ensures { result ≡ no_supervisor_of }
+{
+    SContext {
+        stvec: 0,
+        sscratch: 0,
+        sepc: 0,
+        scause: 0,
+        stval: 0,
+        sie: false,
+        spie: false,
+        spp: false,
+        mxr: false,
+    }
+}
+
+/// Puts two words into a0 and a1.
+pub fn set_answer(regs: &mut Regs, a0: u32, a1: u32)
+    ensures { regs.new ≡ with_answer regs.old a0 a1 }
+{
+    regs.set(Reg::new(10), a0);
+    regs.set(Reg::new(11), a1);
+}
+
+/// The first entry: a0 to a3 tell the enclave its region and its window.
+#[tactic(auto, unfolding(crate::specs::Contexts::first_context))]
+pub(crate) fn first_context(info: &SlotInfo) -> Context
+    ensures { result ≡ first_context_of info.now }
+{
+    let mut regs = Regs::new();
+    set_answer(&mut regs, info.region.base, info.region.size);
+    regs.set(Reg::new(12), info.window.base);
+    regs.set(Reg::new(13), info.window.size);
+    Context {
+        regs,
+        pc: info.entry,
+        mode: Mode::S,
+        supervisor: no_supervisor(),
+    }
+}
+
+/// After exit: all 0.
+pub fn exited_context() -> Context
+    ensures { result ≡ exited_context_of }
+{
+    Context {
+        regs: Regs::new(),
+        pc: 0,
+        mode: Mode::U,
+        supervisor: no_supervisor(),
+    }
+}
+
+/// What is kept for a slot.
+pub(crate) fn context_at(contexts: &Contexts, slot: Slot) -> Option<Context>
+    ensures { result ≡ context_at_of contexts.now slot }
+{
+    contexts[usize::from(slot.number())]
+}
+
+/// The context that is kept for a slot; all 0 where none is.
+pub fn kept_context(contexts: &Contexts, slot: Slot) -> Context
+    ensures { result ≡ kept_context_of contexts.now slot }
+{
+    context_at(contexts, slot).unwrap_or(exited_context())
+}
+
+/// Sets what is kept for a slot.
+pub fn set_context(contexts: &mut Contexts, slot: Slot, context: Option<Context>)
+    ensures { contexts.new ≡ with_context contexts.old slot context }
+{
+    contexts[usize::from(slot.number())] = context;
+}

@@ -1,0 +1,114 @@
+//! The entries that the monitor keeps for a table and a world.
+
+ghost use Rattle.std.specs.Prelude.{◌≡◌, ◌<◌, ℕ, false};
+ghost use Rattle.rv_enclaves.specs.Layout.{Entry as EntryOf, napot as napot_of, entry_at as entry_at_of, region_entry as region_entry_of, window_entry_of, unused as unused_of, layout, mie_of};
+ghost use Rattle.rv_enclaves.specs.Unlocked.{HasNoLock};
+
+use crate::block::{Block, monitor_block};
+use crate::slot::Slot;
+use crate::slot_info::SlotInfo;
+use crate::table::Table;
+use crate::world::World;
+use rv_pmp::Pmp;
+
+/// NAPOT without a permission, with those to read and write, and with all.
+const NOTHING: u8 = 0x18;
+
+const READ_WRITE: u8 = 0x1B;
+
+const ALL: u8 = 0x1F;
+
+/// A cfg byte and a pmpaddr value.
+#[derive(Clone, Copy)]
+struct Entry {
+    cfg: u8,
+    addr: u32,
+}
+
+/// An entry that is not used.
+const fn unused() -> Entry
+    ensures cfg { result.cfg ≡ unused_of.cfg }
+    ensures addr { result.addr ≡ unused_of.addr }
+{
+    Entry { cfg: 0, addr: 0 }
+}
+
+/// A NAPOT entry for a lawful block.
+fn napot(cfg: u8, block: Block) -> Entry
+    ensures cfg { result.cfg ≡ (napot_of cfg block).cfg }
+    ensures addr { result.addr ≡ (napot_of cfg block).addr }
+{
+    Entry {
+        cfg,
+        addr: block.base / 4 + (block.size / 8).saturating_sub(1),
+    }
+}
+
+/// The entry of a slot's region.
+fn region_entry(world: &World, slot: Slot, info: Option<SlotInfo>) -> Entry
+    ensures cfg { result.cfg ≡ (region_entry_of world.now slot info).cfg }
+    ensures addr { result.addr ≡ (region_entry_of world.now slot info).addr }
+{
+    match info {
+        None => unused(),
+        Some(info) => {
+            let cfg = if world.is_enclave(slot) { ALL } else { NOTHING };
+            napot(cfg, info.region)
+        }
+    }
+}
+
+/// The entry of the window of the enclave that runs.
+fn window_entry(slot: Option<SlotInfo>) -> Entry
+    ensures cfg { result.cfg ≡ (window_entry_of slot).cfg }
+    ensures addr { result.addr ≡ (window_entry_of slot).addr }
+{
+    match slot {
+        None => unused(),
+        Some(info) => {
+            if info.window.size == 0 {
+                unused()
+            } else {
+                napot(READ_WRITE, info.window)
+            }
+        }
+    }
+}
+
+/// Entry `i` of the layout.
+#[tactic(auto, unfolding(crate::specs::Layout::entry_at))]
+fn entry_at(table: &Table, world: &World, i: u8) -> Entry
+    ensures cfg { result.cfg ≡ (entry_at_of table.now world.now i).cfg }
+    ensures addr { result.addr ≡ (entry_at_of table.now world.now i).addr }
+{
+    if i == 0 {
+        return napot(NOTHING, monitor_block());
+    }
+    if let Some(slot) = Slot::new(u32::from(i - 1)) {
+        return region_entry(world, slot, table.slot_at(slot));
+    }
+    match *world {
+        World::Host if i != 14 => Entry {
+            cfg: ALL,
+            addr: 0xFFFF_FFFF,
+        },
+        World::Enclave(slot) if i == 14 => window_entry(table.slot_at(slot)),
+        _ => unused(),
+    }
+}
+
+/// Sets the sixteen entries to those of a table and a world, at once: the monitor's range, the region of each slot, the window of the
+/// enclave that runs, and the rest of the addresses while the host does. (RISC-V Privileged Architecture 20211203, section 3.7.1.)
+pub fn write_layout(pmp: &mut Pmp, table: &Table, world: &World)
+    requires { HasNoLock pmp.old }
+    ensures { pmp.new ≡ layout table.now world.now }
+{
+    let mut cfgs = [0; 16];
+    let mut addrs = [0; 16];
+    for i in 0..16 {
+        let entry = entry_at(table, world, i as u8);
+        cfgs[i] = entry.cfg;
+        addrs[i] = entry.addr;
+    }
+    pmp.set_entries(&cfgs, &addrs);
+}

@@ -1,0 +1,35 @@
+//! What a security monitor in the manner of Keystone (EuroSys 2020) keeps of its enclaves, and does to it: the table of thirteen slots,
+//! the contexts of the enclaves that do not run, the sixteen PMP entries that a table and a world give, and the calls that make, end and
+//! measure an enclave. Nothing here knows a hart: the monitored machine, which does, is another crate.
+//!
+//! The definitions in `specs/` say all of it; docs/MONITOR.md says it for those who write hosts and enclaves.
+#![tactic(auto)]
+
+mod block;
+mod call;
+mod context;
+mod create;
+mod destroy;
+pub mod laws;
+mod layout;
+mod measure;
+mod proposal;
+mod refusal;
+mod scramble;
+mod shared;
+mod slot;
+mod slot_info;
+mod table;
+mod world;
+
+pub use block::Block;
+pub use call::{Call, asked_call};
+pub use context::{Context, Contexts, exited_context, kept_context, set_answer, set_context};
+pub use layout::write_layout;
+pub use proposal::Proposal;
+pub use refusal::Refusal;
+pub use shared::Shared;
+pub use slot::{SLOT_COUNT, Slot};
+pub use slot_info::{EnclaveState, SlotInfo};
+pub use table::Table;
+pub use world::World;

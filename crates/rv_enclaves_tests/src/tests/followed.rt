@@ -1,0 +1,139 @@
+//! What a test does with a memory and a table of enclaves, as lines.
+
+use rv_enclaves::{EnclaveState, Proposal, Shared, Slot, Table, World, write_layout};
+use rv_memory::Ram;
+use rv_pmp::{Pmp, PmpIndex};
+use rv_state::Regs;
+use rv_word::Reg;
+use std::test::Fail;
+
+/// A line of a test: a call, with what it is to answer. A call that is refused answers its status.
+#[derive(Clone, Copy)]
+pub enum Line {
+    /// By a0 to a4: the region's base and size, the window's, and the entry.
+    Create([u32; 5], Result<u32, u32>),
+    /// Of the slot of a number.
+    Destroy(u32, Result<u32, u32>),
+    /// By a world, of the slot of a number, at an address, under the entries of the table and that world.
+    Measure(World, u32, u32, Result<u32, u32>),
+    Scramble(u32, bool),
+    SetState(u32, EnclaveState),
+    /// The state in a slot, if its enclave is live.
+    State(u32, Option<EnclaveState>),
+    /// A register that is kept for a slot, if a context is.
+    Kept(u32, u8, Option<u32>),
+    Poke(u32, u8),
+    Byte(u32, Option<u8>),
+    /// An entry of the table and a world: its cfg byte and its address.
+    Entry(World, u8, u8, u32),
+}
+
+/// Follows lines with a new memory of 262144 bytes and a table without enclaves. It fails at the first that does not hold, and tells its
+/// place, from 0.
+///
+/// What this calls promises nothing: a run shows what it does, and the proof of a test is small as long as it need not carry what
+/// each call ensures.
+pub fn run(rt: HostRuntime, lines: &[Line]) -> Result<(), Fail> {
+    let mut shared = Shared {
+        memory: Ram::new(rt.alloc(), 262_144).ok().ok_or("a RAM")?,
+        table: Table::new(),
+        contexts: [None; 13],
+    };
+    for (place, line) in lines.iter().enumerate() {
+        if !holds(&mut shared, *line) {
+            return Err(Fail::new(format_args!("line {place}")));
+        }
+    }
+    Ok(())
+}
+
+/// Whether a line holds.
+fn holds(shared: &mut Shared, line: Line) -> bool {
+    match line {
+        Line::Create(arguments, wanted) => create(shared, &arguments) == wanted,
+        Line::Destroy(named, wanted) => destroy(shared, named) == wanted,
+        Line::Measure(world, named, address, wanted) => {
+            measure(shared, &world, named, address) == wanted
+        }
+        Line::Poke(address, byte) => poke(shared, address, byte),
+        Line::Byte(address, wanted) => peek(shared, address) == wanted,
+        Line::Entry(world, index, cfg, addr) => entry(shared, &world, index) == (cfg, addr),
+        _ => holds_of_slot(shared, line),
+    }
+}
+
+/// Whether a line about a slot holds.
+fn holds_of_slot(shared: &mut Shared, line: Line) -> bool {
+    match line {
+        Line::Scramble(number, wanted) => scramble(shared, number) == Some(wanted),
+        Line::SetState(number, state) => set_state(shared, number, state),
+        Line::State(number, wanted) => state(shared, number) == wanted,
+        Line::Kept(number, reg, wanted) => kept(shared, number, reg) == wanted,
+        _ => false,
+    }
+}
+
+fn create(shared: &mut Shared, arguments: &[u32; 5]) -> Result<u32, u32> {
+    let mut regs = Regs::new();
+    regs.set(Reg::new(10), arguments[0]);
+    regs.set(Reg::new(11), arguments[1]);
+    regs.set(Reg::new(12), arguments[2]);
+    regs.set(Reg::new(13), arguments[3]);
+    regs.set(Reg::new(14), arguments[4]);
+    shared
+        .create(&Proposal::new(&regs))
+        .map_err(|refusal| refusal.status())
+}
+
+fn destroy(shared: &mut Shared, named: u32) -> Result<u32, u32> {
+    shared.destroy(named).map_err(|refusal| refusal.status())
+}
+
+fn measure(shared: &mut Shared, world: &World, named: u32, address: u32) -> Result<u32, u32> {
+    let mut pmp = Pmp::new();
+    write_layout(&mut pmp, &shared.table, world);
+    shared
+        .measure(&pmp, world, named, address)
+        .map_err(|refusal| refusal.status())
+}
+
+fn scramble(shared: &mut Shared, number: u32) -> Option<bool> {
+    Some(shared.scramble(Slot::new(number)?))
+}
+
+fn set_state(shared: &mut Shared, number: u32, state: EnclaveState) -> bool {
+    let Some(slot) = Slot::new(number) else {
+        return false;
+    };
+    shared.table.set_state(slot, state);
+    true
+}
+
+fn state(shared: &Shared, number: u32) -> Option<EnclaveState> {
+    shared.table.get(Slot::new(number)?).map(|info| info.state)
+}
+
+fn kept(shared: &Shared, number: u32, reg: u8) -> Option<u32> {
+    let slot = Slot::new(number)?;
+    let context = shared.contexts[usize::from(slot.number())]?;
+    (reg < 32).then(|| context.regs.get(Reg::new(reg)))
+}
+
+fn poke(shared: &mut Shared, address: u32, byte: u8) -> bool {
+    shared.memory.poke(address, byte)
+}
+
+fn peek(shared: &Shared, address: u32) -> Option<u8> {
+    shared.memory.peek(address)
+}
+
+fn entry(shared: &Shared, world: &World, index: u8) -> (u8, u32) {
+    let mut pmp = Pmp::new();
+    write_layout(&mut pmp, &shared.table, world);
+    if index < 16 {
+        let index = PmpIndex::new(index);
+        (pmp.cfg(index), pmp.addr(index))
+    } else {
+        (0, 0)
+    }
+}
