@@ -14,7 +14,8 @@ unfoldable pub use Rattle.rv_enclaves.specs.Measure.{measured}
 pub use Rattle.rv_enclaves.specs.Refusals.{first_refusal}
 pub use Rattle.rv_enclaves.specs.SharedButFor.{AgreeOutside, is_private, SharedButFor}
 pub use Rattle.rv_enclaves.specs.Sound.{AreApart, is_held, IsSound}
-pub use Rattle.rv_enclaves.specs.Table.{is_host, is_live, is_running, is_world_of, IsLawfulSlot, IsValid, region, region_of, runs, slot_at, Slots, window, window_of, with_slot, with_state}
+pub use Rattle.rv_enclaves.specs.Table.{IsLawfulSlot, IsValid, Slots, is_host, is_live, is_running, is_world_of, region, region_of, runs, slot_at, window}
+pub use Rattle.rv_enclaves.specs.Table.{window_of, with_slot, with_state}
 unfoldable pub use Rattle.rv_enclaves.specs.Table.{is_window}
 pub use Rattle.rv_enclaves.specs.declared.block.Block.{Block}
 pub use Rattle.rv_enclaves.specs.declared.call.Call.{Call}
