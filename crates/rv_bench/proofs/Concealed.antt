@@ -6,12 +6,12 @@ use Rattle.rv_text.specs.Lines.{lines_of, through_last_feed}
 use Rattle.rv_text.proofs.LineLemmas.{lines_of-append}
 use Rattle.rv_debug.specs.Answer.{Answered, answer_or_fault, line_answer}
 use Rattle.rv_debug.specs.BenchState.{BenchState}
-use Rattle.rv_debug.specs.Command.{parse_of}
+use Rattle.rv_script.specs.Command.{parse_of}
 use Rattle.rv_debug.specs.Confidentiality.{PassesOver, PokesInto}
 use Rattle.rv_debug.specs.Targets.{KeepsMonitor}
 use Rattle.rv_debug.specs.TwoBenches.{BenchesAgreeBut}
-use Rattle.rv_debug.specs.declared.command.Command.{Command}
-use Rattle.rv_debug.specs.declared.command.CommandFault.{CommandFault}
+use Rattle.rv_script.specs.declared.command.Command.{Command}
+use Rattle.rv_script.specs.declared.command.CommandFault.{CommandFault}
 use Rattle.rv_debug.proofs.AnswersAlike.{agree_again, confidentiality}
 use Rattle.rv_debug.proofs.PokesAlike.{agrees_with_itself, poke_law}
 use Rattle.rv_command_line.specs.declared.setup.Setup.{Setup}

@@ -3,11 +3,11 @@ use Rattle.std.proofs.Common.{◌≡◌, ℕ, List, [], ◌∷◌, Result, Ok, E
 use Rattle.rv_word.specs.Cases.{result_case}
 use Rattle.rv_debug.specs.Answer.{answer, answer_or_fault, line_answer}
 use Rattle.rv_debug.specs.BenchState.{BenchState}
-use Rattle.rv_debug.specs.Command.{parse_of}
+use Rattle.rv_script.specs.Command.{parse_of}
 use Rattle.rv_debug.specs.Isolation.{after_commands, IsSparedIn}
 use Rattle.rv_debug.specs.Targets.{KeepsMonitor}
-use Rattle.rv_debug.specs.declared.command.Command.{Command}
-use Rattle.rv_debug.specs.declared.command.CommandFault.{CommandFault}
+use Rattle.rv_script.specs.declared.command.Command.{Command}
+use Rattle.rv_script.specs.declared.command.CommandFault.{CommandFault}
 use Rattle.rv_debug.proofs.DeedsKept.{keeps_monitor}
 use Rattle.rv_debug.proofs.Isolation.{integrity}
 use Rattle.rv_command_line.specs.declared.setup.Setup.{Setup}

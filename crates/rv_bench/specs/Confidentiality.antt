@@ -3,7 +3,7 @@
 use Rattle.std.specs.Prelude.{◌≡◌, ℕ, List, [], ◌∷◌, ◌++◌, length, true, IfOk, IsOkAnd}
 use Rattle.rv_text.specs.Lines.{lines_of, through_last_feed}
 use Rattle.rv_debug.specs.BenchState.{BenchState}
-use Rattle.rv_debug.specs.Command.{parse_of}
+use Rattle.rv_script.specs.Command.{parse_of}
 use Rattle.rv_debug.specs.Confidentiality.{AgreeAgain, PassesOver, PokesInto}
 use Rattle.rv_debug.specs.Targets.{KeepsMonitor}
 use Rattle.rv_debug.specs.TwoBenches.{BenchesAgreeBut, can_scramble}

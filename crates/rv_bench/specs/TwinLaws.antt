@@ -2,12 +2,12 @@
 -- enclave that rests. (Laws of this project's own monitor under its own debugger.)
 use Rattle.std.specs.Prelude.{◌≡◌, ℕ, false, List, [], ◌∷◌, ◌++◌, IfOk, IfSome, if◌then◌else◌}
 use Rattle.rv_word.specs.Cases.{result_case}
-use Rattle.rv_debug.specs.Command.{parse_of}
+use Rattle.rv_script.specs.Command.{parse_of}
 use Rattle.rv_debug.specs.Isolation.{IsSparedIn, RestsUnderAll}
 use Rattle.rv_debug.specs.TwoBenches.{BenchesAgreeBut, both_answer}
 use Rattle.rv_debug.specs.declared.both.BothWhy.{BothWhy}
 use Rattle.rv_debug.specs.declared.both.BothWhy.TheVariants.{All, NotBlind}
-use Rattle.rv_debug.specs.declared.command.Command.{Command}
+use Rattle.rv_script.specs.declared.command.Command.{Command}
 use Rattle.rv_command_line.specs.declared.setup.Setup.{Setup}
 use Rattle.rv_bench.specs.declared.apart.Apart.{Apart}
 use Rattle.rv_bench.specs.Apart.{apart_line, set_apart}

@@ -28,12 +28,13 @@ use Rattle.rv_debug.specs.Confidentiality.{AgreeAgain, AnswerAlike, Confidential
 use Rattle.rv_debug.specs.Deeds.{Deed, Nothing, Steps, deed, done, entered_by, run_deed, steps_of}
 use Rattle.rv_debug.specs.EnclaveText.{table_text}
 use Rattle.rv_debug.specs.ReplyText.{ok_text, outside_text, memory_text, dis_text, hart_text, no_hart_text, ran_text}
-use Rattle.rv_debug.specs.Schedules.{AfterTurns, harts_in, has_all, no_turns, turns}
+use Rattle.rv_debug.specs.Turns.{AfterTurns, no_turns, turns}
+use Rattle.rv_script.specs.Schedules.{harts_in, has_all}
 use Rattle.rv_debug.specs.Steps.{AfterRun, no_steps, run}
 use Rattle.rv_debug.specs.Targets.{chosen_at, IsBare, KeepsMonitor, monitored_stepped, over_memory, turned_to, world_name}
 use Rattle.rv_debug.specs.TwoBenches.{BenchesAgreeBut, ChosenAgreeBut, TargetsAgreeBut, is_blind, is_entered}
-use Rattle.rv_debug.specs.declared.command.Command.{Command}
-use Rattle.rv_debug.specs.declared.command.Command.TheVariants.{Step, Run, SetReg, Mem, Poke, Dis, Enclaves, Access, Timer, Hart, Sched}
+use Rattle.rv_script.specs.declared.command.Command.{Command}
+use Rattle.rv_script.specs.declared.command.Command.TheVariants.{Step, Run, SetReg, Mem, Poke, Dis, Enclaves, Access, Timer, Hart, Sched}
 use Rattle.rv_debug.specs.declared.scheduled.HartRan.{HartRan}
 use Rattle.rv_debug.specs.declared.scheduled.Scheduled.{Scheduled}
 use Rattle.rv_debug.specs.declared.steps.Ran.{Ran}

@@ -21,7 +21,7 @@ use Rattle.rv_debug.specs.BenchState.{BenchState}
 use Rattle.rv_debug.specs.Deeds.{Deed, Nothing, Steps, Register, TimerLine, OneByte, deed, done}
 use Rattle.rv_debug.specs.Isolation.{KeepsOther, LeavesOther, SparesOther}
 use Rattle.rv_debug.specs.Targets.{IsBare, KeepsMonitor, chosen_at}
-use Rattle.rv_debug.specs.declared.command.Command.{Command}
+use Rattle.rv_script.specs.declared.command.Command.{Command}
 use Rattle.rv_debug.specs.declared.target.Target.{Target}
 use Rattle.rv_debug.specs.declared.target.Target.TheVariants.{Bare, Monitored}
 use Rattle.rv_debug.proofs.DeedsKept.{bare_done, poke_of}

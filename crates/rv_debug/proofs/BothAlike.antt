@@ -12,10 +12,11 @@ use Rattle.rv_debug.specs.Confidentiality.{AlikeBy, AnswerAlike, PassAll, PassBy
 use Rattle.rv_debug.specs.Isolation.{after_commands}
 use Rattle.rv_debug.specs.Targets.{KeepsMonitor}
 use Rattle.rv_debug.specs.TwoBenches.{BenchesAgreeBut, BothAnswered, BothRan, TargetsAgreeBut, both_answer, both_do, both_run, go_on, is_blind, is_entered}
-use Rattle.rv_debug.specs.TwoBenches.{named, region_of}
+use Rattle.rv_script.specs.Command.{bytes_named}
+use Rattle.rv_debug.specs.TwoBenches.{region_of}
 use Rattle.rv_debug.specs.declared.both.BothWhy.{BothWhy}
 use Rattle.rv_debug.specs.declared.both.BothWhy.TheVariants.{All, Entered, NotBlind}
-use Rattle.rv_debug.specs.declared.command.Command.{Command}
+use Rattle.rv_script.specs.declared.command.Command.{Command}
 use Rattle.rv_debug.specs.declared.target.Target.{Target}
 use Rattle.rv_debug.specs.declared.target.Target.TheVariants.{Bare, Monitored}
 use Rattle.rv_debug.proofs.AnswersAlike.{agree_again, confidentiality}
@@ -40,9 +41,10 @@ module _ (e : ℕ) where
     | inr other ↦ inl (other, rw other refl)
   ]
 
-  same_region : (c : Command) (one other : Target) → TargetsAgreeBut e one other → meets (named c) (region_of e one) ≡ meets (named c) (region_of e other)
+  same_region : (c : Command) (one other : Target) → TargetsAgreeBut e one other
+      → meets (bytes_named c) (region_of e one) ≡ meets (bytes_named c) (region_of e other)
   same_region c (Monitored one) (Monitored other) agree =
-      ap (λ (slots : Slots). meets (named c) (region slots e)) (let state = agree.state in state.shared.table)
+      ap (λ (slots : Slots). meets (bytes_named c) (region slots e)) (let state = agree.state in state.shared.table)
   same_region c (Bare one) (Bare other) agree = refl
   same_region c (Bare one) (Monitored other) agree = absurd agree
   same_region c (Monitored one) (Bare other) agree = absurd agree

@@ -11,9 +11,9 @@ use Rattle.rv_monitor.proofs.StepKept.{kept_by_size}
 use Rattle.rv_debug.specs.Answer.{answer}
 use Rattle.rv_debug.specs.BenchState.{BenchState}
 use Rattle.rv_debug.specs.Deeds.{Deed, Nothing, Steps, Register, TimerLine, OneByte, deed, done}
-use Rattle.rv_debug.specs.Schedules.{no_turns}
+use Rattle.rv_debug.specs.Turns.{no_turns}
 use Rattle.rv_debug.specs.Targets.{IsBare, KeepsMonitor, over_memory}
-use Rattle.rv_debug.specs.declared.command.Command.{Command}
+use Rattle.rv_script.specs.declared.command.Command.{Command}
 use Rattle.rv_debug.specs.declared.target.Target.{Target}
 use Rattle.rv_debug.specs.declared.target.Target.TheVariants.{Bare, Monitored}
 use Rattle.rv_debug.proofs.Turns.{bare_kept, sched_keeps, stays_bare, turned_bare, turns_are_sched}

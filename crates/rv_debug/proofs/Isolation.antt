@@ -21,8 +21,8 @@ use Rattle.rv_debug.specs.Deeds.{Deed, Steps, OneByte, deed, done}
 use Rattle.rv_debug.specs.Isolation.{TellsReach, ChangesMemory, IntegrityLaw, IsLiveIn, IsMonitored, IsSparedIn, MayChange, RestsThroughDeed, SparesResting}
 use Rattle.rv_debug.specs.Isolation.{after_commands}
 use Rattle.rv_debug.specs.Targets.{KeepsMonitor, memory_of}
-use Rattle.rv_debug.specs.declared.command.Command.{Command}
-use Rattle.rv_debug.specs.declared.command.Command.TheVariants.{Access}
+use Rattle.rv_script.specs.declared.command.Command.{Command}
+use Rattle.rv_script.specs.declared.command.Command.TheVariants.{Access}
 use Rattle.rv_debug.specs.declared.target.Target.{Target}
 use Rattle.rv_debug.specs.declared.target.Target.TheVariants.{Bare, Monitored}
 use Rattle.rv_debug.proofs.DeedsKept.{keeps_monitor, poke_of}

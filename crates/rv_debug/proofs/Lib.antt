@@ -3,13 +3,10 @@ pub mod AddressLemmas
 pub mod Answers
 pub mod AnswersAlike
 pub mod BothAlike
-mod CommandExamples
-pub mod Commands
 mod FastRuns
 mod FastTargets
 pub mod Isolation
 mod Returned
-mod Keywords
 pub mod PokesAlike
 mod RegisterLines
 mod ReplyExamples

@@ -25,7 +25,7 @@ use Rattle.rv_debug.specs.Deeds.{Deed, Nothing, Steps, Register, TimerLine, OneB
 use Rattle.rv_debug.specs.Isolation.{after_commands}
 use Rattle.rv_debug.specs.Returns.{EntersUnder, EntersWithin, IsStoredIn, LeavesUnder, LeavesWithin, ReturnLaw, RunsOn, RunsUnder, RunsUnderAll}
 use Rattle.rv_debug.specs.Targets.{KeepsMonitor}
-use Rattle.rv_debug.specs.declared.command.Command.{Command}
+use Rattle.rv_script.specs.declared.command.Command.{Command}
 use Rattle.rv_debug.specs.declared.target.Target.{Target}
 use Rattle.rv_debug.specs.declared.target.Target.TheVariants.{Bare, Monitored}
 use Rattle.rv_debug.proofs.DeedsKept.{keeps_monitor, poke_of}

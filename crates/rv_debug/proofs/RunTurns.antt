@@ -5,7 +5,7 @@ use Rattle.rv_word.specs.Cases.{option_case}
 use Rattle.rv_monitor.proofs.Turned.{seen_twice}
 use Rattle.rv_debug.specs.Addresses.{is_among}
 use Rattle.rv_debug.specs.Deeds.{done, entered_by, run_deed, steps_of}
-use Rattle.rv_debug.specs.Schedules.{AfterTurns, no_turns, turns, with_turn}
+use Rattle.rv_debug.specs.Turns.{AfterTurns, no_turns, turns, with_turn}
 use Rattle.rv_debug.specs.Steps.{AfterSteps, AfterRun, with_slot, with_step, no_steps, ended, run}
 use Rattle.rv_debug.specs.Stops.{lowest_accessed}
 use Rattle.rv_debug.specs.Targets.{chosen_at, chosen_of, pc_of, stepped, turned_to}

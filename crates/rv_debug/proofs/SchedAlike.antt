@@ -8,7 +8,7 @@ use Rattle.rv_monitor.proofs.HartsAlike.{seen_agree}
 use Rattle.rv_monitor.proofs.RunsAlike.{kept_law}
 use Rattle.rv_monitor.proofs.MonitoredAlike.{confidentiality}
 use Rattle.rv_monitor.proofs.Turned.{seen_kept}
-use Rattle.rv_debug.specs.Schedules.{AfterTurns, turns, with_turn}
+use Rattle.rv_debug.specs.Turns.{AfterTurns, turns, with_turn}
 use Rattle.rv_debug.specs.Targets.{stepped, turned_to}
 use Rattle.rv_debug.specs.TwoBenches.{ChosenAgreeBut, is_entered}
 use Rattle.rv_debug.specs.declared.scheduled.Scheduled.{Scheduled}

@@ -10,8 +10,8 @@ use Rattle.rv_debug.specs.Targets.{KeepsMonitor}
 use Rattle.rv_debug.specs.TwoBenches.{BenchesAgreeBut, BothAnswered, is_blind, is_entered, region_of}
 use Rattle.rv_debug.specs.declared.both.BothWhy.{BothWhy}
 use Rattle.rv_debug.specs.declared.both.BothWhy.TheVariants.{All, Entered, NotBlind}
-use Rattle.rv_debug.specs.declared.command.Command.{Command}
-use Rattle.rv_debug.specs.declared.command.Command.TheVariants.{Poke}
+use Rattle.rv_script.specs.declared.command.Command.{Command}
+use Rattle.rv_script.specs.declared.command.Command.TheVariants.{Poke}
 use Rattle.rv_debug.specs.declared.target.Target.{Target}
 use Rattle.rv_debug.specs.declared.target.Target.TheVariants.{Bare, Monitored}
 

@@ -21,8 +21,8 @@ use Rattle.rv_debug.specs.BenchState.{BenchState}
 use Rattle.rv_debug.specs.Deeds.{Deed, Steps, Register, TimerLine, OneByte, deed}
 use Rattle.rv_debug.specs.ReplyText.{verdict_text}
 use Rattle.rv_debug.specs.Targets.{KeepsMonitor, chosen_of, memory_of}
-use Rattle.rv_debug.specs.declared.command.Command.{Command}
-use Rattle.rv_debug.specs.declared.command.Command.TheVariants.{Access}
+use Rattle.rv_script.specs.declared.command.Command.{Command}
+use Rattle.rv_script.specs.declared.command.Command.TheVariants.{Access}
 use Rattle.rv_debug.specs.declared.target.Target.{Target}
 use Rattle.rv_debug.specs.declared.target.Target.TheVariants.{Bare, Monitored}
 

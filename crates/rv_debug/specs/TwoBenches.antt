@@ -11,7 +11,7 @@ use Rattle.rv_enclaves.specs.Table.{region}
 use Rattle.rv_enclaves.specs.declared.block.Block.{Block}
 use Rattle.rv_debug.specs.Answer.{Answered, answer}
 use Rattle.rv_debug.specs.BenchState.{BenchState}
-use Rattle.rv_debug.specs.Command.{parse_of}
+use Rattle.rv_script.specs.Command.{bytes_named, parse_of}
 use Rattle.rv_debug.specs.ReplyText.{fault_text}
 use Rattle.rv_monitor.specs.State.{OnTurn}
 use Rattle.rv_debug.specs.Targets.{chosen_at}
@@ -19,9 +19,9 @@ use Rattle.rv_debug.specs.declared.both.BothLine.{BothLine}
 use Rattle.rv_debug.specs.declared.both.BothLine.TheVariants.{Faulty, Given}
 use Rattle.rv_debug.specs.declared.both.BothWhy.{BothWhy}
 use Rattle.rv_debug.specs.declared.both.BothWhy.TheVariants.{All, Entered, NotBlind}
-use Rattle.rv_debug.specs.declared.command.Command.{Command}
-use Rattle.rv_debug.specs.declared.command.Command.TheVariants.{Blank, Mem, Poke, Dis}
-use Rattle.rv_debug.specs.declared.command.CommandFault.{CommandFault}
+use Rattle.rv_script.specs.declared.command.Command.{Command}
+use Rattle.rv_script.specs.declared.command.Command.TheVariants.{Blank}
+use Rattle.rv_script.specs.declared.command.CommandFault.{CommandFault}
 use Rattle.rv_debug.specs.declared.target.Target.{Target}
 use Rattle.rv_debug.specs.declared.target.Target.TheVariants.{Bare, Monitored}
 
@@ -45,13 +45,6 @@ pub record BenchesAgreeBut (e : ℕ) (one other : BenchState) : Type 0 where
 
 -- ---- what a command shows of memory, and what it enters
 
--- the bytes that a command names by their addresses
-abbrev pub named : Command → Block
-named (Mem address count) = record { base = address; size = count }
-named (Dis address) = record { base = address; size = 4 }
-named (Poke address byte) = record { base = address; size = 1 }
-named _ = no_block
-
 -- the region of slot e, without bytes where its enclave is not live
 abbrev pub region_of : ℕ → Target → Block
 region_of e (Bare machine) = no_block
@@ -59,7 +52,7 @@ region_of e (Monitored chosen) = region chosen.state.shared.table e
 
 -- the command is not a mem, dis or poke with a byte in the region of slot e
 unfoldable pub is_blind : ℕ → BenchState → Command → Bool
-is_blind e bench command = not (meets (named command) (region_of e bench.target))
+is_blind e bench command = not (meets (bytes_named command) (region_of e bench.target))
 
 -- slot e is one of these, of which each has its bit set
 abbrev pub is_entered : ℕ → ℕ → Bool

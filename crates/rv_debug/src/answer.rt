@@ -4,22 +4,21 @@ ghost use Rattle.std.specs.Prelude.{◌≡◌};
 ghost use Rattle.arrayvec.specs.ArrayVec.{array_vec_len};
 ghost use Rattle.rv_debug.specs.Answer.{told, csr_reply, memory_reply, poke_reply, dis_reply, access_reply, hart_reply, harts_told, sched_reply};
 ghost use Rattle.rv_debug.specs.Deeds.{OneByte, done, entered_by, hart_deed, run_deed, sched_deed, steps_of};
-ghost use Rattle.rv_debug.specs.Schedules.{harts_in};
+ghost use Rattle.rv_script.specs.Schedules.{harts_in};
 ghost use Rattle.rv_debug.specs.Addresses.{without_address};
 ghost use Rattle.rv_debug.specs.ReplyText.{ok_text};
 ghost use Rattle.rv_debug.specs.Targets.{hart_of, memory_of, register_set, timer_set, IsBare, KeepsMonitor};
 
 use crate::addresses::Addresses;
-use crate::command::{ByteCount, StepCount};
 use crate::reply::{
     push_csr, push_denied_outside, push_dis, push_hart, push_memory, push_no_csr, push_no_hart,
     push_ok, push_outside, push_ran, push_verdict,
 };
-use crate::schedule::Schedule;
 use crate::scheduled::{Scheduled, run_schedule};
 use crate::target::Target;
 use rv_encoding::CsrNumber;
 use rv_pmp::{Access, Mode};
+use rv_script::{ByteCount, Schedule, StepCount};
 use rv_text::Reply;
 use rv_word::{Reg, Width, le_word};
 
@@ -110,7 +109,7 @@ pub(crate) fn answer_csr(target: &Target, csr: CsrNumber, reply: &mut Reply)
 }
 
 /// Chooses a hart, where there is one of the number.
-#[tactic(auto, unfolding(crate::specs::Schedules::turns))]
+#[tactic(auto, unfolding(crate::specs::Turns::turns))]
 pub(crate) fn answer_hart(target: &mut Target, hart: u8, reply: &mut Reply)
     requires { array_vec_len reply.old ≡ 0 }
     ensures target { done target.old (hart_deed target.old hart) ≡ target.new }

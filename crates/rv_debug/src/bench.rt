@@ -5,12 +5,12 @@ use crate::answer::{
     answer_access, answer_csr, answer_dis, answer_hart, answer_mem, answer_poke, answer_removal,
     answer_run, answer_sched, answer_setreg, answer_timer,
 };
-use crate::command::{Command, parse};
 use crate::enclaves::push_enclaves;
 use crate::reply::{push_fault, push_pmp, push_register, push_registers, push_set};
 use crate::target::Target;
 use rv_hart::Machine;
 use rv_monitor::{Monitored, Slot};
+use rv_script::{Command, parse};
 use rv_text::Reply;
 use std::marker::Model;
 

@@ -6,9 +6,9 @@ ghost use Rattle.rv_debug.specs.Isolation.{IsSparedIn, RestsUnderAll, after_comm
 ghost use Rattle.rv_debug.specs.TwoBenches.{BenchesAgreeBut, both_answer, both_line_answer, both_run, is_entered as is_entered_in};
 
 use crate::bench::Bench;
-use crate::command::{Command, parse};
 use crate::reply::push_fault;
 use rv_monitor::Slot;
+use rv_script::{Command, parse};
 use rv_text::Reply;
 
 /// Why commands for two benches ended.

@@ -6,7 +6,6 @@ ghost use Rattle.rv_debug.specs.Answer.{hart_told};
 ghost use Rattle.rv_debug.specs.ReplyText.{mode_text, stop_text, ran_text, hart_text, no_hart_text, trap_text, register_text, registers_text, pc_text, ok_text, csr_text, memory_text, dis_text, entry_text, pmp_text, verdict_text, denied_outside_text, full_text, fault_text, no_csr_text, outside_text};
 ghost use Rattle.rv_debug.specs.Targets.{hart_of, harts_of, pc_of, turned_to, world_name, world_text};
 
-use crate::command::CommandFault;
 use crate::scheduled::HartRan;
 use crate::steps::{Ran, Stop};
 use crate::target::Target;
@@ -16,6 +15,7 @@ use rv_encoding::CsrNumber;
 use rv_hart::Trap;
 use rv_monitor::World;
 use rv_pmp::{Mode, Pmp, PmpIndex, Verdict};
+use rv_script::CommandFault;
 use rv_state::Regs;
 use rv_text::{Reply, push_decimal, push_hex, push_text};
 use rv_word::Reg;

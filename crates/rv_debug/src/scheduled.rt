@@ -2,14 +2,15 @@
 
 ghost use Rattle.std.specs.Prelude.{◌≡◌, ◌+◌, ◌<◌, ◌^◌, bit_or, true};
 ghost use Rattle.std.specs.Option.{option_or};
-ghost use Rattle.rv_debug.specs.Schedules.{nothing_ran, with_own, turns, no_turns, harts_in, has_all};
+ghost use Rattle.rv_debug.specs.Turns.{nothing_ran, with_own, turns, no_turns};
+ghost use Rattle.rv_script.specs.Schedules.{harts_in, has_all};
 ghost use Rattle.rv_debug.specs.Targets.{harts_of, IsBare, KeepsMonitor};
 
 use crate::addresses::Addresses;
-use crate::schedule::{Schedule, hart};
 use crate::steps::Ran;
 use crate::target::Target;
 use rv_hart::Trap;
+use rv_script::{Schedule, hart};
 
 /// What the steps of one hart did.
 #[derive(Clone, Copy)]

@@ -8,8 +8,6 @@ mod benches;
 #[cfg(test)]
 mod both_tests;
 #[cfg(test)]
-mod command_tests;
-#[cfg(test)]
 mod monitored_tests;
 #[cfg(test)]
 mod reply_tests;

@@ -6,21 +6,23 @@ use Rattle.std.specs.List.{starts_with}
 use Rattle.std.specs.Str.{bytes_eq}
 use Rattle.rv_text.specs.GoodLines.{is_good_line}
 use Rattle.rv_text.specs.Words.{words_of}
-use Rattle.rv_debug.specs.Numbers.{hexadecimal_of, csr_number_of, byte_of_text, decimal_of}
-use Rattle.rv_debug.specs.Within.{within}
-use Rattle.rv_debug.specs.Schedules.{hart_named, schedule_of}
+use Rattle.rv_enclaves.specs.Blocks.{no_block}
+use Rattle.rv_enclaves.specs.declared.block.Block.{Block}
+use Rattle.rv_script.specs.Numbers.{hexadecimal_of, csr_number_of, byte_of_text, decimal_of}
+use Rattle.rv_script.specs.Within.{within}
+use Rattle.rv_script.specs.Schedules.{hart_named, schedule_of}
 use Rattle.rv_pmp.specs.declared.access.Access.{Access}
 use Rattle.rv_pmp.specs.declared.access.Access.TheVariants.{Fetch, Read, Write}
 use Rattle.rv_pmp.specs.declared.mode.Mode.{Mode}
 use Rattle.rv_pmp.specs.declared.mode.Mode.TheVariants.{U, S, M}
 use Rattle.rv_word.specs.declared.width.Width.{Width}
 use Rattle.rv_word.specs.declared.width.Width.TheVariants.{Byte, Half, Word}
-use Rattle.rv_debug.specs.declared.keyword.Keyword.{Keyword}
-use Rattle.rv_debug.specs.declared.keyword.Keyword.TheVariants as keyword
-use Rattle.rv_debug.specs.declared.command.Command.{Command}
-use Rattle.rv_debug.specs.declared.command.Command.TheVariants as command
-use Rattle.rv_debug.specs.declared.command.CommandFault.{CommandFault}
-use Rattle.rv_debug.specs.declared.command.CommandFault.TheVariants.{BadLine, UnknownCommand, BadOperand}
+use Rattle.rv_script.specs.declared.keyword.Keyword.{Keyword}
+use Rattle.rv_script.specs.declared.keyword.Keyword.TheVariants as keyword
+use Rattle.rv_script.specs.declared.command.Command.{Command}
+use Rattle.rv_script.specs.declared.command.Command.TheVariants as command
+use Rattle.rv_script.specs.declared.command.CommandFault.{CommandFault}
+use Rattle.rv_script.specs.declared.command.CommandFault.TheVariants.{BadLine, UnknownCommand, BadOperand}
 
 -- a decimal number in a range
 abbrev pub decimal_within : ℕ → ℕ → List ℕ → Option ℕ
@@ -136,3 +138,10 @@ abbrev pub number_of_fault : CommandFault → ℕ
 number_of_fault BadLine = 1
 number_of_fault UnknownCommand = 2
 number_of_fault BadOperand = 3
+
+-- the bytes that a command names by their addresses
+abbrev pub bytes_named : Command → Block
+bytes_named (command.Mem address count) = record { base = address; size = count }
+bytes_named (command.Dis address) = record { base = address; size = 4 }
+bytes_named (command.Poke address byte) = record { base = address; size = 1 }
+bytes_named _ = no_block

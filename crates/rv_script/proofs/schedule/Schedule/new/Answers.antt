@@ -1,8 +1,8 @@
 use Rattle.std.proofs.Common.{◌≡◌, ◌∙◌, ◌-◌, ℕ, List, ◌++◌, drop, length, replicate, Some, sym, ap, ap₂}
 use Rattle.std.proofs.lemmas.List.{drop-replicate}
-use Rattle.rv_debug.specs.Schedules.{schedule_of}
-use Rattle.rv_debug.specs.declared.schedule.Schedule.{Schedule}
-use Rattle.rv_debug.proofs.schedule.Schedule.new.Goals as goal
+use Rattle.rv_script.specs.Schedules.{schedule_of}
+use Rattle.rv_script.specs.declared.schedule.Schedule.{Schedule}
+use Rattle.rv_script.proofs.schedule.Schedule.new.Goals as goal
 
 -- zeros stay behind what is copied over the first
 copied : (most : ℕ) (word front : List ℕ) → front ≡ word → front ++ drop (length word) (replicate most 0) ≡ word ++ replicate (most - length word) 0

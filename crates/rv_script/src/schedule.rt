@@ -2,7 +2,7 @@
 
 ghost use Rattle.std.specs.Prelude.{◌≡◌, ◌<◌, nat_lt, map};
 ghost use Rattle.std.specs.List.{list_all};
-ghost use Rattle.rv_debug.specs.Schedules.{is_hart_digit as is_hart_digit_of, is_schedule as is_schedule_of, hart_of_digit, harts_in, schedule_of, hart_named, has_all};
+ghost use Rattle.rv_script.specs.Schedules.{is_hart_digit as is_hart_digit_of, is_schedule as is_schedule_of, hart_of_digit, harts_in, schedule_of, hart_named, has_all};
 
 /// The most steps that one schedule has.
 const MOST: usize = 64;
@@ -31,7 +31,7 @@ fn is_schedule(word: &[u8]) -> bool
 
 /// The hart that a digit names: 1 is that of hart 1.
 #[tactic(auto, unfolding(crate::specs::Schedules::hart_of_digit))]
-pub(crate) fn hart(digit: u8) -> u8
+pub fn hart(digit: u8) -> u8
     ensures which { result ≡ hart_of_digit digit }
     ensures few { result < 2 }
 {
@@ -83,14 +83,14 @@ impl Schedule {
     }
 
     /// The harts' digits, in the order of their steps.
-    pub(crate) fn digits(&self) -> &[u8]
+    pub fn digits(&self) -> &[u8]
         ensures { map hart_of_digit result.now ≡ harts_in self.now }
     {
         &self.digits[..usize::from(self.steps).min(MOST)]
     }
 
     /// Whether each step is made by a hart below this number.
-    pub(crate) fn names_only(&self, harts: u8) -> bool
+    pub fn names_only(&self, harts: u8) -> bool
         ensures { result ≡ has_all harts (harts_in self.now) }
     {
         name_only(self.digits(), harts)

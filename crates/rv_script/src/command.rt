@@ -3,15 +3,15 @@
 ghost use Rattle.std.specs.Prelude.{◌≡◌, [], ◌∷◌, map};
 ghost use Rattle.rv_word.specs.Cases.{option_case};
 ghost use Rattle.rv_enclaves.specs.Blocks.{no_block};
-ghost use Rattle.rv_debug.specs.TwoBenches.{named};
-ghost use Rattle.rv_debug.specs.Command.{decimal_within, register_of, switch_of, mode_of, access_of, width_of, operands_of, meaning_of, parse_of, number_of_fault};
+ghost use Rattle.rv_script.specs.Command.{bytes_named};
+ghost use Rattle.rv_script.specs.Command.{decimal_within, register_of, switch_of, mode_of, access_of, width_of, operands_of, meaning_of, parse_of, number_of_fault};
 
 use crate::keyword::Keyword;
 use crate::numbers::{byte, csr_number, decimal, hexadecimal};
 use crate::schedule::{Schedule, hart_operand};
 use crate::within::Within;
+use rv_enclaves::Block;
 use rv_encoding::CsrNumber;
-use rv_monitor::Block;
 use rv_pmp::{Access, Mode};
 use rv_text::{first_words, is_good_line};
 use rv_word::{Reg, Width};
@@ -79,8 +79,8 @@ pub enum Command {
 
 impl Command {
     /// The bytes that a mem, dis or poke names by their addresses; no other command names any.
-    pub(crate) fn named(&self) -> Option<Block>
-        ensures { option_case result no_block (λ block. block) ≡ named self.now }
+    pub fn named(&self) -> Option<Block>
+        ensures { option_case result no_block (λ block. block) ≡ bytes_named self.now }
     {
         match *self {
             Command::Mem(address, count) => Some(Block {

@@ -2,8 +2,8 @@ use Rattle.std.proofs.Common.{rules, tests, ◌∙◌}
 use Rattle.std.specs.Str.{bytes_eq}
 use Rattle.std.proofs.lemmas.Iterator.{YieldsList-from_slice}
 use Rattle.std.proofs.lemmas.Iterator.Search.{find_from_yields_List}
-use Rattle.rv_debug.proofs.Keywords.{row-found}
-use Rattle.rv_debug.proofs.keyword.Keyword.matching.Goals as goal
+use Rattle.rv_script.proofs.Keywords.{row-found}
+use Rattle.rv_script.proofs.keyword.Keyword.matching.Goals as goal
 
 pub returns-in_err-row : goal.returns-in_err-row
 returns-in_err-row c =

@@ -1,8 +1,8 @@
 use Rattle.std.proofs.Common.{◌∙◌, sym, ap}
 use Rattle.std.proofs.lemmas.List.Folds.{list_all-map}
 use Rattle.std.specs.Prelude.{nat_lt}
-use Rattle.rv_debug.specs.Schedules.{has_all, hart_of_digit}
-use Rattle.rv_debug.proofs.schedule.Schedule.names_only.Goals as goal
+use Rattle.rv_script.specs.Schedules.{has_all, hart_of_digit}
+use Rattle.rv_script.proofs.schedule.Schedule.names_only.Goals as goal
 
 pub returns : goal.returns
 unfolding has_all

@@ -2,14 +2,14 @@
 use Rattle.std.proofs.Common.{◌≡◌, ℕ, nat_eq, List, [], ◌∷◌, take, Option, Some, None, Ok, Err, refl, ap}
 use Rattle.std.specs.Prelude.{codes, if◌then◌else◌}
 use Rattle.std.specs.List.{starts_with}
-use Rattle.rv_debug.specs.declared.command.Command.{Command}
-use Rattle.rv_debug.specs.declared.command.Command.TheVariants.{Blank}
-use Rattle.rv_debug.specs.declared.keyword.Keyword.{Keyword}
-use Rattle.rv_debug.specs.declared.keyword.Keyword.TheVariants.{Step, Run, Break, Clear, Watch, Unwatch, Reg, Regs, SetReg, Csr, Mem, Poke, Dis, Pmp, Enclaves}
-use Rattle.rv_debug.specs.declared.keyword.Keyword.TheVariants.{Access, Timer, Hart, Sched}
-use Rattle.rv_debug.specs.Command.{none, one, two, four, operands_of, keyword_of, named, meaning_of, parse_of}
+use Rattle.rv_script.specs.declared.command.Command.{Command}
+use Rattle.rv_script.specs.declared.command.Command.TheVariants.{Blank}
+use Rattle.rv_script.specs.declared.keyword.Keyword.{Keyword}
+use Rattle.rv_script.specs.declared.keyword.Keyword.TheVariants.{Step, Run, Break, Clear, Watch, Unwatch, Reg, Regs, SetReg, Csr, Mem, Poke, Dis, Pmp, Enclaves}
+use Rattle.rv_script.specs.declared.keyword.Keyword.TheVariants.{Access, Timer, Hart, Sched}
+use Rattle.rv_script.specs.Command.{none, one, two, four, operands_of, keyword_of, named, meaning_of, parse_of}
 use Rattle.rv_text.specs.Words.{words_of}
-use Rattle.rv_debug.specs.declared.command.CommandFault.TheVariants.{BadLine}
+use Rattle.rv_script.specs.declared.command.CommandFault.TheVariants.{BadLine}
 use Rattle.rv_text.proofs.CutLines.{if_good-take}
 
 none-take : (command : Command) (operands : List (List ℕ)) → none command (take 5 operands) ≡ none command operands

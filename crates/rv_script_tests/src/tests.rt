@@ -1,8 +1,8 @@
 //! How lines are read as commands, and the first fault of those that are none.
 
-use rv_debug::{ByteCount, Command, CommandFault, Schedule, StepCount, parse};
 use rv_encoding::CsrNumber;
 use rv_pmp::{Access, Mode};
+use rv_script::{ByteCount, Command, CommandFault, Schedule, StepCount, parse};
 use rv_word::{Reg, Width};
 use std::process::Abort;
 

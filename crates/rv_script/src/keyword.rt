@@ -3,7 +3,7 @@
 ghost use Rattle.std.specs.Prelude.{◌≡◌, ℕ, List, find, map};
 ghost use Rattle.std.specs.Option.{option_map};
 ghost use Rattle.std.specs.Str.{bytes_eq};
-ghost use Rattle.rv_debug.specs.Command.{keyword_of};
+ghost use Rattle.rv_script.specs.Command.{keyword_of};
 
 /// A command's first word.
 #[derive(Clone, Copy)]

@@ -3,17 +3,17 @@ use Rattle.std.proofs.Common.{◌≡◌, ℕ, true, false, List, [], ◌∷◌, 
 use Rattle.std.specs.Prelude.{codes}
 use Rattle.rv_text.specs.GoodLines.{is_text}
 use Rattle.rv_text.specs.Words.{words_of}
-use Rattle.rv_debug.specs.Numbers.{decimal_of, hexadecimal_of, csr_number_of, byte_of_text}
+use Rattle.rv_script.specs.Numbers.{decimal_of, hexadecimal_of, csr_number_of, byte_of_text}
 use Rattle.rv_text.specs.Numbers.{number_of_digits}
-use Rattle.rv_debug.specs.declared.command.Command.{Command}
-use Rattle.rv_debug.specs.declared.command.Command.TheVariants.{Blank, Step, Run, Break, Clear, Watch, Unwatch, Reg, Regs, SetReg, Csr, Mem, Poke, Dis, Pmp}
-use Rattle.rv_debug.specs.declared.command.Command.TheVariants.{Enclaves, Access, Timer}
+use Rattle.rv_script.specs.declared.command.Command.{Command}
+use Rattle.rv_script.specs.declared.command.Command.TheVariants.{Blank, Step, Run, Break, Clear, Watch, Unwatch, Reg, Regs, SetReg, Csr, Mem, Poke, Dis, Pmp}
+use Rattle.rv_script.specs.declared.command.Command.TheVariants.{Enclaves, Access, Timer}
 use Rattle.rv_pmp.specs.declared.access.Access.TheVariants.{Fetch, Read, Write}
 use Rattle.rv_pmp.specs.declared.mode.Mode.TheVariants.{U, S, M}
 use Rattle.rv_word.specs.declared.width.Width.TheVariants.{Byte, Half, Word}
-use Rattle.rv_debug.specs.declared.command.CommandFault.{CommandFault}
-use Rattle.rv_debug.specs.declared.command.CommandFault.TheVariants.{BadLine, UnknownCommand, BadOperand}
-use Rattle.rv_debug.specs.Command.{keyword_of, meaning_of, parse_of}
+use Rattle.rv_script.specs.declared.command.CommandFault.{CommandFault}
+use Rattle.rv_script.specs.declared.command.CommandFault.TheVariants.{BadLine, UnknownCommand, BadOperand}
+use Rattle.rv_script.specs.Command.{keyword_of, meaning_of, parse_of}
 
 abbrev examples : List (List ℕ × Result Command CommandFault)
 examples =

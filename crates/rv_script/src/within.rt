@@ -1,7 +1,7 @@
 //! Numbers in a range that their type names.
 
 ghost use Rattle.std.specs.Prelude.{◌≡◌, ◌≤◌, ℕ};
-ghost use Rattle.rv_debug.specs.Within.{within};
+ghost use Rattle.rv_script.specs.Within.{within};
 
 use std::marker::Model;
 

@@ -1,9 +1,9 @@
 use Rattle.std.proofs.Common.{◌≡◌, arith}
 use Rattle.std.proofs.lemmas.Bool.Decides.{nat_tests}
 use Rattle.rv_text.specs.Words.{words_of}
-use Rattle.rv_debug.specs.Command.{parse_of, meaning_of}
-use Rattle.rv_debug.proofs.Commands.{meaning_of-take}
-use Rattle.rv_debug.proofs.command.parse.Goals as goal
+use Rattle.rv_script.specs.Command.{parse_of, meaning_of}
+use Rattle.rv_script.proofs.Commands.{meaning_of-take}
+use Rattle.rv_script.proofs.command.parse.Goals as goal
 
 pub returns : goal.returns
 unfolding parse_of

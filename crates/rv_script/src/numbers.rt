@@ -1,7 +1,7 @@
 //! Numbers that the operands of a command write.
 
 ghost use Rattle.std.specs.Prelude.{◌≡◌};
-ghost use Rattle.rv_debug.specs.Numbers.{hexadecimal_of, csr_number_of, byte_of_text, decimal_of};
+ghost use Rattle.rv_script.specs.Numbers.{hexadecimal_of, csr_number_of, byte_of_text, decimal_of};
 
 use rv_encoding::CsrNumber;
 use rv_text::digits;

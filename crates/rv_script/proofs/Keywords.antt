@@ -3,10 +3,10 @@ use Rattle.std.proofs.Common.{◌≡◌, ◌∙◌, ℕ, Bool, true, false, cond
 use Rattle.std.specs.List.{find}
 use Rattle.std.specs.Option.{option_map}
 use Rattle.std.specs.Str.{bytes_eq}
-use Rattle.rv_debug.specs.declared.keyword.Keyword.{Keyword}
-use Rattle.rv_debug.specs.declared.keyword.Keyword.TheVariants.{Step, Run, Break, Clear, Watch, Unwatch, Reg, Regs, SetReg, Csr, Mem, Poke, Dis, Pmp, Enclaves}
-use Rattle.rv_debug.specs.declared.keyword.Keyword.TheVariants.{Access, Timer, Hart, Sched}
-use Rattle.rv_debug.specs.Command.{spelling_of, keywords, keyword_of}
+use Rattle.rv_script.specs.declared.keyword.Keyword.{Keyword}
+use Rattle.rv_script.specs.declared.keyword.Keyword.TheVariants.{Step, Run, Break, Clear, Watch, Unwatch, Reg, Regs, SetReg, Csr, Mem, Poke, Dis, Pmp, Enclaves}
+use Rattle.rv_script.specs.declared.keyword.Keyword.TheVariants.{Access, Timer, Hart, Sched}
+use Rattle.rv_script.specs.Command.{spelling_of, keywords, keyword_of}
 
 mapped_if : {A B : Type 0} (f : A → B) (b : Bool) (x : A) (o : Option A) (p : Option B) → option_map f o ≡ p
     → option_map f (cond b (Some x) o) ≡ cond b (Some (f x)) p

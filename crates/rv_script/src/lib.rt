@@ -1,0 +1,20 @@
+//! The language of scripts: the commands of the bench, and how a line is read as one. What a command does is another crate's.
+//!
+//! In the specs `Command` is the table of the commands and their operands, `Numbers` and `Within` say what an operand writes, and
+//! `Schedules` which hart makes which step.
+//!
+//! ```text
+//! parse(b"step 1")    // Ok(Command::Step(1))
+//! parse(b"step 0")    // Err(CommandFault::Range), the fault of an operand out of range
+//! ```
+#![tactic(auto)]
+
+mod command;
+mod keyword;
+mod numbers;
+mod schedule;
+mod within;
+
+pub use command::{ByteCount, Command, CommandFault, StepCount, parse};
+pub use schedule::{Schedule, hart};
+pub use within::Within;
