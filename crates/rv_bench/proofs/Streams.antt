@@ -5,24 +5,25 @@ use Rattle.rv_text.specs.Lines.{lines_of}
 use Rattle.rv_debug.specs.BenchState.{BenchState}
 use Rattle.rv_memory.specs.declared.ram_fault.RamFault.TheVariants.{BadSize, NoMemory as NoRamMemory}
 use Rattle.rv_command_line.specs.declared.setup.Setup.{Setup}
-use Rattle.rv_bench.specs.declared.device.Sink.{Ghosts as SinkGhosts}
-use Rattle.rv_bench.specs.declared.device.Source.{Ghosts as SourceGhosts}
-use Rattle.rv_bench.specs.declared.fault.BenchFault.{BenchFault}
-use Rattle.rv_bench.specs.declared.fault.BenchFault.TheVariants.{Image, Ram, Read, Write}
-use Rattle.rv_bench.specs.declared.lines.Lines.{Lines}
-use Rattle.rv_bench.specs.declared.separator.ScriptEnd.TheVariants.{Input}
-use Rattle.rv_bench.specs.Calls.{SourceFailed}
-use Rattle.rv_bench.specs.Image.{image_in}
+use Rattle.rv_streams.specs.declared.device.Sink.{Ghosts as SinkGhosts}
+use Rattle.rv_streams.specs.declared.device.Source.{Ghosts as SourceGhosts}
+use Rattle.rv_streams.specs.declared.fault.BenchFault.{BenchFault}
+use Rattle.rv_streams.specs.declared.fault.BenchFault.TheVariants.{Image, Ram, Read, Write}
+use Rattle.rv_streams.specs.declared.lines.Lines.{Lines}
+use Rattle.rv_streams.specs.declared.separator.ScriptEnd.TheVariants.{Input}
+use Rattle.rv_streams.specs.Calls.{SourceFailed}
+use Rattle.rv_streams.specs.Image.{image_in}
 use Rattle.rv_bench.specs.Loaded.{started}
 use Rattle.rv_bench.specs.Output.{bench_in, output, replies_of}
 use Rattle.rv_bench.specs.Replies.{bench_line, one_bench, replies}
-use Rattle.rv_bench.specs.Run.{Outcome, RunsBench, StopsAtRead, StopsAtWrite}
-use Rattle.rv_bench.specs.Script.{ReadsThroughSeparator}
-use Rattle.rv_bench.specs.Separator.{after_separator}
+use Rattle.rv_streams.specs.Faults.{Outcome}
+use Rattle.rv_bench.specs.Run.{RunsBench, StopsAtRead, StopsAtWrite}
+use Rattle.rv_streams.specs.Script.{ReadsThroughSeparator}
+use Rattle.rv_streams.specs.Separator.{after_separator}
 use Rattle.rv_bench.specs.Stream.{RunsStream}
-use Rattle.rv_bench.specs.Transfer.{WritesFront}
-use Rattle.rv_bench.specs.Unread.{held, unread, TellsEnd}
-use Rattle.rv_bench.proofs.Ends.{TellsEnd-more, separator_read}
+use Rattle.rv_streams.specs.Transfer.{WritesFront}
+use Rattle.rv_streams.specs.Unread.{held, unread, TellsEnd}
+use Rattle.rv_streams.proofs.Ends.{TellsEnd-more, separator_read}
 use Rattle.rv_bench.proofs.Starts.{no_ram, has_ram, fault_has_ram}
 
 ok_and : {A E : Type 0} (r : Result A E) (P : A → Type 0) → IsOkAnd r P → (x : A) × (r ≡ Ok x) × P x

@@ -1,16 +1,17 @@
 -- What is answered to the lines of a script, by whatever answers them, as far as it is read: to its end, or to the line after which it is
 -- over. (This project's own streams.)
 use Rattle.std.specs.Prelude.{◌≡◌, ◌⊎◌, ℕ, Bool, true, false, List, [], ◌++◌, take, IsTrue, Ok, Err}
-use Rattle.rv_bench.specs.declared.device.Sink.{Ghosts as SinkGhosts}
-use Rattle.rv_bench.specs.declared.device.Source.{Ghosts as SourceGhosts}
-use Rattle.rv_bench.specs.declared.lines.Lines.{Lines}
-use Rattle.rv_bench.specs.declared.separator.ScriptEnd.{ScriptEnd}
-use Rattle.rv_bench.specs.Calls.{SourceWorked, SinkWorked}
-use Rattle.rv_bench.specs.LineText.{TakesLine}
+use Rattle.rv_streams.specs.declared.device.Sink.{Ghosts as SinkGhosts}
+use Rattle.rv_streams.specs.declared.device.Source.{Ghosts as SourceGhosts}
+use Rattle.rv_streams.specs.declared.lines.Lines.{Lines}
+use Rattle.rv_streams.specs.declared.separator.ScriptEnd.{ScriptEnd}
+use Rattle.rv_streams.specs.Calls.{SourceWorked, SinkWorked}
+use Rattle.rv_streams.specs.LineText.{TakesLine}
 use Rattle.rv_bench.specs.Replies.{Answering, Replied, replies, state_after}
-use Rattle.rv_bench.specs.Run.{Outcome, FailsIn}
-use Rattle.rv_bench.specs.Script.{ends_script, TakesScript, FindsEnd}
-use Rattle.rv_bench.specs.Unread.{held, unread}
+use Rattle.rv_streams.specs.Faults.{Outcome}
+use Rattle.rv_bench.specs.Run.{FailsIn}
+use Rattle.rv_streams.specs.Script.{ends_script, TakesScript, FindsEnd}
+use Rattle.rv_streams.specs.Unread.{held, unread}
 
 -- a line has this answer, and so has every one that begins with the same 121 bytes
 abbrev pub AnswersLine : {A : Type 0} → Answering A → A → List ℕ → Replied A → Type 0

@@ -6,7 +6,7 @@ use Rattle.rv_debug.specs.TwoBenches.{BothTold, both_line_answer, can_scramble, 
 use Rattle.rv_debug.specs.declared.both.BothLine.{BothLine}
 use Rattle.rv_debug.specs.declared.both.BothLine.TheVariants.{Faulty, Given}
 use Rattle.rv_debug.specs.declared.both.BothWhy.TheVariants.{All, Entered, NotBlind}
-use Rattle.rv_bench.specs.Device.{one_more}
+use Rattle.rv_streams.specs.Device.{one_more}
 use Rattle.rv_bench.specs.Replies.{Answering, Replied, replies, state_after}
 use Rattle.rv_bench.specs.declared.apart.Apart.{Apart}
 

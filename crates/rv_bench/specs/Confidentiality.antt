@@ -10,7 +10,7 @@ use Rattle.rv_debug.specs.TwoBenches.{BenchesAgreeBut, can_scramble}
 use Rattle.rv_command_line.specs.declared.setup.Setup.{Setup}
 use Rattle.rv_bench.specs.Output.{bench_in, output}
 use Rattle.rv_bench.specs.Replies.{bench_line, replies, state_after}
-use Rattle.rv_bench.specs.Separator.{after_separator, has_separator}
+use Rattle.rv_streams.specs.Separator.{after_separator, has_separator}
 
 -- ---- a part of a script
 

@@ -19,8 +19,8 @@ use Rattle.rv_command_line.specs.declared.harts.Harts.TheVariants.{One, Two}
 use Rattle.rv_command_line.specs.declared.image_kind.ImageKind.{ImageKind}
 use Rattle.rv_command_line.specs.declared.image_kind.ImageKind.TheVariants.{Auto, Raw, Elf}
 use Rattle.rv_command_line.specs.declared.setup.Setup.{Setup}
-use Rattle.rv_bench.specs.declared.fault.BenchFault.{BenchFault}
-use Rattle.rv_bench.specs.declared.fault.BenchFault.TheVariants.{Image, Ram}
+use Rattle.rv_streams.specs.declared.fault.BenchFault.{BenchFault}
+use Rattle.rv_streams.specs.declared.fault.BenchFault.TheVariants.{Image, Ram}
 
 -- the image is read as an ELF file: by its first four bytes, where the kind leaves that open
 abbrev pub is_read_as_elf : ImageKind → List ℕ → Bool

@@ -5,19 +5,20 @@ use Rattle.rv_debug.specs.BenchState.{BenchState}
 use Rattle.rv_memory.specs.Memory.{is_ram_size}
 use Rattle.rv_memory.specs.declared.ram_fault.RamFault.TheVariants.{BadSize, NoMemory as NoRamMemory}
 use Rattle.rv_command_line.specs.declared.setup.Setup.{Setup}
-use Rattle.rv_bench.specs.declared.device.Sink.{Ghosts as SinkGhosts}
-use Rattle.rv_bench.specs.declared.device.Source.{Ghosts as SourceGhosts}
-use Rattle.rv_bench.specs.declared.fault.BenchFault.{BenchFault}
-use Rattle.rv_bench.specs.declared.fault.BenchFault.TheVariants.{Image, Ram, Read, Write}
-use Rattle.rv_bench.specs.declared.lines.Lines.{Lines}
-use Rattle.rv_bench.specs.declared.separator.ScriptEnd.{ScriptEnd}
-use Rattle.rv_bench.specs.declared.separator.ScriptEnd.TheVariants.{Input, Separator}
-use Rattle.rv_bench.specs.Calls.{SourceWorked, SourceFailed, SinkWorked, SinkFailed}
+use Rattle.rv_streams.specs.declared.device.Sink.{Ghosts as SinkGhosts}
+use Rattle.rv_streams.specs.declared.device.Source.{Ghosts as SourceGhosts}
+use Rattle.rv_streams.specs.declared.fault.BenchFault.{BenchFault}
+use Rattle.rv_streams.specs.declared.fault.BenchFault.TheVariants.{Image, Ram, Read, Write}
+use Rattle.rv_streams.specs.declared.lines.Lines.{Lines}
+use Rattle.rv_streams.specs.declared.separator.ScriptEnd.{ScriptEnd}
+use Rattle.rv_streams.specs.declared.separator.ScriptEnd.TheVariants.{Input, Separator}
+use Rattle.rv_streams.specs.Calls.{SourceWorked, SourceFailed, SinkWorked, SinkFailed}
+use Rattle.rv_streams.specs.Faults.{Outcome}
 use Rattle.rv_bench.specs.Loaded.{started}
 use Rattle.rv_bench.specs.Replies.{Answering, bench_line, one_bench, replies, state_after}
-use Rattle.rv_bench.specs.Script.{script_lines, ReadsThroughSeparator}
-use Rattle.rv_bench.specs.Transfer.{WritesFront}
-use Rattle.rv_bench.specs.Unread.{held, unread, HasEnded}
+use Rattle.rv_streams.specs.Script.{script_lines, ReadsThroughSeparator}
+use Rattle.rv_streams.specs.Transfer.{WritesFront}
+use Rattle.rv_streams.specs.Unread.{held, unread, HasEnded}
 
 module _ {A : Type 0} (by : Answering A) where
   -- The source failed. A text of whole lines of the script has its replies, after which it is not over, and the line that was begun is
@@ -46,10 +47,6 @@ module _ {A : Type 0} (by : Answering A) where
     pub going : by.is_over (state_after by.answer start answered) ≡ false
     pub written : IsTrue tells
         → WritesFront (old ++ replies by.answer start answered) new (replies by.answer (state_after by.answer start answered) next)
-
--- what a call that gives no value comes to
-abbrev pub Outcome : Type 0
-Outcome = Result (Unit {0}) BenchFault
 
 module _ {S W : Type 0} {g : SourceGhosts S} (h : SinkGhosts W) where
   -- All was read, to the end that the source answered, and just the output was written.

@@ -3,20 +3,21 @@ use Rattle.std.specs.Prelude.{◌≡◌, ◌⊎◌, true, false, IsTrue, IsOk, I
 use Rattle.rv_memory.specs.Memory.{is_ram_size}
 use Rattle.rv_memory.specs.declared.ram_fault.RamFault.TheVariants.{BadSize, NoMemory as NoRamMemory}
 use Rattle.rv_command_line.specs.declared.setup.Setup.{Setup}
-use Rattle.rv_bench.specs.declared.device.Sink.{Ghosts as SinkGhosts}
-use Rattle.rv_bench.specs.declared.device.Source.{Ghosts as SourceGhosts}
-use Rattle.rv_bench.specs.declared.fault.BenchFault.{BenchFault}
-use Rattle.rv_bench.specs.declared.fault.BenchFault.TheVariants.{Image, Ram, Read, Write, Hex, TooLong, NoMemory}
-use Rattle.rv_bench.specs.declared.lines.Lines.{Lines}
-use Rattle.rv_bench.specs.declared.separator.ScriptEnd.TheVariants.{Input}
-use Rattle.rv_bench.specs.Image.{image_in, ReadsInImage}
+use Rattle.rv_streams.specs.declared.device.Sink.{Ghosts as SinkGhosts}
+use Rattle.rv_streams.specs.declared.device.Source.{Ghosts as SourceGhosts}
+use Rattle.rv_streams.specs.declared.fault.BenchFault.{BenchFault}
+use Rattle.rv_streams.specs.declared.fault.BenchFault.TheVariants.{Image, Ram, Read, Write, Hex, TooLong, NoMemory}
+use Rattle.rv_streams.specs.declared.lines.Lines.{Lines}
+use Rattle.rv_streams.specs.declared.separator.ScriptEnd.TheVariants.{Input}
+use Rattle.rv_streams.specs.Image.{image_in, ReadsInImage}
 use Rattle.rv_bench.specs.Output.{bench_in, output}
-use Rattle.rv_bench.specs.ReadImage.{FindsFault, LacksMemory}
+use Rattle.rv_streams.specs.ReadImage.{FindsFault, LacksMemory}
 use Rattle.rv_bench.specs.Replies.{one_bench}
-use Rattle.rv_bench.specs.Run.{Outcome, RunsToEnd, FailsToRead, FailsToWrite, StopsAtRead, StopsAtWrite}
-use Rattle.rv_bench.specs.Script.{ReadsThroughSeparator}
-use Rattle.rv_bench.specs.Separator.{after_separator, has_separator}
-use Rattle.rv_bench.specs.Unread.{held, unread}
+use Rattle.rv_streams.specs.Faults.{Outcome}
+use Rattle.rv_bench.specs.Run.{RunsToEnd, FailsToRead, FailsToWrite, StopsAtRead, StopsAtWrite}
+use Rattle.rv_streams.specs.Script.{ReadsThroughSeparator}
+use Rattle.rv_streams.specs.Separator.{after_separator, has_separator}
+use Rattle.rv_streams.specs.Unread.{held, unread}
 
 module _ {S W : Type 0} {g : SourceGhosts S} (h : SinkGhosts W) (setup : Setup) (old new : Lines S g) (before after : W) where
   -- the input has this fault in place of an output

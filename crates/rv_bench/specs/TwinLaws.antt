@@ -14,7 +14,7 @@ use Rattle.rv_bench.specs.Apart.{apart_line, set_apart}
 use Rattle.rv_bench.specs.Integrity.{SparesThrough}
 use Rattle.rv_bench.specs.Output.{bench_in}
 use Rattle.rv_bench.specs.Replies.{state_after}
-use Rattle.rv_bench.specs.Separator.{after_separator}
+use Rattle.rv_streams.specs.Separator.{after_separator}
 use Rattle.rv_bench.specs.Twin.{after_first, monitored}
 
 -- ---- confidentiality

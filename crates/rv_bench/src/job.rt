@@ -2,14 +2,10 @@
 
 ghost use Rattle.rv_bench.specs.Jobs.{DoesJob};
 
-use crate::asm::run_asm;
-use crate::device::{Sink, Source};
-use crate::dis::run_dis;
-use crate::fault::BenchFault;
-use crate::lines::Lines;
 use crate::run::run_stream;
 use crate::twin::run_twin;
 use rv_command_line::Job;
+use rv_streams::{BenchFault, Lines, Sink, Source, run_asm, run_dis};
 use std::alloc::Global;
 
 /// Does a job from a source to a sink, and gives the source back, with the call's outcome. What was kept of an unfinished

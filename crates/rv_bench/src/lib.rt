@@ -16,37 +16,18 @@
 
 mod answers;
 mod apart;
-mod asm;
-mod device;
-mod dis;
 mod equal;
-mod fault;
-mod gathered;
-mod image;
 mod job;
-mod line;
-mod lines;
-mod memory;
 mod run;
-mod separator;
 mod start;
-mod stdio;
-mod transfer;
 mod twin;
-mod whole;
 
-pub use asm::run_asm;
-pub use device::{DeviceFault, Sink, Source};
-pub use dis::run_dis;
-pub use fault::BenchFault;
-pub use image::{IMAGE_MAX, read_image};
 pub use job::run_job;
-pub use line::Line;
-pub use lines::Lines;
-pub use memory::{MemorySink, MemorySource};
 pub use run::{run_bench, run_stream};
 pub use rv_command_line::{Harts, ImageKind, Job, Setup, WordsFault, read_words};
 pub use rv_elf::ElfFault;
-pub use stdio::{StandardSink, StandardSource};
+pub use rv_streams::{
+    ASM_TEXT_MAX, BenchFault, DeviceFault, IMAGE_MAX, Line, Lines, MemorySink, MemorySource, Sink, Source, StandardSink, StandardSource,
+    read_image, run_asm, run_dis,
+};
 pub use twin::run_twin;
-pub use whole::ASM_TEXT_MAX;

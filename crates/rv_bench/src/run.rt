@@ -9,18 +9,13 @@ ghost use Rattle.rv_bench.specs.MonitorRange.{ReservesMonitorRange};
 ghost use Rattle.rv_bench.specs.Output.{bench_in};
 ghost use Rattle.rv_bench.specs.Run.{RunsBench, RunsLines};
 ghost use Rattle.rv_bench.specs.Stream.{RunsStream};
-ghost use Rattle.rv_bench.specs.Unread.{unread, TellsEnd};
+ghost use Rattle.rv_streams.specs.Unread.{unread, TellsEnd};
 
 use crate::answers::Answers;
-use crate::device::{Sink, Source};
-use crate::fault::BenchFault;
-use crate::image::read_image;
-use crate::lines::Lines;
-use crate::separator::ScriptEnd;
 use crate::start::start;
-use crate::transfer::write_all;
 use rv_command_line::Setup;
 use rv_debug::Bench;
+use rv_streams::{BenchFault, Lines, ScriptEnd, Sink, Source, read_image, write_all};
 use std::alloc::Global;
 use std::convert::AsSlice;
 

@@ -4,7 +4,6 @@ ghost use Rattle.std.specs.Prelude.{◌≡◌, ◌%◌, length, IfOk};
 ghost use Rattle.rv_bench.specs.Loaded.{harts_of, is_read_as_elf as is_read_as_elf_of, planned as planned_of, reset_over, Starts};
 ghost use Rattle.rv_bench.specs.MonitorRange.{ReservesMonitorRange};
 
-use crate::fault::BenchFault;
 use rv_command_line::{Harts, ImageKind, Setup};
 use rv_debug::Bench;
 use rv_elf::{ElfFault, Plan, is_elf, load, plan, plan_raw};
@@ -12,6 +11,7 @@ use rv_hart::Machine;
 use rv_memory::Ram;
 use rv_monitor::Monitored;
 use rv_pmp::Mode;
+use rv_streams::BenchFault;
 use std::alloc::Global;
 
 /// Whether the image is read as an ELF file: by its first four bytes, where the kind leaves that open.

@@ -5,20 +5,15 @@ ghost use Rattle.rv_bench.specs.Apart.{set_apart as set_apart_of, no_slot_text};
 ghost use Rattle.rv_bench.specs.Loaded.{Starts, started};
 ghost use Rattle.rv_bench.specs.Twin.{RunsSecond, RunsTwin, monitored};
 ghost use Rattle.rv_bench.specs.TwinLaws.{TwinConceals, TwinSpares};
-ghost use Rattle.rv_bench.specs.Unread.{held, unread, TellsEnd};
+ghost use Rattle.rv_streams.specs.Unread.{held, unread, TellsEnd};
 
 use crate::apart::{Apart, ApartBenches};
-use crate::device::{Sink, Source};
 use crate::equal::EqualBenches;
-use crate::fault::BenchFault;
-use crate::gathered::write_last;
-use crate::image::read_image;
-use crate::lines::Lines;
 use crate::run::run_lines;
-use crate::separator::ScriptEnd;
 use crate::start::start;
 use rv_command_line::Setup;
 use rv_monitor::Slot;
+use rv_streams::{BenchFault, Lines, ScriptEnd, Sink, Source, read_image, write_last};
 use rv_text::{Reply, push_text};
 use std::alloc::Global;
 

@@ -1,6 +1,6 @@
 //! A source and a sink over memory for tests: they move few bytes a call, and fail at a set call.
 ghost use Rattle.std.specs.Prelude.{◌≡◌, ◌<◌, [], true, false, length};
-ghost use Rattle.rv_bench.specs.MemoryStreams.{rest_of, bytes_of};
+ghost use Rattle.rv_streams.specs.MemoryStreams.{rest_of, bytes_of};
 
 use rv_bench::{DeviceFault, MemorySink, MemorySource, Sink, Source};
 

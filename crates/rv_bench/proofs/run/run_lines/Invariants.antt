@@ -1,5 +1,5 @@
 use Rattle.std.proofs.Common.{◌≡◌}
-use Rattle.rv_bench.specs.Unread.{calls_left}
+use Rattle.rv_streams.specs.Unread.{calls_left}
 use Rattle.rv_bench.proofs.Turns.{SoFar}
 use Rattle.rv_bench.proofs.run.run_lines.Given as goal
 

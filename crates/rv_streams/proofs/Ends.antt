@@ -1,0 +1,68 @@
+-- How lines come to their end.
+use Rattle.std.proofs.Common.{◌≡◌, ℕ, Bool, true, false, inl, inr, Result, Ok, refl, sym, ap, ◌∙◌, arith, IsTrue}
+use Rattle.std.proofs.lemmas.Bool.{false≢true}
+use Rattle.std.specs.Result.{is_err}
+use Rattle.rv_streams.specs.declared.device.Source.{Ghosts}
+use Rattle.rv_streams.specs.declared.lines.Lines.{Lines}
+use Rattle.rv_streams.specs.declared.device.Sink.{Ghosts as SinkGhosts}
+use Rattle.rv_streams.specs.Calls.{SinkFailed, SinkWorked}
+use Rattle.rv_streams.specs.Device.{counted, one_more, HasRisen}
+use Rattle.rv_streams.specs.Script.{ReadsThroughSeparator}
+use Rattle.rv_streams.specs.Separator.{has_separator}
+use Rattle.rv_streams.specs.Unread.{unread, HasEnded, TellsEnd}
+
+-- nothing has changed
+pub TellsEnd-none : {S : Type 0} {g : Ghosts S} (lines : Lines S g) → TellsEnd lines lines
+TellsEnd-none lines = record {
+  stays = λ e. (e, refl);
+  going = λ _. refl;
+  ended = λ e. inl e;
+}
+
+-- the source has just answered its end
+pub TellsEnd-ends : {S : Type 0} {g : Ghosts S} (old new : Lines S g) → old.is_at_end ≡ false → new.is_at_end ≡ true
+    → g.ends new.source ≡ one_more (g.ends old.source) → TellsEnd old new
+TellsEnd-ends {S} {g} old new before after count =
+    let risen : HasRisen (g.ends old.source) (g.ends new.source) = omega (arith, count) in record {
+      stays = λ e. cc;
+      going = λ e. cc;
+      ended = λ _. inr risen;
+    }
+
+-- a read that did not fail leaves the count of failures as it was
+pub no_failure : {A E : Type 0} (old mid new : ℕ) (r : Result A E) (a : A) → new ≡ counted (is_err r) mid → r ≡ Ok a → mid ≡ old → new ≡ old
+no_failure old mid new r a count ok same = count ∙ (ap (λ r. counted (is_err r) mid) ok ∙ same)
+
+-- a sink that fails after it worked
+pub SinkFailed-after : {W : Type 0} (h : SinkGhosts W) {old mid new : W} → SinkWorked h old mid → SinkFailed h mid new → SinkFailed h old new
+SinkFailed-after h worked (inl risen) = let same = worked.0 in inl (omega (arith, risen, same))
+SinkFailed-after h worked (inr risen) = let same = worked.1 in inr (omega (arith, risen, same))
+
+-- one call and another
+pub TellsEnd-more : {S : Type 0} {g : Ghosts S} (old mid new : Lines S g) → TellsEnd old mid → TellsEnd mid new → TellsEnd old new
+TellsEnd-more {S} {g} old mid new first next = record {
+  stays = λ e. let was = first.stays e in let is = next.stays was.0 in (is.0, is.1 ∙ was.1);
+  going = λ e. go_on mid.is_at_end refl e;
+  ended = λ e. go_to mid.is_at_end refl e;
+} where
+  go_on : (b : Bool) → mid.is_at_end ≡ b → new.is_at_end ≡ false → g.ends new.source ≡ g.ends old.source
+  go_on true was e = let is = (next.stays was).0 in cc
+  go_on false was e = next.going e ∙ first.going was
+
+  go_to : (b : Bool) → mid.is_at_end ≡ b → new.is_at_end ≡ true → HasEnded old new
+  go_to true was e = elim (first.ended was) [
+    | inl at_end ↦ inl at_end
+    | inr risen ↦ let same = (next.stays was).1 in let r : HasRisen (g.ends old.source) (g.ends new.source) = omega (arith, risen, same) in inr r
+  ]
+  go_to false was e = elim (next.ended e) [
+    | inl at_end ↦ cc
+    | inr risen ↦ let same = first.going was in let r : HasRisen (g.ends old.source) (g.ends new.source) = omega (arith, risen, same) in inr r
+  ]
+
+-- what was read through a separator, and not to the end of the input, has one
+pub separator_read : {S : Type 0} {g : Ghosts S} (old mid new : Lines S g) → ReadsThroughSeparator old mid → TellsEnd mid new → new.is_at_end ≡ false
+    → IsTrue g.tells → IsTrue (has_separator (unread old))
+separator_read old mid new reads end going tells = elim reads.ended [
+  | inl at_end ↦ absurd (false≢true (sym going ∙ (end.stays at_end).0))
+  | inr has ↦ has tells
+]

@@ -1,0 +1,249 @@
+-- The image of lines that are read one by one.
+use Rattle.std.proofs.Common.{◌≡◌, ℕ, ◌+◌, ◌<◌, ◌≤◌, ltb, Bool, true, false, not, List, [], ◌∷◌, ◌++◌, length, Ok, Err, Option}
+use Rattle.std.proofs.Common.{Some, None, refl, sym, ◌∙◌, ap, subst, arith, append-nil}
+use Rattle.std.proofs.lemmas.Grind.{flat_map-append}
+use Rattle.std.proofs.lemmas.Bool.Decides.{nat_tests}
+use Rattle.std.proofs.lemmas.List.{length-append}
+use Rattle.std.specs.List.{list_all, take_while}
+use Rattle.std.specs.Option.{IsSomeAnd, is_some, unwrap_or, option_and_then}
+use Rattle.rv_streams.specs.declared.fault.BenchFault.TheVariants.{Hex, TooLong}
+use Rattle.rv_streams.specs.declared.separator.ScriptEnd.TheVariants.{Separator}
+use Rattle.rv_text.specs.Lines.{lines_of}
+use Rattle.rv_streams.specs.LineText.{ReadsText, TakesLine, ReadsLines}
+use Rattle.rv_streams.specs.Image.{bytes_of_digits, line_bytes, is_image_line, bytes_of_lines, image_of, image_in, ReadsInImage, ReadsUnmarked, ReadsFrontOfImage}
+use Rattle.rv_streams.specs.Image.{StopsAtFault}
+use Rattle.rv_streams.specs.Separator.{line_word, is_separator, before_separator}
+use Rattle.rv_streams.proofs.LineTextLemmas.{ReadsLines-none, ReadsLines-more}
+use Rattle.rv_streams.specs.Script.{TakesScript}
+use Rattle.rv_streams.proofs.ScriptLemmas.{line_word-take, ends_script-shown, ReadsScript}
+use Rattle.rv_streams.proofs.TakeWhileLemmas.{take_while-all, take_while-stop, take_while-pass, list_all-push, list_all-stop}
+
+-- The lines that were taken are no separator and spell the image so far.
+pub record SpellsImage (unread left : List ℕ) (is_at_end : Bool) (image : List ℕ) : Type 0 where
+  pub lines : List (List ℕ)
+  pub reads : ReadsLines unread left is_at_end lines
+  pub unmarked : list_all (λ line. not (is_separator line)) lines ≡ true
+  pub sound : list_all is_image_line lines ≡ true
+  pub spelled : image ≡ bytes_of_lines lines
+
+pub SpellsImage-none : (unread : List ℕ) (is_at_end : Bool) → SpellsImage unread unread is_at_end []
+SpellsImage-none unread is_at_end = record {
+  lines = [];
+  reads = ReadsLines-none unread is_at_end;
+  unmarked = refl;
+  sound = refl;
+  spelled = refl;
+}
+
+-- the lines are not at their end
+pub SpellsImage-going : (unread left : List ℕ) (is_at_end : Bool) (image : List ℕ) → SpellsImage unread left is_at_end image → is_at_end ≡ false
+    → SpellsImage unread left false image
+SpellsImage-going unread left is_at_end image so_far going = subst (λ b. SpellsImage unread left b image) going so_far
+
+-- The lines so far spell an image that is not too long, and one more that is no separator was taken, of which the front is shown.
+pub record TakesInImage (unread left rest : List ℕ) (ends : Bool) (image shown : List ℕ) : Type 0 where
+  pub so_far : SpellsImage unread left false image
+  pub takes : TakesLine left rest ends shown
+  pub other : is_separator shown ≡ false
+  pub few : length image ≤ 33554432
+
+not_separator : {unread left rest : List ℕ} {ends : Bool} {image shown : List ℕ} → (at : TakesInImage unread left rest ends image shown)
+    → is_separator at.takes.line ≡ false
+not_separator at = ends_script-shown Separator _ _ _ _ at.takes ∙ at.other
+
+-- lines that are not faulty have the image of their bytes, if these are not too many
+image_of-sound : (lines : List (List ℕ)) → list_all is_image_line lines ≡ true → length (bytes_of_lines lines) ≤ 33554432
+    → image_of lines ≡ Ok (bytes_of_lines lines)
+image_of-sound lines sound few =
+    let below : ltb 33554432 (length (bytes_of_lines lines)) ≡ false = grind (arith, nat_tests) in
+    rw (take_while-all is_image_line lines sound, below, sound) refl
+
+-- the first faulty line decides
+image_of-faulty : (lines others : List (List ℕ)) (line : List ℕ) → list_all is_image_line lines ≡ true → length (bytes_of_lines lines) ≤ 33554432
+    → is_image_line line ≡ false → image_of (lines ++ line ∷ others) ≡ Err Hex
+image_of-faulty lines others line sound few faulty =
+    let below : ltb 33554432 (length (bytes_of_lines lines)) ≡ false = grind (arith, nat_tests) in
+    rw (take_while-stop is_image_line lines line others sound faulty, below, list_all-stop is_image_line lines line others sound faulty) refl
+
+bytes_of_lines-append : (xs ys : List (List ℕ)) → bytes_of_lines (xs ++ ys) ≡ bytes_of_lines xs ++ bytes_of_lines ys
+bytes_of_lines-append xs ys = flat_map-append (λ line. unwrap_or (line_bytes line) []) xs ys
+
+bytes_of_lines-push : (lines : List (List ℕ)) (line bytes : List ℕ) → line_bytes line ≡ Some bytes
+    → bytes_of_lines (lines ++ line ∷ []) ≡ bytes_of_lines lines ++ bytes
+bytes_of_lines-push lines line bytes spells =
+    bytes_of_lines-append lines (line ∷ [])
+    ∙ (ap (λ o. bytes_of_lines lines ++ (unwrap_or o [] ++ [])) spells ∙ ap (λ t. bytes_of_lines lines ++ t) (append-nil bytes))
+
+-- too many bytes before it decide first
+image_of-many : (lines others : List (List ℕ)) (line bytes : List ℕ) → list_all is_image_line lines ≡ true → line_bytes line ≡ Some bytes
+    → 33554432 < length (bytes_of_lines lines) + length bytes → image_of (lines ++ line ∷ others) ≡ Err TooLong
+image_of-many lines others line bytes sound is many =
+    let passes : is_image_line line ≡ true = rw is refl in
+    let more = bytes_of_lines (take_while is_image_line others) in
+    let all : bytes_of_lines (take_while is_image_line (lines ++ line ∷ others)) ≡ bytes_of_lines lines ++ (bytes ++ more) =
+    ap bytes_of_lines (take_while-pass is_image_line lines line others sound passes) ∙ (bytes_of_lines-append lines (line ∷ take_while is_image_line others)
+    ∙ ap (λ o. bytes_of_lines lines ++ (unwrap_or o [] ++ more)) is) in
+    let long : 33554432 < length (bytes_of_lines lines ++ (bytes ++ more)) =
+    omega (arith, length-append (bytes_of_lines lines) (bytes ++ more), length-append bytes more) in
+    let over : ltb 33554432 (length (bytes_of_lines lines ++ (bytes ++ more))) ≡ true = grind (arith, nat_tests) in
+    rw (all, over) refl
+
+-- a line that is no separator is one of the image
+before_separator-other : (lines others : List (List ℕ)) (line : List ℕ) → list_all (λ l. not (is_separator l)) lines ≡ true
+    → is_separator line ≡ false → before_separator (lines ++ line ∷ others) ≡ lines ++ line ∷ before_separator others
+before_separator-other lines others line unmarked e = take_while-pass (λ l. not (is_separator l)) lines line others unmarked (ap not e)
+
+-- the word of the line that was taken is that of what is shown
+pub TakesLine-word : (left rest : List ℕ) (ends : Bool) (shown : List ℕ) (word : Option (List ℕ)) → (takes : TakesLine left rest ends shown)
+    → word ≡ line_word shown → line_word takes.line ≡ word
+TakesLine-word left rest ends shown word takes is = sym (line_word-take takes.line) ∙ (ap line_word (sym takes.front) ∙ sym is)
+
+lines_with : (unread left rest : List ℕ) (ends : Bool) (image shown : List ℕ) → (so_far : SpellsImage unread left false image)
+    → (takes : TakesLine left rest ends shown)
+    → lines_of unread ≡ so_far.lines ++ takes.line ∷ lines_of rest
+lines_with unread left rest ends image shown so_far takes = so_far.reads.all ∙ ap (λ t. so_far.lines ++ t) takes.lines
+
+before_separator_with : (unread left rest : List ℕ) (ends : Bool) (image shown : List ℕ) → (so_far : SpellsImage unread left false image)
+    → (takes : TakesLine left rest ends shown) → is_separator takes.line ≡ false
+    → before_separator (lines_of unread) ≡ so_far.lines ++ takes.line ∷ before_separator (lines_of rest)
+before_separator_with unread left rest ends image shown so_far takes other =
+    ap before_separator (lines_with unread left rest ends image shown so_far takes)
+    ∙ before_separator-other so_far.lines (lines_of rest) takes.line so_far.unmarked other
+
+some_and : (found : Option (List ℕ)) (P : List ℕ → Type 0) → IsSomeAnd found P → (bytes : List ℕ) × (found ≡ Some bytes) × P bytes
+some_and None P h = absurd h
+some_and (Some bytes) P h = (bytes, refl, h)
+
+-- a failed read leaves sound lines and the front of one
+pub SpellsImage-read : (unread left rest kept image : List ℕ) → SpellsImage unread left false image → length image ≤ 33554432
+    → ReadsText left rest kept → ReadsInImage unread rest kept
+SpellsImage-read unread left rest kept image so_far few begun = record {
+  lines = so_far.lines;
+  others = left;
+  reads = so_far.reads;
+  unmarked = take_while-all (λ line. not (is_separator line)) so_far.lines so_far.unmarked;
+  image = image_of-sound so_far.lines so_far.sound (omega (arith, few, ap length so_far.spelled));
+  begun = begun;
+}
+
+-- a line more that is no separator was read
+SpellsImage-unmarked : (unread left rest : List ℕ) (ends : Bool) (image shown : List ℕ) → (so_far : SpellsImage unread left false image)
+    → (takes : TakesLine left rest ends shown)
+    → is_separator takes.line ≡ false → ReadsUnmarked unread rest (so_far.lines ++ takes.line ∷ [])
+SpellsImage-unmarked unread left rest ends image shown so_far takes other =
+    let reads = ReadsLines-more unread left rest ends shown so_far.lines so_far.reads takes in record {
+      all = reads.all;
+      rest = reads.rest;
+      unmarked = before_separator-other so_far.lines [] takes.line so_far.unmarked other;
+    }
+
+-- a line that is no separator and has no bytes is the first faulty one
+pub SpellsImage-faulty : (unread left rest : List ℕ) (ends : Bool) (image shown : List ℕ) → SpellsImage unread left false image
+    → (takes : TakesLine left rest ends shown) → length image ≤ 33554432
+    → is_separator takes.line ≡ false → line_bytes takes.line ≡ None → (image_in unread ≡ Err Hex) × StopsAtFault unread rest Hex
+SpellsImage-faulty unread left rest ends image shown so_far takes few other none =
+    let short : length (bytes_of_lines so_far.lines) ≤ 33554432 = omega (arith, few, ap length so_far.spelled) in
+    let faulty : is_image_line takes.line ≡ false = ap is_some none in (
+      ap image_of (before_separator_with unread left rest ends image shown so_far takes other)
+          ∙ image_of-faulty so_far.lines (before_separator (lines_of rest)) takes.line so_far.sound short faulty,
+      record {
+        sound = so_far.lines;
+        line = takes.line;
+        reads = SpellsImage-unmarked unread left rest ends image shown so_far takes other;
+        image = image_of-sound so_far.lines so_far.sound short;
+        fails = image_of-faulty so_far.lines [] takes.line so_far.sound short faulty;
+      },
+    )
+
+-- ---- what one more line does
+
+module _ {unread left rest : List ℕ} {ends : Bool} {image shown : List ℕ} where
+  -- a line that is no separator and has bytes adds them
+  pub SpellsImage-more : {word new : List ℕ} → TakesInImage unread left rest ends image shown
+      → Some word ≡ line_word shown → IsSomeAnd (bytes_of_digits word) (λ bytes. new ≡ image ++ bytes) → SpellsImage unread rest ends new
+  SpellsImage-more {word = word} {new = new} at is gives =
+      let so_far = at.so_far in
+      let takes = at.takes in
+      let (bytes, writes, grown) = some_and (bytes_of_digits word) (λ bytes. new ≡ image ++ bytes) gives in
+      let line = takes.line in
+      let has = TakesLine-word left rest ends shown (Some word) takes is in
+      let unmarked : is_separator line ≡ false = not_separator at in
+      let spells : line_bytes line ≡ Some bytes = ap (option_and_then bytes_of_digits) has ∙ writes in
+      let passes : is_image_line line ≡ true = ap is_some spells in record {
+        lines = so_far.lines ++ line ∷ [];
+        reads = ReadsLines-more unread left rest ends shown so_far.lines so_far.reads takes;
+        unmarked = list_all-push (λ l. not (is_separator l)) so_far.lines line so_far.unmarked (ap not unmarked);
+        sound = list_all-push is_image_line so_far.lines line so_far.sound passes;
+        spelled = grown ∙ (ap (λ t. t ++ bytes) so_far.spelled ∙ sym (bytes_of_lines-push so_far.lines line bytes spells));
+      }
+
+  -- memory for the bytes of one line more was refused
+  pub SpellsImage-refused : {word : List ℕ} → TakesInImage unread left rest ends image shown
+      → Some word ≡ line_word shown → IsSomeAnd (bytes_of_digits word) (λ bytes. length image + length bytes ≤ 33554432)
+      → ReadsFrontOfImage unread rest
+  SpellsImage-refused {word = word} at is gives =
+      let so_far = at.so_far in
+      let takes = at.takes in
+      let (bytes, writes, few) = some_and (bytes_of_digits word) (λ bytes. length image + length bytes ≤ 33554432) gives in
+      let line = takes.line in
+      let has = TakesLine-word left rest ends shown (Some word) takes is in
+      let spells : line_bytes line ≡ Some bytes = ap (option_and_then bytes_of_digits) has ∙ writes in
+      let sound = list_all-push is_image_line so_far.lines line so_far.sound (ap is_some spells) in
+      let all = bytes_of_lines-push so_far.lines line bytes spells in
+      let short : length (bytes_of_lines (so_far.lines ++ line ∷ [])) ≤ 33554432 =
+      omega (arith, few, ap length all, length-append (bytes_of_lines so_far.lines) bytes, ap length so_far.spelled) in record {
+        lines = so_far.lines ++ line ∷ [];
+        some = omega (arith, length-append so_far.lines (line ∷ []));
+        reads = SpellsImage-unmarked unread left rest ends image shown so_far takes (not_separator at);
+        image = image_of-sound (so_far.lines ++ line ∷ []) sound short;
+      }
+
+  -- a line without one word is the first faulty one
+  pub SpellsImage-no_word : TakesInImage unread left rest ends image shown
+      → None ≡ line_word shown → (image_in unread ≡ Err Hex) × StopsAtFault unread rest Hex
+  SpellsImage-no_word at is =
+      let has = TakesLine-word left rest ends shown None at.takes is in
+      SpellsImage-faulty unread left rest ends image shown at.so_far at.takes at.few (not_separator at) (ap (option_and_then bytes_of_digits) has)
+
+  -- and so is one whose word is not of such digits
+  pub SpellsImage-no_digits : {word : List ℕ} → TakesInImage unread left rest ends image shown
+      → Some word ≡ line_word shown → bytes_of_digits word ≡ None → (image_in unread ≡ Err Hex) × StopsAtFault unread rest Hex
+  SpellsImage-no_digits {word = word} at is none =
+      let has = TakesLine-word left rest ends shown (Some word) at.takes is in
+      SpellsImage-faulty unread left rest ends image shown at.so_far at.takes at.few (not_separator at) (ap (option_and_then bytes_of_digits) has ∙ none)
+
+  -- a line whose bytes are too many decides
+  pub SpellsImage-many : {word : List ℕ} → TakesInImage unread left rest ends image shown
+      → Some word ≡ line_word shown → IsSomeAnd (bytes_of_digits word) (λ bytes. 33554432 < length image + length bytes)
+      → (image_in unread ≡ Err TooLong) × StopsAtFault unread rest TooLong
+  SpellsImage-many {word = word} at is gives =
+      let so_far = at.so_far in
+      let takes = at.takes in
+      let few = at.few in
+      let (bytes, writes, many) = some_and (bytes_of_digits word) (λ bytes. 33554432 < length image + length bytes) gives in
+      let has = TakesLine-word left rest ends shown (Some word) takes is in
+      let other = not_separator at in
+      let spells : line_bytes takes.line ≡ Some bytes = ap (option_and_then bytes_of_digits) has ∙ writes in
+      let short : length (bytes_of_lines so_far.lines) ≤ 33554432 = omega (arith, few, ap length so_far.spelled) in
+      let long : 33554432 < length (bytes_of_lines so_far.lines) + length bytes = omega (arith, many, ap length so_far.spelled) in (
+        ap image_of (before_separator_with unread left rest ends image shown so_far takes other)
+            ∙ image_of-many so_far.lines (before_separator (lines_of rest)) takes.line bytes so_far.sound spells long,
+        record {
+          sound = so_far.lines;
+          line = takes.line;
+          reads = SpellsImage-unmarked unread left rest ends image shown so_far takes other;
+          image = image_of-sound so_far.lines so_far.sound short;
+          fails = image_of-many so_far.lines [] takes.line bytes so_far.sound spells long;
+        },
+      )
+
+-- the lines so far, as a script's
+pub SpellsImage-taken : {unread left : List ℕ} {is_at_end : Bool} {image : List ℕ} → (so_far : SpellsImage unread left is_at_end image)
+    → TakesScript Separator unread left is_at_end so_far.lines
+SpellsImage-taken so_far = record { reads = so_far.reads; inside = so_far.unmarked }
+
+-- where no line of the image was left, it is whole
+pub SpellsImage-whole : (unread left rest : List ℕ) (is_at_end : Bool) (image : List ℕ) → (so_far : SpellsImage unread left is_at_end image)
+    → length image ≤ 33554432 → ReadsScript Separator unread rest so_far.lines → image_in unread ≡ Ok image
+SpellsImage-whole unread left rest is_at_end image so_far few whole =
+    ap image_of whole.all ∙ (image_of-sound so_far.lines so_far.sound (omega (arith, few, ap length so_far.spelled)) ∙ ap Ok (sym so_far.spelled))

@@ -1,0 +1,56 @@
+-- What reading an image gives, by the line that ends it.
+use Rattle.std.proofs.Common.{◌≡◌, ◌≤◌, ℕ, false, arith, codes, IsTrue, List, [], Some, None, Ok, Err, Vec, vec_len, ap, sym, ◌∙◌}
+use Rattle.std.specs.Str.{bytes_eq}
+use Rattle.rv_streams.specs.declared.device.Source.{Ghosts}
+use Rattle.rv_streams.specs.declared.fault.BenchFault.{BenchFault}
+use Rattle.rv_streams.specs.declared.fault.BenchFault.TheVariants.{Hex, TooLong, NoMemory}
+use Rattle.rv_streams.specs.declared.lines.Lines.{Lines}
+use Rattle.rv_streams.specs.declared.separator.ScriptEnd.TheVariants.{Separator}
+use Rattle.rv_streams.specs.Calls.{SourceWorked}
+use Rattle.rv_streams.specs.Image.{AddsBytes}
+use Rattle.rv_streams.specs.ReadImage.{ReadsImage}
+use Rattle.rv_streams.specs.Script.{FindsEnd}
+use Rattle.rv_streams.specs.Separator.{is_dashes, is_separator, line_word}
+use Rattle.rv_streams.specs.Unread.{held, unread}
+use Rattle.rv_streams.proofs.ImageLemmas.{SpellsImage, TakesInImage, SpellsImage-refused, SpellsImage-no_digits, SpellsImage-many}
+use Rattle.rv_streams.proofs.ImageLemmas.{SpellsImage-taken, SpellsImage-whole}
+use Rattle.rv_streams.proofs.ScriptLemmas.{FindsEnd-whole, FindsEnd-separator}
+
+-- a line without a word, and one whose word is another, is no separator
+pub no_separator : (line : List ℕ) → None ≡ line_word line → is_separator line ≡ false
+no_separator line is = ap is_dashes (sym is)
+
+pub other_word : (line word : List ℕ) → Some word ≡ line_word line → bytes_eq word (codes "--") ≡ false → is_separator line ≡ false
+other_word line word is other = ap is_dashes (sym is) ∙ other
+
+module _ {S : Type 0} {g : Ghosts S} (Z : Type 0) (old new : Lines S g) (source : SourceWorked g old.source new.source) (emptied : held new ≡ []) where
+  -- a line whose bytes are not added
+  pub refused : (left image added shown word : List ℕ) (fault : BenchFault)
+      → (IsTrue g.tells → TakesInImage (unread old) left (unread new) new.is_at_end image shown)
+      → Some word ≡ line_word shown → AddsBytes word image added (Err fault)
+      → ReadsImage {Z = Z} old new (Err fault)
+  refused left image added shown word Hex at is adds = record {
+    source = source;
+    emptied = emptied;
+    image = λ tells. (SpellsImage-no_digits (at tells) is adds.0).0;
+    reads = λ tells. (SpellsImage-no_digits (at tells) is adds.0).1;
+  }
+  refused left image added shown word TooLong at is adds = record {
+    source = source;
+    emptied = emptied;
+    image = λ tells. (SpellsImage-many (at tells) is adds.0).0;
+    reads = λ tells. (SpellsImage-many (at tells) is adds.0).1;
+  }
+  refused left image added shown word NoMemory at is adds =
+      record { source = source; emptied = emptied; reads = λ tells. SpellsImage-refused (at tells) is adds.0 }
+  refused left image added shown word _ at is adds = absurd adds
+
+  -- no line of the image was left
+  pub image_read : (mid : Lines S g) (image : Vec ℕ Z) → FindsEnd Separator mid new → vec_len image ≤ 33554432
+      → (IsTrue g.tells → SpellsImage (unread old) (unread mid) mid.is_at_end image.items) → ReadsImage old new (Ok image)
+  image_read mid image found few spells = (
+    FindsEnd-separator old mid new source emptied found (λ tells. ((spells tells).lines, SpellsImage-taken (spells tells))),
+    few,
+    λ tells. SpellsImage-whole _ _ _ _ _ (spells tells) (omega arith)
+        (FindsEnd-whole old mid new Separator _ found (SpellsImage-taken (spells tells)) tells),
+  )

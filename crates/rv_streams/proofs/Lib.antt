@@ -1,0 +1,12 @@
+pub mod Assembling
+pub mod Ends
+pub mod Examples
+pub mod ImageLemmas
+pub mod ImageResults
+pub mod LineTextLemmas
+pub mod Mapped
+pub mod ScriptLemmas
+pub mod TakeWhileLemmas
+pub mod WordLengths
+pub mod Writing
+pub mod WrittenLines

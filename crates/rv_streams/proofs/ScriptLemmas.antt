@@ -1,0 +1,151 @@
+-- The lines of a script that are read one by one, up to its end.
+use Rattle.std.proofs.Common.{◌≡◌, ℕ, ◌+◌, ◌≤◌, Bool, true, false, not, ◌||◌, List, [], ◌∷◌, ◌++◌, length, take, inl, inr}
+use Rattle.std.proofs.Common.{IsTrue, None, refl, sym, ◌∙◌, ap, subst, lit≤, append-nil, add-one}
+use Rattle.std.proofs.lemmas.List.{length-append}
+use Rattle.std.proofs.lemmas.List.Folds.{list_any-append}
+use Rattle.std.specs.List.{list_all, list_any, take_while}
+use Rattle.rv_text.specs.Lines.{lines_of, after_line, after_lines}
+use Rattle.rv_text.specs.Words.{words_of}
+use Rattle.rv_streams.specs.declared.device.Source.{Ghosts}
+use Rattle.rv_streams.specs.declared.lines.Lines.{Lines}
+use Rattle.rv_streams.specs.declared.separator.ScriptEnd.{ScriptEnd}
+use Rattle.rv_streams.specs.declared.separator.ScriptEnd.TheVariants.{Input, Separator}
+use Rattle.rv_streams.specs.Calls.{SourceWorked}
+use Rattle.rv_streams.specs.LineText.{TakesLine, ReadsLines}
+use Rattle.rv_streams.specs.Script.{ends_script, script_lines, within, TakesScript, ReadsScriptEnd, FindsEnd, ReadsThroughSeparator}
+use Rattle.rv_streams.specs.Separator.{only_word, line_word, is_dashes, is_separator, has_separator}
+use Rattle.rv_streams.specs.Unread.{held, unread}
+use Rattle.rv_text.proofs.CutLines.{if_good-take}
+use Rattle.rv_text.proofs.LineLemmas.{after_lines-more}
+use Rattle.rv_streams.proofs.LineTextLemmas.{ReadsLines-more}
+use Rattle.rv_streams.proofs.TakeWhileLemmas.{take_while-all, take_while-stop, take_while-front}
+
+-- a line of which 121 bytes are shown has the word of those
+pub line_word-take : (line : List ℕ) → line_word (take 121 line) ≡ line_word line
+unfolding line_word
+line_word-take line = if_good-take (λ l. only_word (words_of l)) None line
+
+-- what is shown of a line tells whether it ends the script
+pub ends_script-shown : (end : ScriptEnd) (left rest : List ℕ) (ends : Bool) (shown : List ℕ) → (takes : TakesLine left rest ends shown)
+    → ends_script end takes.line ≡ ends_script end shown
+ends_script-shown Input left rest ends shown takes = refl
+ends_script-shown Separator left rest ends shown takes = ap is_dashes (sym (line_word-take takes.line) ∙ ap line_word (sym takes.front))
+
+all_within : (lines : List (List ℕ)) → list_all (within Input) lines ≡ true
+all_within [] = refl
+all_within (line ∷ lines) = all_within lines
+
+script_lines-is : (end : ScriptEnd) (lines : List (List ℕ)) → script_lines end lines ≡ take_while (within end) lines
+script_lines-is Input lines = sym (take_while-all (within Input) lines (all_within lines))
+script_lines-is Separator lines = refl
+
+pub script_lines-all : (end : ScriptEnd) (lines : List (List ℕ)) → list_all (within end) lines ≡ true → script_lines end lines ≡ lines
+script_lines-all end lines inside = script_lines-is end lines ∙ take_while-all (within end) lines inside
+
+script_lines-stop : (end : ScriptEnd) (lines others : List (List ℕ)) (line : List ℕ) → list_all (within end) lines ≡ true
+    → ends_script end line ≡ true → script_lines end (lines ++ line ∷ others) ≡ lines
+script_lines-stop end lines others line inside e = script_lines-is end (lines ++ line ∷ others)
+    ∙ take_while-stop (within end) lines line others inside (ap not e)
+
+-- the script's lines in a front are a front of all of them
+pub script_lines-front : (end : ScriptEnd) (xs ys : List (List ℕ))
+    → (others : List (List ℕ)) × (script_lines end (xs ++ ys) ≡ script_lines end xs ++ others)
+script_lines-front Input xs ys = (ys, refl)
+script_lines-front Separator xs ys = take_while-front (within Separator) xs ys
+
+or_true : (b : Bool) → (b || true) ≡ true
+or_true true = refl
+or_true false = refl
+
+-- the separator is among the lines
+has_separator-there : (lines others : List (List ℕ)) (line unread : List ℕ) → lines_of unread ≡ lines ++ line ∷ others → is_separator line ≡ true
+    → IsTrue (has_separator unread)
+has_separator-there lines others line unread all e = subst IsTrue (sym (ap (list_any is_separator) all
+    ∙ (list_any-append is_separator lines (line ∷ others)
+    ∙ ap (λ b. list_any is_separator lines || (b || list_any is_separator others)) e))) (or_true (list_any is_separator lines))
+
+-- These are all lines of the script, and at most the one that ends it was read with them.
+pub record ReadsScript (end : ScriptEnd) (unread left : List ℕ) (lines : List (List ℕ)) : Type 0 where
+  pub closing : List (List ℕ)
+  pub is_at_end : Bool
+  pub reads : ReadsLines unread left is_at_end (lines ++ closing)
+  pub one : length closing ≤ 1
+  pub inside : script_lines end (lines ++ closing) ≡ lines
+  pub all : script_lines end (lines_of unread) ≡ lines
+  pub rest : left ≡ after_lines (length lines + 1) unread
+
+-- at the end of the input nothing is left
+ReadsScript-ended : (end : ScriptEnd) (unread left rest : List ℕ) (is_at_end : Bool) (lines : List (List ℕ)) → TakesScript end unread left is_at_end lines
+    → left ≡ [] → rest ≡ [] → ReadsScript end unread rest lines
+ReadsScript-ended end unread left rest is_at_end lines so_far none none_too =
+    let every : lines_of unread ≡ lines = so_far.reads.all ∙ (ap (λ t. lines ++ lines_of t) none ∙ append-nil lines) in
+    let whole = script_lines-all end lines so_far.inside in
+    let behind : after_lines (length lines + 1) unread ≡ [] = rw add-one (after_lines-more (length lines) unread)
+    ∙ ap after_line (sym so_far.reads.rest ∙ none) in record {
+      closing = [];
+      is_at_end = is_at_end;
+      reads = subst (λ ls. ReadsLines unread rest is_at_end ls) (sym (append-nil lines)) (subst (λ t. ReadsLines unread t is_at_end lines) (none
+          ∙ sym none_too) so_far.reads);
+      one = lit≤ tt;
+      inside = ap (script_lines end) (append-nil lines) ∙ whole;
+      all = ap (script_lines end) every ∙ whole;
+      rest = none_too ∙ sym behind;
+    }
+
+lines_with : (unread left rest : List ℕ) (is_at_end ends : Bool) (shown : List ℕ) (lines : List (List ℕ)) → ReadsLines unread left is_at_end lines
+    → (takes : TakesLine left rest ends shown)
+    → lines_of unread ≡ lines ++ takes.line ∷ lines_of rest
+lines_with unread left rest is_at_end ends shown lines reads takes = reads.all ∙ ap (λ t. lines ++ t) takes.lines
+
+-- a line was read that ends the script
+ReadsScript-through : (end : ScriptEnd) (unread left rest : List ℕ) (ends : Bool) (shown : List ℕ) (lines : List (List ℕ))
+    → TakesScript end unread left false lines → TakesLine left rest ends shown → ends_script end shown ≡ true
+    → ReadsScript end unread rest lines
+ReadsScript-through end unread left rest ends shown lines so_far takes e =
+    let last = ends_script-shown end left rest ends shown takes ∙ e in
+    let reads = ReadsLines-more unread left rest ends shown lines so_far.reads takes in record {
+      closing = takes.line ∷ [];
+      is_at_end = ends;
+      reads = reads;
+      one = lit≤ tt;
+      inside = script_lines-stop end lines [] takes.line so_far.inside last;
+      all = ap (script_lines end) (lines_with unread left rest false ends shown lines so_far.reads takes)
+          ∙ script_lines-stop end lines (lines_of rest) takes.line so_far.inside last;
+      rest = reads.rest ∙ ap (λ n. after_lines n unread) (length-append lines (takes.line ∷ []));
+    }
+
+module _ {S : Type 0} {g : Ghosts S} (old mid new : Lines S g) where
+  -- where no line of the script was left, these are all
+  pub FindsEnd-whole : (end : ScriptEnd) (lines : List (List ℕ)) → FindsEnd end mid new → TakesScript end (unread old) (unread mid) mid.is_at_end lines
+      → IsTrue g.tells → ReadsScript end (unread old) (unread new) lines
+  FindsEnd-whole end lines (inl at_end) so_far tells =
+      ReadsScript-ended end (unread old) (unread mid) (unread new) mid.is_at_end lines so_far (at_end.none tells) (at_end.left tells)
+  FindsEnd-whole end lines (inr reads) so_far tells =
+      ReadsScript-through end (unread old) (unread mid) (unread new) new.is_at_end reads.shown lines
+      (subst (λ b. TakesScript end (unread old) (unread mid) b lines) reads.going so_far) (reads.takes tells) reads.ends
+
+  -- the line that ended the script is in the input
+  ends-there : (lines : List (List ℕ)) → ReadsScriptEnd Separator mid new → TakesScript Separator (unread old) (unread mid) mid.is_at_end lines
+      → IsTrue g.tells → IsTrue (has_separator (unread old))
+  ends-there lines reads so_far tells =
+      let takes = reads.takes tells in
+      has_separator-there lines (lines_of (unread new)) takes.line (unread old)
+      (lines_with (unread old) (unread mid) (unread new) mid.is_at_end new.is_at_end reads.shown lines so_far.reads takes)
+      (ends_script-shown Separator (unread mid) (unread new) new.is_at_end reads.shown takes ∙ reads.ends)
+
+  -- what follows the separator is left
+  pub FindsEnd-separator : SourceWorked g old.source new.source → held new ≡ [] → FindsEnd Separator mid new
+      → (IsTrue g.tells → (lines : List (List ℕ)) × TakesScript Separator (unread old) (unread mid) mid.is_at_end lines)
+      → ReadsThroughSeparator old new
+  FindsEnd-separator source emptied found taken = record {
+    source = source;
+    emptied = emptied;
+    rest = λ tells.
+        let (lines, so_far) = taken tells in
+        let whole = FindsEnd-whole Separator lines found so_far tells in
+        whole.rest ∙ ap (λ ls. after_lines (length ls + 1) (unread old)) (sym whole.all);
+    ended = elim found [
+      | inl at_end ↦ inl at_end.at_end
+      | inr reads ↦ inr (λ tells. let (lines, so_far) = taken tells in ends-there lines reads so_far tells)
+    ];
+  }

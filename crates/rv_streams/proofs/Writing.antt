@@ -1,0 +1,59 @@
+-- A text that is written part by part.
+use Rattle.std.proofs.Common.{◌≡◌, ℕ, List, [], ◌++◌, take, drop, append_assoc, append-nil, refl, sym, ◌∙◌, ap, subst, arith}
+use Rattle.std.proofs.lemmas.Grind.{common_steps}
+use Rattle.rv_streams.specs.Transfer.{WritesUpTo, WritesFront}
+
+-- nothing is written yet
+pub WritesUpTo-none : (old text : List ℕ) → WritesUpTo old old text text
+WritesUpTo-none old text = ([], grind (arith, common_steps), refl)
+
+-- the next n bytes are written
+pub WritesUpTo-more : (old mid new text rest left : List ℕ) (n : ℕ) → WritesUpTo old mid text rest → new ≡ mid ++ take n rest → left ≡ drop n rest
+    → WritesUpTo old new text left
+WritesUpTo-more old mid new text rest left n (front, was, split) wrote is_left =
+    (front ++ take n rest, grind (arith, common_steps), grind (arith, common_steps))
+
+-- all of the text is written
+pub WritesFront-all : (old new text : List ℕ) → new ≡ old ++ text → WritesFront old new text
+WritesFront-all old new text wrote = ([], (text, wrote, sym (append-nil text)))
+
+-- a front of a text is written after what was written before, and others were to follow
+pub WritesFront-after : (old mid new done text others : List ℕ) → mid ≡ old ++ done → WritesFront mid new text
+    → WritesFront old new (done ++ (text ++ others))
+WritesFront-after old mid new done text others was (rest, (front, wrote, split)) = (
+  rest ++ others,
+  (
+    done ++ front,
+    wrote ∙ (ap (λ t. t ++ front) was ∙ append_assoc old done front),
+    ap (λ t. done ++ (t ++ others)) split ∙ (ap (λ t. done ++ t) (append_assoc front rest others) ∙ sym (append_assoc done front (rest ++ others))),
+  ),
+)
+
+-- what was gathered is written on, up to what is gathered now
+pub WritesUpTo-on : (old mid new text rest left : List ℕ) → WritesUpTo old mid text rest → WritesUpTo mid new rest left → WritesUpTo old new text left
+WritesUpTo-on old mid new text rest left (front, was, split) (more, wrote, others) = (
+  front ++ more,
+  wrote ∙ (ap (λ t. t ++ more) was ∙ append_assoc old front more),
+  split ∙ (ap (λ t. front ++ t) others ∙ sym (append_assoc front more left)),
+)
+
+-- one more line is gathered
+pub WritesUpTo-line : (old new text rest line whole gathered : List ℕ) → WritesUpTo old new text rest → whole ≡ text ++ line
+    → gathered ≡ rest ++ line → WritesUpTo old new whole gathered
+WritesUpTo-line old new text rest line whole gathered (front, was, split) is_whole is_gathered = (
+  front,
+  was,
+  is_whole ∙ (ap (λ t. t ++ line) split ∙ (append_assoc front rest line ∙ ap (λ t. front ++ t) (sym is_gathered))),
+)
+
+-- the sink stops within what is gathered, and others were to follow
+pub WritesUpTo-stopped : (old mid new text rest others whole : List ℕ) → WritesUpTo old mid text rest → WritesFront mid new rest
+    → whole ≡ text ++ others → WritesFront old new whole
+WritesUpTo-stopped old mid new text rest others whole (front, was, split) stops is_whole =
+    subst (λ t. WritesFront old new t) (sym (is_whole ∙ (ap (λ t. t ++ others) split ∙ append_assoc front rest others)))
+    (WritesFront-after old mid new front rest others was stops)
+
+-- all that was gathered is written
+pub WritesUpTo-all : (old mid new text rest : List ℕ) → WritesUpTo old mid text rest → new ≡ mid ++ rest → new ≡ old ++ text
+WritesUpTo-all old mid new text rest (front, was, split) wrote =
+    wrote ∙ (ap (λ t. t ++ rest) was ∙ (append_assoc old front rest ∙ ap (λ t. old ++ t) (sym split)))

@@ -1,0 +1,32 @@
+-- Lines that are gathered and written, one for each item of a list.
+use Rattle.std.proofs.Common.{◌≡◌, ℕ, ◌+◌, ◌<◌, ◌≤◌, List, [], ◌∷◌, ◌++◌, length, take, drop, get_or, append-nil, sym}
+use Rattle.std.proofs.Common.{◌∙◌, ap}
+use Rattle.std.specs.List.{flat_map}
+use Rattle.std.proofs.lemmas.Grind.{flat_map-append}
+use Rattle.std.proofs.lemmas.List.{take_all, take_more, take-append-drop}
+use Rattle.rv_streams.specs.Transfer.{WritesUpTo, WritesFront}
+use Rattle.rv_streams.proofs.Writing.{WritesUpTo-on, WritesUpTo-line, WritesUpTo-stopped, WritesUpTo-all}
+
+module _ {X : Type 0} (line : X → List ℕ) (items : List X) where
+  -- one more line is gathered, and before it some was written
+  pub lines-more : (k : ℕ) (d : X) (old mid new before held gathered : List ℕ) → k < length items
+      → WritesUpTo old mid (flat_map line (take k items)) before → WritesUpTo mid new before held → gathered ≡ held ++ line (get_or items k d)
+      → WritesUpTo old new (flat_map line (take (k + 1) items)) gathered
+  lines-more k d old mid new before held gathered inside so_far wrote is =
+      WritesUpTo-line old new _ held (line (get_or items k d)) _ gathered (WritesUpTo-on old mid new _ before held so_far wrote)
+      (ap (flat_map line) (take_more items k d inside)
+      ∙ (flat_map-append line (take k items) (get_or items k d ∷ [])
+      ∙ ap (λ t. flat_map line (take k items) ++ t) (append-nil (line (get_or items k d))))) is
+
+  -- the sink stops within the lines so far
+  pub lines-stopped : (k : ℕ) (old mid new before : List ℕ) → WritesUpTo old mid (flat_map line (take k items)) before → WritesFront mid new before
+      → WritesFront old new (flat_map line items)
+  lines-stopped k old mid new before so_far stops =
+      WritesUpTo-stopped old mid new _ before (flat_map line (drop k items)) _ so_far stops
+      (ap (flat_map line) (sym (take-append-drop k items)) ∙ flat_map-append line (take k items) (drop k items))
+
+  -- all lines are written
+  pub lines-all : (k : ℕ) (old mid new before : List ℕ) → length items ≤ k → WritesUpTo old mid (flat_map line (take k items)) before
+      → new ≡ mid ++ before → new ≡ old ++ flat_map line items
+  lines-all k old mid new before over so_far wrote =
+      WritesUpTo-all old mid new _ before so_far wrote ∙ ap (λ xs. old ++ flat_map line xs) (take_all k items over)

@@ -1,0 +1,88 @@
+use Rattle.std.proofs.Common.{rules, ◌≡◌, ◌≢◌, ◌≤◌, ◌∙◌, ◌++◌, Global, IsTrue, List, ℕ, length, Ok, Err, refl, ap, sym, subst}
+use Rattle.std.proofs.Common.{arith}
+use Rattle.std.proofs.lemmas.List.{length-append}
+use Rattle.std.proofs.lemmas.Result.{IfOk-at_ok, IfErr-at_err}
+use Rattle.rv_text.specs.Lines.{lines_of}
+use Rattle.rv_asm.specs.Program.{assembled}
+use Rattle.rv_asm.specs.declared.fault.AsmFault.{AsmFault}
+use Rattle.rv_asm.specs.declared.fault.AsmFaultKind.TheVariants as asm
+use Rattle.rv_streams.specs.declared.device.Sink.{Ghosts as SinkGhosts}
+use Rattle.rv_streams.specs.declared.device.Source.{Ghosts as SourceGhosts}
+use Rattle.rv_streams.specs.declared.fault.BenchFault.{BenchFault}
+use Rattle.rv_streams.specs.declared.fault.BenchFault.TheVariants.{Read, Write, TooLong, NoMemory, Asm}
+use Rattle.rv_streams.specs.Assemble.{IsFaultlessBefore, ReadsText, ReadsWholeText, RunsAsm}
+use Rattle.rv_streams.specs.AssemblyText.{asm_text, asm_output}
+use Rattle.rv_streams.specs.Transfer.{WritesFront}
+use Rattle.rv_streams.proofs.Assembling.{asm_output-ok, asm_output-fault, asm_output-too_long}
+use Rattle.rv_streams.proofs.Mapped.{mapped, passed_on, IsOkAnd-at}
+use Rattle.rv_streams.proofs.asm.run_asm.Given as given
+use Rattle.rv_streams.proofs.asm.run_asm.Goals as goal
+use Rattle.rv_streams.proofs.asm.run_asm.Goals.{In-Ok}
+
+-- a text that is not read to its end
+unread : {S W : Type 0} (Z : Type 0) (g : SourceGhosts S) (h : SinkGhosts W) (old new : S) (sink : W) (fault : BenchFault)
+    → ReadsText g {Z = Z} old new (Err fault) → RunsAsm g h old new sink sink (Err fault)
+unread Z g h old new sink Read reads = (reads, refl)
+unread Z g h old new sink TooLong reads = (
+  reads,
+  λ tells. let (front, split, many) = reads.reads tells in asm_output-too_long _ (omega (arith, many, ap length split, length-append front (g.remaining new))),
+  refl,
+)
+unread Z g h old new sink NoMemory reads = (reads, refl)
+unread Z g h old new sink _ reads = absurd reads
+
+pub returns-in_err-text : goal.returns-in_err-text
+returns-in_err-text g c =
+    passed_on (RunsAsm g.S.Source g.W.Sink c.args.source.now c.read_whole.new.source c.args.sink.now c.args.sink.now)
+    c.from_residual.result _ c.from_residual.ensures.1
+    (unread Global g.S.Source g.W.Sink _ _ _ _ c.in_err-text.ensures)
+
+-- a text that is not too long
+few : (text read : List ℕ) → read ≡ text → length text ≤ 4194304 → length read ≤ 4194304
+few text read is short = subst (λ t. length t ≤ 4194304) (sym is) short
+
+-- the output is that of the words
+is_ok : (g : given.Over) (c : In-Ok g) → IsTrue g.S.Source.tells → asm_output (g.S.Source.remaining c.args.source.now) ≡ Ok (asm_text c.in-Ok.words.items)
+is_ok g c tells =
+    let read = c.as_slice.ensures.value ∙ c.in_ok-text.ensures.2 tells in
+    ap asm_output (sym read) ∙ asm_output-ok _ _ (few _ _ c.as_slice.ensures.value c.in_ok-text.ensures.1) c.in-Ok.ensures.ok
+
+pub returns-in-Ok : goal.returns-in-Ok
+returns-in-Ok g c =
+    let whole = is_ok g (goal.at.returns-in-Ok g c).In-Ok in
+    let words = c.as_slice-in-Ok.ensures.value in
+    mapped (RunsAsm g.S.Source g.W.Sink c.args.source.now c.read_whole.new.source c.args.sink.now c.write_words.new.sink)
+    _ Write c.write_words.result c.map_err.result c.map_err.ensures.cases (λ e d is. search rules)
+    (λ _ wrote. (
+      c.in_ok-text.ensures.0,
+      IfOk-at_ok _ wrote c.write_words.ensures.ok,
+      λ tells. IsOkAnd-at _ _ _ (whole tells) (λ told. IfOk-at_ok _ wrote c.write_words.ensures.written told
+          ∙ ap (λ ws. g.W.Sink.taken c.args.sink.now ++ asm_text ws) words),
+    ))
+    (λ _ failed. (
+      c.in_ok-text.ensures.0,
+      IfErr-at_err _ failed c.write_words.ensures.err,
+      λ tells. IsOkAnd-at _ _ _ (whole tells)
+          (λ told. subst (λ ws. WritesFront (g.W.Sink.taken c.args.sink.now) (g.W.Sink.taken c.write_words.new.sink) (asm_text ws)) words
+          (c.write_words.ensures.front told)),
+    ))
+
+-- a text that has a fault
+faulty : {S W : Type 0} (g : SourceGhosts S) (h : SinkGhosts W) (old new : S) (sink : W) (text : List ℕ) (fault : AsmFault)
+    → ReadsWholeText g old new → (IsTrue g.tells → text ≡ g.remaining old) → length text ≤ 4194304
+    → (1 ≤ fault.line) × (fault.line ≤ length (lines_of text)) → IsFaultlessBefore fault.line text
+    → (fault.kind ≢ asm.NoMemory → assembled text ≡ Err fault)
+    → RunsAsm g h old new sink sink (Err (Asm fault))
+faulty g h old new sink text fault reads is short line before told = (
+  reads,
+  λ tells. subst (λ t. (1 ≤ fault.line) × (fault.line ≤ length (lines_of t))) (is tells) line,
+  λ tells. subst (IsFaultlessBefore fault.line) (is tells) before,
+  λ tells other. ap asm_output (sym (is tells)) ∙ asm_output-fault text fault short (told other),
+  refl,
+)
+
+pub returns : goal.returns
+returns g c =
+    faulty g.S.Source g.W.Sink c.args.source.now c.read_whole.new.source c.args.sink.now c.as_slice.result.now c.in-Err.fault
+    c.in_ok-text.ensures.0 (λ tells. c.as_slice.ensures.value ∙ c.in_ok-text.ensures.2 tells) (few _ _ c.as_slice.ensures.value c.in_ok-text.ensures.1)
+    c.in-Err.ensures.line c.in-Err.ensures.order c.in-Err.ensures.fault

@@ -1,0 +1,80 @@
+-- What the crate hex decodes is what the pairs of digits write.
+use Rattle.std.proofs.Common.{rules, ◌≡◌, ℕ, ◌+◌, ◌*◌, ◌%◌, Bool, true, false, cond, ◌&&◌, inl, inr, List, [], ◌∷◌, length}
+use Rattle.std.proofs.Common.{Option, Some, None, Result, Ok, Err, refl, sym, ◌∙◌, ap, arith}
+use Rattle.std.proofs.lemmas.Grind.{common_steps}
+use Rattle.std.proofs.lemmas.Bool.{cases_eq}
+use Rattle.std.proofs.lemmas.Bool.Decides.{nat_tests}
+use Rattle.std.specs.Char.{is_digit, digit_value}
+use Rattle.std.specs.List.{list_all}
+use Rattle.std.specs.Result.{result_ok}
+use Rattle.hex.specs.declared.error.FromHexError.{FromHexError}
+use Rattle.hex.specs.Hex.{hex_digit_value, digit_or_error, decode_pairs, decode_of, ◌>>=◌}
+use Rattle.rv_streams.specs.Image.{pair_values, bytes_of_digits}
+use Rattle.rv_streams.proofs.image.add_bytes.Goals as goal
+
+-- the two readings of a digit agree
+hex_digit_value-is : (c : ℕ) → hex_digit_value c ≡ cond (is_digit c 16) (Some (digit_value c)) None
+hex_digit_value-is c = grind (arith, nat_tests)
+
+-- a byte of two digits, before others
+byte_before : Option ℕ → Option ℕ → Option (List ℕ) → Option (List ℕ)
+byte_before (Some high) (Some low) (Some bytes) = Some ((high * 16 + low) ∷ bytes)
+byte_before (Some high) (Some low) None = None
+byte_before (Some high) None bytes = None
+byte_before None low bytes = None
+
+read_pair : (a b i : ℕ) (high low : Option ℕ) (rest : Result (List ℕ) FromHexError)
+    → result_ok
+    ((digit_or_error a i high >>= (λ h. digit_or_error b (i + 1) low >>= (λ l. Ok (h * 16 + l)))) >>= (λ byte. rest >>= (λ bytes. Ok (byte ∷ bytes))))
+    ≡ byte_before high low (result_ok rest)
+unfolding byte_before
+read_pair a b i (Some high) (Some low) (Ok bytes) = refl
+read_pair a b i (Some high) (Some low) (Err e) = refl
+read_pair a b i (Some high) None rest = refl
+read_pair a b i None low rest = refl
+
+byte_before-tests : (p q all : Bool) (high low : ℕ) (bytes : List ℕ)
+    → byte_before (cond p (Some high) None) (cond q (Some low) None) (cond all (Some bytes) None) ≡ cond (p && (q && all))
+    (Some ((16 * high + low) ∷ bytes)) None
+unfolding byte_before
+byte_before-tests true true true high low bytes = let same : high * 16 + low ≡ 16 * high + low = omega arith in ap (λ n. Some (n ∷ bytes)) same
+byte_before-tests true true false high low bytes = refl
+byte_before-tests true false all high low bytes = refl
+byte_before-tests false q all high low bytes = refl
+
+decode_pairs-is : (i : ℕ) (word : List ℕ) → length word % 2 ≡ 0
+    → result_ok (decode_pairs i word) ≡ cond (list_all (λ c. is_digit c 16) word) (Some (pair_values word)) None
+unfolding decode_pairs
+decode_pairs-is i [] even = refl
+decode_pairs-is i (a ∷ []) even = absurd (omega arith)
+decode_pairs-is i (a ∷ b ∷ rest) even =
+    let all = list_all (λ c. is_digit c 16) rest in
+    let more : result_ok (decode_pairs (i + 2) rest) ≡ cond all (Some (pair_values rest)) None = decode_pairs-is (i + 2) rest (omega arith) in
+    read_pair a b i (hex_digit_value a) (hex_digit_value b) (decode_pairs (i + 2) rest)
+    ∙ (ap (λ o. byte_before o (hex_digit_value b) (result_ok (decode_pairs (i + 2) rest))) (hex_digit_value-is a)
+    ∙ (ap (λ o. byte_before (cond (is_digit a 16) (Some (digit_value a)) None) o (result_ok (decode_pairs (i + 2) rest))) (hex_digit_value-is b)
+    ∙ (ap (λ o. byte_before (cond (is_digit a 16) (Some (digit_value a)) None) (cond (is_digit b 16) (Some (digit_value b)) None) o) more
+    ∙ byte_before-tests (is_digit a 16) (is_digit b 16) all (digit_value a) (digit_value b) (pair_values rest))))
+
+-- the bytes of digits are what the crate hex decodes
+pub bytes_of_digits-decoded : (word : List ℕ) → bytes_of_digits word ≡ result_ok (decode_of word)
+unfolding bytes_of_digits
+bytes_of_digits-decoded word =
+    elim (cases_eq (length word % 2) 1) [
+      | inl odd ↦ rw (odd) refl
+      | inr other ↦
+          let even : length word % 2 ≡ 0 = omega arith in
+          rw (even) (sym (decode_pairs-is 0 word even))
+    ]
+
+pub returns-then-is_err-clause-outcome : goal.returns-then-is_err-clause-outcome
+returns-then-is_err-clause-outcome c = (rw (bytes_of_digits-decoded c.args.word.now) (search rules), refl)
+
+pub returns-then-len-count-gt-IMAGE_MAX-clause-outcome : goal.returns-then-len-count-gt-IMAGE_MAX-clause-outcome
+returns-then-len-count-gt-IMAGE_MAX-clause-outcome c = (rw (bytes_of_digits-decoded c.args.word.now) (search rules), refl)
+
+pub returns-in-Ok-clause-outcome : goal.returns-in-Ok-clause-outcome
+returns-in-Ok-clause-outcome c = rw (bytes_of_digits-decoded c.args.word.now) (grind (arith, common_steps))
+
+pub returns-in-Err-clause-outcome : goal.returns-in-Err-clause-outcome
+returns-in-Err-clause-outcome c = (rw (bytes_of_digits-decoded c.args.word.now) (search rules), search rules)

@@ -1,0 +1,96 @@
+use Rattle.std.proofs.Common.{rules, ◌≡◌, ◌∙◌, false, Global, IsTrue, Ok, Err, sym, ap, subst, arith, inl, inr}
+use Rattle.std.proofs.lemmas.Result.{IfOk-at_ok, IfErr-at_err}
+use Rattle.rv_streams.specs.declared.fault.BenchFault.TheVariants.{Read, Hex}
+use Rattle.rv_streams.specs.LineText.{TakesLine}
+use Rattle.rv_streams.specs.ReadImage.{FindsFault, ReadsImage}
+use Rattle.rv_streams.specs.Separator.{is_dashes, is_separator}
+use Rattle.rv_streams.specs.Unread.{unread}
+use Rattle.rv_streams.proofs.Ends.{TellsEnd-more}
+use Rattle.rv_streams.proofs.ImageLemmas.{TakesInImage, SpellsImage-going, SpellsImage-read, SpellsImage-more, SpellsImage-no_word}
+use Rattle.rv_streams.proofs.ImageResults.{image_read, no_separator, other_word, refused}
+use Rattle.rv_streams.proofs.Mapped.{ok_mapped, err_mapped, passed_on}
+use Rattle.rv_streams.proofs.WordLengths.{length-line_word}
+use Rattle.rv_streams.proofs.image.read_image.Given as given
+use Rattle.rv_streams.proofs.image.read_image.Goals as goal
+use Rattle.rv_streams.proofs.image.read_image.Goals.{After-as_slice}
+
+-- the lines so far, and the one that was taken
+taken : (g : given.Over) (c : After-as_slice g) → is_separator c.as_slice.result.now ≡ false → IsTrue g.S.Source.tells
+    → TakesInImage (unread c.args.lines.now) (unread c.loop-image.lines)
+    (unread c.next_line.new.self) c.next_line.new.self.is_at_end c.loop-image.image.items c.as_slice.result.now
+taken g c other tells =
+    let found = ok_mapped _ c.next_line.result c.map_err.result _ c.map_err.ensures.cases c.in_ok-line.was ∙ ap Ok c.in-Some.is in record {
+      so_far = SpellsImage-going _ _ _ _ (c.loop-image.invariant.image tells) (IfOk-at_ok _ found c.next_line.ensures.going);
+      takes = subst (TakesLine _ _ _) (sym c.as_slice.ensures.value) (IfOk-at_ok _ found (c.next_line.ensures.line tells));
+      other = other;
+      few = omega arith;
+    }
+
+pub returns-in_err-line-clause-outcome : goal.returns-in_err-line-clause-outcome
+returns-in_err-line-clause-outcome g c =
+    let is : c.from_residual.result ≡ Err Read = search rules in
+    let failed = err_mapped _ c.next_line.result c.map_err.result _ c.map_err.ensures.cases c.in_err-line.was in
+    let going = IfErr-at_err _ failed.1 c.next_line.ensures.err in
+    rw is (record {
+      source = search rules;
+      going = going.1;
+      reads = λ tells. SpellsImage-read _ _ _ _ _ (SpellsImage-going _ _ _ _ (c.loop-image.invariant.image tells) going.0) (omega arith)
+          (IfErr-at_err _ failed.1 (c.next_line.ensures.kept tells));
+    })
+
+pub returns-in_default-only_word-clause-outcome : goal.returns-in_default-only_word-clause-outcome
+returns-in_default-only_word-clause-outcome g c =
+    let at = taken g (goal.at.returns-in_default-only_word-clause-outcome g c).After-as_slice (no_separator _ c.in_default-only_word.ensures) in
+    let finds : FindsFault Hex c.args.lines.now c.next_line.new.self = record {
+      source = search rules;
+      emptied = search rules;
+      image = λ tells. (SpellsImage-no_word (at tells) c.in_default-only_word.ensures).0;
+      reads = λ tells. (SpellsImage-no_word (at tells) c.in_default-only_word.ensures).1;
+    } in
+    finds
+
+pub add_bytes-requires-clause-word : goal.add_bytes-requires-clause-word
+add_bytes-requires-clause-word g c = length-line_word _ _ (sym c.in-Some-only_word.ensures)
+
+pub loop-image-preserved : goal.loop-image-preserved
+loop-image-preserved g c = record {
+  short = search rules;
+  failures = search rules;
+  end = TellsEnd-more _ _ _ c.loop-image.invariant.end c.next_line.ensures.end;
+  image = λ tells.
+      SpellsImage-more (taken g (goal.at.loop-image-preserved g c).After-as_slice
+      (other_word _ _ c.in-Some-only_word.ensures (sym c.is_dashes.ensures ∙ c.if-is_dashes.false)) tells)
+      c.in-Some-only_word.ensures c.in_ok-add_bytes.ensures.outcome;
+}
+
+pub returns-in_err-add_bytes-clause-outcome : goal.returns-in_err-add_bytes-clause-outcome
+returns-in_err-add_bytes-clause-outcome g c =
+    passed_on (ReadsImage c.args.lines.now c.next_line.new.self) c.from_residual-in_err-add_bytes.result _ c.from_residual-in_err-add_bytes.ensures.1
+    (refused Global c.args.lines.now c.next_line.new.self (search rules) (search rules) _ _ _ _ _ _
+    (taken g (goal.at.returns-in_err-add_bytes-clause-outcome g c).After-as_slice
+    (other_word _ _ c.in-Some-only_word.ensures (sym c.is_dashes.ensures ∙ c.if-is_dashes.false)))
+    c.in-Some-only_word.ensures c.in_err-add_bytes.ensures.outcome)
+
+pub returns-then-is_dashes-clause-outcome : goal.returns-then-is_dashes-clause-outcome
+returns-then-is_dashes-clause-outcome g c =
+    let found = ok_mapped _ c.next_line.result c.map_err.result _ c.map_err.ensures.cases c.in_ok-line.was ∙ ap Ok c.in-Some.is in
+    image_read Global c.args.lines.now c.next_line.new.self (search rules) (search rules) c.loop-image.lines c.loop-image.image
+    (inr (record {
+      shown = c.in-Some.line.items;
+      going = IfOk-at_ok _ found c.next_line.ensures.going;
+      takes = λ tells. IfOk-at_ok _ found (c.next_line.ensures.line tells);
+      ends = ap is_separator (sym c.as_slice.ensures.value) ∙ (ap is_dashes (sym c.in-Some-only_word.ensures)
+          ∙ (sym c.is_dashes.ensures ∙ c.if-is_dashes.true));
+    }))
+    c.loop-image.invariant.short c.loop-image.invariant.image
+
+pub returns-clause-outcome : goal.returns-clause-outcome
+returns-clause-outcome g c =
+    let found = ok_mapped _ c.next_line.result c.map_err.result _ c.map_err.ensures.cases c.in_ok-line.was ∙ ap Ok c.in_default.is in
+    image_read Global c.args.lines.now c.next_line.new.self (search rules) (search rules) c.loop-image.lines c.loop-image.image
+    (inl (record {
+      at_end = IfOk-at_ok _ found c.next_line.ensures.none;
+      none = λ tells. (IfOk-at_ok _ found (c.next_line.ensures.nothing tells)).0;
+      left = λ tells. (IfOk-at_ok _ found (c.next_line.ensures.nothing tells)).1;
+    }))
+    c.loop-image.invariant.short c.loop-image.invariant.image

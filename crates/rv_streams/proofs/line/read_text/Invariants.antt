@@ -1,0 +1,18 @@
+use Rattle.std.proofs.Common.{◌≡◌, ◌+◌, ◌≤◌, ◌++◌, false, length, IsTrue}
+use Rattle.rv_text.specs.Lines.{has_feed}
+use Rattle.rv_streams.specs.LineText.{ReadsText}
+use Rattle.rv_streams.proofs.line.read_text.Given as goal
+
+-- a text with no line feed is read so far, and no call has failed
+abbrev pub invariant-loop-byte : goal.invariant-loop-byte
+invariant-loop-byte g l = record {
+  bytes : IsTrue g.S.Source.tells → ReadsText (l.initial.line.items ++ g.S.Source.remaining l.initial.source) (g.S.Source.remaining l.source) l.line.items;
+  failures : g.S.Source.failures l.source ≡ g.S.Source.failures l.initial.source;
+  ends : g.S.Source.ends l.source ≡ g.S.Source.ends l.initial.source;
+  short : length l.line.items ≤ 122;
+  unfinished : has_feed l.line.items ≡ false;
+  falls : g.S.Source.calls_left l.source + length l.line.items ≤ g.S.Source.calls_left l.initial.source + length l.initial.line.items;
+}
+
+abbrev pub decreases-loop-byte : goal.decreases-loop-byte
+decreases-loop-byte g l = g.S.Source.calls_left l.source

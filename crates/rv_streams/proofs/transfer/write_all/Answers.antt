@@ -1,0 +1,12 @@
+use Rattle.std.proofs.Common.{rules, arith}
+use Rattle.std.proofs.lemmas.Grind.{common_steps}
+use Rattle.rv_streams.proofs.Writing.{WritesUpTo-more}
+use Rattle.rv_streams.proofs.transfer.write_all.Goals as goal
+
+pub loop-rest-preserved : goal.loop-rest-preserved
+loop-rest-preserved g c = record {
+  failures = search rules;
+  refusals = search rules;
+  written = λ tells. WritesUpTo-more _ _ _ _ _ _ c.in_ok-count.count (c.loop-rest.invariant.written tells) (c.in_ok-count.ensures.bytes tells)
+      (grind (arith, common_steps));
+}

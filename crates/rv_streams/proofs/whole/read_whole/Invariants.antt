@@ -1,0 +1,14 @@
+use Rattle.std.proofs.Common.{◌≡◌, ◌≤◌, ◌++◌, IsTrue, length}
+use Rattle.rv_streams.proofs.whole.read_whole.Given as goal
+
+-- the text so far is the front of what the source had, and no call has failed
+abbrev pub invariant-loop-text : goal.invariant-loop-text
+invariant-loop-text g l = record {
+  few : length l.text.items ≤ 4194304;
+  ends : g.S.Source.ends l.source ≡ g.S.Source.ends l.initial.source;
+  failures : g.S.Source.failures l.source ≡ g.S.Source.failures l.initial.source;
+  front : IsTrue g.S.Source.tells → g.S.Source.remaining l.initial.source ≡ l.text.items ++ g.S.Source.remaining l.source;
+}
+
+abbrev pub decreases-loop-text : goal.decreases-loop-text
+decreases-loop-text g l = g.S.Source.calls_left l.source

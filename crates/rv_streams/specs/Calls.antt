@@ -1,0 +1,23 @@
+-- What the calls of a device have come to since an earlier state of it. (This project's own streams.)
+use Rattle.std.specs.Prelude.{◌≡◌, ◌⊎◌}
+use Rattle.rv_streams.specs.declared.device.Source.{Ghosts as SourceGhosts}
+use Rattle.rv_streams.specs.declared.device.Sink.{Ghosts as SinkGhosts}
+use Rattle.rv_streams.specs.Device.{HasRisen}
+
+module _ {S : Type 0} (g : SourceGhosts S) (old new : S) where
+  -- no call of the source failed
+  abbrev pub SourceWorked : Type 0
+  SourceWorked = g.failures new ≡ g.failures old
+
+  -- a call of the source failed
+  abbrev pub SourceFailed : Type 0
+  SourceFailed = HasRisen (g.failures old) (g.failures new)
+
+module _ {W : Type 0} (h : SinkGhosts W) (old new : W) where
+  -- no call of the sink failed, and of no part that was not empty it took nothing
+  abbrev pub SinkWorked : Type 0
+  SinkWorked = (h.failures new ≡ h.failures old) × (h.refusals new ≡ h.refusals old)
+
+  -- a call of the sink failed, or of a part that was not empty it took nothing
+  abbrev pub SinkFailed : Type 0
+  SinkFailed = HasRisen (h.failures old) (h.failures new) ⊎ HasRisen (h.refusals old) (h.refusals new)

@@ -1,0 +1,18 @@
+-- The faults, and their numbers, as this project's surface gives them. (No public standard numbers them.)
+use Rattle.std.specs.Prelude.{ℕ, Result}
+use Rattle.rv_streams.specs.declared.fault.BenchFault.{BenchFault}
+use Rattle.rv_streams.specs.declared.fault.BenchFault.TheVariants.{Image, Ram, Read, Write, Hex, TooLong, NoMemory, Asm}
+
+abbrev pub bench_fault_number : BenchFault → ℕ
+bench_fault_number (Image fault) = 1
+bench_fault_number (Ram fault) = 2
+bench_fault_number Read = 3
+bench_fault_number Write = 4
+bench_fault_number Hex = 5
+bench_fault_number TooLong = 6
+bench_fault_number NoMemory = 7
+bench_fault_number (Asm fault) = 8
+
+-- what a call that gives no value comes to
+abbrev pub Outcome : Type 0
+Outcome = Result (Unit {0}) BenchFault

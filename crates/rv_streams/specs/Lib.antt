@@ -1,0 +1,15 @@
+pub mod Device
+pub mod Calls
+pub mod Transfer
+pub mod LineText
+pub mod Separator
+pub mod Script
+pub mod Unread
+pub mod MemoryStreams
+pub mod Faults
+pub mod Image
+pub mod ReadImage
+pub mod AssemblyText
+pub mod Assemble
+pub mod DisassemblyText
+pub mod Disassemble

@@ -1,0 +1,46 @@
+-- What reading the bytes of one line does. (This project's own streams.)
+use Rattle.std.specs.Prelude.{◌≡◌, ℕ, Bool, true, false, List, [], ◌∷◌, ◌++◌, take, length, Result, Ok, Err}
+use Rattle.rv_streams.specs.declared.line.Stop.{Stop}
+use Rattle.rv_streams.specs.declared.line.Stop.TheVariants.{LineFeed, End}
+use Rattle.rv_text.specs.Characters.{line_feed}
+use Rattle.rv_text.specs.Lines.{has_feed, lines_of, through_last_feed, after_line, after_lines}
+
+-- of the unread bytes a text with no line feed was read, up to those that are left, and its first 122 bytes are kept
+pub record ReadsText (unread left kept : List ℕ) : Type 0 where
+  pub text : List ℕ
+  pub split : unread ≡ text ++ left
+  pub unfinished : has_feed text ≡ false
+  pub front : kept ≡ take 122 text
+
+-- The first line of the unread bytes was taken, up to those that are left, and its first 121 bytes are shown. Its text ends
+-- with a line feed, or else with the last byte there is.
+pub record TakesLine (unread left : List ℕ) (is_at_end : Bool) (shown : List ℕ) : Type 0 where
+  pub text : List ℕ
+  pub line : List ℕ
+  pub split : unread ≡ text ++ left
+  pub is_line : lines_of text ≡ line ∷ []
+  pub whole : is_at_end ≡ false → through_last_feed text ≡ text
+  pub lines : lines_of unread ≡ line ∷ lines_of left
+  pub rest : left ≡ after_line unread
+  pub front : shown ≡ take 121 line
+
+-- These lines were taken one by one, up to the bytes that are left.
+pub record ReadsLines (unread left : List ℕ) (is_at_end : Bool) (lines : List (List ℕ)) : Type 0 where
+  pub text : List ℕ
+  pub split : unread ≡ text ++ left
+  pub are_lines : lines_of text ≡ lines
+  pub whole : is_at_end ≡ false → through_last_feed text ≡ text
+  pub all : lines_of unread ≡ lines ++ lines_of left
+  pub rest : left ≡ after_lines (length lines) unread
+
+-- the bytes from the end of a text on, of which the line feed is read already
+abbrev pub left_from : {E : Type 0} → Result Stop E → List ℕ → List ℕ
+left_from (Ok LineFeed) remaining = line_feed ∷ remaining
+left_from (Ok End) remaining = remaining
+left_from (Err e) remaining = remaining
+
+-- the text was ended by the end of the source
+abbrev pub stops_at_end : {E : Type 0} → Result Stop E → Bool
+stops_at_end (Ok LineFeed) = false
+stops_at_end (Ok End) = true
+stops_at_end (Err e) = false

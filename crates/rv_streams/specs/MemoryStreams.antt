@@ -1,0 +1,16 @@
+-- What a source over memory still has, and what a sink over memory has taken. (This project's own streams.)
+use Rattle.std.specs.Prelude.{ℕ, ◌-◌, List, length, take}
+use Rattle.rv_streams.specs.declared.memory.MemorySource.{MemorySource}
+use Rattle.rv_streams.specs.declared.memory.MemorySink.{MemorySink}
+
+-- the bytes that are still to come
+abbrev pub rest_of : MemorySource → List ℕ
+rest_of source = source.rest.now
+
+-- the bytes that were taken: the front of the buffer
+abbrev pub bytes_of : MemorySink → List ℕ
+bytes_of sink = take sink.taken_len sink.buffer.now
+
+-- how many more bytes fit
+abbrev pub room_of : MemorySink → ℕ
+room_of sink = length sink.buffer.now - sink.taken_len

@@ -1,0 +1,55 @@
+-- The lines of a script, and how it ends. (This project's own format.)
+use Rattle.std.specs.Prelude.{◌≡◌, ◌⊎◌, ℕ, Bool, true, false, not, List, [], IsTrue}
+use Rattle.std.specs.List.{list_all}
+use Rattle.rv_streams.specs.declared.device.Source.{Ghosts}
+use Rattle.rv_streams.specs.declared.lines.Lines.{Lines}
+use Rattle.rv_streams.specs.declared.separator.ScriptEnd.{ScriptEnd}
+use Rattle.rv_streams.specs.declared.separator.ScriptEnd.TheVariants.{Input, Separator}
+use Rattle.rv_streams.specs.Calls.{SourceWorked}
+use Rattle.rv_streams.specs.LineText.{ReadsLines, TakesLine}
+use Rattle.rv_streams.specs.Separator.{is_separator, before_separator, has_separator, after_separator}
+use Rattle.rv_streams.specs.Unread.{held, unread}
+
+-- the line ends the script, and is none of its lines
+abbrev pub ends_script : ScriptEnd → List ℕ → Bool
+ends_script Input line = false
+ends_script Separator line = is_separator line
+
+-- the lines of the script: all, or those before the separator
+abbrev pub script_lines : ScriptEnd → List (List ℕ) → List (List ℕ)
+script_lines Input lines = lines
+script_lines Separator lines = before_separator lines
+
+-- a line of the script
+abbrev pub within : ScriptEnd → List ℕ → Bool
+within end line = not (ends_script end line)
+
+-- These lines of the script were taken, and none other.
+pub record TakesScript (end : ScriptEnd) (unread left : List ℕ) (is_at_end : Bool) (lines : List (List ℕ)) : Type 0 where
+  pub reads : ReadsLines unread left is_at_end lines
+  pub inside : list_all (within end) lines ≡ true
+
+module _ {S : Type 0} {g : Ghosts S} where
+  -- The source has answered its end, and no line is left.
+  pub record IsAtEnd (old new : Lines S g) : Type 0 where
+    pub at_end : new.is_at_end ≡ true
+    pub none : IsTrue g.tells → unread old ≡ []
+    pub left : IsTrue g.tells → unread new ≡ []
+
+  -- A line was read that ends the script.
+  pub record ReadsScriptEnd (end : ScriptEnd) (old new : Lines S g) : Type 0 where
+    pub shown : List ℕ
+    pub going : old.is_at_end ≡ false
+    pub takes : IsTrue g.tells → TakesLine (unread old) (unread new) new.is_at_end shown
+    pub ends : ends_script end shown ≡ true
+
+  -- no line of the script was left
+  abbrev pub FindsEnd : ScriptEnd → Lines S g → Lines S g → Type 0
+  FindsEnd end old new = IsAtEnd old new ⊎ ReadsScriptEnd end old new
+
+  -- The lines were read through the first separator, or else to the end that the source answered.
+  pub record ReadsThroughSeparator (old new : Lines S g) : Type 0 where
+    pub source : SourceWorked g old.source new.source
+    pub emptied : held new ≡ []
+    pub rest : IsTrue g.tells → unread new ≡ after_separator (unread old)
+    pub ended : (new.is_at_end ≡ true) ⊎ (IsTrue g.tells → IsTrue (has_separator (unread old)))

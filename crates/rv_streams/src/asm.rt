@@ -1,0 +1,81 @@
+//! From an assembler text to the bytes of its words.
+
+ghost use Rattle.std.specs.Prelude.{◌≡◌, ◌+◌, ◌≤◌, ◌++◌, ◌⊎◌, IsTrue, OnOk, OnErr};
+ghost use Rattle.arrayvec.specs.ArrayVec.{array_vec_len};
+ghost use Rattle.rv_streams.specs.Assemble.{RunsAsm};
+ghost use Rattle.rv_streams.specs.AssemblyText.{word_line, asm_text};
+ghost use Rattle.rv_streams.specs.Device.{HasRisen};
+ghost use Rattle.rv_streams.specs.Transfer.{WritesFront};
+
+use crate::device::{DeviceFault, Sink, Source};
+use crate::fault::BenchFault;
+use crate::gathered::{make_room, write_last};
+use crate::whole::read_whole;
+use rv_asm::assemble;
+use rv_text::{Reply, push_hex, push_text};
+use rv_word::le_bytes;
+use std::alloc::Global;
+
+/// How many bytes the line of a word has.
+const LINE_LEN: usize = 9;
+
+/// Writes the bytes of a word, the lowest first, at the end of a text that has room for them.
+#[tactic(auto, unfolding(crate::specs::AssemblyText::word_line))]
+fn push_word(out: &mut Reply, word: u32)
+    requires room { array_vec_len out.old + 9 ≤ 2048 }
+    ensures items { out.new.items ≡ out.old.items ++ word_line word }
+    ensures len { array_vec_len out.new ≡ array_vec_len out.old + 9 }
+{
+    let [first, second, third, fourth] = le_bytes(word);
+    push_hex(out, u32::from(first), 2);
+    push_hex(out, u32::from(second), 2);
+    push_hex(out, u32::from(third), 2);
+    push_hex(out, u32::from(fourth), 2);
+    push_text(out, "\n");
+}
+
+/// Writes a line for each word, and flushes the sink.
+///
+/// # Errors
+///
+/// Only where the sink failed in this call, or took no byte of a part that was not empty. A beginning of the lines is
+/// written then.
+fn write_words<W: Sink>(words: &[u32], sink: &mut W) -> Result<(), DeviceFault>
+    ensures written { OnOk result (IsTrue W.tells → W.taken sink.new ≡ W.taken sink.old ++ asm_text words.now) }
+    ensures front { IsTrue W.tells → WritesFront (W.taken sink.old) (W.taken sink.new) (asm_text words.now) }
+    ensures ok { OnOk result ((W.failures sink.new ≡ W.failures sink.old) × (W.refusals sink.new ≡ W.refusals sink.old)) }
+    ensures err { OnErr result (HasRisen (W.failures sink.old) (W.failures sink.new) ⊎ HasRisen (W.refusals sink.old) (W.refusals sink.new)) }
+{
+    let mut gathered = Reply::new();
+    for word in words {
+        make_room(&mut gathered, LINE_LEN, sink)?;
+        push_word(&mut gathered, *word);
+    }
+    write_last(&gathered, sink)
+}
+
+/// Reads an assembler text to the end of the source, and writes a line for each word that it stands for: the four bytes of
+/// the word in the order of memory, the lowest first, in two digits each.
+///
+/// # Errors
+///
+/// The first of these that is met; nothing is written at any but the last:
+/// - while the text is read: `Read` where the source failed in this call, `TooLong` where the text has more than
+///   `ASM_TEXT_MAX` bytes, `NoMemory` where memory for it was refused;
+/// - `Asm` with the first fault of the text, or with `NoMemory` where memory for the words was refused, at a line before which none has a
+///   fault of its own;
+/// - `Write` where the sink failed in this call, or took no byte of a part that was not empty: a beginning of the lines is
+///   written.
+pub fn run_asm<S: Source, W: Sink>(
+    alloc: Global,
+    source: &mut S,
+    sink: &mut W,
+) -> Result<(), BenchFault>
+    ensures { RunsAsm S.Source W.Sink source.old source.new sink.old sink.new result }
+{
+    let text = read_whole(alloc, source)?;
+    match assemble(alloc, text.as_slice()) {
+        Ok(words) => write_words(words.as_slice(), sink).map_err(|_| BenchFault::Write),
+        Err(fault) => Err(BenchFault::Asm(fault)),
+    }
+}

@@ -1,0 +1,78 @@
+//! What a source of bytes and a sink for bytes promise.
+ghost use Rattle.std.specs.Prelude.{◌≡◌, ℕ, Bool, List, [], ◌++◌, ◌+◌, ◌-◌, ◌^◌, ◌≤◌, min, take, length, IsTrue, is_err};
+ghost use Rattle.rv_streams.specs.Device.{moved_count, answers_none, counted};
+
+/// A call of a device failed: nothing was given or taken in that call.
+#[derive(Clone, Copy, Debug, PartialEq, Eq)]
+pub struct DeviceFault;
+
+/// A device that gives bytes.
+pub trait Source {
+    // Whether it is known which bytes will come.
+    ghost tells: { Bool };
+
+    // The bytes still to come, where they are known.
+    ghost remaining: { Self → List ℕ };
+
+    // How many calls with room for a byte were answered with none, up to the greatest `u64`, at which the count stays.
+    ghost ends: { Self → ℕ };
+
+    // How many calls failed, up to the greatest `u64`, at which every call fails.
+    ghost failures: { Self → ℕ };
+
+    // A bound on the calls that can still give a byte.
+    ghost calls_left: { Self → ℕ };
+
+    /// Reads some bytes to the front of the buffer, and answers how many: none only at the end, or where the buffer has
+    /// no room.
+    ///
+    /// # Errors
+    ///
+    /// Where the device failed. No byte is lost then, and a later call goes on.
+    fn read_some(&mut self, buffer: &mut [u8]) -> Result<usize, DeviceFault>
+        ensures room { moved_count result ≤ length buffer.new }
+        ensures bytes { IsTrue tells → remaining self.old ≡ take (moved_count result) buffer.new ++ remaining self.new }
+        ensures end { IsTrue tells → IsTrue (answers_none result (length buffer.new)) → remaining self.new ≡ [] }
+        ensures ends { ends self.new ≡ counted (answers_none result (length buffer.new)) (ends self.old) }
+        ensures failures { failures self.new ≡ counted (is_err result) (failures self.old) }
+        ensures failing { failures self.old ≡ 2 ^ 64 - 1 → result ≡ Err record {} }
+        ensures falls { calls_left self.new + min (moved_count result) 1 ≤ calls_left self.old };
+}
+
+/// A device that takes bytes.
+pub trait Sink {
+    // Whether it is known which bytes have been taken.
+    ghost tells: { Bool };
+
+    // The bytes taken so far, where they are known.
+    ghost taken: { Self → List ℕ };
+
+    // How many parts that were not empty had no byte taken, up to the greatest `u64`, at which the count stays.
+    ghost refusals: { Self → ℕ };
+
+    // How many calls failed, up to the greatest `u64`, at which every call fails.
+    ghost failures: { Self → ℕ };
+
+    /// Takes some bytes from the front of the part, and answers how many.
+    ///
+    /// # Errors
+    ///
+    /// Where the device failed. No byte of the part is taken then.
+    fn write_some(&mut self, part: &[u8]) -> Result<usize, DeviceFault>
+        ensures bound { moved_count result ≤ length part.now }
+        ensures bytes { IsTrue tells → taken self.new ≡ taken self.old ++ take (moved_count result) part.now }
+        ensures refusals { refusals self.new ≡ counted (answers_none result (length part.now)) (refusals self.old) }
+        ensures failures { failures self.new ≡ counted (is_err result) (failures self.old) }
+        ensures failing { failures self.old ≡ 2 ^ 64 - 1 → result ≡ Err record {} };
+
+    /// Passes on all that the sink has taken and still holds.
+    ///
+    /// # Errors
+    ///
+    /// Where the device failed. What was not passed on is still held.
+    fn flush(&mut self) -> Result<(), DeviceFault>
+        ensures bytes { IsTrue tells → taken self.new ≡ taken self.old }
+        ensures refusals { refusals self.new ≡ refusals self.old }
+        ensures failures { failures self.new ≡ counted (is_err result) (failures self.old) }
+        ensures failing { failures self.old ≡ 2 ^ 64 - 1 → result ≡ Err record {} };
+}

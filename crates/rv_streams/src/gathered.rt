@@ -1,0 +1,51 @@
+//! Lines on their way to a sink, gathered so that it is not called for each of them.
+
+ghost use Rattle.std.specs.Prelude.{◌≡◌, ◌+◌, ◌≤◌, ◌++◌, ◌⊎◌, IsTrue, OnOk, OnErr};
+ghost use Rattle.arrayvec.specs.ArrayVec.{array_vec_len};
+ghost use Rattle.rv_streams.specs.Device.{HasRisen};
+ghost use Rattle.rv_streams.specs.Transfer.{WritesUpTo, WritesFront};
+
+use crate::device::{DeviceFault, Sink};
+use crate::transfer::write_all;
+use rv_text::Reply;
+
+/// Writes what is gathered, and gathers anew, where there is no room for so many bytes more.
+///
+/// # Errors
+///
+/// Only where the sink failed in this call, or took no byte of a part that was not empty. A beginning of what is gathered
+/// is written then.
+pub(crate) fn make_room<W: Sink>(
+    gathered: &mut Reply,
+    room: usize,
+    sink: &mut W,
+) -> Result<(), DeviceFault>
+    requires { room ≤ 2048 }
+    ensures room { OnOk result (array_vec_len gathered.new + room ≤ 2048) }
+    ensures written { IsTrue W.tells → OnOk result (WritesUpTo (W.taken sink.old) (W.taken sink.new) gathered.old.items gathered.new.items) }
+    ensures front { IsTrue W.tells → WritesFront (W.taken sink.old) (W.taken sink.new) gathered.old.items }
+    ensures ok { OnOk result ((W.failures sink.new ≡ W.failures sink.old) × (W.refusals sink.new ≡ W.refusals sink.old)) }
+    ensures err { OnErr result (HasRisen (W.failures sink.old) (W.failures sink.new) ⊎ HasRisen (W.refusals sink.old) (W.refusals sink.new)) }
+{
+    if gathered.remaining_capacity() < room {
+        write_all(sink, gathered.as_slice())?;
+        gathered.clear();
+    }
+    Ok(())
+}
+
+/// Writes what is gathered, the last of a text, and flushes the sink.
+///
+/// # Errors
+///
+/// Only where the sink failed in this call, or took no byte of a part that was not empty. A beginning of what is gathered
+/// is written then.
+pub fn write_last<W: Sink>(gathered: &Reply, sink: &mut W) -> Result<(), DeviceFault>
+    ensures written { OnOk result (IsTrue W.tells → W.taken sink.new ≡ W.taken sink.old ++ gathered.now.items) }
+    ensures front { IsTrue W.tells → WritesFront (W.taken sink.old) (W.taken sink.new) gathered.now.items }
+    ensures ok { OnOk result ((W.failures sink.new ≡ W.failures sink.old) × (W.refusals sink.new ≡ W.refusals sink.old)) }
+    ensures err { OnErr result (HasRisen (W.failures sink.old) (W.failures sink.new) ⊎ HasRisen (W.refusals sink.old) (W.refusals sink.new)) }
+{
+    write_all(sink, gathered.as_slice())?;
+    sink.flush()
+}

@@ -1,0 +1,69 @@
+//! The image in a text of hexadecimal lines.
+ghost use Rattle.std.specs.Prelude.{◌≤◌, vec_len, length};
+ghost use Rattle.rv_streams.specs.Image.{AddsBytes};
+ghost use Rattle.rv_streams.specs.ReadImage.{ReadsImage};
+ghost use Rattle.rv_streams.specs.Unread.{TellsEnd};
+
+use crate::device::Source;
+use crate::fault::BenchFault;
+use crate::lines::Lines;
+use crate::separator::{is_dashes, only_word};
+use rv_text::MAX_LINE;
+use std::alloc::Global;
+
+/// The most bytes of an image.
+pub const IMAGE_MAX: usize = 33554432;
+
+/// Adds the bytes that hexadecimal digits stand for. An `Err` changes nothing.
+///
+/// # Errors
+///
+/// - `Hex` where the word is not an even number of hexadecimal digits;
+/// - `TooLong` where the image would have more than `IMAGE_MAX` bytes;
+/// - `NoMemory` where memory was refused.
+fn add_bytes(image: &mut Vec<u8>, word: &[u8]) -> Result<(), BenchFault>
+    requires image { vec_len image.old ≤ 33554432 }
+    requires word { length word.now ≤ 120 }
+    ensures outcome { AddsBytes word.now image.old.items image.new.items result }
+    ensures len { vec_len image.new ≤ 33554432 }
+{
+    let mut bytes = [0u8; MAX_LINE / 2];
+    let count = word.len() / 2;
+    if hex::decode_to_slice(word, &mut bytes[..count]).is_err() {
+        return Err(BenchFault::Hex);
+    }
+    if image.len() + count > IMAGE_MAX {
+        return Err(BenchFault::TooLong);
+    }
+    match image.extend_from_slice(&bytes[..count]) {
+        Ok(()) => Ok(()),
+        Err(_) => Err(BenchFault::NoMemory),
+    }
+}
+
+/// Reads the image: the lines up to the first one whose only word is `--`, which is read too, or all lines.
+///
+/// # Errors
+///
+/// The first that is met, and in a line in this order:
+/// - `Read` where the source failed in this call: the image so far is let go, and the front of the line that was begun is kept;
+/// - `Hex` at a line that is too long, has a byte that may not stand in a line, or is not one word of an even number of
+///   hexadecimal digits, with spaces or tabs around it; a line without a word is no fault;
+/// - `TooLong` where the image would have more than `IMAGE_MAX` bytes;
+/// - `NoMemory` where memory was refused.
+pub fn read_image<S: Source>(alloc: Global, lines: &mut Lines<S>) -> Result<Vec<u8>, BenchFault>
+    ensures outcome { ReadsImage lines.old lines.new result }
+    ensures end { TellsEnd lines.old lines.new }
+{
+    let mut image = Vec::new(alloc);
+    while let Some(line) = lines.next_line().map_err(|_| BenchFault::Read)? {
+        let Some(word) = only_word(line.as_slice()) else {
+            return Err(BenchFault::Hex);
+        };
+        if is_dashes(word) {
+            return Ok(image);
+        }
+        add_bytes(&mut image, word)?;
+    }
+    Ok(image)
+}

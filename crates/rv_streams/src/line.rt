@@ -1,0 +1,80 @@
+//! The bytes of one line, read one by one.
+ghost use Rattle.std.specs.Prelude.{◌≡◌, ◌+◌, ◌<◌, ◌≤◌, false, [], ◌++◌, take, length, IsTrue, is_err};
+ghost use Rattle.rv_streams.specs.Device.{counted};
+ghost use Rattle.rv_text.specs.Lines.{has_feed};
+ghost use Rattle.rv_streams.specs.LineText.{ReadsText, left_from, stops_at_end};
+ghost use Rattle.rv_text.specs.Lines.{without_return};
+
+use crate::device::{DeviceFault, Source};
+use crate::transfer::read_byte;
+use arrayvec::ArrayVec;
+use std::mem;
+
+/// The most bytes that are kept of an unfinished line: any line that begins so is too long.
+pub(crate) const KEPT_MAX: usize = 122;
+
+/// The most bytes that are shown of a line: a line that shows so many is too long.
+pub(crate) const SHOWN_MAX: usize = 121;
+
+const LINE_FEED: u8 = b'\n';
+
+const CARRIAGE_RETURN: u8 = b'\r';
+
+/// The front of a line, or all of it.
+pub type Line = ArrayVec<u8, KEPT_MAX>;
+
+/// What ended a text.
+#[derive(Clone, Copy)]
+pub(crate) enum Stop {
+    LineFeed,
+    End,
+}
+
+/// Reads on from what the line holds, up to a line feed or the end, and keeps the front of all that.
+///
+/// # Errors
+///
+/// Where the source failed. The line then holds the front of what was read.
+pub(crate) fn read_text<S: Source>(source: &mut S, line: &mut Line) -> Result<Stop, DeviceFault>
+    requires short { length line.old.items ≤ 122 }
+    requires unfinished { has_feed line.old.items ≡ false }
+    ensures bytes { IsTrue S.tells → ReadsText (line.old.items ++ S.remaining source.old) (left_from result (S.remaining source.new)) line.new.items }
+    ensures end { IsTrue S.tells → result ≡ Ok Stop.End → S.remaining source.new ≡ [] }
+    ensures ends { S.ends source.new ≡ counted (stops_at_end result) (S.ends source.old) }
+    ensures failures { S.failures source.new ≡ counted (is_err result) (S.failures source.old) }
+    ensures short { length line.new.items ≤ 122 }
+    ensures unfinished { has_feed line.new.items ≡ false }
+    ensures falls { S.calls_left source.new + length line.new.items ≤ S.calls_left source.old + length line.old.items }
+    ensures feed_falls { result ≡ Ok Stop.LineFeed → S.calls_left source.new + length line.new.items < S.calls_left source.old + length line.old.items }
+{
+    while let Some(byte) = read_byte(source)? {
+        if byte == LINE_FEED {
+            return Ok(Stop::LineFeed);
+        }
+        if !line.is_full() {
+            line.push(byte);
+        }
+    }
+    Ok(Stop::End)
+}
+
+/// Takes the front of a line out, and leaves none.
+pub(crate) fn take_front(line: &mut Line, count: usize) -> Line
+    ensures taken { result.items ≡ take count line.old.items }
+    ensures rest { line.new.items ≡ [] }
+{
+    let mut front = mem::replace(line, ArrayVec::new());
+    front.truncate(count);
+    front
+}
+
+/// How many bytes of a text before a line feed are shown as its line.
+pub(crate) fn shown_len(text: &[u8]) -> usize
+    requires { length text.now ≤ 122 }
+    ensures { take result text.now ≡ take 121 (without_return text.now) }
+{
+    match text.split_last() {
+        Some((last, front)) if *last == CARRIAGE_RETURN => front.len(),
+        _ => text.len().min(SHOWN_MAX),
+    }
+}

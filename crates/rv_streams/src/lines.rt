@@ -1,0 +1,140 @@
+//! The lines of a source.
+ghost use Rattle.std.specs.Prelude.{◌≡◌, ◌<◌, ◌≤◌, true, false, [], length, IsTrue};
+ghost use Rattle.rv_text.specs.Lines.{has_feed};
+
+use crate::device::{DeviceFault, Source};
+use crate::line::{KEPT_MAX, Line, SHOWN_MAX, Stop, read_text, shown_len, take_front};
+use crate::separator::ScriptEnd;
+use arrayvec::ArrayVec;
+
+/// Reads the lines of a source, which it owns.
+///
+/// A line ends before a line feed; a carriage return right before that is dropped. What stands after the last line feed is a
+/// line if it is not empty.
+#[derive(Drop, Debug)]
+pub struct Lines<S: Source> {
+    source: S,
+    line: ArrayVec<u8, KEPT_MAX>,
+    is_at_end: bool,
+    ghost short: { length line.items ≤ 122 },
+    ghost unfinished: { has_feed line.items ≡ false },
+    ghost told: { is_at_end ≡ true → 0 < S.ends source },
+    ghost empty: { is_at_end ≡ true → line.items ≡ [] },
+    ghost none_left: { is_at_end ≡ true → IsTrue S.tells → S.remaining source ≡ [] },
+}
+
+impl<S: Source> Lines<S> {
+    ghost use Rattle.std.specs.Prelude.{◌≡◌, ◌<◌, true, false, [], IsTrue, IfOk, OnOk, OnErr, IfSome, IfNone, OnSome, is_err};
+    ghost use Rattle.rv_streams.specs.Device.{counted};
+    ghost use Rattle.rv_streams.specs.LineText.{ReadsText, TakesLine};
+    ghost use Rattle.rv_streams.specs.Script.{ends_script, FindsEnd};
+    ghost use Rattle.rv_streams.specs.Unread.{held, unread, calls_left, TellsEnd};
+
+    /// The lines of this source.
+    pub fn new(source: S) -> Lines<S>
+        ensures source { result.source ≡ source }
+        ensures held { held result ≡ [] }
+        ensures start { result.is_at_end ≡ false }
+    {
+        Lines {
+            source,
+            line: ArrayVec::new(),
+            is_at_end: false,
+        }
+    }
+
+    /// The source, as far as it has been read.
+    pub fn source(&self) -> &S
+        ensures { result.now ≡ self.now.source }
+    {
+        &self.source
+    }
+
+    /// Gives the source back. What was kept of an unfinished line is let go.
+    pub fn into_source(self) -> S
+        ensures { result ≡ self.source }
+    {
+        let Lines {
+            source,
+            line: _,
+            is_at_end: _,
+        } = self;
+        source
+    }
+
+    /// Whether the source has answered its end, so that no line is left.
+    pub fn is_at_end(&self) -> bool
+        ensures end { result ≡ self.now.is_at_end }
+        ensures told { IsTrue result → 0 < S.ends self.now.source }
+        ensures nothing { IsTrue result → IsTrue S.tells → unread self.now ≡ [] }
+    {
+        self.is_at_end
+    }
+
+    /// The next line, or `None` once the source has answered its end and no line is left. Of a line of more than 120 bytes
+    /// the first 121 are given.
+    ///
+    /// # Errors
+    ///
+    /// Where the source failed in this call. The first 122 bytes of the line that was begun are kept, and a further call goes
+    /// on from there.
+    pub fn next_line(&mut self) -> Result<Option<Line>, DeviceFault>
+        ensures line { IsTrue S.tells → IfOk result (λ found. IfSome found (λ line.
+            TakesLine (unread self.old) (unread self.new) self.new.is_at_end line.items)) }
+        ensures going { IfOk result (λ found. OnSome found (self.old.is_at_end ≡ false)) }
+        ensures none { IfOk result (λ found. IfNone found (self.new.is_at_end ≡ true)) }
+        ensures nothing { IsTrue S.tells → IfOk result (λ found. IfNone found ((unread self.old ≡ []) × (unread self.new ≡ []))) }
+        ensures end { TellsEnd self.old self.new }
+        ensures failures { S.failures self.new.source ≡ counted (is_err result) (S.failures self.old.source) }
+        ensures err { OnErr result ((self.old.is_at_end ≡ false) × (self.new.is_at_end ≡ false)) }
+        ensures kept { IsTrue S.tells → OnErr result (ReadsText (unread self.old) (S.remaining self.new.source) (held self.new)) }
+        ensures emptied { OnOk result (held self.new ≡ []) }
+        ensures falls { IfOk result (λ found. OnSome found (calls_left self.new < calls_left self.old)) }
+    {
+        if self.is_at_end {
+            return Ok(None);
+        }
+        match read_text(&mut self.source, &mut self.line)? {
+            Stop::LineFeed => {
+                let count = shown_len(self.line.as_slice());
+                Ok(Some(take_front(&mut self.line, count)))
+            }
+            Stop::End => {
+                self.is_at_end = true;
+                if self.line.is_empty() {
+                    return Ok(None);
+                }
+                Ok(Some(take_front(&mut self.line, SHOWN_MAX)))
+            }
+        }
+    }
+
+    /// The next line of a script, or `None` where the script ends: once the source has answered its end and no line is left, or
+    /// at a line that ends it, which is read.
+    ///
+    /// # Errors
+    ///
+    /// As `next_line`.
+    pub fn next_line_before(&mut self, end: ScriptEnd) -> Result<Option<Line>, DeviceFault>
+        ensures line { IsTrue S.tells → IfOk result (λ found. IfSome found (λ line.
+            TakesLine (unread self.old) (unread self.new) self.new.is_at_end line.items)) }
+        ensures inside { IfOk result (λ found. IfSome found (λ line. ends_script end line.items ≡ false)) }
+        ensures going { IfOk result (λ found. OnSome found (self.old.is_at_end ≡ false)) }
+        ensures none { IfOk result (λ found. IfNone found (FindsEnd end self.old self.new)) }
+        ensures end { TellsEnd self.old self.new }
+        ensures failures { S.failures self.new.source ≡ counted (is_err result) (S.failures self.old.source) }
+        ensures err { OnErr result ((self.old.is_at_end ≡ false) × (self.new.is_at_end ≡ false)) }
+        ensures kept { IsTrue S.tells → OnErr result (ReadsText (unread self.old) (S.remaining self.new.source) (held self.new)) }
+        ensures emptied { OnOk result (held self.new ≡ []) }
+        ensures falls { IfOk result (λ found. OnSome found (calls_left self.new < calls_left self.old)) }
+    {
+        let Some(line) = self.next_line()? else {
+            return Ok(None);
+        };
+        if end.is_at(line.as_slice()) {
+            Ok(None)
+        } else {
+            Ok(Some(line))
+        }
+    }
+}

@@ -1,0 +1,132 @@
+//! A source and a sink over memory that is lent to them. They take no memory of their own, and never fail.
+ghost use Rattle.std.specs.Prelude.{◌≡◌, ◌==◌, ◌&&◌, ◌++◌, ◌+◌, ◌-◌, ◌^◌, ◌≤◌, [], true, nat_lt, min, length, take, is_err};
+ghost use Rattle.rv_streams.specs.Device.{moved_count, answers_none, counted};
+ghost use Rattle.rv_streams.specs.MemoryStreams.{rest_of, bytes_of, room_of};
+
+use crate::device::{DeviceFault, Sink, Source};
+
+/// A source that gives the bytes of a slice.
+#[derive(Drop, Debug)]
+pub struct MemorySource<'a> {
+    rest: &'a [u8],
+    end_count: u64,
+}
+
+impl<'a> MemorySource<'a> {
+    /// A source of these bytes.
+    pub fn new(bytes: &'a [u8]) -> MemorySource<'a>
+        ensures bytes { rest_of result ≡ bytes.entry.now }
+        ensures ends { result.end_count ≡ 0 }
+    {
+        MemorySource {
+            rest: bytes,
+            end_count: 0,
+        }
+    }
+
+    /// The bytes that are still to come.
+    pub fn rest(&self) -> &[u8]
+        ensures { result.now ≡ rest_of self.now }
+    {
+        self.rest
+    }
+}
+
+impl<'a> Source for MemorySource<'a> {
+    ghost tells = { true };
+
+    ghost remaining = { rest_of };
+
+    ghost ends = { λ source. source.end_count };
+
+    ghost failures = { λ _. 0 };
+
+    ghost calls_left = { λ source. length (rest_of source) };
+
+    fn read_some(&mut self, buffer: &mut [u8]) -> Result<usize, DeviceFault> {
+        let count = self.rest.len().min(buffer.len());
+        let (given, rest) = self.rest.split_at(count);
+        buffer[..count].copy_from_slice(given);
+        self.rest = rest;
+        if count == 0 && !buffer.is_empty() {
+            self.end_count = self.end_count.saturating_add(1);
+        }
+        Ok(count)
+    }
+}
+
+/// A sink that fills a buffer from the front, and takes no byte once that is full.
+#[derive(Drop, Debug)]
+pub struct MemorySink<'a> {
+    buffer: &'a mut [u8],
+    taken_len: usize,
+    refused_parts: u64,
+}
+
+impl<'a> MemorySink<'a> {
+    /// A sink that fills this buffer.
+    pub fn new(buffer: &'a mut [u8]) -> MemorySink<'a>
+        ensures bytes { bytes_of result ≡ [] }
+        ensures room { room_of result ≡ length buffer.old }
+        ensures refusals { result.refused_parts ≡ 0 }
+    {
+        MemorySink {
+            buffer,
+            taken_len: 0,
+            refused_parts: 0,
+        }
+    }
+
+    /// The bytes that were taken.
+    pub fn bytes(&self) -> &[u8]
+        ensures { result.now ≡ bytes_of self.now }
+    {
+        let count = self.taken_len.min(self.buffer.len());
+        &self.buffer[..count]
+    }
+
+    /// Takes as much of the part as fits, and answers how many bytes: none of a part that has some is a refusal.
+    pub(crate) fn fill(&mut self, part: &[u8]) -> usize
+        ensures count { result ≡ min (length part.now) (room_of self.old) }
+        ensures bytes { bytes_of self.new ≡ bytes_of self.old ++ take result part.now }
+        ensures room { room_of self.new + result ≡ room_of self.old }
+        ensures refusals { self.new.refused_parts ≡ counted ((result == 0) && nat_lt 0 (length part.now)) self.old.refused_parts }
+    {
+        let room = self.buffer.len().saturating_sub(self.taken_len);
+        let count = part.len().min(room);
+        if count == 0 {
+            if !part.is_empty() {
+                self.refused_parts = self.refused_parts.saturating_add(1);
+            }
+            return 0;
+        }
+        self.buffer[self.taken_len..self.taken_len + count].copy_from_slice(&part[..count]);
+        self.taken_len += count;
+        count
+    }
+}
+
+impl<'a> Sink for MemorySink<'a> {
+    ghost tells = { true };
+
+    ghost taken = { bytes_of };
+
+    ghost refusals = { λ sink. sink.refused_parts };
+
+    ghost failures = { λ _. 0 };
+
+    fn write_some(&mut self, part: &[u8]) -> Result<usize, DeviceFault>
+        ensures count { result ≡ Ok (min (length part.now) (room_of self.old)) }
+        ensures bound { moved_count result ≤ length part.now }
+        ensures bytes { bytes_of self.new ≡ bytes_of self.old ++ take (moved_count result) part.now }
+        ensures refusals { self.new.refused_parts ≡ counted (answers_none result (length part.now)) self.old.refused_parts }
+        ensures failures { 0 ≡ counted (is_err result) 0 }
+        ensures failing { 0 ≡ 2 ^ 64 - 1 → result ≡ Err record {} }
+    {
+        Ok(self.fill(part))
+    }
+
+    fn flush(&mut self) -> Result<(), DeviceFault> {
+        Ok(())
+    }
+}
