@@ -1,6 +1,6 @@
 //! Which hart makes which step.
 
-ghost use Rattle.std.specs.Prelude.{◌≡◌, ◌<◌, nat_lt, map};
+ghost use Rattle.std.specs.Prelude.{◌≡◌, ◌<◌, ◌≤◌, length, nat_lt, map};
 ghost use Rattle.std.specs.List.{list_all};
 ghost use Rattle.rv_script.specs.Schedules.{is_hart_digit as is_hart_digit_of, is_schedule as is_schedule_of, hart_of_digit, harts_in, schedule_of, hart_named, has_all};
 
@@ -82,9 +82,10 @@ impl Schedule {
         })
     }
 
-    /// The harts' digits, in the order of their steps.
+    /// The harts' digits in ASCII, in the order of their steps: 64 at the most.
     pub fn digits(&self) -> &[u8]
-        ensures { map hart_of_digit result.now ≡ harts_in self.now }
+        ensures harts { map hart_of_digit result.now ≡ harts_in self.now }
+        ensures few { length result.now ≤ 64 }
     {
         &self.digits[..usize::from(self.steps).min(MOST)]
     }

@@ -39,6 +39,6 @@ loop-digit-preserved c =
 
 pub returns-clause-turns : goal.returns-clause-turns
 returns-clause-turns c =
-    ap (λ harts. turns harts (no_turns c.args.target.now)) (sym c.digits-digits.ensures)
+    ap (λ harts. turns harts (no_turns c.args.target.now)) (sym c.digits-digits.ensures.harts)
     ∙ (c.loop-digit.invariant.turns ∙ no_more c.digits-digits.result.now c.loop-digit.digit-index
     (after_turns c.loop-digit.target c.loop-digit.did) c.loop-digit-test.false)

@@ -8,4 +8,4 @@ pub returns : goal.returns
 unfolding has_all
 returns c =
     c.name_only.ensures ∙ sym (list_all-map (λ hart. nat_lt hart c.args.harts) hart_of_digit c.digits.result.now)
-    ∙ ap (has_all c.args.harts) c.digits.ensures
+    ∙ ap (has_all c.args.harts) c.digits.ensures.harts
