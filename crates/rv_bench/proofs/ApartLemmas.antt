@@ -6,15 +6,15 @@ use Rattle.std.proofs.lemmas.List.{drop_more}
 use Rattle.rv_text.specs.Characters.{line_feed}
 use Rattle.rv_text.specs.Lines.{lines_of}
 use Rattle.rv_debug.proofs.Answers.{both_line-front}
-use Rattle.rv_bench.specs.declared.apart.Apart.{Apart}
-use Rattle.rv_bench.specs.Apart.{apart_line, end_text, last_text, marked, script_text, told}
 use Rattle.rv_streams.specs.declared.device.Source.{Ghosts}
 use Rattle.rv_streams.specs.declared.lines.Lines.{Lines}
 use Rattle.rv_streams.specs.declared.separator.ScriptEnd.TheVariants.{Input}
 use Rattle.rv_streams.specs.LineText.{ReadsLines}
 use Rattle.rv_streams.specs.Script.{FindsEnd, IsAtEnd}
-use Rattle.rv_bench.specs.Replies.{replies, state_after}
 use Rattle.rv_streams.specs.Transfer.{WritesFront}
+use Rattle.rv_bench.specs.declared.apart.Apart.{Apart}
+use Rattle.rv_bench.specs.Apart.{apart_line, end_text, last_text, marked, script_text, told}
+use Rattle.rv_bench.specs.Replies.{replies, state_after}
 use Rattle.rv_bench.proofs.RepliesLemmas.{replies-append, state_after-append}
 
 -- one more byte of a text is written after its mark, if it begins a line

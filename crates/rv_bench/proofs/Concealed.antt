@@ -16,12 +16,12 @@ use Rattle.rv_debug.proofs.AnswersAlike.{agree_again, confidentiality}
 use Rattle.rv_debug.proofs.PokesAlike.{agrees_with_itself, poke_law}
 use Rattle.rv_command_line.specs.declared.setup.Setup.{Setup}
 use Rattle.rv_streams.specs.declared.fault.BenchFault.{BenchFault}
-use Rattle.rv_bench.specs.Confidentiality.{AnswerAlike, AreSecret, ConcealsSecret, ConcealsThrough, PassOver, PokeInto}
 use Rattle.rv_streams.specs.Image.{image_in}
+use Rattle.rv_streams.specs.Separator.{after_separator, has_separator}
+use Rattle.rv_bench.specs.Confidentiality.{AnswerAlike, AreSecret, ConcealsSecret, ConcealsThrough, PassOver, PokeInto}
 use Rattle.rv_bench.specs.Loaded.{started}
 use Rattle.rv_bench.specs.Output.{bench_in, output, replies_of}
 use Rattle.rv_bench.specs.Replies.{bench_line, replies, state_after}
-use Rattle.rv_streams.specs.Separator.{after_separator, has_separator}
 use Rattle.rv_bench.proofs.FrontLines.{bench_in-front, script_lines-front}
 use Rattle.rv_bench.proofs.RepliesLemmas.{replies-append}
 use Rattle.rv_bench.proofs.Spared.{keeps_line, keeps_lines}

@@ -8,26 +8,26 @@ use Rattle.rv_debug.specs.TwoBenches.{BothTold, both_line_answer}
 use Rattle.rv_debug.specs.declared.both.BothLine.{BothLine}
 use Rattle.rv_debug.specs.declared.both.BothLine.TheVariants.{Faulty, Given}
 use Rattle.rv_debug.specs.declared.both.BothWhy.TheVariants.{All, Entered, NotBlind}
-use Rattle.rv_bench.specs.declared.apart.Apart.{Apart}
 use Rattle.rv_streams.specs.declared.device.Sink.{Ghosts as SinkGhosts}
 use Rattle.rv_streams.specs.declared.device.Source.{Ghosts as SourceGhosts}
 use Rattle.rv_streams.specs.declared.fault.BenchFault.{BenchFault}
 use Rattle.rv_streams.specs.declared.fault.BenchFault.TheVariants.{Read, Write}
 use Rattle.rv_streams.specs.declared.lines.Lines.{Lines}
 use Rattle.rv_streams.specs.declared.separator.ScriptEnd.TheVariants.{Input}
+use Rattle.rv_streams.specs.Calls.{SinkFailed, SinkWorked}
+use Rattle.rv_streams.specs.Transfer.{WritesFront}
+use Rattle.rv_streams.specs.Unread.{unread, TellsEnd}
+use Rattle.rv_streams.proofs.Ends.{SinkFailed-after}
+use Rattle.rv_streams.proofs.ScriptLemmas.{FindsEnd-whole}
+use Rattle.rv_bench.specs.declared.apart.Apart.{Apart}
 use Rattle.rv_bench.specs.Answered.{AnswersAll, AnswersToEnd, AnswersToOver}
 use Rattle.rv_bench.specs.Apart.{apart_line, done_by, end_text, entered_text, last_text, no_slot_text, script_text, told, two_benches}
-use Rattle.rv_streams.specs.Calls.{SinkFailed, SinkWorked}
 use Rattle.rv_bench.specs.Replies.{Answering, Replied, replies, state_after}
 use Rattle.rv_bench.specs.Run.{FailsIn, StopsAtRead, StopsAtWrite}
-use Rattle.rv_streams.specs.Transfer.{WritesFront}
 use Rattle.rv_bench.specs.Twin.{EntersSlot, RunsSecond, StopsSecondAtWrite}
-use Rattle.rv_streams.specs.Unread.{unread, TellsEnd}
 use Rattle.rv_bench.proofs.ApartLemmas.{at_input_end, ended_all, ended_front, entered_all, front_all, front_more, front_none}
-use Rattle.rv_streams.proofs.Ends.{SinkFailed-after}
 use Rattle.rv_bench.proofs.Runs.{AnswersLines-all, AnswersLines-state}
 use Rattle.rv_bench.proofs.Runs.{AnswersNext-going, AnswersNext-state, AnswersNext-stops, AnswersNext-taken, AnswersNext-wrote}
-use Rattle.rv_streams.proofs.ScriptLemmas.{FindsEnd-whole}
 
 -- ---- the same of what was written before by another name
 

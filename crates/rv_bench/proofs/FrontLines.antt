@@ -8,9 +8,9 @@ use Rattle.rv_text.proofs.LineLemmas.{lines_of-append, lines_of-after_lines}
 use Rattle.rv_word.specs.Cases.{result_case}
 use Rattle.rv_command_line.specs.declared.setup.Setup.{Setup}
 use Rattle.rv_streams.specs.Image.{image_of}
+use Rattle.rv_streams.specs.Separator.{is_separator, has_separator, before_separator, after_separator}
 use Rattle.rv_bench.specs.Loaded.{started}
 use Rattle.rv_bench.specs.Output.{bench_in}
-use Rattle.rv_streams.specs.Separator.{is_separator, has_separator, before_separator, after_separator}
 
 -- ---- the first line that passes a test
 

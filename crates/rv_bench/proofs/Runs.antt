@@ -11,21 +11,21 @@ use Rattle.rv_streams.specs.declared.fault.BenchFault.TheVariants.{Write}
 use Rattle.rv_streams.specs.declared.lines.Lines.{Lines}
 use Rattle.rv_streams.specs.declared.separator.ScriptEnd.{ScriptEnd}
 use Rattle.rv_streams.specs.declared.separator.ScriptEnd.TheVariants.{Input, Separator}
-use Rattle.rv_bench.specs.Answered.{AnswersAll, AnswersLine, AnswersLines, AnswersNext}
 use Rattle.rv_streams.specs.Calls.{SourceWorked, SinkWorked, SinkFailed}
 use Rattle.rv_streams.specs.LineText.{ReadsText}
-use Rattle.rv_bench.specs.Replies.{Answering, Replied, bench_line, one_bench, replies, state_after}
-use Rattle.rv_bench.specs.Run.{FailsIn, RunsScript, StopsAtRead, StopsAtWrite}
 use Rattle.rv_streams.specs.Script.{script_lines, within, FindsEnd, TakesScript}
 use Rattle.rv_streams.specs.Transfer.{WritesFront}
 use Rattle.rv_streams.specs.Unread.{held, unread, TellsEnd}
-use Rattle.rv_debug.specs.BenchState.{BenchState}
-use Rattle.rv_text.specs.Lines.{lines_of}
 use Rattle.rv_streams.proofs.Ends.{SinkFailed-after}
-use Rattle.rv_bench.proofs.RepliesLemmas.{replies-append, state_after-append, replies-more}
 use Rattle.rv_streams.proofs.LineTextLemmas.{ReadsLines-none, ReadsLines-more}
 use Rattle.rv_streams.proofs.ScriptLemmas.{ends_script-shown, script_lines-all, script_lines-front, ReadsScript, FindsEnd-separator, FindsEnd-whole}
 use Rattle.rv_streams.proofs.TakeWhileLemmas.{list_all-push}
+use Rattle.rv_bench.specs.Answered.{AnswersAll, AnswersLine, AnswersLines, AnswersNext}
+use Rattle.rv_bench.specs.Replies.{Answering, Replied, bench_line, one_bench, replies, state_after}
+use Rattle.rv_bench.specs.Run.{FailsIn, RunsScript, StopsAtRead, StopsAtWrite}
+use Rattle.rv_debug.specs.BenchState.{BenchState}
+use Rattle.rv_text.specs.Lines.{lines_of}
+use Rattle.rv_bench.proofs.RepliesLemmas.{replies-append, state_after-append, replies-more}
 
 -- ---- a line
 

@@ -12,10 +12,10 @@ use Rattle.rv_debug.proofs.DeedsKept.{keeps_monitor}
 use Rattle.rv_debug.proofs.Isolation.{integrity}
 use Rattle.rv_command_line.specs.declared.setup.Setup.{Setup}
 use Rattle.rv_streams.specs.declared.fault.BenchFault.{BenchFault}
+use Rattle.rv_streams.specs.Image.{image_in}
 use Rattle.rv_bench.specs.Integrity.{commands_of, SparesThrough}
 use Rattle.rv_bench.specs.Loaded.{started}
 use Rattle.rv_bench.specs.Output.{bench_in}
-use Rattle.rv_streams.specs.Image.{image_in}
 use Rattle.rv_bench.specs.Replies.{bench_line, state_after}
 use Rattle.rv_bench.proofs.RepliesLemmas.{state_after-append}
 use Rattle.rv_bench.proofs.Starts.{started_keeps}

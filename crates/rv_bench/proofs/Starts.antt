@@ -11,8 +11,8 @@ use Rattle.std.proofs.lemmas.List.FromFn.{length-map-range_with_len}
 use Rattle.rv_elf.specs.Plans.{LoadPlan}
 use Rattle.rv_elf.specs.declared.elf_fault.ElfFault.{ElfFault}
 use Rattle.rv_command_line.specs.declared.setup.Setup.{Setup}
-use Rattle.rv_streams.specs.declared.fault.BenchFault.TheVariants.{Image, Ram}
 use Rattle.rv_memory.specs.declared.ram_fault.RamFault.TheVariants.{BadSize}
+use Rattle.rv_streams.specs.declared.fault.BenchFault.TheVariants.{Image, Ram}
 use Rattle.rv_bench.specs.Loaded.{harts_of, memory_loaded, planned, reset_over, started}
 
 -- a RAM that is made, loaded by the image's plan and given to a bench

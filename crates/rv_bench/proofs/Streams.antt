@@ -13,17 +13,17 @@ use Rattle.rv_streams.specs.declared.lines.Lines.{Lines}
 use Rattle.rv_streams.specs.declared.separator.ScriptEnd.TheVariants.{Input}
 use Rattle.rv_streams.specs.Calls.{SourceFailed}
 use Rattle.rv_streams.specs.Image.{image_in}
-use Rattle.rv_bench.specs.Loaded.{started}
-use Rattle.rv_bench.specs.Output.{bench_in, output, replies_of}
-use Rattle.rv_bench.specs.Replies.{bench_line, one_bench, replies}
 use Rattle.rv_streams.specs.Faults.{Outcome}
-use Rattle.rv_bench.specs.Run.{RunsBench, StopsAtRead, StopsAtWrite}
 use Rattle.rv_streams.specs.Script.{ReadsThroughSeparator}
 use Rattle.rv_streams.specs.Separator.{after_separator}
-use Rattle.rv_bench.specs.Stream.{RunsStream}
 use Rattle.rv_streams.specs.Transfer.{WritesFront}
 use Rattle.rv_streams.specs.Unread.{held, unread, TellsEnd}
 use Rattle.rv_streams.proofs.Ends.{TellsEnd-more, separator_read}
+use Rattle.rv_bench.specs.Loaded.{started}
+use Rattle.rv_bench.specs.Output.{bench_in, output, replies_of}
+use Rattle.rv_bench.specs.Replies.{bench_line, one_bench, replies}
+use Rattle.rv_bench.specs.Run.{RunsBench, StopsAtRead, StopsAtWrite}
+use Rattle.rv_bench.specs.Stream.{RunsStream}
 use Rattle.rv_bench.proofs.Starts.{no_ram, has_ram, fault_has_ram}
 
 ok_and : {A E : Type 0} (r : Result A E) (P : A → Type 0) → IsOkAnd r P → (x : A) × (r ≡ Ok x) × P x

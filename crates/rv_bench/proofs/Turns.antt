@@ -5,15 +5,15 @@ use Rattle.rv_streams.specs.declared.device.Source.{Ghosts as SourceGhosts}
 use Rattle.rv_streams.specs.declared.fault.BenchFault.TheVariants.{Read, Write}
 use Rattle.rv_streams.specs.declared.lines.Lines.{Lines}
 use Rattle.rv_streams.specs.declared.separator.ScriptEnd.{ScriptEnd}
-use Rattle.rv_bench.specs.Answered.{AnswersAll, AnswersLine, AnswersLines, AnswersNext}
 use Rattle.rv_streams.specs.Calls.{SourceFailed, SourceWorked, SinkFailed, SinkWorked}
 use Rattle.rv_streams.specs.LineText.{ReadsText, TakesLine}
-use Rattle.rv_bench.specs.Replies.{Answering}
-use Rattle.rv_bench.specs.Run.{FailsIn}
 use Rattle.rv_streams.specs.Script.{ends_script, FindsEnd}
 use Rattle.rv_streams.specs.Transfer.{WritesFront}
 use Rattle.rv_streams.specs.Unread.{held, unread, TellsEnd}
 use Rattle.rv_streams.proofs.Ends.{SinkFailed-after, TellsEnd-none, TellsEnd-more}
+use Rattle.rv_bench.specs.Answered.{AnswersAll, AnswersLine, AnswersLines, AnswersNext}
+use Rattle.rv_bench.specs.Replies.{Answering}
+use Rattle.rv_bench.specs.Run.{FailsIn}
 use Rattle.rv_bench.proofs.Runs.{AnswersLines-none, AnswersLines-going, AnswersLines-read, AnswersNext-wrote, AnswersNext-stops, StopsAtWrite-front}
 
 module _ {S W : Type 0} {g : SourceGhosts S} (h : SinkGhosts W) {A : Type 0} (by : Answering A) (end : ScriptEnd) (start : A) (old : Lines S g) (before : W)

@@ -24,12 +24,12 @@ use Rattle.rv_debug.proofs.BothAlike.{both_alike}
 use Rattle.rv_debug.proofs.DeedsKept.{keeps_monitor}
 use Rattle.rv_debug.proofs.Isolation.{integrity}
 use Rattle.rv_command_line.specs.declared.setup.Setup.{Setup}
-use Rattle.rv_bench.specs.declared.apart.Apart.{Apart}
 use Rattle.rv_streams.specs.declared.fault.BenchFault.{BenchFault}
+use Rattle.rv_streams.specs.Separator.{after_separator, before_separator}
+use Rattle.rv_bench.specs.declared.apart.Apart.{Apart}
 use Rattle.rv_bench.specs.Apart.{apart_line, done_by, set_apart, told}
 use Rattle.rv_bench.specs.Output.{bench_in}
 use Rattle.rv_bench.specs.Replies.{Replied, state_after}
-use Rattle.rv_streams.specs.Separator.{after_separator, before_separator}
 use Rattle.rv_text.specs.Lines.{lines_of}
 use Rattle.rv_bench.specs.Twin.{after_first, monitored}
 use Rattle.rv_bench.specs.TwinLaws.{BothSpare, IsToldAlike, OfApart, StayTogether, TwinConceals, TwinSpares, commands_done, done_by_both, done_in_line}

@@ -15,30 +15,30 @@ use Rattle.rv_word.specs.Cases.{result_case}
 use Rattle.rv_memory.specs.Memory.{is_ram_size}
 use Rattle.rv_memory.specs.declared.ram_fault.RamFault.TheVariants.{BadSize, NoMemory as NoRamMemory}
 use Rattle.rv_command_line.specs.declared.setup.Setup.{Setup}
-use Rattle.rv_bench.specs.declared.apart.Apart.{Apart}
-use Rattle.rv_bench.specs.declared.apart.ApartBenches.{ApartBenches}
 use Rattle.rv_streams.specs.declared.device.Sink.{Ghosts as SinkGhosts}
 use Rattle.rv_streams.specs.declared.device.Source.{Ghosts as SourceGhosts}
 use Rattle.rv_streams.specs.declared.fault.BenchFault.{BenchFault}
 use Rattle.rv_streams.specs.declared.fault.BenchFault.TheVariants.{Image, Ram, Read, Write}
 use Rattle.rv_streams.specs.declared.lines.Lines.{Lines}
 use Rattle.rv_streams.specs.declared.separator.ScriptEnd.TheVariants.{Input, Separator}
-use Rattle.rv_bench.specs.Apart.{set_apart, two_benches}
 use Rattle.rv_streams.specs.Calls.{SourceFailed}
 use Rattle.rv_streams.specs.Image.{image_in}
-use Rattle.rv_bench.specs.Loaded.{Starts, started}
-use Rattle.rv_bench.specs.Output.{bench_in}
-use Rattle.rv_bench.specs.Replies.{one_bench}
 use Rattle.rv_streams.specs.Faults.{Outcome}
-use Rattle.rv_bench.specs.Run.{RunsLines, StopsAtRead, StopsAtWrite}
 use Rattle.rv_streams.specs.Script.{ReadsThroughSeparator}
 use Rattle.rv_streams.specs.Separator.{after_separator}
 use Rattle.rv_streams.specs.Transfer.{WritesFront}
+use Rattle.rv_streams.specs.Unread.{held, unread, TellsEnd}
+use Rattle.rv_streams.proofs.Ends.{SinkFailed-after, TellsEnd-more, separator_read}
+use Rattle.rv_bench.specs.declared.apart.Apart.{Apart}
+use Rattle.rv_bench.specs.declared.apart.ApartBenches.{ApartBenches}
+use Rattle.rv_bench.specs.Apart.{set_apart, two_benches}
+use Rattle.rv_bench.specs.Loaded.{Starts, started}
+use Rattle.rv_bench.specs.Output.{bench_in}
+use Rattle.rv_bench.specs.Replies.{one_bench}
+use Rattle.rv_bench.specs.Run.{RunsLines, StopsAtRead, StopsAtWrite}
 use Rattle.rv_bench.specs.Twin.{IsNeverEntered, IsOver, RunsSecond, RunsTwin, StopsInScripts, StopsInScriptsAtWrite, StopsSecondAtWrite}
 use Rattle.rv_bench.specs.Twin.{after_first, first_text, monitored, scripts_text, second_text, twin_output}
-use Rattle.rv_streams.specs.Unread.{held, unread, TellsEnd}
 use Rattle.rv_bench.proofs.ApartLemmas.{front_after, front_more}
-use Rattle.rv_streams.proofs.Ends.{SinkFailed-after, TellsEnd-more, separator_read}
 use Rattle.rv_bench.proofs.Entering.{read_after, write_after}
 use Rattle.rv_bench.proofs.Starts.{no_ram, has_ram, fault_has_ram}
 

@@ -7,11 +7,11 @@ use Rattle.rv_streams.specs.declared.lines.Lines.{Lines}
 use Rattle.rv_streams.specs.declared.separator.ScriptEnd.{ScriptEnd}
 use Rattle.rv_streams.specs.Calls.{SourceWorked, SinkWorked}
 use Rattle.rv_streams.specs.LineText.{TakesLine}
-use Rattle.rv_bench.specs.Replies.{Answering, Replied, replies, state_after}
 use Rattle.rv_streams.specs.Faults.{Outcome}
-use Rattle.rv_bench.specs.Run.{FailsIn}
 use Rattle.rv_streams.specs.Script.{ends_script, TakesScript, FindsEnd}
 use Rattle.rv_streams.specs.Unread.{held, unread}
+use Rattle.rv_bench.specs.Replies.{Answering, Replied, replies, state_after}
+use Rattle.rv_bench.specs.Run.{FailsIn}
 
 -- a line has this answer, and so has every one that begins with the same 121 bytes
 abbrev pub AnswersLine : {A : Type 0} → Answering A → A → List ℕ → Replied A → Type 0

@@ -6,15 +6,15 @@ use Rattle.rv_streams.specs.declared.device.Sink.{Ghosts as SinkGhosts}
 use Rattle.rv_streams.specs.declared.device.Source.{Ghosts as SourceGhosts}
 use Rattle.rv_streams.specs.declared.lines.Lines.{Lines}
 use Rattle.rv_streams.specs.Assemble.{RunsAsm}
-use Rattle.rv_bench.specs.Confidentiality.{ConcealsSecret, ConcealsThrough}
 use Rattle.rv_streams.specs.Disassemble.{RunsDis}
+use Rattle.rv_streams.specs.Faults.{Outcome}
+use Rattle.rv_streams.specs.Unread.{held, unread, TellsEnd}
+use Rattle.rv_bench.specs.Confidentiality.{ConcealsSecret, ConcealsThrough}
 use Rattle.rv_bench.specs.Integrity.{SparesThrough}
 use Rattle.rv_bench.specs.Output.{bench_in}
-use Rattle.rv_streams.specs.Faults.{Outcome}
 use Rattle.rv_bench.specs.Stream.{RunsStream}
 use Rattle.rv_bench.specs.Twin.{RunsTwin}
 use Rattle.rv_bench.specs.TwinLaws.{TwinConceals, TwinSpares}
-use Rattle.rv_streams.specs.Unread.{held, unread, TellsEnd}
 
 module _ {S : Type 0} (g : SourceGhosts S) where
   -- New lines of a source, as far as they were read, when the source is given back.

@@ -1,14 +1,14 @@
 -- What the bench writes for an input: an image, the line `--`, and a script. (This project's own format.)
 use Rattle.std.specs.Prelude.{ℕ, List, Result, Ok, Err}
-use Rattle.rv_bench.specs.Replies.{bench_line, replies}
-use Rattle.rv_word.specs.Cases.{result_case}
 use Rattle.rv_streams.specs.Image.{image_in}
 use Rattle.rv_streams.specs.Separator.{after_separator}
+use Rattle.rv_streams.specs.declared.fault.BenchFault.{BenchFault}
+use Rattle.rv_bench.specs.Replies.{bench_line, replies}
+use Rattle.rv_word.specs.Cases.{result_case}
 use Rattle.rv_text.specs.Lines.{lines_of}
 use Rattle.rv_bench.specs.Loaded.{started}
 use Rattle.rv_command_line.specs.declared.setup.Setup.{Setup}
 use Rattle.rv_debug.specs.BenchState.{BenchState}
-use Rattle.rv_streams.specs.declared.fault.BenchFault.{BenchFault}
 
 -- the replies of a bench that has started, or the fault
 abbrev pub replies_of : Result BenchState BenchFault → List (List ℕ) → Result (List ℕ) BenchFault

@@ -14,11 +14,11 @@ use Rattle.rv_streams.specs.declared.separator.ScriptEnd.{ScriptEnd}
 use Rattle.rv_streams.specs.declared.separator.ScriptEnd.TheVariants.{Input, Separator}
 use Rattle.rv_streams.specs.Calls.{SourceWorked, SourceFailed, SinkWorked, SinkFailed}
 use Rattle.rv_streams.specs.Faults.{Outcome}
-use Rattle.rv_bench.specs.Loaded.{started}
-use Rattle.rv_bench.specs.Replies.{Answering, bench_line, one_bench, replies, state_after}
 use Rattle.rv_streams.specs.Script.{script_lines, ReadsThroughSeparator}
 use Rattle.rv_streams.specs.Transfer.{WritesFront}
 use Rattle.rv_streams.specs.Unread.{held, unread, HasEnded}
+use Rattle.rv_bench.specs.Loaded.{started}
+use Rattle.rv_bench.specs.Replies.{Answering, bench_line, one_bench, replies, state_after}
 
 module _ {A : Type 0} (by : Answering A) where
   -- The source failed. A text of whole lines of the script has its replies, after which it is not over, and the line that was begun is

@@ -10,14 +10,14 @@ use Rattle.rv_streams.specs.declared.fault.BenchFault.TheVariants.{Image, Ram, R
 use Rattle.rv_streams.specs.declared.lines.Lines.{Lines}
 use Rattle.rv_streams.specs.declared.separator.ScriptEnd.TheVariants.{Input}
 use Rattle.rv_streams.specs.Image.{image_in, ReadsInImage}
-use Rattle.rv_bench.specs.Output.{bench_in, output}
 use Rattle.rv_streams.specs.ReadImage.{FindsFault, LacksMemory}
-use Rattle.rv_bench.specs.Replies.{one_bench}
 use Rattle.rv_streams.specs.Faults.{Outcome}
-use Rattle.rv_bench.specs.Run.{RunsToEnd, FailsToRead, FailsToWrite, StopsAtRead, StopsAtWrite}
 use Rattle.rv_streams.specs.Script.{ReadsThroughSeparator}
 use Rattle.rv_streams.specs.Separator.{after_separator, has_separator}
 use Rattle.rv_streams.specs.Unread.{held, unread}
+use Rattle.rv_bench.specs.Output.{bench_in, output}
+use Rattle.rv_bench.specs.Replies.{one_bench}
+use Rattle.rv_bench.specs.Run.{RunsToEnd, FailsToRead, FailsToWrite, StopsAtRead, StopsAtWrite}
 
 module _ {S W : Type 0} {g : SourceGhosts S} (h : SinkGhosts W) (setup : Setup) (old new : Lines S g) (before after : W) where
   -- the input has this fault in place of an output

@@ -8,26 +8,26 @@ use Rattle.rv_memory.specs.declared.ram_fault.RamFault.TheVariants.{BadSize, NoM
 use Rattle.rv_command_line.specs.declared.setup.Setup.{Setup}
 use Rattle.rv_debug.specs.BenchState.{BenchState}
 use Rattle.rv_text.specs.Lines.{lines_of}
-use Rattle.rv_bench.specs.declared.apart.Apart.{Apart}
 use Rattle.rv_streams.specs.declared.device.Sink.{Ghosts as SinkGhosts}
 use Rattle.rv_streams.specs.declared.device.Source.{Ghosts as SourceGhosts}
 use Rattle.rv_streams.specs.declared.fault.BenchFault.{BenchFault}
 use Rattle.rv_streams.specs.declared.fault.BenchFault.TheVariants.{Image, Ram, Read, Write, Hex, TooLong, NoMemory}
 use Rattle.rv_streams.specs.declared.lines.Lines.{Lines}
 use Rattle.rv_streams.specs.declared.separator.ScriptEnd.TheVariants.{Input, Separator}
-use Rattle.rv_bench.specs.Apart.{apart_line, end_text, entered_text, no_slot_text, script_text, set_apart, two_benches}
 use Rattle.rv_streams.specs.Calls.{SourceWorked, SinkWorked}
 use Rattle.rv_streams.specs.Image.{image_in, ReadsInImage}
 use Rattle.rv_streams.specs.LineText.{ReadsLines}
-use Rattle.rv_bench.specs.Output.{bench_in}
 use Rattle.rv_streams.specs.ReadImage.{FindsFault, LacksMemory}
-use Rattle.rv_bench.specs.Replies.{bench_line, one_bench, replies, state_after}
 use Rattle.rv_streams.specs.Faults.{Outcome}
-use Rattle.rv_bench.specs.Run.{FailsToRead, FailsToWrite, StopsAtRead, StopsAtWrite}
 use Rattle.rv_streams.specs.Script.{ReadsThroughSeparator}
 use Rattle.rv_streams.specs.Separator.{before_separator, has_separator, after_separator}
 use Rattle.rv_streams.specs.Transfer.{WritesFront}
 use Rattle.rv_streams.specs.Unread.{held, unread, HasEnded}
+use Rattle.rv_bench.specs.declared.apart.Apart.{Apart}
+use Rattle.rv_bench.specs.Apart.{apart_line, end_text, entered_text, no_slot_text, script_text, set_apart, two_benches}
+use Rattle.rv_bench.specs.Output.{bench_in}
+use Rattle.rv_bench.specs.Replies.{bench_line, one_bench, replies, state_after}
+use Rattle.rv_bench.specs.Run.{FailsToRead, FailsToWrite, StopsAtRead, StopsAtWrite}
 
 -- the setup of a twin run is monitored, whatever it says
 abbrev pub monitored : Setup → Setup

@@ -9,12 +9,12 @@ use Rattle.rv_debug.specs.declared.both.BothWhy.{BothWhy}
 use Rattle.rv_debug.specs.declared.both.BothWhy.TheVariants.{All, NotBlind}
 use Rattle.rv_script.specs.declared.command.Command.{Command}
 use Rattle.rv_command_line.specs.declared.setup.Setup.{Setup}
+use Rattle.rv_streams.specs.Separator.{after_separator}
 use Rattle.rv_bench.specs.declared.apart.Apart.{Apart}
 use Rattle.rv_bench.specs.Apart.{apart_line, set_apart}
 use Rattle.rv_bench.specs.Integrity.{SparesThrough}
 use Rattle.rv_bench.specs.Output.{bench_in}
 use Rattle.rv_bench.specs.Replies.{state_after}
-use Rattle.rv_streams.specs.Separator.{after_separator}
 use Rattle.rv_bench.specs.Twin.{after_first, monitored}
 
 -- ---- confidentiality

@@ -1,9 +1,9 @@
 //! The bench from bytes to bytes: an image and a script come in through a [`Source`], and the replies go out through a
 //! [`Sink`]. The same way a text is assembled, and an image disassembled.
 //!
-//! What a line of a script does is the business of the crate `rv_debug`, the assembler that of `rv_asm`. The specs have an equation
-//! for each result of a call, of what was read, kept and written then: `ReadImage`, `Run` (of `run_bench`), `Stream`, `Assemble`,
-//! `Disassemble` and `Jobs`. The texts that are written are named in `Output`, `Replies`, `AssemblyText` and `DisassemblyText`.
+//! What a line of a script does is the business of the crate `rv_debug`; lines, images and the jobs that need no bench that of
+//! `rv_streams`. The specs have an equation for each result of a call, of what was read, kept and written then: `Run` (of `run_bench`),
+//! `Stream`, `Twin` and `Jobs`. The texts that are written are named in `Output`, `Replies` and `Apart`.
 //!
 //! ```text
 //! let mut lines = Lines::new(MemorySource::new(b"9300f0ff\n--\nstep 1\nreg 1\n"));

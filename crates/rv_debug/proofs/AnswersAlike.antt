@@ -10,18 +10,21 @@ use Rattle.rv_pmp.specs.Entries.{Entries}
 use Rattle.rv_pmp.specs.declared.access.Access.{Access as AccessKind}
 use Rattle.rv_pmp.specs.declared.mode.Mode.{Mode}
 use Rattle.rv_hart.specs.State.{State}
-use Rattle.rv_enclaves.specs.SharedButFor.{SharedButFor, is_private}
-use Rattle.rv_enclaves.specs.Blocks.{meets}
 use Rattle.std.specs.List.{list_any}
 use Rattle.std.specs.Prelude.{nat_lt, ◌++◌, if◌then◌else◌}
 use Rattle.rv_monitor.specs.State.{MonitoredState, OnTurn, IsKept, count_of, worlds_beside}
+use Rattle.rv_monitor.specs.declared.seat.Seat.{Seat}
+use Rattle.rv_monitor.proofs.MonitoredAlike.{gone_equal}
+use Rattle.rv_enclaves.specs.SharedButFor.{SharedButFor, is_private}
+use Rattle.rv_enclaves.specs.Blocks.{meets}
 use Rattle.rv_enclaves.specs.Table.{Slots, region, is_world_of}
 use Rattle.rv_enclaves.specs.declared.block.Block.{Block}
-use Rattle.rv_monitor.specs.declared.seat.Seat.{Seat}
 use Rattle.rv_enclaves.specs.declared.shared.Shared.{Shared}
 use Rattle.rv_enclaves.proofs.Agreement.{same_read, read-none, write-none, write-some, same_write}
 use Rattle.rv_enclaves.proofs.Alike.{seen_block}
-use Rattle.rv_monitor.proofs.MonitoredAlike.{gone_equal}
+use Rattle.rv_script.specs.Schedules.{harts_in, has_all}
+use Rattle.rv_script.specs.declared.command.Command.{Command}
+use Rattle.rv_script.specs.declared.command.Command.TheVariants.{Step, Run, SetReg, Mem, Poke, Dis, Enclaves, Access, Timer, Hart, Sched}
 use Rattle.rv_debug.specs.Answer.{Answered, access_reply, answer, hart_told, harts_told, told as steps_told}
 use Rattle.rv_debug.specs.BenchState.{BenchState}
 use Rattle.rv_debug.specs.Confidentiality.{AgreeAgain, AnswerAlike, ConfidentialityLaw}
@@ -29,12 +32,9 @@ use Rattle.rv_debug.specs.Deeds.{Deed, Nothing, Steps, deed, done, entered_by, r
 use Rattle.rv_debug.specs.EnclaveText.{table_text}
 use Rattle.rv_debug.specs.ReplyText.{ok_text, outside_text, memory_text, dis_text, hart_text, no_hart_text, ran_text}
 use Rattle.rv_debug.specs.Turns.{AfterTurns, no_turns, turns}
-use Rattle.rv_script.specs.Schedules.{harts_in, has_all}
 use Rattle.rv_debug.specs.Steps.{AfterRun, no_steps, run}
 use Rattle.rv_debug.specs.Targets.{chosen_at, IsBare, KeepsMonitor, monitored_stepped, over_memory, turned_to, world_name}
 use Rattle.rv_debug.specs.TwoBenches.{BenchesAgreeBut, ChosenAgreeBut, TargetsAgreeBut, is_blind, is_entered}
-use Rattle.rv_script.specs.declared.command.Command.{Command}
-use Rattle.rv_script.specs.declared.command.Command.TheVariants.{Step, Run, SetReg, Mem, Poke, Dis, Enclaves, Access, Timer, Hart, Sched}
 use Rattle.rv_debug.specs.declared.scheduled.HartRan.{HartRan}
 use Rattle.rv_debug.specs.declared.scheduled.Scheduled.{Scheduled}
 use Rattle.rv_debug.specs.declared.steps.Ran.{Ran}

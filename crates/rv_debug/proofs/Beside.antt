@@ -9,19 +9,19 @@ use Rattle.rv_monitor.specs.Debugger.{with_reg, with_timer}
 use Rattle.rv_monitor.specs.HartLaws.{sched}
 use Rattle.rv_monitor.specs.State.{MonitoredState, OnTurn, IsKept, machine_of, seated_beside, seen_by}
 use Rattle.rv_monitor.specs.Step.{monitored_step, step_of}
-use Rattle.rv_enclaves.specs.Table.{Slots}
 use Rattle.rv_monitor.specs.declared.seat.Seat.{Seat}
-use Rattle.rv_enclaves.specs.declared.shared.Shared.{Shared}
 use Rattle.rv_monitor.proofs.HartsAlike.{step_kept}
 use Rattle.rv_monitor.proofs.HartsSpare.{seated_after, seen_shared}
 use Rattle.rv_monitor.proofs.LastAct.{beside_as_is}
 use Rattle.rv_monitor.proofs.Turned.{seen_kept, seen_twice}
+use Rattle.rv_enclaves.specs.Table.{Slots}
+use Rattle.rv_enclaves.specs.declared.shared.Shared.{Shared}
+use Rattle.rv_script.specs.declared.command.Command.{Command}
 use Rattle.rv_debug.specs.Answer.{answer}
 use Rattle.rv_debug.specs.BenchState.{BenchState}
 use Rattle.rv_debug.specs.Deeds.{Deed, Nothing, Steps, Register, TimerLine, OneByte, deed, done}
 use Rattle.rv_debug.specs.Isolation.{KeepsOther, LeavesOther, SparesOther}
 use Rattle.rv_debug.specs.Targets.{IsBare, KeepsMonitor, chosen_at}
-use Rattle.rv_script.specs.declared.command.Command.{Command}
 use Rattle.rv_debug.specs.declared.target.Target.{Target}
 use Rattle.rv_debug.specs.declared.target.Target.TheVariants.{Bare, Monitored}
 use Rattle.rv_debug.proofs.DeedsKept.{bare_done, poke_of}

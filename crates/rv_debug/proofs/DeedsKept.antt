@@ -8,12 +8,12 @@ use Rattle.rv_state.specs.Registers.{with_register}
 use Rattle.rv_hart.specs.State.{State}
 use Rattle.rv_monitor.specs.State.{MonitoredState, OnTurn, IsKept}
 use Rattle.rv_monitor.proofs.StepKept.{kept_by_size}
+use Rattle.rv_script.specs.declared.command.Command.{Command}
 use Rattle.rv_debug.specs.Answer.{answer}
 use Rattle.rv_debug.specs.BenchState.{BenchState}
 use Rattle.rv_debug.specs.Deeds.{Deed, Nothing, Steps, Register, TimerLine, OneByte, deed, done}
 use Rattle.rv_debug.specs.Turns.{no_turns}
 use Rattle.rv_debug.specs.Targets.{IsBare, KeepsMonitor, over_memory}
-use Rattle.rv_script.specs.declared.command.Command.{Command}
 use Rattle.rv_debug.specs.declared.target.Target.{Target}
 use Rattle.rv_debug.specs.declared.target.Target.TheVariants.{Bare, Monitored}
 use Rattle.rv_debug.proofs.Turns.{bare_kept, sched_keeps, stays_bare, turned_bare, turns_are_sched}

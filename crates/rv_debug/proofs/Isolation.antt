@@ -5,24 +5,24 @@ use Rattle.std.proofs.lemmas.Bool.{cases_lt, cases_eq}
 use Rattle.rv_memory.specs.Memory.{read, write, byte_at}
 use Rattle.rv_memory.proofs.MemoryLaws.{byte_at-write}
 use Rattle.rv_hart.specs.State.{State}
-use Rattle.rv_enclaves.specs.Blocks.{has}
 use Rattle.rv_monitor.specs.HartLaws.{IsLeftAlone, sched}
 use Rattle.rv_monitor.specs.Integrity.{IsSpared}
 use Rattle.rv_monitor.specs.State.{OnTurn, IsKept, machine_of}
-use Rattle.rv_enclaves.specs.Table.{region}
-use Rattle.rv_enclaves.specs.declared.shared.Shared.{Shared}
 use Rattle.rv_monitor.proofs.HartsSpare.{sched_changes, sched_spares}
 use Rattle.rv_monitor.proofs.KeptReaches.{kept_reach}
 use Rattle.rv_monitor.proofs.RunsSpare.{spared_twice}
 use Rattle.rv_monitor.proofs.Turned.{seen_kept}
+use Rattle.rv_enclaves.specs.Blocks.{has}
+use Rattle.rv_enclaves.specs.Table.{region}
+use Rattle.rv_enclaves.specs.declared.shared.Shared.{Shared}
+use Rattle.rv_script.specs.declared.command.Command.{Command}
+use Rattle.rv_script.specs.declared.command.Command.TheVariants.{Access}
 use Rattle.rv_debug.specs.Answer.{answer}
 use Rattle.rv_debug.specs.BenchState.{BenchState}
 use Rattle.rv_debug.specs.Deeds.{Deed, Steps, OneByte, deed, done}
 use Rattle.rv_debug.specs.Isolation.{TellsReach, ChangesMemory, IntegrityLaw, IsLiveIn, IsMonitored, IsSparedIn, MayChange, RestsThroughDeed, SparesResting}
 use Rattle.rv_debug.specs.Isolation.{after_commands}
 use Rattle.rv_debug.specs.Targets.{KeepsMonitor, memory_of}
-use Rattle.rv_script.specs.declared.command.Command.{Command}
-use Rattle.rv_script.specs.declared.command.Command.TheVariants.{Access}
 use Rattle.rv_debug.specs.declared.target.Target.{Target}
 use Rattle.rv_debug.specs.declared.target.Target.TheVariants.{Bare, Monitored}
 use Rattle.rv_debug.proofs.DeedsKept.{keeps_monitor, poke_of}

@@ -3,29 +3,29 @@ use Rattle.std.proofs.Common.{◌≡◌, ℕ, zero, suc, false, List, [], ◌∷
 use Rattle.rv_word.specs.Cases.{option_case}
 use Rattle.rv_memory.specs.Memory.{write}
 use Rattle.rv_pmp.specs.declared.mode.Mode.TheVariants.{S}
-use Rattle.rv_enclaves.specs.Contexts.{IsStored}
 use Rattle.rv_monitor.specs.Switches.{saved}
 use Rattle.rv_monitor.specs.Debugger.{with_memory, with_reg, with_timer}
 use Rattle.rv_monitor.specs.HartLaws.{sched}
 use Rattle.rv_monitor.specs.Refused.{past_ecall}
 use Rattle.rv_monitor.specs.Returns.{ComesBack}
 use Rattle.rv_monitor.specs.State.{MonitoredState, OnTurn, IsKept, machine_of, seated_beside, seen_by, turned}
-use Rattle.rv_enclaves.specs.Table.{is_host}
 use Rattle.rv_monitor.specs.Step.{monitored_step, step_of}
-use Rattle.rv_enclaves.specs.declared.context.Context.{Context}
 use Rattle.rv_monitor.specs.declared.seat.Seat.{Seat}
 use Rattle.rv_monitor.proofs.HartsAlike.{sched_kept, step_kept}
 use Rattle.rv_monitor.proofs.HartsSpare.{seated_after}
 use Rattle.rv_monitor.proofs.Returned.{back_from, entered_from, host_stored}
 use Rattle.rv_monitor.proofs.Switched.{kept_between, switch_law}
 use Rattle.rv_monitor.proofs.Turned.{seen_kept, seen_stored, seen_twice}
+use Rattle.rv_enclaves.specs.Contexts.{IsStored}
+use Rattle.rv_enclaves.specs.Table.{is_host}
+use Rattle.rv_enclaves.specs.declared.context.Context.{Context}
+use Rattle.rv_script.specs.declared.command.Command.{Command}
 use Rattle.rv_debug.specs.Answer.{answer}
 use Rattle.rv_debug.specs.BenchState.{BenchState}
 use Rattle.rv_debug.specs.Deeds.{Deed, Nothing, Steps, Register, TimerLine, OneByte, deed, done, harts_stepped}
 use Rattle.rv_debug.specs.Isolation.{after_commands}
 use Rattle.rv_debug.specs.Returns.{EntersUnder, EntersWithin, IsStoredIn, LeavesUnder, LeavesWithin, ReturnLaw, RunsOn, RunsUnder, RunsUnderAll}
 use Rattle.rv_debug.specs.Targets.{KeepsMonitor}
-use Rattle.rv_script.specs.declared.command.Command.{Command}
 use Rattle.rv_debug.specs.declared.target.Target.{Target}
 use Rattle.rv_debug.specs.declared.target.Target.TheVariants.{Bare, Monitored}
 use Rattle.rv_debug.proofs.DeedsKept.{keeps_monitor, poke_of}

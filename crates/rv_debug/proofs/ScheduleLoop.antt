@@ -8,8 +8,8 @@ use Rattle.std.proofs.lemmas.Bool.Decides.{nat_tests}
 use Rattle.std.proofs.lemmas.List.{drop_all, drop_more}
 use Rattle.rv_hart.specs.declared.trap.Trap.{Trap}
 use Rattle.rv_monitor.proofs.Turned.{count_step, count_turned}
-use Rattle.rv_debug.specs.Turns.{AfterTurns, turns, with_own, with_turn}
 use Rattle.rv_script.specs.Schedules.{has_all, hart_of_digit}
+use Rattle.rv_debug.specs.Turns.{AfterTurns, turns, with_own, with_turn}
 use Rattle.rv_debug.specs.Steps.{AfterRun, ended, no_steps, run, with_slot, with_step}
 use Rattle.rv_debug.specs.Targets.{IsBare, harts_of, pc_of, stepped, turned_to}
 use Rattle.rv_debug.specs.declared.scheduled.HartRan.{HartRan}

@@ -11,20 +11,20 @@ use Rattle.rv_pmp.specs.declared.mode.Mode.{Mode}
 use Rattle.rv_pmp.specs.declared.mode.Mode.TheVariants.{M}
 use Rattle.rv_state.specs.CsrTable.{read_result}
 use Rattle.rv_state.specs.Registers.{register}
-use Rattle.rv_debug.specs.Addresses.{with_room_for, without_address}
-use Rattle.rv_debug.specs.BenchState.{BenchState}
 use Rattle.rv_script.specs.Command.{parse_of}
-use Rattle.rv_debug.specs.Deeds.{deed, done, entered_by, steps_of}
-use Rattle.rv_debug.specs.ReplyText.{ran_text, register_text, registers_text, ok_text, csr_text, memory_text, dis_text, pmp_text, verdict_text}
-use Rattle.rv_debug.specs.ReplyText.{denied_outside_text, full_text, fault_text, hart_text, no_csr_text, no_hart_text, outside_text}
-use Rattle.rv_debug.specs.Turns.{AfterTurns, no_turns, turns}
 use Rattle.rv_script.specs.Schedules.{harts_in, has_all}
-use Rattle.rv_debug.specs.Steps.{AfterRun}
-use Rattle.rv_debug.specs.Targets.{chosen_of, hart_of, harts_of, memory_of, world_text, enclaves_text, pc_of, poked, turned_to}
 use Rattle.rv_script.specs.declared.command.Command.{Command}
 use Rattle.rv_script.specs.declared.command.Command.TheVariants.{Blank, Step, Run, Break, Clear, Watch, Unwatch, Reg, Regs, SetReg, Csr, Mem, Poke, Dis, Pmp}
 use Rattle.rv_script.specs.declared.command.Command.TheVariants.{Enclaves, Access, Timer, Hart, Sched}
 use Rattle.rv_script.specs.declared.command.CommandFault.{CommandFault}
+use Rattle.rv_debug.specs.Addresses.{with_room_for, without_address}
+use Rattle.rv_debug.specs.BenchState.{BenchState}
+use Rattle.rv_debug.specs.Deeds.{deed, done, entered_by, steps_of}
+use Rattle.rv_debug.specs.ReplyText.{ran_text, register_text, registers_text, ok_text, csr_text, memory_text, dis_text, pmp_text, verdict_text}
+use Rattle.rv_debug.specs.ReplyText.{denied_outside_text, full_text, fault_text, hart_text, no_csr_text, no_hart_text, outside_text}
+use Rattle.rv_debug.specs.Turns.{AfterTurns, no_turns, turns}
+use Rattle.rv_debug.specs.Steps.{AfterRun}
+use Rattle.rv_debug.specs.Targets.{chosen_of, hart_of, harts_of, memory_of, world_text, enclaves_text, pc_of, poked, turned_to}
 use Rattle.rv_debug.specs.declared.scheduled.HartRan.{HartRan}
 use Rattle.rv_debug.specs.declared.target.Target.{Target}
 

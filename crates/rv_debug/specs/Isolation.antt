@@ -10,19 +10,19 @@ use Rattle.rv_pmp.specs.declared.mode.Mode.{Mode}
 use Rattle.rv_pmp.specs.declared.mode.Mode.TheVariants.{M}
 use Rattle.rv_memory.specs.Accesses.{verdict_on}
 use Rattle.rv_memory.specs.Memory.{byte_at, is_inside}
-use Rattle.rv_enclaves.specs.Blocks.{has}
 use Rattle.rv_monitor.specs.HartLaws.{IsChangedInOrder, IsLeftAlone}
 use Rattle.rv_monitor.specs.Integrity.{IsSpared}
-use Rattle.rv_enclaves.specs.Reach.{in_reach}
 use Rattle.rv_monitor.specs.State.{MonitoredState, machine_of, seated_beside, seen_by}
+use Rattle.rv_enclaves.specs.Blocks.{has}
+use Rattle.rv_enclaves.specs.Reach.{in_reach}
 use Rattle.rv_enclaves.specs.Table.{region, is_live}
+use Rattle.rv_script.specs.declared.command.Command.{Command}
+use Rattle.rv_script.specs.declared.command.Command.TheVariants.{Access}
 use Rattle.rv_debug.specs.Answer.{access_reply, answer}
 use Rattle.rv_debug.specs.BenchState.{BenchState}
 use Rattle.rv_debug.specs.Deeds.{Deed, Steps, Register, TimerLine, OneByte, deed}
 use Rattle.rv_debug.specs.ReplyText.{verdict_text}
 use Rattle.rv_debug.specs.Targets.{KeepsMonitor, chosen_of, memory_of}
-use Rattle.rv_script.specs.declared.command.Command.{Command}
-use Rattle.rv_script.specs.declared.command.Command.TheVariants.{Access}
 use Rattle.rv_debug.specs.declared.target.Target.{Target}
 use Rattle.rv_debug.specs.declared.target.Target.TheVariants.{Bare, Monitored}
 

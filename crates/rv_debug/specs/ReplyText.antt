@@ -12,12 +12,12 @@ use Rattle.rv_state.specs.Registers.{register}
 use Rattle.rv_hart.specs.declared.trap.Trap.{Trap}
 use Rattle.rv_text.specs.Digits.{hex2, hex3, hex8}
 use Rattle.rv_asm.specs.Spelling.{spelling}
+use Rattle.rv_script.specs.declared.command.CommandFault.{CommandFault}
+use Rattle.rv_script.specs.declared.command.CommandFault.TheVariants.{BadLine, UnknownCommand, BadOperand}
 use Rattle.rv_debug.specs.declared.scheduled.HartRan.{HartRan}
 use Rattle.rv_debug.specs.declared.steps.Ran.{Ran}
 use Rattle.rv_debug.specs.declared.steps.Stop.{Stop}
 use Rattle.rv_debug.specs.declared.steps.Stop.TheVariants.{Done, Break, Watch}
-use Rattle.rv_script.specs.declared.command.CommandFault.{CommandFault}
-use Rattle.rv_script.specs.declared.command.CommandFault.TheVariants.{BadLine, UnknownCommand, BadOperand}
 
 -- `-`, or `cause:tval`
 unfoldable pub trap_text : Option Trap → List ℕ

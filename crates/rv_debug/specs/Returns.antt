@@ -5,14 +5,14 @@ use Rattle.std.specs.Prelude.{ℕ, ◌≡◌, true, false, List, [], ◌∷◌, 
 use Rattle.rv_monitor.specs.HartLaws.{sched}
 use Rattle.rv_monitor.specs.Returns.{ComesBack}
 use Rattle.rv_monitor.specs.State.{MonitoredState, AreStored, machine_of, seen_by}
-use Rattle.rv_enclaves.specs.Table.{is_host}
 use Rattle.rv_monitor.specs.Step.{monitored_step, step_of}
+use Rattle.rv_enclaves.specs.Table.{is_host}
+use Rattle.rv_script.specs.declared.command.Command.{Command}
 use Rattle.rv_debug.specs.Answer.{answer}
 use Rattle.rv_debug.specs.BenchState.{BenchState}
 use Rattle.rv_debug.specs.Deeds.{deed, harts_stepped}
 use Rattle.rv_debug.specs.Isolation.{after_commands}
 use Rattle.rv_debug.specs.Targets.{KeepsMonitor}
-use Rattle.rv_script.specs.declared.command.Command.{Command}
 use Rattle.rv_debug.specs.declared.target.Target.{Target}
 use Rattle.rv_debug.specs.declared.target.Target.TheVariants.{Bare, Monitored}
 

@@ -1,8 +1,8 @@
-//! The commands of the bench: how a line is read as one, what each changes, and the text of its reply.
+//! What the commands of the bench do: what each changes, and the text of its reply. How a line is read as one is the business of the crate
+//! `rv_script`.
 //!
-//! In the specs `Command` is the table of the commands and their operands, `Answer` what each leaves and replies, `ReplyText`
-//! and `EnclaveText` the texts, `Steps` what steps do one after another, `Targets` what the answers say of a target, and `BenchState` the state
-//! that commands show and change.
+//! In the specs `Answer` is what each command leaves and replies, `ReplyText` and `EnclaveText` the texts, `Steps` what steps do one after
+//! another, `Targets` what the answers say of a target, and `BenchState` the state that commands show and change.
 //!
 //! ```text
 //! let mut bench = Bench::bare(machine);

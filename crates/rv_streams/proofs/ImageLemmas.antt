@@ -10,7 +10,8 @@ use Rattle.rv_streams.specs.declared.fault.BenchFault.TheVariants.{Hex, TooLong}
 use Rattle.rv_streams.specs.declared.separator.ScriptEnd.TheVariants.{Separator}
 use Rattle.rv_text.specs.Lines.{lines_of}
 use Rattle.rv_streams.specs.LineText.{ReadsText, TakesLine, ReadsLines}
-use Rattle.rv_streams.specs.Image.{bytes_of_digits, line_bytes, is_image_line, bytes_of_lines, image_of, image_in, ReadsInImage, ReadsUnmarked, ReadsFrontOfImage}
+use Rattle.rv_streams.specs.Image.{bytes_of_digits, line_bytes, is_image_line, bytes_of_lines, image_of, image_in, ReadsInImage, ReadsUnmarked}
+use Rattle.rv_streams.specs.Image.{ReadsFrontOfImage}
 use Rattle.rv_streams.specs.Image.{StopsAtFault}
 use Rattle.rv_streams.specs.Separator.{line_word, is_separator, before_separator}
 use Rattle.rv_streams.proofs.LineTextLemmas.{ReadsLines-none, ReadsLines-more}

@@ -1,10 +1,10 @@
 use Rattle.std.proofs.Common.{rules, ◌≡◌, ◌++◌, ◌∙◌, IsTrue, refl, sym, ap, subst, Ok, Err}
 use Rattle.std.proofs.lemmas.Result.{IfOk-at_ok, IfErr-at_err}
 use Rattle.rv_streams.specs.declared.fault.BenchFault.TheVariants.{Read, Write}
-use Rattle.rv_bench.specs.Replies.{Answering}
 use Rattle.rv_streams.specs.Transfer.{WritesFront}
 use Rattle.rv_streams.proofs.Ends.{no_failure, TellsEnd-more}
 use Rattle.rv_streams.proofs.Mapped.{ok_mapped, err_mapped}
+use Rattle.rv_bench.specs.Replies.{Answering}
 use Rattle.rv_bench.proofs.Runs.{AnswersLine-same}
 use Rattle.rv_bench.proofs.Turns.{Turn, SoFar-none, SoFar-ended, SoFar-read, Turn-goes, Turn-over, Turn-stops}
 use Rattle.rv_bench.proofs.run.run_lines.Given as given

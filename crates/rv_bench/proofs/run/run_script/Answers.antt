@@ -1,8 +1,8 @@
 use Rattle.std.proofs.Common.{rules}
 use Rattle.rv_streams.specs.declared.fault.BenchFault.TheVariants.{Write}
 use Rattle.rv_streams.specs.declared.separator.ScriptEnd.TheVariants.{Input}
-use Rattle.rv_bench.specs.Run.{RunsLines}
 use Rattle.rv_streams.proofs.Mapped.{mapped}
+use Rattle.rv_bench.specs.Run.{RunsLines}
 use Rattle.rv_bench.proofs.Runs.{one_bench-fails, one_bench-runs}
 use Rattle.rv_bench.proofs.run.run_script.Goals as goal
 

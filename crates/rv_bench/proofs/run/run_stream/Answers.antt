@@ -1,8 +1,8 @@
 use Rattle.std.proofs.Common.{◌∙◌, ap, sym, Ok}
+use Rattle.rv_streams.specs.Unread.{unread}
 use Rattle.rv_bench.proofs.Concealed.{conceals_secret, stream_conceals}
 use Rattle.rv_bench.proofs.Spared.{stream_spares}
 use Rattle.rv_bench.proofs.Streams.{streamed}
-use Rattle.rv_streams.specs.Unread.{unread}
 use Rattle.rv_bench.proofs.run.run_stream.Goals as goal
 
 pub returns-clause-outcome : goal.returns-clause-outcome

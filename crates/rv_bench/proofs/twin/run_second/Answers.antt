@@ -1,11 +1,11 @@
 use Rattle.std.proofs.Common.{rules, ◌++◌, ◌∙◌, refl, sym, ap, subst, inl, inr, ℕ, IsTrue, Option, None, Some}
 use Rattle.std.proofs.lemmas.Result.{IfOk-at_ok}
-use Rattle.rv_bench.specs.declared.apart.Apart.{Apart}
 use Rattle.rv_streams.specs.declared.fault.BenchFault.TheVariants.{Write}
 use Rattle.rv_streams.specs.Transfer.{WritesFront}
+use Rattle.rv_streams.proofs.Mapped.{mapped, passed_on}
+use Rattle.rv_bench.specs.declared.apart.Apart.{Apart}
 use Rattle.rv_bench.specs.Twin.{RunsSecond}
 use Rattle.rv_bench.proofs.Entering.{two_benches-fail, two_benches-stop, two_benches-tell}
-use Rattle.rv_streams.proofs.Mapped.{mapped, passed_on}
 use Rattle.rv_bench.proofs.Twins.{set_apart_at}
 use Rattle.rv_bench.proofs.twin.run_second.Goals as goal
 

@@ -1,8 +1,8 @@
 use Rattle.std.proofs.Common.{◌∙◌, refl, sym, ap, Ok}
-use Rattle.rv_bench.specs.Twin.{RunsTwin}
 use Rattle.rv_streams.specs.Unread.{unread}
 use Rattle.rv_streams.proofs.Ends.{TellsEnd-more}
 use Rattle.rv_streams.proofs.Mapped.{passed_on}
+use Rattle.rv_bench.specs.Twin.{RunsTwin}
 use Rattle.rv_bench.proofs.Runs.{one_bench-runs, one_bench-state}
 use Rattle.rv_bench.proofs.TwinAlike.{twin_conceals, twin_spares}
 use Rattle.rv_bench.proofs.Twins.{first_fails, not_started, second_part}
