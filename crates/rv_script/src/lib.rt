@@ -4,8 +4,8 @@
 //! `Schedules` which hart makes which step.
 //!
 //! ```text
-//! parse(b"step 1")    // Ok(Command::Step(1))
-//! parse(b"step 0")    // Err(CommandFault::Range), the fault of an operand out of range
+//! parse(b"step 1")    // Ok(Command::Step(count)), where count.get() is 1
+//! parse(b"step 0")    // Err(CommandFault::BadOperand)
 //! ```
 #![tactic(auto)]
 
