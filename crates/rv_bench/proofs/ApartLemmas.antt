@@ -13,7 +13,7 @@ use Rattle.rv_streams.specs.LineText.{ReadsLines}
 use Rattle.rv_streams.specs.Script.{FindsEnd, IsAtEnd}
 use Rattle.rv_streams.specs.Transfer.{WritesFront}
 use Rattle.rv_bench.specs.declared.apart.Apart.{Apart}
-use Rattle.rv_bench.specs.Apart.{apart_line, end_text, last_text, marked, script_text, told}
+use Rattle.rv_bench.specs.Apart.{apart_line, end_text, last_text, marked, script_text, replied_apart}
 use Rattle.rv_bench.specs.Replies.{replies, state_after}
 use Rattle.rv_bench.proofs.RepliesLemmas.{replies-append, state_after-append}
 
@@ -37,7 +37,8 @@ pub apart_line-front : (slot : ℕ) (apart : Apart) (other line : List ℕ) → 
     → apart_line slot apart other ≡ apart_line slot apart line
 unfolding apart_line
 apart_line-front slot apart other line same =
-    ap (λ both. cond apart.entered (record { state = apart; reply = [] }) (told apart both)) (both_line-front slot apart.first apart.second other line same)
+    ap (λ both. cond apart.entered (record { state = apart; reply = [] }) (replied_apart apart both))
+    (both_line-front slot apart.first apart.second other line same)
 
 -- once the slot was entered nothing is told
 silent : (slot : ℕ) (apart : Apart) (line : List ℕ) → apart.entered ≡ true → apart_line slot apart line ≡ record { state = apart; reply = [] }

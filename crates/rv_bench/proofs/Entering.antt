@@ -4,7 +4,7 @@ use Rattle.std.proofs.Common.{◌∙◌, ap, subst, append-nil}
 use Rattle.std.specs.Option.{IsSomeAnd}
 use Rattle.std.proofs.lemmas.Bool.{false≢true}
 use Rattle.rv_text.specs.Lines.{lines_of}
-use Rattle.rv_debug.specs.TwoBenches.{BothTold, both_line_answer}
+use Rattle.rv_debug.specs.BothBenches.{BothTold, both_line_answer}
 use Rattle.rv_debug.specs.declared.both.BothLine.{BothLine}
 use Rattle.rv_debug.specs.declared.both.BothLine.TheVariants.{Faulty, Given}
 use Rattle.rv_debug.specs.declared.both.BothWhy.TheVariants.{All, Entered, NotBlind}
@@ -21,7 +21,7 @@ use Rattle.rv_streams.proofs.Ends.{SinkFailed-after}
 use Rattle.rv_streams.proofs.ScriptLemmas.{FindsEnd-whole}
 use Rattle.rv_bench.specs.declared.apart.Apart.{Apart}
 use Rattle.rv_bench.specs.Answered.{AnswersAll, AnswersToEnd, AnswersToOver}
-use Rattle.rv_bench.specs.Apart.{apart_line, done_by, end_text, entered_text, last_text, no_slot_text, script_text, told, two_benches}
+use Rattle.rv_bench.specs.Apart.{apart_line, done_by, end_text, entered_text, last_text, no_slot_text, script_text, replied_apart, both_benches}
 use Rattle.rv_bench.specs.Replies.{Answering, Replied, replies, state_after}
 use Rattle.rv_bench.specs.Run.{FailsIn, StopsAtRead, StopsAtWrite}
 use Rattle.rv_bench.specs.Twin.{EntersSlot, RunsSecond, StopsSecondAtWrite}
@@ -46,8 +46,8 @@ StopsAtRead-after {by = by} {start = start} same stops = record {
 }
 
 pub read_after : (slot : ℕ) (apart : Option Apart) (tells : Bool) (unread left kept old other new : List ℕ) → (IsTrue tells → old ≡ other)
-    → IsSomeAnd apart (λ apart. StopsAtRead (two_benches slot) Input apart tells unread left kept old new)
-    → IsSomeAnd apart (λ apart. StopsAtRead (two_benches slot) Input apart tells unread left kept other new)
+    → IsSomeAnd apart (λ apart. StopsAtRead (both_benches slot) Input apart tells unread left kept old new)
+    → IsSomeAnd apart (λ apart. StopsAtRead (both_benches slot) Input apart tells unread left kept other new)
 read_after slot None tells unread left kept old other new same never = never
 read_after slot (Some apart) tells unread left kept old other new same stops = StopsAtRead-after same stops
 
@@ -89,7 +89,7 @@ pub told_entered : (slot : ℕ) (now after : Apart) (line reply : List ℕ) → 
 unfolding apart_line
 told_entered slot now after line reply is going over =
     let both = both_line_answer slot now.first now.second line in
-    by both.line both (sym (ap (λ b. cond b (record { state = now; reply = [] }) (told now both)) going) ∙ is) where
+    by both.line both (sym (ap (λ b. cond b (record { state = now; reply = [] }) (replied_apart now both)) going) ∙ is) where
       Gives : Replied Apart → Type 0
       Gives replied = replied ≡ record { state = after; reply = reply }
 
@@ -106,7 +106,7 @@ told_entered slot now after line reply is going over =
 
 -- a failure in a line
 pub two_benches-stop : {S W : Type 0} {g : SourceGhosts S} (h : SinkGhosts W) (slot : ℕ) (start : Apart) (old new : Lines S g) (before after : W)
-    (fault : BenchFault) → FailsIn h (two_benches slot) Input start old new before after fault
+    (fault : BenchFault) → FailsIn h (both_benches slot) Input start old new before after fault
     → RunsSecond h slot (Some start) old new before after (Err fault)
 two_benches-stop h slot start old new before after Read stops = stops
 two_benches-stop h slot start old new before after Write stops =
@@ -124,7 +124,7 @@ two_benches-stop h slot start old new before after _ stops = absurd stops
 
 module _ {S W : Type 0} {g : SourceGhosts S} (h : SinkGhosts W) (slot : ℕ) {start now : Apart} {old new : Lines S g} {before mid : W} where
   -- to its end
-  module _ (run : AnswersToEnd h (two_benches slot) Input start now old new before mid) (tells : IsTrue g.tells) where
+  module _ (run : AnswersToEnd h (both_benches slot) Input start now old new before mid) (tells : IsTrue g.tells) where
     all_state : now ≡ state_after (apart_line slot) start (lines_of (unread old))
     all_state = AnswersLines-state (run.answered tells) (FindsEnd-whole old run.last new Input _ run.found (run.answered tells).taken tells)
 
@@ -135,7 +135,7 @@ module _ {S W : Type 0} {g : SourceGhosts S} (h : SinkGhosts W) (slot : ℕ) {st
     never_entered = ap (λ (apart : Apart). apart.entered) (sym all_state) ∙ run.going
 
   -- to the line that enters
-  module _ (run : AnswersToOver h (two_benches slot) Input start now old new before mid) where
+  module _ (run : AnswersToOver h (both_benches slot) Input start now old new before mid) where
     enters : IsTrue g.tells → EntersSlot slot start (unread old) (unread new) new.is_at_end
     enters tells = let next = run.next tells in record {
       lines = next.so_far.lines;
@@ -151,7 +151,7 @@ module _ {S W : Type 0} {g : SourceGhosts S} (h : SinkGhosts W) (slot : ℕ) {st
         entered_all slot start now _ _ _ _ _ _ all.taken.reads all.state run.over (all.written told)
 
   -- and what is told last
-  module _ (answers : AnswersAll h (two_benches slot) Input start now old new before mid) {last : List ℕ} (last_is : last ≡ last_text now) where
+  module _ (answers : AnswersAll h (both_benches slot) Input start now old new before mid) {last : List ℕ} (last_is : last ≡ last_text now) where
     last_going : now.entered ≡ false → last ≡ end_text now.ran
     last_going going = last_is ∙ ap (λ b. cond b [] (end_text now.ran)) going
 

@@ -10,8 +10,9 @@ use Rattle.rv_script.specs.Command.{parse_of}
 use Rattle.rv_debug.specs.Confidentiality.{AlikeBy, StayAlike}
 use Rattle.rv_debug.specs.Isolation.{IsSparedIn, after_commands}
 use Rattle.rv_debug.specs.Targets.{KeepsMonitor}
-use Rattle.rv_debug.specs.TwoBenches.{BenchesAgreeBut, BothAnswered, BothTold, TargetsAgreeBut, both_answer, both_do, both_line_answer, both_told, can_scramble}
-use Rattle.rv_debug.specs.TwoBenches.{can_scramble_in, is_blank, is_blind, scrambled, scrambled_in}
+use Rattle.rv_debug.specs.BothBenches.{BenchesAgreeBut, BothAnswered, BothTold, TargetsAgreeBut, both_answer, both_do, both_line_answer, both_told}
+use Rattle.rv_debug.specs.BothBenches.{can_scramble}
+use Rattle.rv_debug.specs.BothBenches.{can_scramble_in, is_blank, is_blind, scrambled, scrambled_in}
 use Rattle.rv_debug.specs.declared.both.BothLine.{BothLine}
 use Rattle.rv_debug.specs.declared.both.BothLine.TheVariants.{Given}
 use Rattle.rv_debug.specs.declared.both.BothWhy.{BothWhy}
@@ -27,7 +28,7 @@ use Rattle.rv_command_line.specs.declared.setup.Setup.{Setup}
 use Rattle.rv_streams.specs.declared.fault.BenchFault.{BenchFault}
 use Rattle.rv_streams.specs.Separator.{after_separator, before_separator}
 use Rattle.rv_bench.specs.declared.apart.Apart.{Apart}
-use Rattle.rv_bench.specs.Apart.{apart_line, done_by, set_apart, told}
+use Rattle.rv_bench.specs.Apart.{apart_line, done_by, set_apart, replied_apart}
 use Rattle.rv_bench.specs.Output.{bench_in}
 use Rattle.rv_bench.specs.Replies.{Replied, state_after}
 use Rattle.rv_text.specs.Lines.{lines_of}
@@ -111,7 +112,7 @@ module _ (slot : ℕ) where
   done_going apart command after NotBlind is both = record { agree = λ going. both.blind is; first = both.first_kept; second = both.second_kept }
 
   told_going : (apart : Apart) (parsed : Result Command CommandFault) → apart.entered ≡ false → Going apart
-      → Going (told apart (both_told slot apart.first apart.second parsed)).state
+      → Going (replied_apart apart (both_told slot apart.first apart.second parsed)).state
   told_going apart (Ok command) is going =
       done_going apart command (both_answer slot apart.first apart.second command) _ refl
       (becomes apart.first apart.second command going.first going.second (going.agree is))
@@ -121,7 +122,7 @@ module _ (slot : ℕ) where
   unfolding apart_line
   line_going apart line going = go apart.entered refl where
     go : (entered : Bool) → apart.entered ≡ entered
-        → Going (if entered then record { state = apart; reply = [] } else told apart (both_line_answer slot apart.first apart.second line)).state
+        → Going (if entered then record { state = apart; reply = [] } else replied_apart apart (both_line_answer slot apart.first apart.second line)).state
     go true is = going
     go false is = told_going apart (parse_of line) is going
 
@@ -178,7 +179,7 @@ module _ (slot : ℕ) where
     go : (entered : Bool) → apart.entered ≡ entered → (parsed : Result Command CommandFault)
         → Follows apart
         (if entered then [] else result_case parsed (λ command. done_by_both (both_answer slot apart.first apart.second command).why command) (λ _. []))
-        (if entered then record { state = apart; reply = [] } else told apart (both_told slot apart.first apart.second parsed)).state
+        (if entered then record { state = apart; reply = [] } else replied_apart apart (both_told slot apart.first apart.second parsed)).state
     go true is parsed = record { first = refl; second = refl }
     go false is (Ok command) =
         done_follows apart command (both_answer slot apart.first apart.second command) _ refl

@@ -5,7 +5,7 @@ use Rattle.std.specs.Option.{IsSomeAnd}
 use Rattle.std.specs.Result.{IsOkAnd}
 use Rattle.rv_debug.specs.BenchState.{BenchState}
 use Rattle.rv_debug.specs.Targets.{KeepsMonitor}
-use Rattle.rv_debug.specs.TwoBenches.{can_scramble, can_scramble_in, scrambled}
+use Rattle.rv_debug.specs.BothBenches.{can_scramble, can_scramble_in, scrambled}
 use Rattle.rv_debug.specs.declared.target.Target.{Target}
 use Rattle.rv_debug.specs.declared.target.Target.TheVariants.{Bare, Monitored}
 use Rattle.rv_enclaves.proofs.Slots.{none_past}
@@ -31,7 +31,7 @@ use Rattle.rv_streams.specs.Unread.{held, unread, TellsEnd}
 use Rattle.rv_streams.proofs.Ends.{SinkFailed-after, TellsEnd-more, separator_read}
 use Rattle.rv_bench.specs.declared.apart.Apart.{Apart}
 use Rattle.rv_bench.specs.declared.apart.ApartBenches.{ApartBenches}
-use Rattle.rv_bench.specs.Apart.{set_apart, two_benches}
+use Rattle.rv_bench.specs.Apart.{set_apart, both_benches}
 use Rattle.rv_bench.specs.Loaded.{Starts, started}
 use Rattle.rv_bench.specs.Output.{bench_in}
 use Rattle.rv_bench.specs.Replies.{one_bench}
@@ -215,7 +215,7 @@ module _ {S W : Type 0} {g : SourceGhosts S} (h : SinkGhosts W) (setup : Setup) 
           ) where
             Stops : Option Apart → List ℕ → Type 0
             Stops apart script = IsSomeAnd apart
-                (λ apart. StopsAtRead (two_benches slot) Input apart h.tells script (g.remaining new.source) (held new)
+                (λ apart. StopsAtRead (both_benches slot) Input apart h.tells script (g.remaining new.source) (held new)
                 (h.taken before ++ first_text bench (unread mid)) (h.taken after))
       second_part (Err Write) run = (
         has_size,

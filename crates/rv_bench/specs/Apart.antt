@@ -2,7 +2,7 @@
 use Rattle.std.specs.Prelude.{ℕ, ◌==◌, Bool, true, false, List, [], ◌∷◌, ◌++◌, codes, decimal, Option, None, Some, if◌then◌else◌}
 use Rattle.rv_text.specs.Characters.{line_feed}
 use Rattle.rv_debug.specs.BenchState.{BenchState}
-use Rattle.rv_debug.specs.TwoBenches.{BothTold, both_line_answer, can_scramble, scrambled}
+use Rattle.rv_debug.specs.BothBenches.{BothTold, both_line_answer, can_scramble, scrambled}
 use Rattle.rv_debug.specs.declared.both.BothLine.{BothLine}
 use Rattle.rv_debug.specs.declared.both.BothLine.TheVariants.{Faulty, Given}
 use Rattle.rv_debug.specs.declared.both.BothWhy.TheVariants.{All, Entered, NotBlind}
@@ -58,17 +58,17 @@ done_by (Given NotBlind is_blank) both ran = record {
   reply = blind_text;
 }
 
-abbrev pub told : Apart → BothTold → Replied Apart
-told apart both = done_by both.line both apart.ran
+abbrev pub replied_apart : Apart → BothTold → Replied Apart
+replied_apart apart both = done_by both.line both apart.ran
 
 -- once the slot was entered no line is told anything
 unfoldable pub apart_line : ℕ → Apart → List ℕ → Replied Apart
 apart_line slot apart line =
-    if apart.entered then record { state = apart; reply = [] } else told apart (both_line_answer slot apart.first apart.second line)
+    if apart.entered then record { state = apart; reply = [] } else replied_apart apart (both_line_answer slot apart.first apart.second line)
 
 -- both benches are over once the slot was entered
-abbrev pub two_benches : ℕ → Answering Apart
-two_benches slot = record { answer = apart_line slot; is_over = λ apart. apart.entered }
+abbrev pub both_benches : ℕ → Answering Apart
+both_benches slot = record { answer = apart_line slot; is_over = λ apart. apart.entered }
 
 -- ---- a script
 

@@ -1,5 +1,5 @@
 -- The addresses where no image of a monitored bench may lie are those that the monitor keeps for itself. (Keystone, EuroSys 2020, in
--- this project's profile: rv_elf, which plans images, and rv_monitor, which lays out the entries, each write the range.)
+-- this project's profile: rv_elf, which plans images, and rv_enclaves, which lays out the entries, each write the range.)
 use Rattle.std.specs.Prelude.{◌≡◌, ℕ, Bool, ◌&&◌}
 use Rattle.rv_elf.specs.Places.{is_reserved}
 use Rattle.rv_enclaves.specs.Blocks.{has, monitor_block}

@@ -24,7 +24,7 @@ use Rattle.rv_streams.specs.Separator.{before_separator, has_separator, after_se
 use Rattle.rv_streams.specs.Transfer.{WritesFront}
 use Rattle.rv_streams.specs.Unread.{held, unread, HasEnded}
 use Rattle.rv_bench.specs.declared.apart.Apart.{Apart}
-use Rattle.rv_bench.specs.Apart.{apart_line, end_text, entered_text, no_slot_text, script_text, set_apart, two_benches}
+use Rattle.rv_bench.specs.Apart.{apart_line, end_text, entered_text, no_slot_text, script_text, set_apart, both_benches}
 use Rattle.rv_bench.specs.Output.{bench_in}
 use Rattle.rv_bench.specs.Replies.{bench_line, one_bench, replies, state_after}
 use Rattle.rv_bench.specs.Run.{FailsToRead, FailsToWrite, StopsAtRead, StopsAtWrite}
@@ -86,7 +86,7 @@ pub record StopsInEnd (slot : ℕ) (apart : Apart) (tells : Bool) (unread left o
 abbrev pub StopsSecondAtWrite : ℕ → Option Apart → Bool → List ℕ → List ℕ → List ℕ → List ℕ → Type 0
 StopsSecondAtWrite slot None tells unread left old new = (left ≡ unread) × (IsTrue tells → WritesFront old new no_slot_text)
 StopsSecondAtWrite slot (Some apart) tells unread left old new =
-    StopsAtWrite (two_benches slot) Input apart tells unread left old new ⊎ StopsInEnd slot apart tells unread left old new
+    StopsAtWrite (both_benches slot) Input apart tells unread left old new ⊎ StopsInEnd slot apart tells unread left old new
 
 -- this is the last that was written
 abbrev pub EndsIn : List ℕ → List ℕ → Type 0
@@ -121,7 +121,7 @@ module _ {S W : Type 0} {g : SourceGhosts S} (h : SinkGhosts W) where
   RunsSecond slot apart old new before after (Err Read) =
       FailsToRead h old new before after
       × (IsTrue g.tells → IsSomeAnd apart (λ apart.
-      StopsAtRead (two_benches slot) Input apart h.tells (unread old) (g.remaining new.source) (held new) (h.taken before) (h.taken after)))
+      StopsAtRead (both_benches slot) Input apart h.tells (unread old) (g.remaining new.source) (held new) (h.taken before) (h.taken after)))
   RunsSecond slot apart old new before after (Err Write) =
       FailsToWrite h (Ok (second_text slot apart (unread old))) old new before after
       × (IsTrue g.tells → StopsSecondAtWrite slot apart h.tells (unread old) (unread new) (h.taken before) (h.taken after))
@@ -137,7 +137,7 @@ module _ {S W : Type 0} {g : SourceGhosts S} (h : SinkGhosts W) (setup : Setup) 
   StopsInScripts scripts bench =
       StopsAtRead one_bench Separator bench h.tells scripts (g.remaining new.source) (held new) (h.taken before) (h.taken after)
       ⊎ (IsTrue (has_separator scripts) × IsSomeAnd (set_apart slot (after_first bench scripts)) (λ apart.
-      StopsAtRead (two_benches slot) Input apart h.tells (after_separator scripts) (g.remaining new.source) (held new)
+      StopsAtRead (both_benches slot) Input apart h.tells (after_separator scripts) (g.remaining new.source) (held new)
       (h.taken before ++ first_text bench scripts) (h.taken after)))
 
   -- The source failed: in the image, when nothing is written, or else in a script, which follows a separator.

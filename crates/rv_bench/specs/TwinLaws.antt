@@ -4,7 +4,7 @@ use Rattle.std.specs.Prelude.{◌≡◌, ℕ, false, List, [], ◌∷◌, ◌++�
 use Rattle.rv_word.specs.Cases.{result_case}
 use Rattle.rv_script.specs.Command.{parse_of}
 use Rattle.rv_debug.specs.Isolation.{IsSparedIn, RestsUnderAll}
-use Rattle.rv_debug.specs.TwoBenches.{BenchesAgreeBut, both_answer}
+use Rattle.rv_debug.specs.BothBenches.{BenchesAgreeBut, both_answer}
 use Rattle.rv_debug.specs.declared.both.BothWhy.{BothWhy}
 use Rattle.rv_debug.specs.declared.both.BothWhy.TheVariants.{All, NotBlind}
 use Rattle.rv_script.specs.declared.command.Command.{Command}

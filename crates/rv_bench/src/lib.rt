@@ -27,7 +27,7 @@ pub use run::{run_bench, run_stream};
 pub use rv_command_line::{Harts, ImageKind, Job, Setup, WordsFault, read_words};
 pub use rv_elf::ElfFault;
 pub use rv_streams::{
-    ASM_TEXT_MAX, BenchFault, DeviceFault, IMAGE_MAX, Line, Lines, MemorySink, MemorySource, Sink, Source, StandardSink, StandardSource,
-    read_image, run_asm, run_dis,
+    ASM_TEXT_MAX, BenchFault, DeviceFault, IMAGE_MAX, Line, Lines, MemorySink, MemorySource, Sink,
+    Source, StandardSink, StandardSource, read_image, run_asm, run_dis,
 };
 pub use twin::run_twin;

@@ -62,25 +62,25 @@ slot = record (new_rule (codes "slot")) {
 abbrev pub with_image : Names → App → App
 with_image names app = with_rule (with_rule app (kind names)) ram
 
-abbrev pub run : Names → App
-run names = with_rule (with_rule (with_image names (new_app (codes "run"))) monitor) harts
+abbrev pub run_app : Names → App
+run_app names = with_rule (with_rule (with_image names (new_app (codes "run"))) monitor) harts
 
-abbrev pub twin : Names → App
-twin names = with_rule (with_image names (with_rule (new_app (codes "twin")) slot)) harts
+abbrev pub twin_app : Names → App
+twin_app names = with_rule (with_image names (with_rule (new_app (codes "twin")) slot)) harts
 
-abbrev pub asm : App
-asm = new_app (codes "asm")
+abbrev pub asm_app : App
+asm_app = new_app (codes "asm")
 
-abbrev pub dis : App
-dis = new_app (codes "dis")
+abbrev pub dis_app : App
+dis_app = new_app (codes "dis")
 
 -- the program with the subcommands that run benches
 abbrev pub benches : Names → App
-benches names = with_subcommand (with_subcommand (new_app (codes "rvbench")) (run names).top) (twin names).top
+benches names = with_subcommand (with_subcommand (new_app (codes "rvbench")) (run_app names).top) (twin_app names).top
 
 -- the program with all its subcommands
 abbrev pub program : Names → App
-program names = with_subcommand (with_subcommand (benches names) asm.top) dis.top
+program names = with_subcommand (with_subcommand (benches names) asm_app.top) dis_app.top
 
 -- what lies at the first address: a command line reads names alike wherever they lie
 abbrev pub lent : {X : Type 0} → X → Bor X

@@ -3,7 +3,7 @@
 ghost use Rattle.std.specs.Prelude.{◌≡◌, false, IfOk, List, true};
 ghost use Rattle.clap.specs.Words.{Text, app_of, fault_of, is_simple, is_simple_and_free, rule_of, subcommand_of};
 ghost use Rattle.clap.specs.declared.builder.command.Command.TheViews.{out-Command as fields_of};
-ghost use Rattle.rv_command_line.specs.CommandLine.{asm, benches, dis, faults_of, harts, kind, monitor, program, ram, run, rvbench, slot, twin, with_image};
+ghost use Rattle.rv_command_line.specs.CommandLine.{asm_app, benches, dis_app, faults_of, harts, kind, monitor, program, ram, run_app, rvbench, slot, twin_app, with_image};
 
 use crate::image_kind::KIND_NAMES;
 use clap::{Arg, ArgAction, Command, value_parser};
@@ -122,7 +122,7 @@ fn with_image_options<'a>(
 
 /// `run`: the bench itself.
 fn run_command<'a>(alloc: Global, kind_names: &'a [&'a str]) -> Result<Command<'a>, AllocError>
-    ensures app { IfOk result (λ command. app_of command ≡ run kind_names.entry) }
+    ensures app { IfOk result (λ command. app_of command ≡ run_app kind_names.entry) }
     ensures local { IfOk result (λ command. (fields_of command).has_globals ≡ false) }
 {
     let command = Command::new(alloc, "run")
@@ -137,7 +137,7 @@ fn run_command<'a>(alloc: Global, kind_names: &'a [&'a str]) -> Result<Command<'
 
 /// `twin`: two benches that differ in one enclave.
 fn twin_command<'a>(alloc: Global, names: &'a [&'a str]) -> Result<Command<'a>, AllocError>
-    ensures app { IfOk result (λ command. app_of command ≡ twin names.entry) }
+    ensures app { IfOk result (λ command. app_of command ≡ twin_app names.entry) }
     ensures local { IfOk result (λ command. (fields_of command).has_globals ≡ false) }
 {
     let command = Command::new(alloc, "twin")
@@ -151,7 +151,7 @@ fn twin_command<'a>(alloc: Global, names: &'a [&'a str]) -> Result<Command<'a>, 
 
 /// `asm`: the assembler.
 fn asm_command<'a>(alloc: Global) -> Command<'a>
-    ensures app { app_of result ≡ asm }
+    ensures app { app_of result ≡ asm_app }
     ensures local { (fields_of result).has_globals ≡ false }
 {
     Command::new(alloc, "asm").about("Read lines of assembly, and write the image in hexadecimal")
@@ -159,7 +159,7 @@ fn asm_command<'a>(alloc: Global) -> Command<'a>
 
 /// `dis`: the disassembler.
 fn dis_command<'a>(alloc: Global) -> Command<'a>
-    ensures app { app_of result ≡ dis }
+    ensures app { app_of result ≡ dis_app }
     ensures local { (fields_of result).has_globals ≡ false }
 {
     Command::new(alloc, "dis").about(

@@ -25,7 +25,7 @@ use Rattle.rv_enclaves.proofs.Alike.{seen_block}
 use Rattle.rv_script.specs.Schedules.{harts_in, has_all}
 use Rattle.rv_script.specs.declared.command.Command.{Command}
 use Rattle.rv_script.specs.declared.command.Command.TheVariants.{Step, Run, SetReg, Mem, Poke, Dis, Enclaves, Access, Timer, Hart, Sched}
-use Rattle.rv_debug.specs.Answer.{Answered, access_reply, answer, hart_told, harts_told, told as steps_told}
+use Rattle.rv_debug.specs.Answer.{Answered, access_reply, answer, hart_told, harts_told, ran_reply}
 use Rattle.rv_debug.specs.BenchState.{BenchState}
 use Rattle.rv_debug.specs.Confidentiality.{AgreeAgain, AnswerAlike, ConfidentialityLaw}
 use Rattle.rv_debug.specs.Deeds.{Deed, Nothing, Steps, deed, done, entered_by, run_deed, steps_of}
@@ -34,7 +34,7 @@ use Rattle.rv_debug.specs.ReplyText.{ok_text, outside_text, memory_text, dis_tex
 use Rattle.rv_debug.specs.Turns.{AfterTurns, no_turns, turns}
 use Rattle.rv_debug.specs.Steps.{AfterRun, no_steps, run}
 use Rattle.rv_debug.specs.Targets.{chosen_at, IsBare, KeepsMonitor, monitored_stepped, over_memory, turned_to, world_name}
-use Rattle.rv_debug.specs.TwoBenches.{BenchesAgreeBut, ChosenAgreeBut, TargetsAgreeBut, is_blind, is_entered}
+use Rattle.rv_debug.specs.BothBenches.{BenchesAgreeBut, ChosenAgreeBut, TargetsAgreeBut, is_blind, is_entered}
 use Rattle.rv_debug.specs.declared.scheduled.HartRan.{HartRan}
 use Rattle.rv_debug.specs.declared.scheduled.Scheduled.{Scheduled}
 use Rattle.rv_debug.specs.declared.steps.Ran.{Ran}
@@ -74,11 +74,11 @@ agree_again e one other agree =
     (again e one.target other.target one.breaks one.watches agree.target))
 
 -- a command that enters nothing
-abbrev told : Target → List ℕ → List ℕ → List ℕ → Answered
-told target breaks watches reply = record { state = over target breaks watches; reply = reply; entered = 0 }
+abbrev answered_with : Target → List ℕ → List ℕ → List ℕ → Answered
+answered_with target breaks watches reply = record { state = over target breaks watches; reply = reply; entered = 0 }
 
 passes : (e : ℕ) (one other : Target) (breaks watches reply reply' : List ℕ) → TargetsAgreeBut e one other → reply ≡ reply'
-    → AnswerAlike e (told one breaks watches reply) (told other breaks watches reply')
+    → AnswerAlike e (answered_with one breaks watches reply) (answered_with other breaks watches reply')
 passes e one other breaks watches reply reply' agree same =
     record { entered = refl; passed = λ none. record { reply = same; entered = refl; state = again e one other breaks watches agree } }
 
@@ -129,18 +129,18 @@ both_past e hart breaks watches one other past =
 -- ---- a run
 
 abbrev steps_answer : List ℕ → List ℕ → AfterRun Target → Answered
-steps_answer breaks watches after = record { state = over after.state breaks watches; reply = steps_told after; entered = after.ran.entered }
+steps_answer breaks watches after = record { state = over after.state breaks watches; reply = ran_reply after; entered = after.ran.entered }
 
 abbrev run_answer : Target → List ℕ → List ℕ → List ℕ → List ℕ → ℕ → Answered
 run_answer target breaks watches at_breaks at_watches count =
     let d = run_deed target at_breaks at_watches count in
-    record { state = over (done target d) breaks watches; reply = steps_told (steps_of target at_breaks at_watches count); entered = entered_by target d }
+    record { state = over (done target d) breaks watches; reply = ran_reply (steps_of target at_breaks at_watches count); entered = entered_by target d }
 
 -- it is told of where the run ends
 run_told : (target : Target) (breaks watches at_breaks at_watches : List ℕ) (count : ℕ)
     → run_answer target breaks watches at_breaks at_watches count ≡ steps_answer breaks watches (steps_of target at_breaks at_watches count)
 run_told target breaks watches at_breaks at_watches count =
-    let reply = steps_told (steps_of target at_breaks at_watches count) in
+    let reply = ran_reply (steps_of target at_breaks at_watches count) in
     ap₂ (λ (after : Target) (entered : ℕ). record { state = over after breaks watches; reply = reply; entered = entered })
     (run_done target at_breaks at_watches count) (run_entered target at_breaks at_watches count)
 
@@ -170,7 +170,8 @@ module _ (e hart : ℕ) (seat : Seat) (beside : Option Seat) (rests : is_world_o
     both = both_with seat rests
 
     -- a command that leaves both as they are
-    shown : (reply reply' : List ℕ) → reply ≡ reply' → AnswerAlike e (told (at one) breaks watches reply) (told (at other) breaks watches reply')
+    shown : (reply reply' : List ℕ) → reply ≡ reply'
+        → AnswerAlike e (answered_with (at one) breaks watches reply) (answered_with (at other) breaks watches reply')
     shown reply reply' same = passes e (at one) (at other) breaks watches reply reply' both same
 
     -- ---- what is shown of memory
@@ -200,7 +201,7 @@ module _ (e hart : ℕ) (seat : Seat) (beside : Option Seat) (rests : is_world_o
 
     abbrev poke_answer : Shared → Option (List ℕ) → Answered
     poke_answer shared memory =
-        told (poke_of (at shared) memory) breaks watches (option_case (option_map (over_memory (at shared)) memory) outside_text (λ after. ok_text))
+        answered_with (poke_of (at shared) memory) breaks watches (option_case (option_map (over_memory (at shared)) memory) outside_text (λ after. ok_text))
 
     poke-alike : (address byte : ℕ)
         → AnswerAlike e (poke_answer one (write one.memory address (byte ∷ []))) (poke_answer other (write other.memory address (byte ∷ [])))

@@ -13,8 +13,8 @@ use Rattle.rv_debug.specs.BenchState.{BenchState}
 use Rattle.rv_debug.specs.Confidentiality.{AlikeBy, AnswerAlike, PassAll, PassBy, StayAlike}
 use Rattle.rv_debug.specs.Isolation.{after_commands}
 use Rattle.rv_debug.specs.Targets.{KeepsMonitor}
-use Rattle.rv_debug.specs.TwoBenches.{BenchesAgreeBut, BothAnswered, BothRan, TargetsAgreeBut, both_answer, both_do, both_run, go_on, is_blind, is_entered}
-use Rattle.rv_debug.specs.TwoBenches.{region_of}
+use Rattle.rv_debug.specs.BothBenches.{BenchesAgreeBut, BothAnswered, BothRan, TargetsAgreeBut, both_answer, both_do, both_run, go_on, is_blind, is_entered}
+use Rattle.rv_debug.specs.BothBenches.{region_of}
 use Rattle.rv_debug.specs.declared.both.BothWhy.{BothWhy}
 use Rattle.rv_debug.specs.declared.both.BothWhy.TheVariants.{All, Entered, NotBlind}
 use Rattle.rv_debug.specs.declared.target.Target.{Target}

@@ -18,7 +18,7 @@ use Rattle.rv_debug.specs.Answer.{answer}
 use Rattle.rv_debug.specs.BenchState.{BenchState}
 use Rattle.rv_debug.specs.Confidentiality.{PassAlike, PokeLaw}
 use Rattle.rv_debug.specs.Targets.{KeepsMonitor}
-use Rattle.rv_debug.specs.TwoBenches.{BenchesAgreeBut, ChosenAgreeBut, TargetsAgreeBut, can_scramble, can_scramble_in, region_of}
+use Rattle.rv_debug.specs.BothBenches.{BenchesAgreeBut, ChosenAgreeBut, TargetsAgreeBut, can_scramble, can_scramble_in, region_of}
 use Rattle.rv_debug.specs.declared.target.Target.{Target}
 use Rattle.rv_debug.specs.declared.target.Target.TheVariants.{Bare, Monitored}
 use Rattle.rv_debug.proofs.AnswersAlike.{agree_again}

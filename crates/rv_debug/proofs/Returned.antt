@@ -7,7 +7,7 @@ use Rattle.rv_monitor.specs.Switches.{saved}
 use Rattle.rv_monitor.specs.Debugger.{with_memory, with_reg, with_timer}
 use Rattle.rv_monitor.specs.HartLaws.{sched}
 use Rattle.rv_monitor.specs.Refused.{past_ecall}
-use Rattle.rv_monitor.specs.Returns.{ComesBack}
+use Rattle.rv_monitor.specs.Returns.{HostComesBack}
 use Rattle.rv_monitor.specs.State.{MonitoredState, OnTurn, IsKept, machine_of, seated_beside, seen_by, turned}
 use Rattle.rv_monitor.specs.Step.{monitored_step, step_of}
 use Rattle.rv_monitor.specs.declared.seat.Seat.{Seat}
@@ -216,7 +216,7 @@ unfolding answer
 command_enters hart bench command entry kept enters = enters_under hart bench.target (deed bench command) entry kept enters
 
 leaves_within : (hart : ℕ) (harts : List ℕ) (machine entry exit : MonitoredState) → IsKept machine → KeptStored (kept_at entry)
-    → host_on hart machine ≡ kept_at entry → LeavesWithin hart harts machine exit → ComesBack entry exit (monitored_step exit)
+    → host_on hart machine ≡ kept_at entry → LeavesWithin hart harts machine exit → HostComesBack entry exit (monitored_step exit)
 leaves_within hart harts machine entry exit kept stored is leaves =
     let here = (sched leaves.before machine).state in
     let same : host_on hart here ≡ kept_at entry = steps_keep hart leaves.before machine kept leaves.runs ∙ is in
@@ -227,7 +227,7 @@ leaves_within hart harts machine entry exit kept stored is leaves =
     back_from entry exit (monitored_step exit) (switch_law exit exit_kept (subst KeptStored (sym host_is) stored)) host_is runs leaves.host
 
 leaves_under : (hart : ℕ) (harts : List ℕ) (target : Target) (entry exit : MonitoredState) → KeepsMonitor target → KeptStored (kept_at entry)
-    → host_in hart target ≡ kept_at entry → LeavesUnder hart harts target exit → ComesBack entry exit (monitored_step exit)
+    → host_in hart target ≡ kept_at entry → LeavesUnder hart harts target exit → HostComesBack entry exit (monitored_step exit)
 leaves_under hart harts (Bare machine) entry exit kept stored is leaves = absurd leaves
 leaves_under hart harts (Monitored machine) entry exit kept stored is leaves =
     leaves_within hart harts (machine_of machine) entry exit (seen_kept machine.hart machine.state kept) stored is leaves

@@ -10,7 +10,7 @@ use Rattle.rv_monitor.proofs.MonitoredAlike.{confidentiality}
 use Rattle.rv_monitor.proofs.Turned.{seen_kept}
 use Rattle.rv_debug.specs.Turns.{AfterTurns, turns, with_turn}
 use Rattle.rv_debug.specs.Targets.{stepped, turned_to}
-use Rattle.rv_debug.specs.TwoBenches.{ChosenAgreeBut, is_entered}
+use Rattle.rv_debug.specs.BothBenches.{ChosenAgreeBut, is_entered}
 use Rattle.rv_debug.specs.declared.scheduled.Scheduled.{Scheduled}
 use Rattle.rv_debug.specs.declared.target.Target.TheVariants.{Monitored}
 use Rattle.rv_debug.proofs.StepsAlike.{enters-with, enters-now}

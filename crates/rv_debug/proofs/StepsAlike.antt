@@ -16,7 +16,7 @@ use Rattle.rv_debug.specs.Addresses.{is_among}
 use Rattle.rv_debug.specs.Steps.{AfterSteps, AfterRun, with_slot, with_step, ended, run}
 use Rattle.rv_debug.specs.Stops.{lowest_accessed}
 use Rattle.rv_debug.specs.Targets.{monitored_stepped}
-use Rattle.rv_debug.specs.TwoBenches.{is_entered}
+use Rattle.rv_debug.specs.BothBenches.{is_entered}
 use Rattle.rv_debug.specs.declared.steps.Stop.TheVariants.{Done, Break as AtBreak, Watch as AtWatch}
 use Rattle.rv_debug.proofs.TargetRuns.{monitored_pc}
 

@@ -51,8 +51,8 @@ abbrev pub set_reply : Option (List ℕ) → List ℕ
 set_reply set = option_case set full_text (λ new. ok_text)
 
 -- so many steps, which these addresses may end, are told by what they did, and where, in which mode and world they ended
-abbrev pub told : AfterRun Target → List ℕ
-told after = ran_text (pc_of after.state) (hart_of after.state).mode (world_text after.state) after.ran
+abbrev pub ran_reply : AfterRun Target → List ℕ
+ran_reply after = ran_text (pc_of after.state) (hart_of after.state).mode (world_text after.state) after.ran
 
 -- a byte is put into memory, where its address is in it
 abbrev pub poke_reply : Target → ℕ → ℕ → List ℕ
@@ -98,8 +98,8 @@ access_reply memory entries mode access address width =
 
 abbrev pub reply_to : BenchState → Command → List ℕ
 reply_to bench Blank = []
-reply_to bench (Step count) = told (steps_of bench.target [] [] count)
-reply_to bench (Run count) = told (steps_of bench.target bench.breaks bench.watches count)
+reply_to bench (Step count) = ran_reply (steps_of bench.target [] [] count)
+reply_to bench (Run count) = ran_reply (steps_of bench.target bench.breaks bench.watches count)
 reply_to bench (Break address) = set_reply (with_room_for address bench.breaks)
 reply_to bench (Clear address) = ok_text
 reply_to bench (Watch address) = set_reply (with_room_for address bench.watches)

@@ -9,7 +9,7 @@ use Rattle.rv_debug.specs.Answer.{Answered, answer}
 use Rattle.rv_debug.specs.BenchState.{BenchState}
 use Rattle.rv_debug.specs.Isolation.{after_commands}
 use Rattle.rv_debug.specs.Targets.{KeepsMonitor}
-use Rattle.rv_debug.specs.TwoBenches.{BenchesAgreeBut, BothAnswered, is_blind, is_entered, region_of}
+use Rattle.rv_debug.specs.BothBenches.{BenchesAgreeBut, BothAnswered, is_blind, is_entered, region_of}
 use Rattle.rv_debug.specs.declared.both.BothWhy.{BothWhy}
 use Rattle.rv_debug.specs.declared.both.BothWhy.TheVariants.{All, Entered, NotBlind}
 use Rattle.rv_debug.specs.declared.target.Target.{Target}

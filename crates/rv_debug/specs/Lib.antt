@@ -11,5 +11,5 @@ pub mod ReplyText
 pub mod Steps
 pub mod Stops
 pub mod Targets
-pub mod TwoBenches
+pub mod BothBenches
 pub mod Turns

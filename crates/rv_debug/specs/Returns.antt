@@ -3,7 +3,7 @@
 -- its own monitor; Keystone, EuroSys 2020, in this project's profile.)
 use Rattle.std.specs.Prelude.{ℕ, ◌≡◌, true, false, List, [], ◌∷◌, ◌++◌}
 use Rattle.rv_monitor.specs.HartLaws.{sched}
-use Rattle.rv_monitor.specs.Returns.{ComesBack}
+use Rattle.rv_monitor.specs.Returns.{HostComesBack}
 use Rattle.rv_monitor.specs.State.{MonitoredState, AreStored, machine_of, seen_by}
 use Rattle.rv_monitor.specs.Step.{monitored_step, step_of}
 use Rattle.rv_enclaves.specs.Table.{is_host}
@@ -79,4 +79,4 @@ ReturnLaw =
     → (let between = (answer bench first).state in
     let end = after_commands between commands in
     IsStoredIn between.target → RunsUnderAll hart between commands → LeavesUnder hart (harts_stepped (deed end last)) end.target exit
-    → ComesBack entry exit (monitored_step exit))
+    → HostComesBack entry exit (monitored_step exit))

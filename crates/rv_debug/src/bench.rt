@@ -41,7 +41,7 @@ impl Bench {
     ghost use Rattle.rv_debug.specs.Isolation.{TellsReach, ChangesMemory, SparesResting, SparesOther};
     ghost use Rattle.rv_debug.specs.Returns.{IsStoredIn};
     ghost use Rattle.rv_debug.specs.Targets.{IsBare, KeepsMonitor};
-    ghost use Rattle.rv_debug.specs.TwoBenches.{BenchesAgreeBut, can_scramble, is_blind, scrambled};
+    ghost use Rattle.rv_debug.specs.BothBenches.{BenchesAgreeBut, can_scramble, is_blind, scrambled};
 
     /// A bench over a machine as it is, with no break and no watch.
     pub fn bare(machine: Machine) -> Self
@@ -79,7 +79,7 @@ impl Bench {
     }
 
     /// Whether a command is blind to the enclave of a slot: it is not a mem, dis or poke with a byte in its region.
-    #[tactic(auto, unfolding(crate::specs::TwoBenches::is_blind))]
+    #[tactic(auto, unfolding(crate::specs::BothBenches::is_blind))]
     pub(crate) fn is_blind(&self, slot: Slot, command: &Command) -> bool
         ensures { result ≡ is_blind slot self.now command.now }
     {

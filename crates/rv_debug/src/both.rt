@@ -3,7 +3,7 @@
 ghost use Rattle.std.specs.Prelude.{◌≡◌, ◌<◌, ◌^◌, ℕ, List, take};
 ghost use Rattle.rv_debug.specs.Confidentiality.{PassBy, StayAlike};
 ghost use Rattle.rv_debug.specs.Isolation.{IsSparedIn, RestsUnderAll, after_commands};
-ghost use Rattle.rv_debug.specs.TwoBenches.{BenchesAgreeBut, both_answer, both_line_answer, both_run, is_entered as is_entered_in};
+ghost use Rattle.rv_debug.specs.BothBenches.{BenchesAgreeBut, both_answer, both_line_answer, both_run, is_entered as is_entered_in};
 
 use crate::bench::Bench;
 use crate::reply::push_fault;
@@ -78,7 +78,7 @@ pub fn both_command(
 }
 
 /// Gives the command to both, or to neither.
-#[tactic(auto, unfolding(crate::specs::TwoBenches::both_answer))]
+#[tactic(auto, unfolding(crate::specs::BothBenches::both_answer))]
 fn give_both(
     a: &mut Bench,
     b: &mut Bench,

@@ -7,7 +7,7 @@ ghost use Rattle.rv_enclaves.specs.Blocks.{no_block};
 ghost use Rattle.rv_monitor.specs.State.{IsKept};
 ghost use Rattle.rv_debug.specs.Returns.{IsStoredIn};
 ghost use Rattle.rv_debug.specs.Steps.{no_steps, run};
-ghost use Rattle.rv_debug.specs.TwoBenches.{TargetsAgreeBut, can_scramble_in, region_of, scrambled_in};
+ghost use Rattle.rv_debug.specs.BothBenches.{TargetsAgreeBut, can_scramble_in, region_of, scrambled_in};
 ghost use Rattle.rv_debug.specs.Targets.{chosen_of, hart_of, harts_of, memory_of, pc_of, stepped, turned_to, register_set, timer_set, poked, IsBare, KeepsMonitor};
 
 use crate::addresses::Addresses;

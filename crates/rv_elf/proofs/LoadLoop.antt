@@ -7,7 +7,7 @@ use Rattle.std.proofs.lemmas.Bool.{or_parts, and_parts}
 use Rattle.std.proofs.lemmas.Grind.{common_steps}
 use Rattle.rv_elf.specs.declared.segment.Segment.{Segment}
 use Rattle.rv_elf.specs.Loaded.{loaded_memory}
-use Rattle.rv_elf.specs.Plans.{LoadPlan, IsValid, fits}
+use Rattle.rv_elf.specs.Plans.{LoadPlan, IsValidPlan, fits}
 use Rattle.rv_elf.specs.Places.{lies_inside, meets_reserved}
 use Rattle.rv_elf.specs.Segments.{has_overlap, share_a_byte, is_truncated, is_oversized}
 use Rattle.rv_elf.proofs.LoadedBytes.{length-loaded_memory, load_first, load_none}
@@ -20,7 +20,7 @@ Loads image plan before rest now =
     × (list_all (fits plan.image_size plan.ram_size plan.monitored) rest ≡ true)
     × (has_overlap rest ≡ false)
 
-pub loads_begin : (image : List ℕ) (plan : LoadPlan) (before : List ℕ) → IsValid plan → Loads image plan before plan.segments before
+pub loads_begin : (image : List ℕ) (plan : LoadPlan) (before : List ℕ) → IsValidPlan plan → Loads image plan before plan.segments before
 unfolding Loads
 loads_begin image plan before valid = (refl, refl, valid.0, valid.1)
 

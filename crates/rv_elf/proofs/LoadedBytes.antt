@@ -10,7 +10,7 @@ use Rattle.rv_memory.proofs.MemoryLaws.{byte_at-index}
 use Rattle.rv_elf.specs.declared.segment.Segment.{Segment}
 use Rattle.rv_elf.specs.Loaded.{loaded_memory, byte_after, KeepsReserved, LoadsEach}
 use Rattle.rv_elf.specs.Places.{is_reserved, lies_inside, meets_reserved}
-use Rattle.rv_elf.specs.Plans.{LoadPlan, IsValid, fits}
+use Rattle.rv_elf.specs.Plans.{LoadPlan, IsValidPlan, fits}
 use Rattle.rv_elf.specs.Segments.{has_address, share_a_byte, has_overlap, is_truncated, is_oversized}
 use Rattle.rv_elf.proofs.ReservedBytes.{not_reserved}
 use Rattle.rv_elf.proofs.SharedBytes.{not_in_other}
@@ -134,7 +134,7 @@ byte_outside image segments memory address outside =
     rw (byte_at-index (loaded_memory image segments memory) address, byte_at-index memory address, length-loaded_memory image segments memory, outside) refl
 
 -- what was loaded, byte by byte
-pub loads_each : (image : List ℕ) (plan : LoadPlan) (old : List ℕ) → IsValid plan → length old ≡ plan.ram_size
+pub loads_each : (image : List ℕ) (plan : LoadPlan) (old : List ℕ) → IsValidPlan plan → length old ≡ plan.ram_size
     → LoadsEach image plan.segments old (loaded_memory image plan.segments old)
 loads_each image plan old valid size = record {
   size = length-loaded_memory image plan.segments old;
@@ -174,7 +174,7 @@ none_have image_size ram_size address monitored (segment ∷ segments) fit reser
     (none_have image_size ram_size address monitored segments both.1 reserved)
 
 -- so the bytes that no image may use are as before
-pub keeps_reserved : (image : List ℕ) (plan : LoadPlan) (old : List ℕ) → IsValid plan → length old ≡ plan.ram_size
+pub keeps_reserved : (image : List ℕ) (plan : LoadPlan) (old : List ℕ) → IsValidPlan plan → length old ≡ plan.ram_size
     → KeepsReserved plan.monitored old (loaded_memory image plan.segments old)
 keeps_reserved image plan old valid size = λ address reserved.
     (loads_each image plan old valid size).elsewhere address

@@ -9,7 +9,7 @@ use Rattle.rv_elf.specs.declared.segment.Segment.{Segment}
 use Rattle.rv_elf.specs.Fields.{e_entry}
 use Rattle.rv_elf.specs.Faults.{first_fault, segment_faults, place_faults, is_bad_entry, header_faults, raw_fault}
 use Rattle.rv_elf.specs.Places.{has_place}
-use Rattle.rv_elf.specs.Plans.{LoadPlan, IsValid, fits, file_plan}
+use Rattle.rv_elf.specs.Plans.{LoadPlan, IsValidPlan, fits, file_plan}
 use Rattle.rv_elf.specs.Segments.{is_truncated, is_oversized, is_outside, has_overlap, occupying, raw_segments, segments_of}
 use Rattle.rv_elf.proofs.FirstFaults.{first_is_false, rest_has_none, none_before, some_before}
 
@@ -55,7 +55,7 @@ kept_have_none image_size segments none =
 
 -- a plan whose segments and places have no fault is valid
 pub is_valid : (plan : LoadPlan) → first_fault (segment_faults plan.image_size plan.segments) ≡ None
-    → first_fault (place_faults plan.ram_size plan.monitored plan.segments plan.entry) ≡ None → IsValid plan
+    → first_fault (place_faults plan.ram_size plan.monitored plan.segments plan.entry) ≡ None → IsValidPlan plan
 unfolding segment_faults place_faults
 is_valid plan none placed =
     let whole = first_is_false (list_any (is_truncated plan.image_size) plan.segments) _ _ none in

@@ -24,8 +24,8 @@ fits image_size ram_size monitored segment =
     not (is_truncated image_size segment) && not (is_oversized segment) && not (is_outside ram_size monitored segment)
 
 -- what is true of every plan: its segments fit and share no byte, and its first instruction is at a multiple of 4 and has a place
-abbrev pub IsValid : LoadPlan → Type 0
-IsValid plan =
+abbrev pub IsValidPlan : LoadPlan → Type 0
+IsValidPlan plan =
     (list_all (fits plan.image_size plan.ram_size plan.monitored) plan.segments ≡ true)
     × (has_overlap plan.segments ≡ false)
     × (plan.entry % 4 ≡ 0)

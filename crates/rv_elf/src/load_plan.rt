@@ -20,7 +20,7 @@ pub struct Plan {
 }
 
 impl Model for Plan {
-    ghost use Rattle.rv_elf.specs.Plans.{LoadPlan, IsValid};
+    ghost use Rattle.rv_elf.specs.Plans.{LoadPlan, IsValidPlan};
 
     ghost Value = { LoadPlan };
 
@@ -32,7 +32,7 @@ impl Model for Plan {
       monitored = plan.monitored;
     } };
 
-    ghost invariant = { λ plan. IsValid (record
+    ghost invariant = { λ plan. IsValidPlan (record
         { segments = plan.segments.items; entry = plan.entry; image_size = plan.image_size; ram_size = plan.ram_size; monitored = plan.monitored }) };
 
     ghost inverse = { λ plan. record {
@@ -45,7 +45,7 @@ impl Model for Plan {
 }
 
 impl Plan {
-    ghost use Rattle.rv_elf.specs.Plans.{IsValid};
+    ghost use Rattle.rv_elf.specs.Plans.{IsValidPlan};
 
     /// The address of the first instruction, a multiple of 4. Its four bytes are inside RAM, and not in the range of a monitor.
     pub fn entry(&self) -> u32
@@ -60,7 +60,7 @@ impl Plan {
     /// two of them share a byte.
     pub fn segments(&self) -> &[Segment]
         ensures value { result.now ≡ self.now.segments }
-        ensures valid { IsValid self.now }
+        ensures valid { IsValidPlan self.now }
     {
         self.segments.as_slice()
     }

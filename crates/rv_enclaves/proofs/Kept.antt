@@ -7,7 +7,7 @@ use Rattle.std.proofs.lemmas.Bool.{cases_Bool}
 use Rattle.rv_pmp.specs.Cfg.{is_locked, stored_cfg}
 use Rattle.rv_pmp.specs.Locks.{with_entries}
 use Rattle.std.proofs.lemmas.List.{length-map, get_or-map}
-use Rattle.rv_enclaves.specs.Layout.{nothing, napot, mie_of}
+use Rattle.rv_enclaves.specs.Layout.{no_permission, napot, mie_of}
 use Rattle.rv_state.specs.Bits.{kept_bits}
 use Rattle.rv_state.specs.CsrTable.{enabled_of}
 use Rattle.rv_enclaves.proofs.Prelude.{Enclave, Entries, Host, SlotInfo, Slots, World, entry_at, host_entry, is_world_of, layout, monitor_block, region_entry}
@@ -45,7 +45,8 @@ host_is_plain Host = record { stored = refl; unlocked = refl }
 host_is_plain (Enclave k) = record { stored = refl; unlocked = refl }
 
 plain_by : (a b c : Bool) (t : Slots) (w : World) (k : ℕ)
-    → IsPlain (if a then napot nothing monitor_block else (if b then region_entry w k (slot_at t k) else (if c then window_entry t w else host_entry w))).cfg
+    → IsPlain
+      (if a then napot no_permission monitor_block else (if b then region_entry w k (slot_at t k) else (if c then window_entry t w else host_entry w))).cfg
 unfolding stored_cfg
 plain_by true b c t w k = record { stored = refl; unlocked = refl }
 plain_by false true c t w k = region_is_plain w k (slot_at t k)

@@ -12,7 +12,7 @@ use Rattle.rv_pmp.specs.Entries.{addr_of, addr_before}
 use Rattle.rv_pmp.specs.Covers.{matches, napot_size, ones_at_end}
 use Rattle.rv_pmp.proofs.VerdictLemmas.{some_from_any}
 use Rattle.rv_enclaves.specs.Blocks.{no_block}
-use Rattle.rv_enclaves.specs.Layout.{Entry, napot, nothing}
+use Rattle.rv_enclaves.specs.Layout.{Entry, napot, no_permission}
 use Rattle.rv_enclaves.proofs.Prelude.{Block, Enclave, Host, IsLawfulSlot, IsValid, SlotInfo, Slots, World, cfg_of, covers, entry_at, has, host_entry}
 use Rattle.rv_enclaves.proofs.Prelude.{is_block_size, is_host, is_lawful, is_window, is_world_of, layout, meets, monitor_block, ram_base, region}
 use Rattle.rv_enclaves.proofs.Prelude.{region_entry, region_of, slot_at, window, window_entry, window_entry_of, window_of}
@@ -135,7 +135,7 @@ entry_at-slot t w k in_range =
     ∙ cond-true _ _ _ (lt-ltb (k + 1) 14 (omega arith))
     ∙ ap (λ j. region_entry w j (slot_at t j)) same
 
-pub entry_at-monitor : (t : Slots) (w : World) → entry_at t w 0 ≡ napot nothing monitor_block
+pub entry_at-monitor : (t : Slots) (w : World) → entry_at t w 0 ≡ napot no_permission monitor_block
 unfolding entry_at
 entry_at-monitor t w = refl
 

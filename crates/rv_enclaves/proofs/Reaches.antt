@@ -15,7 +15,7 @@ use Rattle.rv_enclaves.proofs.Prelude.{cfg_of, covers, has, host_entry, is_host,
 use Rattle.rv_enclaves.proofs.Prelude.{ram_base, region, region_entry, region_of, slot_at, verdict, window, window_entry, window_entry_of, window_of}
 use Rattle.rv_enclaves.proofs.Scans.{same_any, same_all, verdict_cases}
 use Rattle.rv_enclaves.specs.Table.{is_in_region}
-use Rattle.rv_enclaves.specs.Layout.{Entry, nothing as nothing_cfg, all as all_cfg, read_write}
+use Rattle.rv_enclaves.specs.Layout.{Entry, no_permission as nothing_cfg, all as all_cfg, read_write}
 use Rattle.rv_enclaves.specs.Reach.{in_reach, host_has, ReachLaw, ApartLaw}
 use Rattle.rv_word.specs.declared.width.Width.{Width}
 use Rattle.rv_word.specs.declared.width.Width.TheVariants.{Byte, Half, Word}

@@ -6,7 +6,7 @@ use Rattle.std.proofs.lemmas.Bool.{false≢true}
 use Rattle.rv_enclaves.specs.Calls.{takes}
 use Rattle.rv_enclaves.specs.Create.{create_refusals, is_entry}
 use Rattle.rv_enclaves.specs.Measure.{measure_refusals, may_store_all}
-use Rattle.rv_enclaves.specs.Refusals.{state_refusals, is_taken}
+use Rattle.rv_enclaves.specs.Refusals.{state_refusals, has_state_for}
 use Rattle.rv_enclaves.specs.Table.{free_slot}
 use Rattle.rv_enclaves.specs.declared.call.Call.TheVariants.{Run, Resume, Stop}
 use Rattle.rv_enclaves.specs.declared.slot_info.EnclaveState.TheVariants as states
@@ -70,8 +70,8 @@ pub may_take : (slots : Slots) (call : Call) (k : ℕ) → first_refusal (state_
 unfolding state_refusals
 may_take slots call k none =
     let live = no_row (not (is_live slots k)) _ _ none in
-    let taken = no_row (not (is_taken slots call k)) _ _ live.1 in
-    taken_at slots call k (slot_at slots k) refl (not_false (is_taken slots call k) taken.0)
+    let taken = no_row (not (has_state_for slots call k)) _ _ live.1 in
+    taken_at slots call k (slot_at slots k) refl (not_false (has_state_for slots call k) taken.0)
 
 -- no call takes an enclave that runs
 pub takes_rests : (call : Call) (state : EnclaveState) → takes call state ≡ true → is_running state ≡ false

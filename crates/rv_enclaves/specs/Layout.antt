@@ -23,8 +23,8 @@ abbrev pub napot : ℕ → Block → Entry
 napot cfg block = record { cfg = cfg; addr = block.base / 4 + (block.size / 8 - 1) }
 
 -- NAPOT without a permission, with those to read and write, and with all
-abbrev pub nothing : ℕ
-nothing = 0x18
+abbrev pub no_permission : ℕ
+no_permission = 0x18
 
 abbrev pub read_write : ℕ
 read_write = 0x1B
@@ -35,7 +35,7 @@ all = 0x1F
 -- the region of slot k is open while its enclave runs
 abbrev pub region_entry : World → ℕ → Option SlotInfo → Entry
 region_entry world k None = unused
-region_entry world k (Some info) = napot (if is_world_of k world then all else nothing) info.region
+region_entry world k (Some info) = napot (if is_world_of k world then all else no_permission) info.region
 
 -- the window of the enclave that runs
 abbrev pub window_entry_of : Option SlotInfo → Entry
@@ -54,7 +54,7 @@ host_entry (Enclave k) = unused
 -- entry 0: the monitor's range; k + 1: the region of slot k; 14: the window; 15: everything
 unfoldable pub entry_at : Slots → World → ℕ → Entry
 entry_at slots world i =
-    if i == 0 then napot nothing monitor_block
+    if i == 0 then napot no_permission monitor_block
     else (if nat_lt i 14 then region_entry world (i - 1) (slot_at slots (i - 1))
     else (if i == 14 then window_entry slots world
     else host_entry world))

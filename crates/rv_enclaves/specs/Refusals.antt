@@ -15,12 +15,12 @@ first_refusal ((true, refusal) ∷ rows) = Some refusal
 first_refusal ((false, refusal) ∷ rows) = first_refusal rows
 
 -- the enclave of a slot is in a state that a call takes
-abbrev pub is_taken : Slots → Call → ℕ → Bool
-is_taken slots call k = option_case (slot_at slots k) false (λ info. takes call info.state)
+abbrev pub has_state_for : Slots → Call → ℕ → Bool
+has_state_for slots call k = option_case (slot_at slots k) false (λ info. takes call info.state)
 
 -- destroy, run and resume, of the enclave of slot k
 unfoldable pub state_refusals : Slots → Call → ℕ → List (Bool × Refusal)
 state_refusals slots call k =
     (not (is_live slots k), NoEnclave)
-    ∷ (not (is_taken slots call k), BadState)
+    ∷ (not (has_state_for slots call k), BadState)
     ∷ []

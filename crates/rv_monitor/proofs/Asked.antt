@@ -8,7 +8,8 @@ use Rattle.rv_enclaves.proofs.SavedLists.{same_after_set}
 use Rattle.rv_monitor.specs.Asked.{asked_by, is_entering, SameAsked, SameWhereSame, SameWork, AskedLaw, SameStep, AskedStepLaw}
 use Rattle.rv_monitor.specs.declared.next.Next.{Next}
 use Rattle.rv_monitor.proofs.Prelude.{AgreeOutside, Call, Cause, Context, Contexts, Create, Handled, MonitoredState, MonitoredStepped, Proposal, Running}
-use Rattle.rv_monitor.proofs.Prelude.{Seat, Shared, Slots, StepOutcome, Trap, a0, a1, answered, bare, context_at, created, destroyed, entered, exited_context}
+use Rattle.rv_monitor.proofs.Prelude.{Seat, Shared, Slots, StepOutcome, Trap, a0, a1, answered, bare, context_at, created, destroyed, entered_slot}
+use Rattle.rv_monitor.proofs.Prelude.{exited_context}
 use Rattle.rv_monitor.proofs.Prelude.{first_context, handled, kept_context, left_slot, measured, measured_slot, measurement_at, measurement_of}
 use Rattle.rv_monitor.proofs.Prelude.{monitored_step, new_slot, option_case, proposed, ram_base, recorded, region, returned, returned_to, seated}
 use Rattle.rv_monitor.proofs.Prelude.{seated_beside, state_after, status_of, step, with_context, with_layout, with_slot, with_state, write}
@@ -89,7 +90,7 @@ module _ (table : Slots) (m n : List ℕ) (cs ds : Contexts) (size : length m �
         record { seat = ap (λ (slots : Slots). seated slots (answered seat one status result).seat) same.table; next = refl; shared = same }
 
     enters_same : context_at cs (a0 seat) ≡ context_at ds (a0 seat) → Works (with_layout (entering seat here)) (with_layout (entering seat there))
-    unfolding entered
+    unfolding entered_slot
     enters_same own =
         let contexts : kept_context cs (a0 seat) ≡ kept_context ds (a0 seat) =
         ap (λ (o : Option Context). option_case o exited_context (λ context. context)) own in

@@ -18,7 +18,7 @@ use Rattle.rv_monitor.specs.Asked.{is_call}
 use Rattle.rv_monitor.specs.Changes.{IsStoredInReach, IsMeasured, ByMonitor, IsChanged, IsChangedWithin, ChangeLaw, RunsChangeLaw}
 use Rattle.rv_monitor.proofs.Prelude.{AgreeOn, Block, Call, Destroy, Entries, IsKept, IsLawfulSlot, IsValid, M, MayTouch, Measure, MonitoredState, S, Seat}
 use Rattle.rv_monitor.proofs.Prelude.{Shared, SlotInfo, Span, Stepped, Stores, Trap, World, Write, a0, a1, asked_in, bare, byte_at, bytes_from, bytes_in}
-use Rattle.rv_monitor.proofs.Prelude.{confined, created, data_mode, destroyed, entered, first_refusal, handled, has, is_inside, is_live, layout, left_slot}
+use Rattle.rv_monitor.proofs.Prelude.{confined, created, data_mode, destroyed, entered_slot, first_refusal, handled, has, is_inside, is_live, layout, left_slot}
 use Rattle.rv_monitor.proofs.Prelude.{measured, measured_slot, monitored_step, option_case, permits, region, slot_at, step, touches_permitted, verdict}
 use Rattle.rv_monitor.proofs.Prelude.{with_bytes, with_slot, worlds_beside, write, zeroed}
 use Rattle.rv_monitor.proofs.KeptReaches.{kept_reach, below_M, clear_mode}
@@ -129,7 +129,7 @@ module _ (beside : List World) (seat : Seat) (shared : Shared) (trapped : IsTrap
   by_call call after asks (inr changed) = let is = asks.is_call in inr (rw is refl, changed)
 
   handled_changes : ChangedBy (handled seat shared trap).shared
-  unfolding created entered left_slot
+  unfolding created entered_slot left_slot
   handled_changes = by_work seat trap shared (λ h. ChangedBy h.shared) (record {
     refuses = λ refusal. inl refl;
     creates = λ asks may. inl refl;

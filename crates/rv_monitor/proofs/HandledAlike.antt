@@ -4,7 +4,8 @@ use Rattle.std.proofs.lemmas.Bool.{cases_eq, both_ways, ne_eqb, eq-eqb}
 use Rattle.rv_enclaves.specs.declared.slot_info.EnclaveState.TheVariants as states
 use Rattle.rv_enclaves.proofs.WorksAlike.{WorksAlike, works_alike}
 use Rattle.rv_monitor.specs.Confidentiality.{HandledAlike, HandlerLaw}
-use Rattle.rv_monitor.proofs.Prelude.{Context, Contexts, Enclave, EnclaveState, Seat, Shared, SharedButFor, Slots, Trap, a0, a1, answered, entered, handled}
+use Rattle.rv_monitor.proofs.Prelude.{Context, Contexts, Enclave, EnclaveState, Seat, Shared, SharedButFor, Slots, Trap, a0, a1, answered, entered_slot}
+use Rattle.rv_monitor.proofs.Prelude.{handled}
 use Rattle.rv_monitor.proofs.Prelude.{is_world_of, left_slot, measured_slot, new_slot, proposed, seated, state_after, status_of, with_layout}
 use Rattle.rv_monitor.proofs.Works.{by_work_of_both, entering, kept_by, leaving, over}
 
@@ -30,7 +31,7 @@ module _ (e : ℕ) (table : Slots) (m n : List ℕ) (cs ds : Contexts) (works : 
       })
 
   enters_alike : HandledAlike e (with_layout (entering seat here)) (with_layout (entering seat there))
-  unfolding entered
+  unfolding entered_slot
   enters_alike = elim (cases_eq (a0 seat) e) [
     | inl own ↦ inl (record { here = ap Some own; there = ap Some own })
     | inr other ↦

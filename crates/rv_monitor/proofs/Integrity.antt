@@ -9,7 +9,7 @@ use Rattle.rv_enclaves.proofs.Slots.{at_same, at_other}
 use Rattle.rv_enclaves.proofs.Sound.{live_in_range, free_slot_from}
 use Rattle.rv_monitor.specs.Integrity.{enters, IntegrityLaw}
 use Rattle.rv_monitor.proofs.Prelude.{Context, Destroy, EnclaveState, Handled, IsKept, IsValid, MonitoredState, Proposal, Running, Seat, Shared, SlotInfo}
-use Rattle.rv_monitor.proofs.Prelude.{Slots, Trap, Write, a0, byte_at, bytes_in, context_at, created, destroyed, entered, first_context, handled, has}
+use Rattle.rv_monitor.proofs.Prelude.{Slots, Trap, Write, a0, byte_at, bytes_in, context_at, created, destroyed, entered_slot, first_context, handled, has}
 use Rattle.rv_monitor.proofs.Prelude.{is_live, is_world_of, left_slot, measured, monitored_step, new_slot, option_case, proposed, recorded, region, register}
 use Rattle.rv_monitor.proofs.Prelude.{slot_at, state_after, with_context, with_slot, with_state}
 use Rattle.rv_monitor.proofs.Changes.{changes}
@@ -65,7 +65,7 @@ module _ (k : ℕ) (seat : Seat) (shared : Shared) (valid : IsValid shared.memor
   ]
 
   handled_keeps : (trap : Trap) → Keeps k shared (handled seat shared trap)
-  unfolding measured entered left_slot
+  unfolding measured entered_slot left_slot
   handled_keeps trap = by_work seat trap shared (Keeps k shared) (record {
     refuses = λ refusal passes stays. record { slot = refl; context = refl };
     creates = λ asks may passes stays. created_keeps (proposed seat.hart.regs) may;

@@ -1,7 +1,7 @@
 -- The last act after a trap, which sets the entries and mie: where it changes nothing, and that nothing before it writes an entry.
 use Rattle.std.proofs.Common.{◌≡◌, Option, Some, None, IfSome, refl, ap}
 use Rattle.rv_monitor.specs.Step.{forwarded_csrs}
-use Rattle.rv_monitor.proofs.Prelude.{Entries, Handled, IsSeated, Seat, Shared, Slots, Trap, entered, forwarded, handled_cause, left_slot, seated}
+use Rattle.rv_monitor.proofs.Prelude.{Entries, Handled, IsSeated, Seat, Shared, Slots, Trap, entered_slot, forwarded, handled_cause, left_slot, seated}
 use Rattle.rv_monitor.proofs.Prelude.{seated_beside, with_layout}
 use Rattle.rv_monitor.proofs.Ready.{IsLaidOut}
 use Rattle.rv_monitor.proofs.Works.{by_pieces}
@@ -34,7 +34,7 @@ abbrev pub entries_of : Handled → Entries
 entries_of h = h.seat.hart.csrs.pmp
 
 pub work_entries : (seat : Seat) (shared : Shared) (trap : Trap) → entries_of (handled_cause seat shared trap trap.cause) ≡ seat.hart.csrs.pmp
-unfolding entered left_slot forwarded_csrs
+unfolding entered_slot left_slot forwarded_csrs
 work_entries seat shared trap =
     by_pieces seat trap shared.table shared.memory shared.memory shared.contexts shared.contexts (λ h _. entries_of h ≡ seat.hart.csrs.pmp) (record {
       refuses = λ refusal. refl;

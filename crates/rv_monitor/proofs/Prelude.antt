@@ -33,7 +33,7 @@ pub use Rattle.rv_monitor.specs.Leaving.{state_after}
 pub use Rattle.rv_enclaves.specs.Measure.{measured_slot, measurement_at, with_bytes}
 unfoldable pub use Rattle.rv_enclaves.specs.Measure.{measured}
 pub use Rattle.rv_enclaves.specs.Refusals.{first_refusal}
-pub use Rattle.rv_monitor.specs.Runs.{run}
+pub use Rattle.rv_monitor.specs.Runs.{after_steps}
 pub use Rattle.rv_enclaves.specs.Sound.{AreApart, IsSound}
 pub use Rattle.rv_monitor.specs.State.{AreStored, HostIsStored, IsKept, IsSeated, MonitoredState, OnTurn, count_of, seated}
 pub use Rattle.rv_enclaves.specs.Table.{is_host}
@@ -42,7 +42,7 @@ pub use Rattle.rv_monitor.specs.Step.{MonitoredStepped, answered, forwarded, han
 unfoldable pub use Rattle.rv_monitor.specs.Step.{handled, monitored_step, step_of}
 pub use Rattle.rv_monitor.specs.SwitchLaws.{StaysOrSwitches, reason, value}
 pub use Rattle.rv_monitor.specs.Switches.{Handled}
-unfoldable pub use Rattle.rv_monitor.specs.Switches.{entered, left_slot}
+unfoldable pub use Rattle.rv_monitor.specs.Switches.{entered_slot, left_slot}
 pub use Rattle.rv_enclaves.specs.Table.{IsLawfulSlot, IsValid, Slots, is_live, is_running, is_world_of, region, region_of, runs, slot_at}
 pub use Rattle.rv_enclaves.specs.Table.{with_slot, with_state}
 pub use Rattle.rv_monitor.specs.Turns.{as_seen, on_turn}

@@ -4,9 +4,9 @@ use Rattle.std.specs.Prelude.{not, is_some}
 use Rattle.std.proofs.lemmas.Bool.{both_ways}
 use Rattle.rv_enclaves.specs.Contexts.{with_answer, IsStored}
 use Rattle.rv_monitor.specs.Refused.{past_ecall}
-use Rattle.rv_monitor.specs.Returns.{RunsThrough, ComesBack, ReturnLaw}
+use Rattle.rv_monitor.specs.Returns.{RunsThrough, HostComesBack, ReturnLaw}
 use Rattle.rv_monitor.proofs.Prelude.{Context, HostIsStored, IsKept, MonitoredState, MonitoredStepped, S, StaysOrSwitches, is_host, monitored_step, reason}
-use Rattle.rv_monitor.proofs.Prelude.{run, saved, value}
+use Rattle.rv_monitor.proofs.Prelude.{after_steps, saved, value}
 use Rattle.rv_monitor.proofs.RunsAlike.{kept_law}
 use Rattle.rv_monitor.proofs.Switched.{kept_between, switch_law}
 
@@ -32,7 +32,7 @@ entered_from state after (inr (inr leaves)) host other = absurd (both_ways _ oth
 -- the step that leaves puts it back
 pub back_from : (before state : MonitoredState) (after : MonitoredStepped) → StaysOrSwitches state after
     → state.seat.host_context ≡ Some (saved before.seat.hart (past_ecall before.seat.hart) S)
-    → is_host state.seat.world ≡ false → is_host after.state.seat.world ≡ true → ComesBack before state after
+    → is_host state.seat.world ≡ false → is_host after.state.seat.world ≡ true → HostComesBack before state after
 back_from before state after (inl stays) kept other host = absurd (both_ways _ other (sym (ap is_host stays.world) ∙ host))
 back_from before state after (inr (inl enters)) kept other host = absurd (both_ways _ other (ap is_host enters.from_host))
 back_from before state after (inr (inr leaves)) kept other host =
@@ -53,7 +53,8 @@ first_runs (suc n) state runs = runs.0
 -- from any state in which an enclave runs, and the host is kept as it was
 comes_back : (before : MonitoredState) (n : ℕ) (state : MonitoredState) → IsKept state → HostIsStored state.seat
     → state.seat.host_context ≡ Some (saved before.seat.hart (past_ecall before.seat.hart) S) → RunsThrough n state
-    → is_host (monitored_step (run n state).state).state.seat.world ≡ true → ComesBack before (run n state).state (monitored_step (run n state).state)
+    → is_host (monitored_step (after_steps n state).state).state.seat.world ≡ true
+    → HostComesBack before (after_steps n state).state (monitored_step (after_steps n state).state)
 comes_back before zero state kept stored saved_is runs host = back_from before state (monitored_step state) (switch_law state kept stored) saved_is runs host
 comes_back before (suc n) state kept stored saved_is runs host =
     let after = monitored_step state in

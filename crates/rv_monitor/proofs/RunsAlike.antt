@@ -2,7 +2,7 @@
 use Rattle.std.proofs.Common.{◌≡◌, ℕ, zero, suc, ◌⊎◌, List, [], ◌∷◌, Some, refl, sym, ap, ap₂, inl, inr}
 use Rattle.rv_hart.proofs.StepLaws.{keeps_mprv_clear, keeps_machine_parts}
 use Rattle.rv_monitor.specs.Runs.{Ran, after_one, BothRunIn, BothRunPast, RunLaw, KeptLaw}
-use Rattle.rv_monitor.proofs.Prelude.{IsKept, Outcome, bare, confined, handled, monitored_step, run, step, worlds_beside}
+use Rattle.rv_monitor.proofs.Prelude.{IsKept, Outcome, bare, confined, handled, monitored_step, after_steps, step, worlds_beside}
 use Rattle.rv_monitor.proofs.MonitoredAlike.{confidentiality}
 use Rattle.rv_monitor.proofs.Ready.{handled_done, handled_laid_out}
 use Rattle.rv_monitor.proofs.StepKept.{after_none, trapped_here, returned_kept}
@@ -56,9 +56,10 @@ pub run_law : RunLaw
 run_law e zero one other here there agree = inr (record { outcomes = refl; state = agree })
 run_law e (suc n) one other here there agree = elim (confidentiality one here e other there agree) [
   | inl enter ↦
-      inl (first_enters e (monitored_step one).outcome (monitored_step other).outcome (run n (monitored_step one).state)
-      (run n (monitored_step other).state) enter.here enter.there)
+      inl (first_enters e (monitored_step one).outcome (monitored_step other).outcome (after_steps n (monitored_step one).state)
+      (after_steps n (monitored_step other).state) enter.here enter.there)
   | inr past ↦
-      later e (monitored_step one).outcome (monitored_step other).outcome (run n (monitored_step one).state) (run n (monitored_step other).state) past.outcome
+      later e (monitored_step one).outcome (monitored_step other).outcome (after_steps n (monitored_step one).state)
+      (after_steps n (monitored_step other).state) past.outcome
       (run_law e n (monitored_step one).state (monitored_step other).state (kept_law one here) (kept_law other there) past.state)
 ]

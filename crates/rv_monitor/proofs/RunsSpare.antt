@@ -1,7 +1,7 @@
 -- So many steps spare an enclave that rests through them, by the law of one.
 use Rattle.std.proofs.Common.{ℕ, zero, suc, refl, ◌∙◌, ap}
 use Rattle.rv_monitor.specs.Integrity.{Rests, RestsThrough, RunsSpareLaw}
-use Rattle.rv_monitor.proofs.Prelude.{IsSpared, MonitoredState, Shared, has, monitored_step, region_of, run}
+use Rattle.rv_monitor.proofs.Prelude.{IsSpared, MonitoredState, Shared, has, monitored_step, region_of, after_steps}
 use Rattle.rv_monitor.proofs.Integrity.{integrity}
 use Rattle.rv_monitor.proofs.RunsAlike.{kept_law}
 
@@ -21,6 +21,6 @@ pub runs_spare : RunsSpareLaw
 runs_spare k zero state kept rests = record { slot = refl; bytes = λ byte own. refl; context = refl }
 runs_spare k (suc n) state kept rests =
     let after = monitored_step state in
-    spared_twice k state.shared after.state.shared (run n after.state).state.shared
+    spared_twice k state.shared after.state.shared (after_steps n after.state).state.shared
     (integrity state kept k rests.0.rests rests.0.live rests.1 (first_rests k n after.state rests.2).live)
     (runs_spare k n after.state (kept_law state kept) rests.2)

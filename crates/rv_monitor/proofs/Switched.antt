@@ -8,7 +8,8 @@ use Rattle.rv_state.specs.declared.s_context.SContext.{SContext}
 use Rattle.rv_enclaves.specs.Contexts.{IsStored, with_answer}
 use Rattle.rv_monitor.specs.SwitchLaws.{SwitchLaw}
 use Rattle.rv_monitor.proofs.Prelude.{Context, CsrState, Enclave, Handled, Host, HostIsStored, IsKept, Mode, MonitoredState, S, Seat, Shared, StaysOrSwitches}
-use Rattle.rv_monitor.proofs.Prelude.{StepOutcome, Trap, a0, aligned_to_4, bare, can_go_on, entered, handled, is_host, is_machine, left_slot, monitored_step}
+use Rattle.rv_monitor.proofs.Prelude.{StepOutcome, Trap, a0, aligned_to_4, bare, can_go_on, entered_slot, handled, is_host, is_machine, left_slot}
+use Rattle.rv_monitor.proofs.Prelude.{monitored_step}
 use Rattle.rv_monitor.proofs.Prelude.{past_call, reason, returned, saved, step, value}
 use Rattle.rv_monitor.proofs.TrapSteps.{by_step, seat_after}
 use Rattle.rv_monitor.proofs.Works.{by_work}
@@ -46,7 +47,7 @@ Turns seat x y h = StaysIn seat h ⊎ (EntersFrom seat h ⊎ LeavesFor seat x y 
 
 pub handled_turns : (seat : Seat) (shared : Shared) (trap : Trap)
     → Turns seat (reason trap.cause seat.hart.regs) (value trap.cause seat.hart.regs) (handled seat shared trap)
-unfolding entered left_slot
+unfolding entered_slot left_slot
 handled_turns seat shared trap = by_work seat trap shared (Turns seat (reason trap.cause seat.hart.regs) (value trap.cause seat.hart.regs)) (record {
   refuses = λ refusal. inl (record { world = refl; host = refl; entered = refl });
   creates = λ asks may. inl (record { world = refl; host = refl; entered = refl });

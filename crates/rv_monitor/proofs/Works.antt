@@ -17,7 +17,7 @@ use Rattle.rv_monitor.specs.Leaving.{line_after}
 use Rattle.rv_monitor.specs.Step.{performed, called, call_handled, timer_stopped, handled_exception, stopped_context, trapped_pc, trapped_mode}
 use Rattle.rv_monitor.specs.Switches.{left, left_by}
 use Rattle.rv_monitor.proofs.Prelude.{Call, Cause, Context, Contexts, Create, Destroy, Enclave, EnvironmentCallFromS, Exit, Handled, Host, Measure, Refusal}
-use Rattle.rv_monitor.proofs.Prelude.{Seat, Shared, Slots, Trap, World, a0, a1, answered, asked_in, created, destroyed, entered, exited_context}
+use Rattle.rv_monitor.proofs.Prelude.{Seat, Shared, Slots, Trap, World, a0, a1, answered, asked_in, created, destroyed, entered_slot, exited_context}
 use Rattle.rv_monitor.proofs.Prelude.{first_refusal, forwarded, handled, handled_cause, kept_context, measured, measured_slot, new_slot, option_case}
 use Rattle.rv_monitor.proofs.Prelude.{past_call, proposed, reason, refused, register, saved, state_after, value, with_layout}
 
@@ -90,7 +90,7 @@ leaving cause seat shared world host =
     (value cause seat.hart.regs) world host
 
 abbrev pub entering : Seat → Shared → Handled
-entering seat shared = entered seat shared (a0 seat) (kept_context shared.contexts (a0 seat)) (past_call seat)
+entering seat shared = entered_slot seat shared (a0 seat) (kept_context shared.contexts (a0 seat)) (past_call seat)
 
 module _ (seat : Seat) (trap : Trap) (table : Slots) (m n : List ℕ) (cs ds : Contexts) (P : Handled → Handled → Type 0) where
   abbrev here : Shared

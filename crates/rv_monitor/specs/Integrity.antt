@@ -6,7 +6,7 @@ use Rattle.rv_enclaves.specs.Blocks.{has}
 use Rattle.rv_enclaves.specs.Contexts.{context_at}
 use Rattle.rv_enclaves.specs.Table.{slot_at, region, is_live, is_world_of}
 use Rattle.rv_enclaves.specs.declared.shared.Shared.{Shared}
-use Rattle.rv_monitor.specs.Runs.{run}
+use Rattle.rv_monitor.specs.Runs.{after_steps}
 use Rattle.rv_monitor.specs.State.{MonitoredState, IsKept}
 use Rattle.rv_monitor.specs.Step.{MonitoredStepped, monitored_step}
 
@@ -41,7 +41,7 @@ RestsThrough k (suc n) state =
 -- so many steps spare an enclave that rests through them
 abbrev pub RunsSpareLaw : Type 0
 RunsSpareLaw =
-    (k n : ℕ) (state : MonitoredState) → IsKept state → RestsThrough k n state → IsSpared k state.shared (run n state).state.shared
+    (k n : ℕ) (state : MonitoredState) → IsKept state → RestsThrough k n state → IsSpared k state.shared (after_steps n state).state.shared
 
 abbrev pub IntegrityLaw : Type 0
 IntegrityLaw = (state : MonitoredState) → IsKept state → SparesOthers state (monitored_step state)

@@ -7,7 +7,7 @@ use Rattle.rv_enclaves.specs.Contexts.{with_answer}
 use Rattle.rv_enclaves.specs.Table.{is_host}
 use Rattle.rv_monitor.specs.Switches.{saved}
 use Rattle.rv_monitor.specs.Refused.{past_ecall}
-use Rattle.rv_monitor.specs.Runs.{run}
+use Rattle.rv_monitor.specs.Runs.{after_steps}
 use Rattle.rv_monitor.specs.State.{MonitoredState, IsKept, HostIsStored}
 use Rattle.rv_monitor.specs.Step.{MonitoredStepped, monitored_step}
 use Rattle.rv_monitor.specs.SwitchLaws.{going_on, reason, value}
@@ -18,7 +18,7 @@ RunsThrough zero state = is_host state.seat.world ≡ false
 RunsThrough (suc n) state = (is_host state.seat.world ≡ false) × RunsThrough n (monitored_step state).state
 
 -- the last step ends in a trap, and the host goes on as it was before the first, past its ecall, but for a0 and a1
-pub record ComesBack (before last : MonitoredState) (after : MonitoredStepped) : Type 0 where
+pub record HostComesBack (before last : MonitoredState) (after : MonitoredStepped) : Type 0 where
   pub trap : Trap
   pub trapped : after.outcome.step.trap ≡ Some trap
   pub again : going_on after.state.seat.hart ≡ record (saved before.seat.hart (past_ecall before.seat.hart) S) {
@@ -31,5 +31,5 @@ abbrev pub ReturnLaw : Type 0
 ReturnLaw =
     (n : ℕ) (state : MonitoredState) → IsKept state → HostIsStored (monitored_step state).state.seat → is_host state.seat.world ≡ true
     → RunsThrough n (monitored_step state).state
-    → (let last = (run n (monitored_step state).state).state in
-    is_host (monitored_step last).state.seat.world ≡ true → ComesBack state last (monitored_step last))
+    → (let last = (after_steps n (monitored_step state).state).state in
+    is_host (monitored_step last).state.seat.world ≡ true → HostComesBack state last (monitored_step last))

@@ -1,5 +1,5 @@
 use Rattle.std.proofs.Common.{◌≡◌, ◌∙◌, sym, ap, true, false}
-use Rattle.rv_debug.specs.TwoBenches.{can_scramble, scrambled}
+use Rattle.rv_debug.specs.BothBenches.{can_scramble, scrambled}
 use Rattle.rv_bench.proofs.Twins.{not_apart, are_apart}
 use Rattle.rv_bench.proofs.twin.scrambled.Goals as goal
 

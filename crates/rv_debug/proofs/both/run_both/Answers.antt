@@ -2,7 +2,7 @@ use Rattle.std.proofs.Common.{sym, subst}
 use Rattle.rv_debug.specs.BenchState.{BenchState}
 use Rattle.rv_debug.specs.Confidentiality.{PassBy}
 use Rattle.rv_debug.specs.Isolation.{IsSparedIn}
-use Rattle.rv_debug.specs.TwoBenches.{BothRan}
+use Rattle.rv_debug.specs.BothBenches.{BothRan}
 use Rattle.rv_debug.proofs.BothAlike.{Folded, folded, run_alike}
 use Rattle.rv_debug.proofs.Isolation.{integrity}
 use Rattle.rv_debug.proofs.both.run_both.Goals as goal
