@@ -46,7 +46,7 @@ host_is_plain (Enclave k) = record { stored = refl; unlocked = refl }
 
 plain_by : (a b c : Bool) (t : Slots) (w : World) (k : ℕ)
     → IsPlain
-      (if a then napot no_permission monitor_block else (if b then region_entry w k (slot_at t k) else (if c then window_entry t w else host_entry w))).cfg
+    (if a then napot no_permission monitor_block else (if b then region_entry w k (slot_at t k) else (if c then window_entry t w else host_entry w))).cfg
 unfolding stored_cfg
 plain_by true b c t w k = record { stored = refl; unlocked = refl }
 plain_by false true c t w k = region_is_plain w k (slot_at t k)

@@ -5,14 +5,14 @@ use Rattle.std.proofs.lemmas.Bool.{cases_eq, eq-eqb, both_ways, ne_eqb}
 use Rattle.rv_enclaves.specs.Create.{bytes_of_block}
 use Rattle.rv_enclaves.proofs.Agreement.{or_same, write-alike}
 use Rattle.rv_enclaves.proofs.SavedLists.{same_after_set}
+use Rattle.rv_enclaves.proofs.Prelude.{AgreeOutside, Call, Context, Contexts, Create, Proposal, Running, Shared, Slots, context_at, created, destroyed}
+use Rattle.rv_enclaves.proofs.Prelude.{first_context, kept_context, measured, measurement_at, measurement_of, new_slot, recorded, region, with_context}
+use Rattle.rv_enclaves.proofs.Prelude.{with_slot, with_state}
 use Rattle.rv_monitor.specs.Asked.{asked_by, is_entering, SameAsked, SameWhereSame, SameWork, AskedLaw, SameStep, AskedStepLaw}
 use Rattle.rv_monitor.specs.declared.next.Next.{Next}
-use Rattle.rv_monitor.proofs.Prelude.{AgreeOutside, Call, Cause, Context, Contexts, Create, Handled, MonitoredState, MonitoredStepped, Proposal, Running}
-use Rattle.rv_monitor.proofs.Prelude.{Seat, Shared, Slots, StepOutcome, Trap, a0, a1, answered, bare, context_at, created, destroyed, entered_slot}
-use Rattle.rv_monitor.proofs.Prelude.{exited_context}
-use Rattle.rv_monitor.proofs.Prelude.{first_context, handled, kept_context, left_slot, measured, measured_slot, measurement_at, measurement_of}
-use Rattle.rv_monitor.proofs.Prelude.{monitored_step, new_slot, option_case, proposed, ram_base, recorded, region, returned, returned_to, seated}
-use Rattle.rv_monitor.proofs.Prelude.{seated_beside, state_after, status_of, step, with_context, with_layout, with_slot, with_state, write}
+use Rattle.rv_monitor.proofs.Prelude.{Cause, Handled, MonitoredState, MonitoredStepped, Seat, StepOutcome, Trap, a0, a1, answered, bare, entered_slot}
+use Rattle.rv_monitor.proofs.Prelude.{exited_context, handled, left_slot, measured_slot, monitored_step, option_case, proposed, ram_base, returned}
+use Rattle.rv_monitor.proofs.Prelude.{returned_to, seated, seated_beside, state_after, status_of, step, with_layout, write}
 use Rattle.rv_monitor.proofs.TrapSteps.{seat_after, trapped_step}
 use Rattle.rv_monitor.proofs.Works.{AsksFor, by_work_of_both, entering, kept_by, over}
 

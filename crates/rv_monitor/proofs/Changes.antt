@@ -14,13 +14,13 @@ use Rattle.rv_enclaves.proofs.Reaches.{reach_law}
 use Rattle.rv_enclaves.proofs.Refusals.{IsTaken}
 use Rattle.rv_enclaves.proofs.Slots.{at_same}
 use Rattle.rv_enclaves.proofs.Sound.{live_in_range}
+use Rattle.rv_enclaves.proofs.Prelude.{Block, Call, Destroy, IsLawfulSlot, IsValid, Measure, Shared, SlotInfo, World, created, destroyed, first_refusal, has}
+use Rattle.rv_enclaves.proofs.Prelude.{is_live, layout, measured, region, slot_at, with_bytes, with_slot, zeroed}
 use Rattle.rv_monitor.specs.Asked.{is_call}
 use Rattle.rv_monitor.specs.Changes.{IsStoredInReach, IsMeasured, ByMonitor, IsChanged, IsChangedWithin, ChangeLaw, RunsChangeLaw}
-use Rattle.rv_monitor.proofs.Prelude.{AgreeOn, Block, Call, Destroy, Entries, IsKept, IsLawfulSlot, IsValid, M, MayTouch, Measure, MonitoredState, S, Seat}
-use Rattle.rv_monitor.proofs.Prelude.{Shared, SlotInfo, Span, Stepped, Stores, Trap, World, Write, a0, a1, asked_in, bare, byte_at, bytes_from, bytes_in}
-use Rattle.rv_monitor.proofs.Prelude.{confined, created, data_mode, destroyed, entered_slot, first_refusal, handled, has, is_inside, is_live, layout, left_slot}
-use Rattle.rv_monitor.proofs.Prelude.{measured, measured_slot, monitored_step, option_case, permits, region, slot_at, step, touches_permitted, verdict}
-use Rattle.rv_monitor.proofs.Prelude.{with_bytes, with_slot, worlds_beside, write, zeroed}
+use Rattle.rv_monitor.proofs.Prelude.{AgreeOn, Entries, IsKept, M, MayTouch, MonitoredState, S, Seat, Span, Stepped, Stores, Trap, Write, a0, a1, asked_in}
+use Rattle.rv_monitor.proofs.Prelude.{bare, byte_at, bytes_from, bytes_in, confined, data_mode, entered_slot, handled, is_inside, left_slot, measured_slot}
+use Rattle.rv_monitor.proofs.Prelude.{monitored_step, option_case, permits, step, touches_permitted, verdict, worlds_beside, write}
 use Rattle.rv_monitor.proofs.KeptReaches.{kept_reach, below_M, clear_mode}
 use Rattle.rv_monitor.proofs.Ready.{IsTrapped}
 use Rattle.rv_monitor.proofs.RunsAlike.{kept_law}

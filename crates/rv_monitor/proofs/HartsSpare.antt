@@ -3,11 +3,11 @@ use Rattle.std.proofs.Common.{◌≡◌, ℕ, zero, suc, Bool, true, false, List
 use Rattle.std.specs.Prelude.{◌||◌, is_some}
 use Rattle.std.specs.List.{list_any}
 use Rattle.std.proofs.lemmas.Bool.{cases_Bool, both_ways}
+use Rattle.rv_enclaves.proofs.Prelude.{Shared, SlotInfo, is_live, is_running, is_world_of, runs, slot_at}
 use Rattle.rv_monitor.specs.HartLaws.{sched, BesideLaw, IsLeftAlone, SchedSparesLaw, SchedChangeLaw}
 use Rattle.rv_monitor.specs.Integrity.{enters}
-use Rattle.rv_monitor.proofs.Prelude.{IsKept, IsSpared, MonitoredState, MonitoredStepped, Seat, Shared, SlotInfo, StaysOrSwitches, byte_at, handled, is_live}
-use Rattle.rv_monitor.proofs.Prelude.{is_running, is_world_of, monitored_step, option_case, runs, seated_beside, seen_by, slot_at, step_of, turned}
-use Rattle.rv_monitor.proofs.Prelude.{worlds_beside}
+use Rattle.rv_monitor.proofs.Prelude.{IsKept, IsSpared, MonitoredState, MonitoredStepped, Seat, StaysOrSwitches, byte_at, handled, monitored_step}
+use Rattle.rv_monitor.proofs.Prelude.{option_case, seated_beside, seen_by, step_of, turned, worlds_beside}
 use Rattle.rv_monitor.proofs.Changes.{changes}
 use Rattle.rv_monitor.proofs.HartsAlike.{step_kept}
 use Rattle.rv_monitor.proofs.Integrity.{integrity}

@@ -15,52 +15,27 @@ pub use Rattle.rv_memory.specs.Memory.{byte_at, is_inside, is_ram_size, ram_base
 unfoldable pub use Rattle.rv_memory.specs.Memory.{write}
 pub use Rattle.rv_memory.specs.declared.touched.Span.{Span}
 pub use Rattle.rv_monitor.specs.AgreeBut.{AgreeBut}
-pub use Rattle.rv_enclaves.specs.SharedButFor.{AgreeOutside, SharedButFor, is_private}
-pub use Rattle.rv_enclaves.specs.Blocks.{has}
 pub use Rattle.rv_monitor.specs.CallRefusals.{a0, a1}
 pub use Rattle.rv_enclaves.specs.Calls.{asked_in, status_of}
 pub use Rattle.rv_monitor.specs.Confidentiality.{bare}
-pub use Rattle.rv_enclaves.specs.Contexts.{Contexts, can_go_on, context_at, exited_context, kept_context, with_context}
+pub use Rattle.rv_enclaves.specs.Contexts.{exited_context}
 pub use Rattle.rv_monitor.specs.Switches.{saved}
-unfoldable pub use Rattle.rv_enclaves.specs.Contexts.{first_context}
-pub use Rattle.rv_enclaves.specs.Create.{new_slot, proposed, recorded}
-unfoldable pub use Rattle.rv_enclaves.specs.Create.{created, measurement_of}
-pub use Rattle.rv_enclaves.specs.Destroy.{zeroed}
-unfoldable pub use Rattle.rv_enclaves.specs.Destroy.{destroyed}
+pub use Rattle.rv_enclaves.specs.Create.{proposed}
 pub use Rattle.rv_monitor.specs.Integrity.{IsSpared}
-unfoldable pub use Rattle.rv_enclaves.specs.Layout.{entry_at, layout}
 pub use Rattle.rv_monitor.specs.Leaving.{state_after}
-pub use Rattle.rv_enclaves.specs.Measure.{measured_slot, measurement_at, with_bytes}
-unfoldable pub use Rattle.rv_enclaves.specs.Measure.{measured}
-pub use Rattle.rv_enclaves.specs.Refusals.{first_refusal}
+pub use Rattle.rv_enclaves.specs.Measure.{measured_slot}
 pub use Rattle.rv_monitor.specs.Runs.{after_steps}
-pub use Rattle.rv_enclaves.specs.Sound.{AreApart, IsSound}
 pub use Rattle.rv_monitor.specs.State.{AreStored, HostIsStored, IsKept, IsSeated, MonitoredState, OnTurn, count_of, seated}
-pub use Rattle.rv_enclaves.specs.Table.{is_host}
 pub use Rattle.rv_monitor.specs.State.{seated_beside, seen_by, turned, worlds_beside}
 pub use Rattle.rv_monitor.specs.Step.{MonitoredStepped, answered, forwarded, handled_cause, past_call, refused, returned, returned_to, unhandled, with_layout}
 unfoldable pub use Rattle.rv_monitor.specs.Step.{handled, monitored_step, step_of}
 pub use Rattle.rv_monitor.specs.SwitchLaws.{StaysOrSwitches, reason, value}
 pub use Rattle.rv_monitor.specs.Switches.{Handled}
 unfoldable pub use Rattle.rv_monitor.specs.Switches.{entered_slot, left_slot}
-pub use Rattle.rv_enclaves.specs.Table.{IsLawfulSlot, IsValid, Slots, is_live, is_running, is_world_of, region, region_of, runs, slot_at}
-pub use Rattle.rv_enclaves.specs.Table.{with_slot, with_state}
 pub use Rattle.rv_monitor.specs.Turns.{as_seen, on_turn}
 pub use Rattle.rv_enclaves.specs.Unlocked.{HasNoLock}
-pub use Rattle.rv_enclaves.specs.declared.block.Block.{Block}
-pub use Rattle.rv_enclaves.specs.declared.call.Call.{Call}
-pub use Rattle.rv_enclaves.specs.declared.call.Call.TheVariants.{Create, Destroy, Exit, Measure}
-pub use Rattle.rv_enclaves.specs.declared.context.Context.{Context}
 pub use Rattle.rv_monitor.specs.declared.outcome.Outcome.{Outcome}
-pub use Rattle.rv_enclaves.specs.declared.proposal.Proposal.{Proposal}
-pub use Rattle.rv_enclaves.specs.declared.refusal.Refusal.{Refusal}
 pub use Rattle.rv_monitor.specs.declared.seat.Seat.{Seat}
-pub use Rattle.rv_enclaves.specs.declared.shared.Shared.{Shared}
-pub use Rattle.rv_enclaves.specs.declared.slot_info.EnclaveState.{EnclaveState}
-pub use Rattle.rv_enclaves.specs.declared.slot_info.EnclaveState.TheVariants.{Running}
-pub use Rattle.rv_enclaves.specs.declared.slot_info.SlotInfo.{SlotInfo}
-pub use Rattle.rv_enclaves.specs.declared.world.World.{World}
-pub use Rattle.rv_enclaves.specs.declared.world.World.TheVariants.{Enclave, Host}
 pub use Rattle.rv_pmp.specs.Entries.{Entries, cfg_of}
 pub use Rattle.rv_pmp.specs.Verdicts.{bytes_from, permits}
 unfoldable pub use Rattle.rv_pmp.specs.Verdicts.{verdict}
