@@ -5,14 +5,14 @@ use Rattle.std.proofs.lemmas.Bool.{cases_eq, eq-eqb, both_ways, ne_eqb}
 use Rattle.rv_enclaves.specs.Create.{bytes_of_block}
 use Rattle.rv_enclaves.proofs.Agreement.{or_same, write-alike}
 use Rattle.rv_enclaves.proofs.SavedLists.{same_after_set}
-use Rattle.rv_enclaves.proofs.Prelude.{AgreeOutside, Call, Context, Contexts, Create, Proposal, Running, Shared, Slots, context_at, created, destroyed}
-use Rattle.rv_enclaves.proofs.Prelude.{first_context, kept_context, measured, measurement_at, measurement_of, new_slot, recorded, region, with_context}
-use Rattle.rv_enclaves.proofs.Prelude.{with_slot, with_state}
+use Rattle.rv_enclaves.proofs.Prelude.{AgreeOutside, Contexts, Slots, context_at, created, destroyed, first_context, kept_context, measured, measurement_at}
+use Rattle.rv_enclaves.proofs.Prelude.{measurement_of, new_slot, recorded, region, with_context, with_slot, with_state}
 use Rattle.rv_monitor.specs.Asked.{asked_by, is_entering, SameAsked, SameWhereSame, SameWork, AskedLaw, SameStep, AskedStepLaw}
 use Rattle.rv_monitor.specs.declared.next.Next.{Next}
-use Rattle.rv_monitor.proofs.Prelude.{Cause, Handled, MonitoredState, MonitoredStepped, Seat, StepOutcome, Trap, a0, a1, answered, bare, entered_slot}
-use Rattle.rv_monitor.proofs.Prelude.{exited_context, handled, left_slot, measured_slot, monitored_step, option_case, proposed, ram_base, returned}
-use Rattle.rv_monitor.proofs.Prelude.{returned_to, seated, seated_beside, state_after, status_of, step, with_layout, write}
+use Rattle.rv_monitor.proofs.Prelude.{Handled, MonitoredState, MonitoredStepped, a0, a1, answered, bare, entered_slot, exited_context, handled, left_slot}
+use Rattle.rv_monitor.proofs.Prelude.{measured_slot, monitored_step, option_case, proposed, ram_base, returned, returned_to, seated, seated_beside}
+use Rattle.rv_monitor.proofs.Prelude.{state_after, status_of, step, with_layout, write}
+use Rattle.rv_monitor.proofs.Types.{Call, Cause, Context, Create, Proposal, Running, Seat, Shared, StepOutcome, Trap}
 use Rattle.rv_monitor.proofs.TrapSteps.{seat_after, trapped_step}
 use Rattle.rv_monitor.proofs.Works.{AsksFor, by_work_of_both, entering, kept_by, over}
 

@@ -7,8 +7,9 @@ use Rattle.rv_enclaves.proofs.Agreement.{IsSeen, same_read, same_write}
 use Rattle.rv_enclaves.proofs.Reaches.{permitted_apart, small_ram, inside_is, some_bytes}
 use Rattle.rv_enclaves.proofs.Prelude.{AgreeOutside, is_private, is_world_of}
 use Rattle.rv_monitor.specs.Confidentiality.{BareLaw, StepAlike}
-use Rattle.rv_monitor.proofs.Prelude.{Access, AgreeOn, Fetch, IsKept, MayTouch, Mode, MonitoredState, Read, Span, State, Stores, bare, bytes_in, confined}
-use Rattle.rv_monitor.proofs.Prelude.{data_mode, is_machine, step, touches_permitted}
+use Rattle.rv_monitor.proofs.Prelude.{AgreeOn, IsKept, MayTouch, MonitoredState, State, Stores, bare, bytes_in, confined, data_mode, is_machine, step}
+use Rattle.rv_monitor.proofs.Prelude.{touches_permitted}
+use Rattle.rv_monitor.proofs.Types.{Access, Fetch, Mode, Read, Span}
 use Rattle.rv_monitor.proofs.KeptReaches.{below_M, clear_mode}
 
 module _ (e : ℕ) (state : MonitoredState) (kept : IsKept state) (other : is_world_of e state.seat.world ≡ false) where

@@ -14,13 +14,14 @@ use Rattle.rv_enclaves.proofs.Reaches.{reach_law}
 use Rattle.rv_enclaves.proofs.Refusals.{IsTaken}
 use Rattle.rv_enclaves.proofs.Slots.{at_same}
 use Rattle.rv_enclaves.proofs.Sound.{live_in_range}
-use Rattle.rv_enclaves.proofs.Prelude.{Block, Call, Destroy, IsLawfulSlot, IsValid, Measure, Shared, SlotInfo, World, created, destroyed, first_refusal, has}
-use Rattle.rv_enclaves.proofs.Prelude.{is_live, layout, measured, region, slot_at, with_bytes, with_slot, zeroed}
+use Rattle.rv_enclaves.proofs.Prelude.{IsLawfulSlot, IsValid, created, destroyed, first_refusal, has, is_live, layout, measured, region, slot_at, with_bytes}
+use Rattle.rv_enclaves.proofs.Prelude.{with_slot, zeroed}
 use Rattle.rv_monitor.specs.Asked.{is_call}
 use Rattle.rv_monitor.specs.Changes.{IsStoredInReach, IsMeasured, ByMonitor, IsChanged, IsChangedWithin, ChangeLaw, RunsChangeLaw}
-use Rattle.rv_monitor.proofs.Prelude.{AgreeOn, Entries, IsKept, M, MayTouch, MonitoredState, S, Seat, Span, Stepped, Stores, Trap, Write, a0, a1, asked_in}
-use Rattle.rv_monitor.proofs.Prelude.{bare, byte_at, bytes_from, bytes_in, confined, data_mode, entered_slot, handled, is_inside, left_slot, measured_slot}
-use Rattle.rv_monitor.proofs.Prelude.{monitored_step, option_case, permits, step, touches_permitted, verdict, worlds_beside, write}
+use Rattle.rv_monitor.proofs.Prelude.{AgreeOn, Entries, IsKept, MayTouch, MonitoredState, Stepped, Stores, a0, a1, asked_in, bare, byte_at, bytes_from}
+use Rattle.rv_monitor.proofs.Prelude.{bytes_in, confined, data_mode, entered_slot, handled, is_inside, left_slot, measured_slot, monitored_step, option_case}
+use Rattle.rv_monitor.proofs.Prelude.{permits, step, touches_permitted, verdict, worlds_beside, write}
+use Rattle.rv_monitor.proofs.Types.{Block, Call, Destroy, M, Measure, S, Seat, Shared, SlotInfo, Span, Trap, World, Write}
 use Rattle.rv_monitor.proofs.KeptReaches.{kept_reach, below_M, clear_mode}
 use Rattle.rv_monitor.proofs.Ready.{IsTrapped}
 use Rattle.rv_monitor.proofs.RunsAlike.{kept_law}

@@ -3,10 +3,11 @@ use Rattle.std.proofs.Common.{◌≡◌, ℕ, ◌==◌, false, List, length, Som
 use Rattle.std.proofs.lemmas.Bool.{cases_eq, both_ways, ne_eqb, eq-eqb}
 use Rattle.rv_enclaves.specs.declared.slot_info.EnclaveState.TheVariants as states
 use Rattle.rv_enclaves.proofs.WorksAlike.{WorksAlike, works_alike}
-use Rattle.rv_enclaves.proofs.Prelude.{Context, Contexts, Enclave, EnclaveState, Shared, SharedButFor, Slots, is_world_of, new_slot}
+use Rattle.rv_enclaves.proofs.Prelude.{Contexts, SharedButFor, Slots, is_world_of, new_slot}
 use Rattle.rv_monitor.specs.Confidentiality.{HandledAlike, HandlerLaw}
-use Rattle.rv_monitor.proofs.Prelude.{Seat, Trap, a0, a1, answered, entered_slot, handled, left_slot, measured_slot, proposed, seated, state_after, status_of}
+use Rattle.rv_monitor.proofs.Prelude.{a0, a1, answered, entered_slot, handled, left_slot, measured_slot, proposed, seated, state_after, status_of}
 use Rattle.rv_monitor.proofs.Prelude.{with_layout}
+use Rattle.rv_monitor.proofs.Types.{Context, Enclave, EnclaveState, Seat, Shared, Trap}
 use Rattle.rv_monitor.proofs.Works.{by_work_of_both, entering, kept_by, leaving, over}
 
 -- ---- the work

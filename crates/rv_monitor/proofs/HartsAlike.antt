@@ -1,11 +1,12 @@
 -- Two harts, whose steps take turns in any order, by the laws of one step.
 use Rattle.std.proofs.Common.{◌≡◌, ℕ, zero, suc, ◌⊎◌, Bool, true, false, List, [], ◌∷◌, Option, Some, None, refl, sym, ap, ap₂, subst, inl, inr}
 use Rattle.std.specs.Prelude.{◌||◌}
-use Rattle.rv_enclaves.proofs.Prelude.{Shared, is_world_of}
+use Rattle.rv_enclaves.proofs.Prelude.{is_world_of}
 use Rattle.rv_monitor.specs.Confidentiality.{SteppedAlike}
 use Rattle.rv_monitor.specs.HartLaws.{Scheduled, sched, after_first, BothEnterIn, BothGoPast, SchedLaw, SchedKeptLaw}
 use Rattle.rv_monitor.specs.Step.{turned_stepped}
-use Rattle.rv_monitor.proofs.Prelude.{AgreeBut, IsKept, MonitoredState, MonitoredStepped, Outcome, Seat, monitored_step, seen_by, step_of, turned}
+use Rattle.rv_monitor.proofs.Prelude.{AgreeBut, IsKept, MonitoredState, MonitoredStepped, monitored_step, seen_by, step_of, turned}
+use Rattle.rv_monitor.proofs.Types.{Outcome, Seat, Shared}
 use Rattle.rv_monitor.proofs.MonitoredAlike.{confidentiality}
 use Rattle.rv_monitor.proofs.RunsAlike.{kept_law}
 use Rattle.rv_monitor.proofs.Turned.{seen_kept}

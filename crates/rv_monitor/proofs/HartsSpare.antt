@@ -3,11 +3,12 @@ use Rattle.std.proofs.Common.{◌≡◌, ℕ, zero, suc, Bool, true, false, List
 use Rattle.std.specs.Prelude.{◌||◌, is_some}
 use Rattle.std.specs.List.{list_any}
 use Rattle.std.proofs.lemmas.Bool.{cases_Bool, both_ways}
-use Rattle.rv_enclaves.proofs.Prelude.{Shared, SlotInfo, is_live, is_running, is_world_of, runs, slot_at}
+use Rattle.rv_enclaves.proofs.Prelude.{is_live, is_running, is_world_of, runs, slot_at}
 use Rattle.rv_monitor.specs.HartLaws.{sched, BesideLaw, IsLeftAlone, SchedSparesLaw, SchedChangeLaw}
 use Rattle.rv_monitor.specs.Integrity.{enters}
-use Rattle.rv_monitor.proofs.Prelude.{IsKept, IsSpared, MonitoredState, MonitoredStepped, Seat, StaysOrSwitches, byte_at, handled, monitored_step}
-use Rattle.rv_monitor.proofs.Prelude.{option_case, seated_beside, seen_by, step_of, turned, worlds_beside}
+use Rattle.rv_monitor.proofs.Prelude.{IsKept, IsSpared, MonitoredState, MonitoredStepped, StaysOrSwitches, byte_at, handled, monitored_step, option_case}
+use Rattle.rv_monitor.proofs.Prelude.{seated_beside, seen_by, step_of, turned, worlds_beside}
+use Rattle.rv_monitor.proofs.Types.{Seat, Shared, SlotInfo}
 use Rattle.rv_monitor.proofs.Changes.{changes}
 use Rattle.rv_monitor.proofs.HartsAlike.{step_kept}
 use Rattle.rv_monitor.proofs.Integrity.{integrity}

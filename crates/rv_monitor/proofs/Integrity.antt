@@ -7,12 +7,12 @@ use Rattle.rv_enclaves.proofs.Reaches.{reached_apart}
 use Rattle.rv_enclaves.proofs.Refusals.{MayCreate, IsTaken}
 use Rattle.rv_enclaves.proofs.Slots.{at_same, at_other}
 use Rattle.rv_enclaves.proofs.Sound.{live_in_range, free_slot_from}
-use Rattle.rv_enclaves.proofs.Prelude.{Context, Destroy, EnclaveState, IsValid, Proposal, Running, Shared, SlotInfo, Slots, context_at, created, destroyed}
-use Rattle.rv_enclaves.proofs.Prelude.{first_context, has, is_live, is_world_of, measured, new_slot, recorded, region, slot_at, with_context, with_slot}
-use Rattle.rv_enclaves.proofs.Prelude.{with_state}
+use Rattle.rv_enclaves.proofs.Prelude.{IsValid, Slots, context_at, created, destroyed, first_context, has, is_live, is_world_of, measured, new_slot, recorded}
+use Rattle.rv_enclaves.proofs.Prelude.{region, slot_at, with_context, with_slot, with_state}
 use Rattle.rv_monitor.specs.Integrity.{enters, IntegrityLaw}
-use Rattle.rv_monitor.proofs.Prelude.{Handled, IsKept, MonitoredState, Seat, Trap, Write, a0, byte_at, bytes_in, entered_slot, handled, left_slot}
-use Rattle.rv_monitor.proofs.Prelude.{monitored_step, option_case, proposed, register, state_after}
+use Rattle.rv_monitor.proofs.Prelude.{Handled, IsKept, MonitoredState, a0, byte_at, bytes_in, entered_slot, handled, left_slot, monitored_step, option_case}
+use Rattle.rv_monitor.proofs.Prelude.{proposed, register, state_after}
+use Rattle.rv_monitor.proofs.Types.{Context, Destroy, EnclaveState, Proposal, Running, Seat, Shared, SlotInfo, Trap, Write}
 use Rattle.rv_monitor.proofs.Changes.{changes}
 use Rattle.rv_monitor.proofs.TrapSteps.{by_step, seat_after}
 use Rattle.rv_monitor.proofs.Works.{by_work, kept_by}

@@ -3,7 +3,8 @@ use Rattle.std.proofs.Common.{◌≡◌, ◌≢◌, true, false, refl, sym, ◌�
 use Rattle.rv_enclaves.specs.Reach.{in_reach}
 use Rattle.rv_enclaves.proofs.Reaches.{reach_law}
 use Rattle.rv_monitor.specs.Access.{KeptReachLaw}
-use Rattle.rv_monitor.proofs.Prelude.{Entries, Hart, M, Mode, bytes_from, bytes_in, data_mode, is_machine, permits, verdict}
+use Rattle.rv_monitor.proofs.Prelude.{Entries, Hart, bytes_from, bytes_in, data_mode, is_machine, permits, verdict}
+use Rattle.rv_monitor.proofs.Types.{M, Mode}
 
 pub kept_reach : KeptReachLaw
 kept_reach state mode access address width kept below inside =

@@ -1,9 +1,9 @@
 -- The last act after a trap, which sets the entries and mie: where it changes nothing, and that nothing before it writes an entry.
 use Rattle.std.proofs.Common.{◌≡◌, Option, Some, None, IfSome, refl, ap}
-use Rattle.rv_enclaves.proofs.Prelude.{Shared, Slots}
+use Rattle.rv_enclaves.proofs.Prelude.{Slots}
 use Rattle.rv_monitor.specs.Step.{forwarded_csrs}
-use Rattle.rv_monitor.proofs.Prelude.{Entries, Handled, IsSeated, Seat, Trap, entered_slot, forwarded, handled_cause, left_slot, seated, seated_beside}
-use Rattle.rv_monitor.proofs.Prelude.{with_layout}
+use Rattle.rv_monitor.proofs.Prelude.{Entries, Handled, IsSeated, entered_slot, forwarded, handled_cause, left_slot, seated, seated_beside, with_layout}
+use Rattle.rv_monitor.proofs.Types.{Seat, Shared, Trap}
 use Rattle.rv_monitor.proofs.Ready.{IsLaidOut}
 use Rattle.rv_monitor.proofs.Works.{by_pieces}
 

@@ -2,10 +2,11 @@
 use Rattle.std.proofs.Common.{◌≡◌, ℕ, ◌⊎◌, true, Option, Some, None, IfSome, refl, sym, ◌∙◌, ap, subst, inl, inr}
 use Rattle.rv_word.specs.BitFields.{is_set}
 use Rattle.rv_state.specs.declared.cause.Cause.TheVariants as causes
-use Rattle.rv_enclaves.proofs.Prelude.{Context, Enclave, Host, can_go_on}
+use Rattle.rv_enclaves.proofs.Prelude.{can_go_on}
 use Rattle.rv_monitor.specs.Leaving.{LeaveLaw, kept_after, left_state}
-use Rattle.rv_monitor.proofs.Prelude.{Cause, Handled, IsKept, MonitoredState, MonitoredStepped, Seat, StepOutcome, Trap, bare, handled, left_slot, reason}
-use Rattle.rv_monitor.proofs.Prelude.{returned, state_after, step, value, with_layout}
+use Rattle.rv_monitor.proofs.Prelude.{Handled, IsKept, MonitoredState, MonitoredStepped, bare, handled, left_slot, reason, returned, state_after, step, value}
+use Rattle.rv_monitor.proofs.Prelude.{with_layout}
+use Rattle.rv_monitor.proofs.Types.{Cause, Context, Enclave, Host, Seat, StepOutcome, Trap}
 use Rattle.rv_monitor.proofs.Refused.{or_none}
 use Rattle.rv_monitor.proofs.Switched.{aligned_again}
 use Rattle.rv_monitor.proofs.TrapSteps.{seat_after, trapped_step}

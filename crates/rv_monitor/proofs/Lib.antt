@@ -1,4 +1,5 @@
 pub mod Prelude
+pub mod Types
 pub mod Concluded
 pub mod Works
 pub mod Ready

@@ -2,11 +2,12 @@
 use Rattle.std.proofs.Common.{◌≡◌, ℕ, false, List, ◌∷◌, Option, Some, None, refl, sym, ◌∙◌, ap, ap₂, subst, inl, inr}
 use Rattle.std.specs.List.{list_any}
 use Rattle.rv_enclaves.proofs.Sound.{sound_by_size}
-use Rattle.rv_enclaves.proofs.Prelude.{IsSound, Shared, SharedButFor, Slots, World, is_live, is_world_of}
+use Rattle.rv_enclaves.proofs.Prelude.{IsSound, SharedButFor, Slots, is_live, is_world_of}
 use Rattle.rv_monitor.specs.Confidentiality.{HandledAlike, BareLaw, SteppedAlike, ConfidentialityLaw}
 use Rattle.rv_monitor.specs.declared.next.Next.{Next}
-use Rattle.rv_monitor.proofs.Prelude.{AgreeBut, Handled, Hart, IsKept, MonitoredState, MonitoredStepped, Outcome, Seat, State, StepOutcome, Stepped, Trap}
-use Rattle.rv_monitor.proofs.Prelude.{confined, handled, monitored_step, option_case, returned, returned_to, seated_beside, step, unhandled, worlds_beside}
+use Rattle.rv_monitor.proofs.Prelude.{AgreeBut, Handled, Hart, IsKept, MonitoredState, MonitoredStepped, State, Stepped, confined, handled, monitored_step}
+use Rattle.rv_monitor.proofs.Prelude.{option_case, returned, returned_to, seated_beside, step, unhandled, worlds_beside}
+use Rattle.rv_monitor.proofs.Types.{Outcome, Seat, Shared, StepOutcome, Trap, World}
 use Rattle.rv_monitor.proofs.BlindSteps.{bare_law}
 use Rattle.rv_monitor.proofs.HandledAlike.{handler_law}
 use Rattle.rv_monitor.proofs.StepKept.{step_size, worlds_stay}

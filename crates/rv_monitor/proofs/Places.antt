@@ -3,12 +3,13 @@ use Rattle.std.proofs.Common.{◌≡◌, ◌<◌, ℕ, zero, suc, ◌-◌, Bool,
 use Rattle.std.proofs.Common.{arith}
 use Rattle.std.specs.Prelude.{slice_index_or, if◌then◌else◌}
 use Rattle.std.proofs.lemmas.List.{get_or_default, get_or-set_same, get_or-set_other}
-use Rattle.rv_enclaves.proofs.Prelude.{Shared, Slots}
+use Rattle.rv_enclaves.proofs.Prelude.{Slots}
 use Rattle.rv_monitor.specs.State.{seat_at_start}
 use Rattle.rv_monitor.specs.Turns.{seat_at, beside, count_in, over}
 use Rattle.rv_monitor.specs.declared.seat.Seats.{Seats}
-use Rattle.rv_monitor.proofs.Prelude.{IsKept, MonitoredState, MonitoredStepped, OnTurn, Seat, as_seen, count_of, monitored_step, on_turn, option_case}
+use Rattle.rv_monitor.proofs.Prelude.{IsKept, MonitoredState, MonitoredStepped, OnTurn, as_seen, count_of, monitored_step, on_turn, option_case}
 use Rattle.rv_monitor.proofs.Prelude.{seated_beside, seen_by}
+use Rattle.rv_monitor.proofs.Types.{Seat, Shared}
 
 -- a seat is what is read at its place, whatever is past the end
 pub seat_read : (seats : List Seat) (hart : ℕ) (past : Seat) → length seats ≡ 2 → hart < 2 → seat_at seats hart ≡ slice_index_or seats hart past

@@ -8,12 +8,9 @@ pub use Rattle.rv_hart.specs.Permitted.{MayTouch}
 pub use Rattle.rv_hart.specs.State.{State, Stepped}
 pub use Rattle.rv_hart.specs.Step.{data_mode}
 unfoldable pub use Rattle.rv_hart.specs.Step.{step}
-pub use Rattle.rv_hart.specs.declared.trap.StepOutcome.{StepOutcome}
-pub use Rattle.rv_hart.specs.declared.trap.Trap.{Trap}
 pub use Rattle.rv_memory.proofs.MemoryLaws.{length-write}
 pub use Rattle.rv_memory.specs.Memory.{byte_at, is_inside, is_ram_size, ram_base}
 unfoldable pub use Rattle.rv_memory.specs.Memory.{write}
-pub use Rattle.rv_memory.specs.declared.touched.Span.{Span}
 pub use Rattle.rv_monitor.specs.AgreeBut.{AgreeBut}
 pub use Rattle.rv_monitor.specs.CallRefusals.{a0, a1}
 pub use Rattle.rv_enclaves.specs.Calls.{asked_in, status_of}
@@ -34,20 +31,12 @@ pub use Rattle.rv_monitor.specs.Switches.{Handled}
 unfoldable pub use Rattle.rv_monitor.specs.Switches.{entered_slot, left_slot}
 pub use Rattle.rv_monitor.specs.Turns.{as_seen, on_turn}
 pub use Rattle.rv_enclaves.specs.Unlocked.{HasNoLock}
-pub use Rattle.rv_monitor.specs.declared.outcome.Outcome.{Outcome}
-pub use Rattle.rv_monitor.specs.declared.seat.Seat.{Seat}
 pub use Rattle.rv_pmp.specs.Entries.{Entries, cfg_of}
 pub use Rattle.rv_pmp.specs.Verdicts.{bytes_from, permits}
 unfoldable pub use Rattle.rv_pmp.specs.Verdicts.{verdict}
-pub use Rattle.rv_pmp.specs.declared.access.Access.{Access}
-pub use Rattle.rv_pmp.specs.declared.access.Access.TheVariants.{Fetch, Read, Write}
-pub use Rattle.rv_pmp.specs.declared.mode.Mode.{Mode}
-pub use Rattle.rv_pmp.specs.declared.mode.Mode.TheVariants.{M, S}
 pub use Rattle.rv_state.specs.Bits.{aligned_to_4}
 pub use Rattle.rv_state.specs.CsrState.{CsrState}
 pub use Rattle.rv_state.specs.Interrupts.{is_machine}
 pub use Rattle.rv_state.specs.Registers.{register}
-pub use Rattle.rv_state.specs.declared.cause.Cause.{Cause}
-pub use Rattle.rv_state.specs.declared.cause.Exception.TheVariants.{EnvironmentCallFromS}
 pub use Rattle.rv_word.specs.Cases.{option_case}
 pub use Rattle.rv_word.specs.Widths.{bytes_in}

@@ -5,12 +5,13 @@ use Rattle.rv_word.specs.BitFields.{is_set}
 use Rattle.rv_state.specs.declared.cause.Cause.TheVariants as causes
 use Rattle.rv_hart.specs.Arithmetic.{sum_of}
 use Rattle.rv_enclaves.specs.declared.refusal.Refusal.TheVariants.{NotSupported}
-use Rattle.rv_enclaves.proofs.Prelude.{Call, Refusal, Shared, first_refusal}
+use Rattle.rv_enclaves.proofs.Prelude.{first_refusal}
 use Rattle.rv_monitor.specs.CallRefusals.{call_refusals}
 use Rattle.rv_monitor.specs.Refused.{refusal_of, refused_state, RefusalLaw}
 use Rattle.rv_monitor.specs.Step.{called, call_handled}
-use Rattle.rv_monitor.proofs.Prelude.{Cause, EnvironmentCallFromS, IsKept, MonitoredState, MonitoredStepped, Seat, StepOutcome, Trap, aligned_to_4, asked_in}
-use Rattle.rv_monitor.proofs.Prelude.{bare, handled, handled_cause, option_case, refused, returned, step, with_layout}
+use Rattle.rv_monitor.proofs.Prelude.{IsKept, MonitoredState, MonitoredStepped, aligned_to_4, asked_in, bare, handled, handled_cause, option_case, refused}
+use Rattle.rv_monitor.proofs.Prelude.{returned, step, with_layout}
+use Rattle.rv_monitor.proofs.Types.{Call, Cause, EnvironmentCallFromS, Refusal, Seat, Shared, StepOutcome, Trap}
 use Rattle.rv_monitor.proofs.LastAct.{beside_as_is}
 use Rattle.rv_monitor.proofs.TrapSteps.{seat_after, trapped_step}
 

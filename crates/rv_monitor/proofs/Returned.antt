@@ -3,11 +3,12 @@ use Rattle.std.proofs.Common.{◌≡◌, ℕ, zero, suc, true, false, Option, So
 use Rattle.std.specs.Prelude.{not, is_some}
 use Rattle.std.proofs.lemmas.Bool.{both_ways}
 use Rattle.rv_enclaves.specs.Contexts.{with_answer, IsStored}
-use Rattle.rv_enclaves.proofs.Prelude.{Context, is_host}
+use Rattle.rv_enclaves.proofs.Prelude.{is_host}
 use Rattle.rv_monitor.specs.Refused.{past_ecall}
 use Rattle.rv_monitor.specs.Returns.{RunsThrough, HostComesBack, ReturnLaw}
-use Rattle.rv_monitor.proofs.Prelude.{HostIsStored, IsKept, MonitoredState, MonitoredStepped, S, StaysOrSwitches, monitored_step, reason, after_steps, saved}
+use Rattle.rv_monitor.proofs.Prelude.{HostIsStored, IsKept, MonitoredState, MonitoredStepped, StaysOrSwitches, monitored_step, reason, after_steps, saved}
 use Rattle.rv_monitor.proofs.Prelude.{value}
+use Rattle.rv_monitor.proofs.Types.{Context, S}
 use Rattle.rv_monitor.proofs.RunsAlike.{kept_law}
 use Rattle.rv_monitor.proofs.Switched.{kept_between, switch_law}
 

@@ -2,7 +2,8 @@
 use Rattle.std.proofs.Common.{◌≡◌, ℕ, zero, suc, ◌⊎◌, List, [], ◌∷◌, Some, refl, sym, ap, ap₂, inl, inr}
 use Rattle.rv_hart.proofs.StepLaws.{keeps_mprv_clear, keeps_machine_parts}
 use Rattle.rv_monitor.specs.Runs.{Ran, after_one, BothRunIn, BothRunPast, RunLaw, KeptLaw}
-use Rattle.rv_monitor.proofs.Prelude.{IsKept, Outcome, bare, confined, handled, monitored_step, after_steps, step, worlds_beside}
+use Rattle.rv_monitor.proofs.Prelude.{IsKept, bare, confined, handled, monitored_step, after_steps, step, worlds_beside}
+use Rattle.rv_monitor.proofs.Types.{Outcome}
 use Rattle.rv_monitor.proofs.MonitoredAlike.{confidentiality}
 use Rattle.rv_monitor.proofs.Ready.{handled_done, handled_laid_out}
 use Rattle.rv_monitor.proofs.StepKept.{after_none, trapped_here, returned_kept}

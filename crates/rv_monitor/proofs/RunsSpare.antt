@@ -1,8 +1,9 @@
 -- So many steps spare an enclave that rests through them, by the law of one.
 use Rattle.std.proofs.Common.{ℕ, zero, suc, refl, ◌∙◌, ap}
-use Rattle.rv_enclaves.proofs.Prelude.{Shared, has, region_of}
+use Rattle.rv_enclaves.proofs.Prelude.{has, region_of}
 use Rattle.rv_monitor.specs.Integrity.{Rests, RestsThrough, RunsSpareLaw}
 use Rattle.rv_monitor.proofs.Prelude.{IsSpared, MonitoredState, monitored_step, after_steps}
+use Rattle.rv_monitor.proofs.Types.{Shared}
 use Rattle.rv_monitor.proofs.Integrity.{integrity}
 use Rattle.rv_monitor.proofs.RunsAlike.{kept_law}
 

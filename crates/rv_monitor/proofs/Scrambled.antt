@@ -6,11 +6,12 @@ use Rattle.rv_enclaves.proofs.Scrambled.{scrambled_sound, scrambled_agrees, slot
 use Rattle.rv_enclaves.proofs.ScrambledTwice.{shared_twice}
 use Rattle.rv_enclaves.proofs.Alike.{itself}
 use Rattle.rv_enclaves.proofs.Slots.{or-first, or-second}
-use Rattle.rv_enclaves.proofs.Prelude.{Shared, is_world_of, runs, slot_at}
+use Rattle.rv_enclaves.proofs.Prelude.{is_world_of, runs, slot_at}
 use Rattle.rv_monitor.specs.Scrambled.{scrambled, ScrambleLaw}
 use Rattle.std.specs.List.{list_any}
 use Rattle.rv_monitor.specs.State.{worlds}
 use Rattle.rv_monitor.proofs.Prelude.{AgreeBut, IsKept, MonitoredState, worlds_beside}
+use Rattle.rv_monitor.proofs.Types.{Shared}
 
 -- ---- the machine
 

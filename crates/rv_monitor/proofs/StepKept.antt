@@ -9,11 +9,12 @@ use Rattle.rv_hart.specs.Confinement.{IsConfined, SameIn}
 use Rattle.rv_hart.specs.StepLaws.{TrapKeeps, KeepsMprvClear, KeepsMachineParts, StaysBelow}
 use Rattle.rv_enclaves.proofs.Kept.{entry_is_plain}
 use Rattle.rv_enclaves.proofs.Sound.{sound_by_size}
-use Rattle.rv_enclaves.proofs.Prelude.{IsSound, Shared, Slots, World, entry_at, layout}
+use Rattle.rv_enclaves.proofs.Prelude.{IsSound, Slots, entry_at, layout}
 use Rattle.rv_monitor.specs.State.{worlds}
-use Rattle.rv_monitor.proofs.Prelude.{AgreeOn, CsrState, Entries, Handled, Hart, HasNoLock, HostIsStored, IsKept, IsSeated, MonitoredState, Seat, Span, State}
-use Rattle.rv_monitor.proofs.Prelude.{Stepped, Stores, Trap, aligned_to_4, cfg_of, handled, length-write, monitored_step, returned_to, seated, seated_beside}
-use Rattle.rv_monitor.proofs.Prelude.{step, step_counted, trapped, worlds_beside}
+use Rattle.rv_monitor.proofs.Prelude.{AgreeOn, CsrState, Entries, Handled, Hart, HasNoLock, HostIsStored, IsKept, IsSeated, MonitoredState, State, Stepped}
+use Rattle.rv_monitor.proofs.Prelude.{Stores, aligned_to_4, cfg_of, handled, length-write, monitored_step, returned_to, seated, seated_beside, step}
+use Rattle.rv_monitor.proofs.Prelude.{step_counted, trapped, worlds_beside}
+use Rattle.rv_monitor.proofs.Types.{Seat, Shared, Span, Trap, World}
 use Rattle.rv_monitor.proofs.Ready.{IsTrapped, IsDone, IsLaidOut}
 
 -- ---- no entry of a layout is locked

@@ -6,11 +6,11 @@ use Rattle.std.proofs.lemmas.Bool.Decides.{nat_tests}
 use Rattle.rv_state.specs.SContexts.{s_context, with_s_context, KeepsOwn}
 use Rattle.rv_state.specs.declared.s_context.SContext.{SContext}
 use Rattle.rv_enclaves.specs.Contexts.{IsStored, with_answer}
-use Rattle.rv_enclaves.proofs.Prelude.{Context, Enclave, Host, Shared, can_go_on, is_host}
+use Rattle.rv_enclaves.proofs.Prelude.{can_go_on, is_host}
 use Rattle.rv_monitor.specs.SwitchLaws.{SwitchLaw}
-use Rattle.rv_monitor.proofs.Prelude.{CsrState, Handled, HostIsStored, IsKept, Mode, MonitoredState, S, Seat, StaysOrSwitches, StepOutcome, Trap, a0}
-use Rattle.rv_monitor.proofs.Prelude.{aligned_to_4, bare, entered_slot, handled, is_machine, left_slot, monitored_step, past_call, reason, returned, saved}
-use Rattle.rv_monitor.proofs.Prelude.{step, value}
+use Rattle.rv_monitor.proofs.Prelude.{CsrState, Handled, HostIsStored, IsKept, MonitoredState, StaysOrSwitches, a0, aligned_to_4, bare, entered_slot, handled}
+use Rattle.rv_monitor.proofs.Prelude.{is_machine, left_slot, monitored_step, past_call, reason, returned, saved, step, value}
+use Rattle.rv_monitor.proofs.Types.{Context, Enclave, Host, Mode, S, Seat, Shared, StepOutcome, Trap}
 use Rattle.rv_monitor.proofs.TrapSteps.{by_step, seat_after}
 use Rattle.rv_monitor.proofs.Works.{by_work}
 

@@ -5,8 +5,8 @@ use Rattle.rv_memory.specs.declared.touched.Touched.{Touched}
 use Rattle.rv_hart.specs.Step.{retired_or_trapped, span}
 use Rattle.rv_hart.proofs.StepCases.{by_ways}
 use Rattle.rv_monitor.specs.Touches.{executes, IsReached, IsTouchedInReach, TouchLaw}
-use Rattle.rv_monitor.proofs.Prelude.{Access, Fetch, Hart, IsKept, M, MayTouch, Mode, MonitoredState, Read, Span, State, Stepped, Trap, Write, bare}
-use Rattle.rv_monitor.proofs.Prelude.{data_mode, step, touches_permitted}
+use Rattle.rv_monitor.proofs.Prelude.{Hart, IsKept, MayTouch, MonitoredState, State, Stepped, bare, data_mode, step, touches_permitted}
+use Rattle.rv_monitor.proofs.Types.{Access, Fetch, M, Mode, Read, Span, Trap, Write}
 use Rattle.rv_monitor.proofs.KeptReaches.{kept_reach, below_M, clear_mode}
 use Rattle.rv_monitor.proofs.TrapSteps.{same_outcome}
 

@@ -1,7 +1,8 @@
 -- A step that traps: the hart's own step is the trap alone, and the monitor's work follows it.
 use Rattle.std.proofs.Common.{◌≡◌, ℕ, false, List, Option, Some, None, IfSome, refl, sym, ap, ◌∙◌}
-use Rattle.rv_monitor.proofs.Prelude.{Hart, MonitoredState, MonitoredStepped, Seat, StepOutcome, Trap, bare, handled, monitored_step, option_case, returned}
-use Rattle.rv_monitor.proofs.Prelude.{step, step_counted, trap_keeps, trapped, unhandled}
+use Rattle.rv_monitor.proofs.Prelude.{Hart, MonitoredState, MonitoredStepped, bare, handled, monitored_step, option_case, returned, step, step_counted}
+use Rattle.rv_monitor.proofs.Prelude.{trap_keeps, trapped, unhandled}
+use Rattle.rv_monitor.proofs.Types.{Seat, StepOutcome, Trap}
 
 -- a hart after a trap that was counted
 abbrev pub hart_after : Hart → Trap → Hart

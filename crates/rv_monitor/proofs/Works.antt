@@ -11,16 +11,16 @@ use Rattle.rv_enclaves.specs.Calls.{asked_call, is_offered, call_number, calls, 
 use Rattle.rv_enclaves.specs.declared.call.Call.TheVariants.{Run, Resume, Stop}
 use Rattle.rv_enclaves.specs.declared.refusal.Refusal.TheVariants.{NotSupported}
 use Rattle.rv_enclaves.proofs.Refusals.{MayCreate, IsTaken, MayMeasure, may_create, may_take, may_measure, same_create_refusals, same_measure_refusals}
-use Rattle.rv_enclaves.proofs.Prelude.{Call, Context, Contexts, Create, Destroy, Enclave, Exit, Host, Measure, Refusal, Shared, Slots, World, created}
-use Rattle.rv_enclaves.proofs.Prelude.{destroyed, first_refusal, kept_context, measured, new_slot}
+use Rattle.rv_enclaves.proofs.Prelude.{Contexts, Slots, created, destroyed, first_refusal, kept_context, measured, new_slot}
 use Rattle.rv_monitor.specs.Asked.{is_entering}
 use Rattle.rv_monitor.specs.CallRefusals.{call_refusals}
 use Rattle.rv_monitor.specs.Leaving.{line_after}
 use Rattle.rv_monitor.specs.Step.{performed, called, call_handled, timer_stopped, handled_exception, stopped_context, trapped_pc, trapped_mode}
 use Rattle.rv_monitor.specs.Switches.{left, left_by}
-use Rattle.rv_monitor.proofs.Prelude.{Cause, EnvironmentCallFromS, Handled, Seat, Trap, a0, a1, answered, asked_in, entered_slot, exited_context, forwarded}
-use Rattle.rv_monitor.proofs.Prelude.{handled, handled_cause, measured_slot, option_case, past_call, proposed, reason, refused, register, saved, state_after}
-use Rattle.rv_monitor.proofs.Prelude.{value, with_layout}
+use Rattle.rv_monitor.proofs.Prelude.{Handled, a0, a1, answered, asked_in, entered_slot, exited_context, forwarded, handled, handled_cause, measured_slot}
+use Rattle.rv_monitor.proofs.Prelude.{option_case, past_call, proposed, reason, refused, register, saved, state_after, value, with_layout}
+use Rattle.rv_monitor.proofs.Types.{Call, Cause, Context, Create, Destroy, Enclave, EnvironmentCallFromS, Exit, Host, Measure, Refusal, Seat, Shared, Trap}
+use Rattle.rv_monitor.proofs.Types.{World}
 
 -- ---- the call that is asked for
 

@@ -1,7 +1,8 @@
 use Rattle.std.proofs.Common.{sym, ap, ◌∙◌, subst}
 use Rattle.rv_state.specs.declared.cause.Cause.TheVariants as causes
 use Rattle.rv_state.specs.declared.cause.Interrupt.TheVariants.{MachineTimer}
-use Rattle.rv_monitor.proofs.Prelude.{EnvironmentCallFromS, HasNoLock, Seat}
+use Rattle.rv_monitor.proofs.Prelude.{HasNoLock}
+use Rattle.rv_monitor.proofs.Types.{EnvironmentCallFromS, Seat}
 use Rattle.rv_monitor.proofs.LastAct.{entries_of, work_entries}
 use Rattle.rv_monitor.proofs.handler.handle.Goals as goal
 use Rattle.rv_monitor.proofs.handler.handle.Goals.{in-Interrupt, in-Exception-EnvironmentCallFromS}
