@@ -2,7 +2,7 @@
 
 ghost use Rattle.std.specs.Prelude.{◌≡◌, ◌+◌, ◌*◌, ◌≤◌, ◌++◌, ℕ, List, false, [], true, take, length};
 ghost use Rattle.arrayvec.specs.ArrayVec.{array_vec_len};
-ghost use Rattle.rv_bench.specs.Apart.{apart_line, end_text, entered_text, last_text, marked, told, two_benches};
+ghost use Rattle.rv_bench.specs.Apart.{apart_line, end_text, entered_text, last_text, marked, replied_apart, both_benches};
 
 use crate::answers::Answers;
 use arrayvec::ArrayVec;
@@ -104,7 +104,7 @@ impl Apart {
     fn tell(&mut self, line: BothLine, first: &Reply, second: &Reply, out: &mut Told)
         requires empty { out.old.items ≡ [] }
         requires going { self.old.entered ≡ false }
-        ensures { told self.old
+        ensures { replied_apart self.old
             (record { first = self.old.first; second = self.old.second; first_reply = first.now.items; second_reply = second.now.items; line = line })
             ≡ record { state = self.new; reply = out.new.items } }
     {
@@ -154,7 +154,7 @@ impl Answers for ApartBenches {
 
     ghost state = { λ benches. benches.apart };
 
-    ghost answering = { λ benches. two_benches benches.slot };
+    ghost answering = { λ benches. both_benches benches.slot };
 
     fn answer_line(&mut self, line: &[u8], out: &mut Told) {
         self.apart.answer_line(self.slot, line, out);

@@ -2,7 +2,7 @@
 
 ghost use Rattle.std.specs.Prelude.{◌≡◌};
 ghost use Rattle.arrayvec.specs.ArrayVec.{array_vec_len};
-ghost use Rattle.rv_debug.specs.Answer.{told, csr_reply, memory_reply, poke_reply, dis_reply, access_reply, hart_reply, harts_told, sched_reply};
+ghost use Rattle.rv_debug.specs.Answer.{ran_reply, csr_reply, memory_reply, poke_reply, dis_reply, access_reply, hart_reply, harts_told, sched_reply};
 ghost use Rattle.rv_debug.specs.Deeds.{OneByte, done, entered_by, hart_deed, run_deed, sched_deed, steps_of};
 ghost use Rattle.rv_script.specs.Schedules.{harts_in};
 ghost use Rattle.rv_debug.specs.Addresses.{without_address};
@@ -35,7 +35,7 @@ pub(crate) fn answer_run(
     requires { array_vec_len reply.old ≡ 0 }
     ensures target { done target.old (run_deed target.old breaks.now watches.now count) ≡ target.new }
     ensures entered { entered_by target.old (run_deed target.old breaks.now watches.now count) ≡ result }
-    ensures reply { told (steps_of target.old breaks.now watches.now count) ≡ reply.new.items }
+    ensures reply { ran_reply (steps_of target.old breaks.now watches.now count) ≡ reply.new.items }
     ensures bare { IsBare target.old → result ≡ 0 }
     ensures monitor { KeepsMonitor target.old → KeepsMonitor target.new }
 {
