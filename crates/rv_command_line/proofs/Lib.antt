@@ -1,7 +1,7 @@
 mod FaultKinds
 mod Given
+mod Named
 mod Numbers
-mod Options
 mod Places
 mod Taken
 mod Truths

@@ -1,13 +1,29 @@
 //! The command line, as `clap` is told of it: the subcommands and their options, and the texts of their help.
 
-ghost use Rattle.std.specs.Prelude.{◌≡◌, false, IfOk, List, true};
-ghost use Rattle.clap.specs.Words.{Text, app_of, fault_of, is_simple, is_simple_and_free, rule_of, subcommand_of};
+ghost use Rattle.std.specs.Prelude.{◌≡◌, false, IfOk, List, Some, true};
+ghost use Rattle.clap.specs.Words.{App, Rule, Text, app_of, fault_of, is_simple, is_simple_and_free, new_app, new_rule};
+ghost use Rattle.clap.specs.Words.{rule_of, subcommand_of, with_rule, with_subcommand};
 ghost use Rattle.clap.specs.declared.builder.command.Command.TheViews.{out-Command as fields_of};
 ghost use Rattle.rv_command_line.specs.CommandLine.{asm_app, benches, dis_app, faults_of, harts, kind, monitor, program, ram, run_app, rvbench, slot, twin_app, with_image};
 
 use crate::image_kind::KIND_NAMES;
 use clap::{Arg, ArgAction, Command, value_parser};
 use std::alloc::{AllocError, Global};
+
+/// A command, or that memory was refused for it. What adds to one takes it so too: then one place asks whether it was made.
+type Made<'a> = Result<Command<'a>, AllocError>;
+
+/// What the program does.
+const ABOUT_PROGRAM: &str =
+    "An instruction-exact bench for a RISC-V hart, or for two under its monitor, driven by a script of commands";
+
+/// What `run` does.
+const ABOUT_RUN: &str =
+    "Read an image in hexadecimal, a line -- and a script, and write the replies (the default)";
+
+/// What `twin` does.
+const ABOUT_TWIN: &str =
+    "Give a script to two monitored benches that differ in one enclave alone, and write the replies of both";
 
 /// What the help of the program ends with: a first input.
 const FIRST_EXAMPLE: &str =
@@ -39,23 +55,40 @@ const FIRST_TWIN: &str =
     printf '7300000073000000\\n--\\nsetreg 17 0a454e43\\nsetreg 16 1\\nsetreg 10 80020000\\nsetreg 11 1000\\n\
     setreg 14 80020000\\nstep 1\\n--\\nsetreg 16 2\\nsetreg 10 0\\nstep 1\\nmem 80020000 4\\n' | rvbench twin";
 
+/// What help says of `--kind`.
+const HELP_OF_KIND: &str =
+    "How the image is read; auto: as ELF where its first bytes are 7F 45 4C 46, else raw [default: auto]";
+
+/// What help says of `--ram`.
+const HELP_OF_RAM: &str =
+    "The size of the RAM, a multiple of 65536, from 65536 to 16777216 [default: 1048576]";
+
+/// What help says of `--slot`.
+const HELP_OF_SLOT: &str =
+    "The slot of the enclave in which the two benches differ, from 0 to 12 [default: 0]";
+
 /// What the help of `run` and that of `twin` say of `--harts`.
 const HARTS_OF_RUN: &str = "The number of harts, 1 or 2; 2 harts need --monitor [default: 1]";
 
 const HARTS_OF_TWIN: &str = "The number of harts of each bench, 1 or 2 [default: 1]";
+
+/// `--NAME VALUE` with this help, found by that name.
+fn valued_option<'a>(alloc: Global, name: &'a str, value: &'a str, help: &'a str) -> Arg<'a>
+    ensures rule { rule_of result ≡ record (new_rule name.entry.now) { long = Some name.entry.now; value_names = 1 } }
+    ensures local { result.global ≡ false }
+{
+    Arg::new(alloc, name)
+        .long(name)
+        .value_name(value)
+        .help(help)
+}
 
 /// `--kind NAME` with these names, by default what `Setup::default` has.
 fn kind_option<'a>(alloc: Global, names: &'a [&'a str]) -> Arg<'a>
     ensures rule { rule_of result ≡ kind names.entry }
     ensures local { result.global ≡ false }
 {
-    Arg::new(alloc, "kind")
-        .long("kind")
-        .value_name("KIND")
-        .value_parser(names)
-        .help(
-            "How the image is read; auto: as ELF where its first bytes are 7F 45 4C 46, else raw [default: auto]",
-        )
+    valued_option(alloc, "kind", "KIND", HELP_OF_KIND).value_parser(names)
 }
 
 /// `--ram BYTES`, by default what `Setup::default` has.
@@ -63,11 +96,7 @@ fn ram_option<'a>(alloc: Global) -> Arg<'a>
     ensures rule { rule_of result ≡ ram }
     ensures local { result.global ≡ false }
 {
-    Arg::new(alloc, "ram")
-        .long("ram")
-        .value_name("BYTES")
-        .value_parser(value_parser!(u32))
-        .help("The size of the RAM, a multiple of 65536, from 65536 to 16777216 [default: 1048576]")
+    valued_option(alloc, "ram", "BYTES", HELP_OF_RAM).value_parser(value_parser!(u32))
 }
 
 /// `--monitor`, by default what `Setup::default` has.
@@ -86,11 +115,7 @@ fn harts_option<'a>(alloc: Global, help: &'a str) -> Arg<'a>
     ensures rule { rule_of result ≡ harts }
     ensures local { result.global ≡ false }
 {
-    Arg::new(alloc, "harts")
-        .long("harts")
-        .value_name("HARTS")
-        .value_parser(value_parser!(u8).range(1..=2))
-        .help(help)
+    valued_option(alloc, "harts", "HARTS", help).value_parser(value_parser!(u8).range(1..=2))
 }
 
 /// `--slot K`, by default slot 0.
@@ -98,55 +123,75 @@ fn slot_option<'a>(alloc: Global) -> Arg<'a>
     ensures rule { rule_of result ≡ slot }
     ensures local { result.global ≡ false }
 {
-    Arg::new(alloc, "slot")
-        .long("slot")
-        .value_name("K")
-        .value_parser(value_parser!(u8).range(..=12))
-        .help("The slot of the enclave in which the two benches differ, from 0 to 12 [default: 0]")
+    valued_option(alloc, "slot", "K", HELP_OF_SLOT).value_parser(value_parser!(u8).range(..=12))
 }
 
-/// A command with the options that say what image is loaded into which RAM.
-fn with_image_options<'a>(
-    command: Command<'a>,
+/// A command of this name, whose help tells what it is about and ends with this text.
+fn told_command<'a>(
     alloc: Global,
-    names: &'a [&'a str],
-) -> Result<Command<'a>, AllocError>
-    requires { (fields_of command).has_globals ≡ false }
-    ensures app { IfOk result (λ made. app_of made ≡ with_image names.entry (app_of command.entry)) }
+    name: &'a str,
+    about: &'a str,
+    after_help: &'a str,
+) -> Command<'a>
+    ensures app { app_of result ≡ new_app name.entry.now }
+    ensures local { (fields_of result).has_globals ≡ false }
+{
+    Command::new(alloc, name)
+        .about(about)
+        .after_help(after_help)
+}
+
+/// The command with one more option.
+fn with_option<'a>(command: Made<'a>, option: Arg<'a>) -> Made<'a>
+    requires command { IfOk command (λ command. (fields_of command).has_globals ≡ false) }
+    requires option { option.global ≡ false }
+    ensures app { (app : App) (rule : Rule) → IfOk command.entry (λ command. app_of command ≡ app) → rule_of option.entry ≡ rule
+        → IfOk result (λ made. app_of made ≡ with_rule app rule) }
     ensures local { IfOk result (λ made. (fields_of made).has_globals ≡ false) }
 {
-    command
-        .arg(kind_option(alloc, names))?
-        .arg(ram_option(alloc))
+    command?.arg(option)
+}
+
+/// The command with one more subcommand.
+fn with_subcommand<'a>(command: Made<'a>, subcommand: Made<'a>) -> Made<'a>
+    requires { IfOk subcommand (λ subcommand. (fields_of subcommand).has_globals ≡ false) }
+    ensures { (app sub : App) → IfOk command.entry (λ command. app_of command ≡ app)
+        → IfOk subcommand.entry (λ subcommand. app_of subcommand ≡ sub) → IfOk result (λ made. app_of made ≡ with_subcommand app sub.top) }
+{
+    command?.subcommand(subcommand?)
+}
+
+/// The command with the options that say what image is loaded into which RAM.
+fn with_image_options<'a>(command: Made<'a>, alloc: Global, names: &'a [&'a str]) -> Made<'a>
+    requires { IfOk command (λ command. (fields_of command).has_globals ≡ false) }
+    ensures app { (app : App) → IfOk command.entry (λ command. app_of command ≡ app)
+        → IfOk result (λ made. app_of made ≡ with_image names.entry app) }
+    ensures local { IfOk result (λ made. (fields_of made).has_globals ≡ false) }
+{
+    let command = with_option(command, kind_option(alloc, names));
+    with_option(command, ram_option(alloc))
 }
 
 /// `run`: the bench itself.
-fn run_command<'a>(alloc: Global, kind_names: &'a [&'a str]) -> Result<Command<'a>, AllocError>
+fn run_command<'a>(alloc: Global, kind_names: &'a [&'a str]) -> Made<'a>
     ensures app { IfOk result (λ command. app_of command ≡ run_app kind_names.entry) }
     ensures local { IfOk result (λ command. (fields_of command).has_globals ≡ false) }
 {
-    let command = Command::new(alloc, "run")
-        .about(
-            "Read an image in hexadecimal, a line -- and a script, and write the replies (the default)",
-        )
-        .after_help(FIRST_SCRIPT);
-    with_image_options(command, alloc, kind_names)?
-        .arg(monitor_flag(alloc))?
-        .arg(harts_option(alloc, HARTS_OF_RUN))
+    let command = told_command(alloc, "run", ABOUT_RUN, FIRST_SCRIPT);
+    let command = with_image_options(Ok(command), alloc, kind_names);
+    let command = with_option(command, monitor_flag(alloc));
+    with_option(command, harts_option(alloc, HARTS_OF_RUN))
 }
 
 /// `twin`: two benches that differ in one enclave.
-fn twin_command<'a>(alloc: Global, names: &'a [&'a str]) -> Result<Command<'a>, AllocError>
+fn twin_command<'a>(alloc: Global, names: &'a [&'a str]) -> Made<'a>
     ensures app { IfOk result (λ command. app_of command ≡ twin_app names.entry) }
     ensures local { IfOk result (λ command. (fields_of command).has_globals ≡ false) }
 {
-    let command = Command::new(alloc, "twin")
-        .about(
-            "Give a script to two monitored benches that differ in one enclave alone, and write the replies of both",
-        )
-        .after_help(FIRST_TWIN);
-    let command = command.arg(slot_option(alloc))?;
-    with_image_options(command, alloc, names)?.arg(harts_option(alloc, HARTS_OF_TWIN))
+    let command = told_command(alloc, "twin", ABOUT_TWIN, FIRST_TWIN);
+    let command = with_option(Ok(command), slot_option(alloc));
+    let command = with_image_options(command, alloc, names);
+    with_option(command, harts_option(alloc, HARTS_OF_TWIN))
 }
 
 /// `asm`: the assembler.
@@ -168,29 +213,25 @@ fn dis_command<'a>(alloc: Global) -> Command<'a>
 }
 
 /// The program with the subcommands that run benches.
-fn benches_command<'a>(alloc: Global, kind_names: &'a [&'a str]) -> Result<Command<'a>, AllocError>
+fn benches_command<'a>(alloc: Global, kind_names: &'a [&'a str]) -> Made<'a>
     ensures { IfOk result (λ command. app_of command ≡ benches kind_names.entry) }
 {
-    let command = Command::new(alloc, "rvbench")
-        .about(
-            "An instruction-exact bench for a RISC-V hart, or for two under its monitor, driven by a script of commands",
-        )
-        .after_help(FIRST_EXAMPLE);
-    let command = command.subcommand(run_command(alloc, kind_names)?)?;
-    command.subcommand(twin_command(alloc, kind_names)?)
+    let command = told_command(alloc, "rvbench", ABOUT_PROGRAM, FIRST_EXAMPLE);
+    let command = with_subcommand(Ok(command), run_command(alloc, kind_names));
+    with_subcommand(command, twin_command(alloc, kind_names))
 }
 
 /// The program with all its subcommands.
-fn program_command<'a>(alloc: Global, kind_names: &'a [&'a str]) -> Result<Command<'a>, AllocError>
+fn program_command<'a>(alloc: Global, kind_names: &'a [&'a str]) -> Made<'a>
     ensures { IfOk result (λ command. app_of command ≡ program kind_names.entry) }
 {
-    let command = benches_command(alloc, kind_names)?;
-    let command = command.subcommand(asm_command(alloc))?;
-    command.subcommand(dis_command(alloc))
+    let command = benches_command(alloc, kind_names);
+    let command = with_subcommand(command, Ok(asm_command(alloc)));
+    with_subcommand(command, Ok(dis_command(alloc)))
 }
 
 /// The command line of the program.
-pub(crate) fn rvbench_command<'a>(alloc: Global) -> Result<Command<'a>, AllocError>
+pub(crate) fn rvbench_command<'a>(alloc: Global) -> Made<'a>
     ensures simple { IfOk result (λ command. is_simple (app_of command) ≡ true) }
     ensures free { IfOk result (λ command. is_simple_and_free (app_of command) ≡ true) }
     ensures faults { IfOk result (λ command. (words : List Text)

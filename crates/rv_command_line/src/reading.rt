@@ -129,7 +129,6 @@ fn fault(alloc: Global, error: &Error) -> WordsFault
 /// benches is of benches with the monitor and names one of the thirteen slots. Words that ask for help give its text, and any
 /// others are refused, and so are those that ask for two harts without the monitor, which alone is over two.
 /// Memory may be refused at any words.
-#[tactic(auto, using(crate::proofs::Taken::taken_lawful))]
 pub fn read_words<'a>(alloc: Global, words: &'a [&'a str]) -> Result<Job, WordsFault>
     ensures taken { OnOk result (refusals_of (texts words.entry.now) ≡ []) }
     ensures job { IfOk result (λ job. job ≡ job_of (texts words.entry.now)) }
