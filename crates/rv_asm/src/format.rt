@@ -1,7 +1,10 @@
 //! The formats of statements: what the operands after each mnemonic are. Each call refuses another number or form of
 //! operands with `BadOperand`, and then a number out of its range with `OutOfRange`.
 
-ghost use Rattle.std.specs.Prelude.{◌≡◌, map};
+ghost use Rattle.std.specs.Prelude.{◌≡◌, ◌∷◌, [], Ok, Err, map};
+ghost use Rattle.rv_word.specs.Cases.{result_case};
+ghost use Rattle.rv_asm.specs.Operands.{register_at, number_at};
+ghost use Rattle.rv_asm.specs.OperandRanges.{immediate_of as immediate_of_number, word_of_number};
 ghost use Rattle.rv_asm.specs.Statements.{upper_operands as upper_operands_of, address_operands as address_operands_of, jump as jump_of};
 ghost use Rattle.rv_asm.specs.Statements.{jal_statement as jal_of, branch as branch_of, branch_statement as branch_statement_of};
 ghost use Rattle.rv_asm.specs.Statements.{immediate_statement as immediate_of, shift_statement as shift_of, register_statement as register_of};
@@ -17,13 +20,43 @@ use rv_encoding::{
 };
 use rv_word::Reg;
 
+/// The two registers that operands name.
+fn registers(first: &[u8], second: &[u8]) -> Result<(Reg, Reg), AsmFaultKind>
+    ensures { result ≡ result_case (register_at first.now) (λ first. result_case (register_at second.now) (λ second. Ok (first, second)) Err) Err }
+{
+    let first = register(first)?;
+    let second = register(second)?;
+    Ok((first, second))
+}
+
+/// The immediate that an operand writes.
+fn immediate(n: &[u8]) -> Result<Imm12, AsmFaultKind>
+    ensures { result ≡ result_case (number_at n.now) immediate_of_number Err }
+{
+    number(n)?.immediate()
+}
+
+/// The word that an operand writes.
+fn word(n: &[u8]) -> Result<u32, AsmFaultKind>
+    ensures { result ≡ result_case (number_at n.now) word_of_number Err }
+{
+    number(n)?.word()
+}
+
 /// `rd, n` of lui and auipc.
 pub(crate) fn upper_operands(operands: &[&[u8]]) -> Result<(Reg, UpperImm), AsmFaultKind>
     ensures { result ≡ upper_operands_of (map (λ operand. operand.now) operands.now) }
 {
-    let [rd, n] = operands else {
-        return Err(AsmFaultKind::BadOperand);
-    };
+    match operands {
+        [rd, n] => upper_operands_in(rd, n),
+        _ => Err(AsmFaultKind::BadOperand),
+    }
+}
+
+/// The register and the number of lui and auipc, each in its operand.
+fn upper_operands_in(rd: &[u8], n: &[u8]) -> Result<(Reg, UpperImm), AsmFaultKind>
+    ensures { result ≡ upper_operands_of (rd.now ∷ n.now ∷ []) }
+{
     let rd = register(rd)?;
     let imm = number(n)?.upper_immediate()?;
     Ok((rd, imm))
@@ -33,9 +66,16 @@ pub(crate) fn upper_operands(operands: &[&[u8]]) -> Result<(Reg, UpperImm), AsmF
 pub(crate) fn address_operands(operands: &[&[u8]]) -> Result<(Reg, Reg, Imm12), AsmFaultKind>
     ensures { result ≡ address_operands_of (map (λ operand. operand.now) operands.now) }
 {
-    let [r, place] = operands else {
-        return Err(AsmFaultKind::BadOperand);
-    };
+    match operands {
+        [r, place] => address_operands_in(r, place),
+        _ => Err(AsmFaultKind::BadOperand),
+    }
+}
+
+/// The registers and the offset of `r, n(rs1)`, each in its operand.
+fn address_operands_in(r: &[u8], place: &[u8]) -> Result<(Reg, Reg, Imm12), AsmFaultKind>
+    ensures { result ≡ address_operands_of (r.now ∷ place.now ∷ []) }
+{
     let r = register(r)?;
     let (offset, base) = address(place)?;
     Ok((r, base, offset.immediate()?))
@@ -58,9 +98,16 @@ fn jump(rd: Reg, target: Target) -> Result<Statement, AsmFaultKind>
 pub(crate) fn jal_statement(operands: &[&[u8]]) -> Result<Statement, AsmFaultKind>
     ensures { result ≡ jal_of (map (λ operand. operand.now) operands.now) }
 {
-    let [rd, t] = operands else {
-        return Err(AsmFaultKind::BadOperand);
-    };
+    match operands {
+        [rd, t] => jal(rd, t),
+        _ => Err(AsmFaultKind::BadOperand),
+    }
+}
+
+/// The jal of its operands.
+fn jal(rd: &[u8], t: &[u8]) -> Result<Statement, AsmFaultKind>
+    ensures { result ≡ jal_of (rd.now ∷ t.now ∷ []) }
+{
     let rd = register(rd)?;
     jump(rd, jump_target(t)?)
 }
@@ -95,11 +142,17 @@ pub(crate) fn branch_statement(
 ) -> Result<Statement, AsmFaultKind>
     ensures { result ≡ branch_statement_of kind (map (λ operand. operand.now) operands.now) }
 {
-    let [rs1, rs2, t] = operands else {
-        return Err(AsmFaultKind::BadOperand);
-    };
-    let rs1 = register(rs1)?;
-    let rs2 = register(rs2)?;
+    match operands {
+        [rs1, rs2, t] => branch_in(kind, rs1, rs2, t),
+        _ => Err(AsmFaultKind::BadOperand),
+    }
+}
+
+/// The branch of its operands.
+fn branch_in(kind: BranchKind, rs1: &[u8], rs2: &[u8], t: &[u8]) -> Result<Statement, AsmFaultKind>
+    ensures { result ≡ branch_statement_of kind (rs1.now ∷ rs2.now ∷ t.now ∷ []) }
+{
+    let (rs1, rs2) = registers(rs1, rs2)?;
     branch(kind, rs1, rs2, jump_target(t)?)
 }
 
@@ -110,12 +163,23 @@ pub(crate) fn immediate_statement(
 ) -> Result<Statement, AsmFaultKind>
     ensures { result ≡ immediate_of kind (map (λ operand. operand.now) operands.now) }
 {
-    let [rd, rs1, n] = operands else {
-        return Err(AsmFaultKind::BadOperand);
-    };
-    let rd = register(rd)?;
-    let rs1 = register(rs1)?;
-    let imm = number(n)?.immediate()?;
+    match operands {
+        [rd, rs1, n] => immediate_operation(kind, rd, rs1, n),
+        _ => Err(AsmFaultKind::BadOperand),
+    }
+}
+
+/// The operation on an immediate, of its operands.
+fn immediate_operation(
+    kind: OpImmKind,
+    rd: &[u8],
+    rs1: &[u8],
+    n: &[u8],
+) -> Result<Statement, AsmFaultKind>
+    ensures { result ≡ immediate_of kind (rd.now ∷ rs1.now ∷ n.now ∷ []) }
+{
+    let (rd, rs1) = registers(rd, rs1)?;
+    let imm = immediate(n)?;
     Ok(Statement::Instruction(Instr::OpImm { kind, rd, rs1, imm }))
 }
 
@@ -126,11 +190,17 @@ pub(crate) fn shift_statement(
 ) -> Result<Statement, AsmFaultKind>
     ensures { result ≡ shift_of kind (map (λ operand. operand.now) operands.now) }
 {
-    let [rd, rs1, n] = operands else {
-        return Err(AsmFaultKind::BadOperand);
-    };
-    let rd = register(rd)?;
-    let rs1 = register(rs1)?;
+    match operands {
+        [rd, rs1, n] => shift(kind, rd, rs1, n),
+        _ => Err(AsmFaultKind::BadOperand),
+    }
+}
+
+/// The shift by an immediate, of its operands.
+fn shift(kind: ShiftKind, rd: &[u8], rs1: &[u8], n: &[u8]) -> Result<Statement, AsmFaultKind>
+    ensures { result ≡ shift_of kind (rd.now ∷ rs1.now ∷ n.now ∷ []) }
+{
+    let (rd, rs1) = registers(rd, rs1)?;
     let shamt = number(n)?.shift_amount()?;
     Ok(Statement::Instruction(Instr::ShiftImm {
         kind,
@@ -147,11 +217,17 @@ pub(crate) fn register_statement(
 ) -> Result<Statement, AsmFaultKind>
     ensures { result ≡ register_of kind (map (λ operand. operand.now) operands.now) }
 {
-    let [rd, rs1, rs2] = operands else {
-        return Err(AsmFaultKind::BadOperand);
-    };
-    let rd = register(rd)?;
-    let rs1 = register(rs1)?;
+    match operands {
+        [rd, rs1, rs2] => operation(kind, rd, rs1, rs2),
+        _ => Err(AsmFaultKind::BadOperand),
+    }
+}
+
+/// The operation on two registers, of its operands.
+fn operation(kind: OpKind, rd: &[u8], rs1: &[u8], rs2: &[u8]) -> Result<Statement, AsmFaultKind>
+    ensures { result ≡ register_of kind (rd.now ∷ rs1.now ∷ rs2.now ∷ []) }
+{
+    let (rd, rs1) = registers(rd, rs1)?;
     let rs2 = register(rs2)?;
     Ok(Statement::Instruction(Instr::Op { kind, rd, rs1, rs2 }))
 }
@@ -160,9 +236,16 @@ pub(crate) fn register_statement(
 pub(crate) fn fence_statement(operands: &[&[u8]]) -> Result<Statement, AsmFaultKind>
     ensures { result ≡ fence_of (map (λ operand. operand.now) operands.now) }
 {
-    let [p, s] = operands else {
-        return Err(AsmFaultKind::BadOperand);
-    };
+    match operands {
+        [p, s] => fence(p, s),
+        _ => Err(AsmFaultKind::BadOperand),
+    }
+}
+
+/// The fence of its operands.
+fn fence(p: &[u8], s: &[u8]) -> Result<Statement, AsmFaultKind>
+    ensures { result ≡ fence_of (p.now ∷ s.now ∷ []) }
+{
     let pred = fence_set(p)?;
     let succ = fence_set(s)?;
     let fm = FenceMode::new(0);
@@ -180,9 +263,21 @@ pub(crate) fn fence_statement(operands: &[&[u8]]) -> Result<Statement, AsmFaultK
 pub(crate) fn csr_statement(kind: CsrKind, operands: &[&[u8]]) -> Result<Statement, AsmFaultKind>
     ensures { result ≡ csr_of kind (map (λ operand. operand.now) operands.now) }
 {
-    let [rd, c, rs1] = operands else {
-        return Err(AsmFaultKind::BadOperand);
-    };
+    match operands {
+        [rd, c, rs1] => csr_by_register(kind, rd, c, rs1),
+        _ => Err(AsmFaultKind::BadOperand),
+    }
+}
+
+/// The change of a control and status register by a register, of its operands.
+fn csr_by_register(
+    kind: CsrKind,
+    rd: &[u8],
+    c: &[u8],
+    rs1: &[u8],
+) -> Result<Statement, AsmFaultKind>
+    ensures { result ≡ csr_of kind (rd.now ∷ c.now ∷ rs1.now ∷ []) }
+{
     let rd = register(rd)?;
     let number = csr(c)?;
     let rs1 = register(rs1)?;
@@ -197,9 +292,16 @@ pub(crate) fn csr_immediate_statement(
 ) -> Result<Statement, AsmFaultKind>
     ensures { result ≡ csr_immediate_of kind (map (λ operand. operand.now) operands.now) }
 {
-    let [rd, c, n] = operands else {
-        return Err(AsmFaultKind::BadOperand);
-    };
+    match operands {
+        [rd, c, n] => csr_by_immediate(kind, rd, c, n),
+        _ => Err(AsmFaultKind::BadOperand),
+    }
+}
+
+/// The change of a control and status register by an immediate, of its operands.
+fn csr_by_immediate(kind: CsrKind, rd: &[u8], c: &[u8], n: &[u8]) -> Result<Statement, AsmFaultKind>
+    ensures { result ≡ csr_immediate_of kind (rd.now ∷ c.now ∷ n.now ∷ []) }
+{
     let rd = register(rd)?;
     let csr = csr(c)?;
     let immediate = number(n)?;
@@ -217,11 +319,17 @@ pub(crate) fn csr_immediate_statement(
 pub(crate) fn sfence_statement(operands: &[&[u8]]) -> Result<Statement, AsmFaultKind>
     ensures { result ≡ sfence_of (map (λ operand. operand.now) operands.now) }
 {
-    let [rs1, rs2] = operands else {
-        return Err(AsmFaultKind::BadOperand);
-    };
-    let rs1 = register(rs1)?;
-    let rs2 = register(rs2)?;
+    match operands {
+        [rs1, rs2] => sfence(rs1, rs2),
+        _ => Err(AsmFaultKind::BadOperand),
+    }
+}
+
+/// The sfence.vma of its operands.
+fn sfence(rs1: &[u8], rs2: &[u8]) -> Result<Statement, AsmFaultKind>
+    ensures { result ≡ sfence_of (rs1.now ∷ rs2.now ∷ []) }
+{
+    let (rs1, rs2) = registers(rs1, rs2)?;
     Ok(Statement::Instruction(Instr::SfenceVma { rs1, rs2 }))
 }
 
@@ -243,21 +351,27 @@ pub(crate) fn plain_statement(
 pub(crate) fn word_statement(operands: &[&[u8]]) -> Result<Statement, AsmFaultKind>
     ensures { result ≡ word_of (map (λ operand. operand.now) operands.now) }
 {
-    let [n] = operands else {
-        return Err(AsmFaultKind::BadOperand);
-    };
-    let word = number(n)?.word()?;
-    Ok(Statement::Word(word))
+    match operands {
+        [n] => Ok(Statement::Word(word(n)?)),
+        _ => Err(AsmFaultKind::BadOperand),
+    }
 }
 
 /// `li rd, n`.
 pub(crate) fn li_statement(operands: &[&[u8]]) -> Result<Statement, AsmFaultKind>
     ensures { result ≡ li_of (map (λ operand. operand.now) operands.now) }
 {
-    let [rd, n] = operands else {
-        return Err(AsmFaultKind::BadOperand);
-    };
+    match operands {
+        [rd, n] => li(rd, n),
+        _ => Err(AsmFaultKind::BadOperand),
+    }
+}
+
+/// The li of its operands.
+fn li(rd: &[u8], n: &[u8]) -> Result<Statement, AsmFaultKind>
+    ensures { result ≡ li_of (rd.now ∷ n.now ∷ []) }
+{
     let rd = register(rd)?;
-    let value = number(n)?.word()?;
+    let value = word(n)?;
     Ok(Statement::Li { rd, value })
 }
