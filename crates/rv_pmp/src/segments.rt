@@ -35,6 +35,7 @@ impl Segments {
         requires order { AreInOrder self.now }
         requires inside { byte < reach_of self.now }
         ensures used { result < self.now.count }
+        ensures in_range { result < 33 }
         ensures from { start_of self.now result ≤ byte }
         ensures to { byte < slice_index self.now.ends result }
     {
