@@ -1,6 +1,6 @@
 -- The ends of ranges while they are written, one range after another.
 use Rattle.std.proofs.Common.{◌≡◌, ℕ, ◌+◌, ◌*◌, ◌<◌, ◌≤◌, ◌^◌, ◌&&◌, nat_le, nat_lt, List, length, take, ◌∙◌, inl, inr}
-use Rattle.std.proofs.Common.{arith, slice_index, slice_set, get_or-set_same, get_or-set_other}
+use Rattle.std.proofs.Common.{arith, slice_index, slice_set, get_or-set_same, get_or-set_other, length-set}
 use Rattle.std.specs.List.{Contains}
 use Rattle.std.proofs.lemmas.Bool.{cases_eq}
 use Rattle.std.proofs.lemmas.List.{get_or-take, length-take-le}
@@ -22,6 +22,55 @@ pub record AreWritten (ranges : EntryRanges) (bounds : List ℕ) (count number :
   pub last : slice_index bounds 0 ≡ 2 ^ 35
   pub from : (i : ℕ) → i < number → slice_index ranges.from i < slice_index ranges.to i → IsAmong bounds count (slice_index ranges.from i)
   pub to : (i : ℕ) → i < number → slice_index ranges.from i < slice_index ranges.to i → IsAmong bounds count (slice_index ranges.to i)
+
+-- one more range: it has no byte, or both its ends are written
+module _ (ranges : EntryRanges) (bounds : List ℕ) (count number : ℕ) (done : AreWritten ranges bounds count number) where
+  abbrev from : ℕ
+  from = slice_index ranges.from number
+
+  abbrev to : ℕ
+  to = slice_index ranges.to number
+
+  pub none_more : to ≤ from → AreWritten ranges bounds count (number + 1)
+  none_more none = record {
+    long = done.long;
+    some = done.some;
+    room = omega (arith, done.room);
+    last = done.last;
+    from = λ i below some. elim (cases_eq i number) [ inl at ↦ absurd (omega (arith, none, rw at at some)) | inr before ↦ done.from i (omega arith) some ];
+    to = λ i below some. elim (cases_eq i number) [ inl at ↦ absurd (omega (arith, none, rw at at some)) | inr before ↦ done.to i (omega arith) some ];
+  }
+
+  abbrev longer : List ℕ
+  longer = slice_set (slice_set bounds count from) (count + 1) to
+
+  pub both_more : number < 16 → AreWritten ranges longer (count + 2) (number + 1)
+  both_more in_range =
+      let once : length (slice_set bounds count from) ≡ 33 = length-set bounds count from ∙ done.long in
+      let first : slice_index longer count ≡ from =
+      get_or-set_other (slice_set bounds count from) (count + 1) count to 0 (λ same. omega (arith, same))
+      ∙ get_or-set_same bounds count from 0 (omega (arith, done.long, done.room)) in
+      let second : slice_index longer (count + 1) ≡ to = get_or-set_same (slice_set bounds count from) (count + 1) to 0 (omega (arith, once, done.room)) in
+      let same : (m : ℕ) → m < count → slice_index longer m ≡ slice_index bounds m
+      = λ m below.
+      get_or-set_other (slice_set bounds count from) (count + 1) m to 0 (λ same. omega (arith, same))
+      ∙ get_or-set_other bounds count m from 0 (λ same. omega (arith, same)) in
+      let kept : (x : ℕ) → IsAmong bounds count x → IsAmong longer (count + 2) x
+      = λ x found. (found.0, omega (arith, found.1), same found.0 found.1 ∙ found.2) in
+      record {
+        long = length-set (slice_set bounds count from) (count + 1) to ∙ once;
+        some = omega arith;
+        room = omega (arith, done.room);
+        last = same 0 done.some ∙ done.last;
+        from = λ i below some. elim (cases_eq i number) [
+          | inl at ↦ rw at (count, omega arith, first)
+          | inr before ↦ kept _ (done.from i (omega arith) some)
+        ];
+        to = λ i below some. elim (cases_eq i number) [
+          | inl at ↦ rw at (count + 1, omega arith, second)
+          | inr before ↦ kept _ (done.to i (omega arith) some)
+        ];
+      }
 
 among_first : (bounds : List ℕ) (count x : ℕ) → count ≤ length bounds → IsAmong bounds count x → Contains (take count bounds) x
 among_first bounds count x fits found = (

@@ -1,5 +1,5 @@
 -- Segments that follow one another: one goes on, or one more begins; and bounds between which no range begins or ends.
-use Rattle.std.proofs.Common.{◌≡◌, ℕ, zero, suc, ◌-◌, ◌<◌, ◌≤◌, ◌^◌, ◌⊎◌, ◌==◌, ◌&&◌, nat_le, nat_lt, if◌then◌else◌, Bool, true, false, List}
+use Rattle.std.proofs.Common.{◌≡◌, ◌≢◌, ℕ, zero, suc, ◌+◌, ◌-◌, ◌<◌, ◌≤◌, ◌^◌, ◌⊎◌, ◌==◌, ◌&&◌, nat_le, nat_lt, if◌then◌else◌, Bool, true, false, List}
 use Rattle.std.proofs.Common.{length, Option, None, refl, sym, ◌∙◌, ap, inl, inr, arith, slice_index, slice_index_or, slice_set, take, leb}
 use Rattle.std.proofs.Common.{get_or-set_same, get_or-set_other}
 use Rattle.std.specs.List.{Contains}
@@ -31,31 +31,77 @@ begin_kept ends at end k before = elim (cases_eq k 0) [
       ∙ sym (begin_after ends k some)
 ]
 
--- each byte has its owner still where the last segment goes on
-module _ (covering : ℕ → ℕ → Bool) (old : Segments) (start end : ℕ) (own : Option ℕ) (owned : AreOwned covering old)
-    (is_reach : start ≡ reach_of old) (alike : (byte : ℕ) → start ≤ byte → byte < end → owner covering byte ≡ own) where
+-- segments in order up to an end, each byte of which has its owner
+pub record Reaches (covering : ℕ → ℕ → Bool) (s : Segments) (end : ℕ) : Type 0 where
+  pub reach : reach_of s ≡ end
+  pub order : AreInOrder s
+  pub owned : AreOwned covering s
+
+-- up to a byte before which all have one owner: with the last segment, or with one more
+module _ (covering : ℕ → ℕ → Bool) (old : Segments) (start end : ℕ) (own : Option ℕ) (order : AreInOrder old) (owned : AreOwned covering old)
+    (is_reach : start ≡ reach_of old) (some : start < end) (alike : (byte : ℕ) → start ≤ byte → byte < end → owner covering byte ≡ own) where
   abbrev n : ℕ
   n = old.count
 
   abbrev longer : Segments
   longer = record { ends = slice_set old.ends (n - 1) end; owners = old.owners; count = n }
 
-  pub goes_on : 0 < n → n ≤ length old.ends → slice_index_or old.owners (n - 1) None ≡ own → AreOwned covering longer
+  abbrev more : Segments
+  more = record { ends = slice_set old.ends n end; owners = slice_set old.owners n own; count = n + 1 }
+
+  pub goes_on : 0 < n → n ≤ length old.ends → slice_index_or old.owners (n - 1) None ≡ own → Reaches covering longer end
   goes_on used_some long same =
       let last : ℕ = n - 1 in
       let is_end : slice_index longer.ends last ≡ end = get_or-set_same old.ends last end 0 (omega arith) in
       let was_end : slice_index old.ends last ≡ start = sym (is_reach ∙ begin_after old.ends n used_some) in
       let began : (k : ℕ) → k < n → start_of longer k ≡ start_of old k = λ k used. begin_kept old.ends last end k (omega arith) in
-      λ k byte used low high. elim (cases_eq k last) [
-        | inl at ↦ elim (cases_lt byte start) [
-          | inl early ↦ owned k byte used (omega (arith, began k used)) (rw at (omega (arith, was_end)))
-          | inr late ↦
-              let past = rw at at high in
-              alike byte (omega arith) (omega (arith, is_end)) ∙ rw at (sym same)
-        ]
-        | inr before ↦
-            owned k byte used (omega (arith, began k used)) (omega (arith, high, get_or-set_other old.ends last k end 0 before))
-      ]
+      let kept : (k : ℕ) → k ≢ last → slice_index longer.ends k ≡ slice_index old.ends k = λ k before. get_or-set_other old.ends last k end 0 before in
+      record {
+        reach = begin_after longer.ends n used_some ∙ is_end;
+        order = record {
+          at_most = order.at_most;
+          rising = λ k used. elim (cases_eq k last) [
+            | inl at ↦ rw at (omega (arith, began last (omega arith), is_end, some, order.rising last (omega arith), was_end))
+            | inr before ↦ omega (arith, began k used, kept k before, order.rising k used)
+          ];
+        };
+        owned = λ k byte used low high. elim (cases_eq k last) [
+          | inl at ↦ elim (cases_lt byte start) [
+            | inl early ↦ owned k byte used (omega (arith, began k used)) (rw at (omega (arith, was_end)))
+            | inr late ↦
+                let past = rw at at high in
+                alike byte (omega arith) (omega (arith, is_end)) ∙ rw at (sym same)
+          ]
+          | inr before ↦ owned k byte used (omega (arith, began k used)) (omega (arith, high, kept k before))
+        ];
+      }
+
+  pub one_more : n < 33 → n < length old.ends → n < length old.owners → Reaches covering more end
+  one_more room long own_long =
+      let is_end : slice_index more.ends n ≡ end = get_or-set_same old.ends n end 0 long in
+      let is_own : slice_index_or more.owners n None ≡ own = get_or-set_same old.owners n own None own_long in
+      let began : (k : ℕ) → k ≤ n → start_of more k ≡ start_of old k = λ k used. begin_kept old.ends n end k used in
+      let kept : (k : ℕ) → k ≢ n → slice_index more.ends k ≡ slice_index old.ends k = λ k before. get_or-set_other old.ends n k end 0 before in
+      let same : n + 1 - 1 ≡ n = omega arith in
+      record {
+        reach = begin_after more.ends (n + 1) (omega arith) ∙ ap (slice_index more.ends) same ∙ is_end;
+        order = record {
+          at_most = omega arith;
+          rising = λ k used. elim (cases_eq k n) [
+            | inl at ↦ rw at (omega (arith, began n (omega arith), is_end, some, is_reach))
+            | inr before ↦ omega (arith, began k (omega arith), kept k before, order.rising k (omega arith))
+          ];
+        };
+        owned = λ k byte used low high. elim (cases_eq k n) [
+          | inl at ↦
+              let from = rw at at low in
+              let to = rw at at high in
+              alike byte (omega (arith, from, began n (omega arith), is_reach)) (omega (arith, to, is_end)) ∙ rw at (sym is_own)
+          | inr before ↦
+              owned k byte (omega arith) (omega (arith, began k (omega arith))) (omega (arith, high, kept k before))
+              ∙ sym (get_or-set_other old.owners n k own None before)
+        ];
+      }
 
 -- the bounds in order
 pub bounds_in_order : (ranges : EntryRanges) (xs ys : List ℕ) → IsPermutation xs ys → AreBounds ranges xs → AreBounds ranges ys

@@ -7,7 +7,7 @@ use crate::open_range::{NONE_OPEN, OpenRanges};
 use crate::segments::Segments;
 
 /// What is kept of the entries as they stand.
-#[derive(Clone, Copy, Debug)]
+#[derive(Clone, Copy)]
 pub(crate) struct Cache {
     /// The addresses in segments, each with the least entry over it.
     pub(crate) segments: Segments,

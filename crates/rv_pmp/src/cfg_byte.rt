@@ -1,6 +1,6 @@
 //! The fields of a cfg byte, and its stored form (Privileged Architecture, section 3.7.1).
 
-ghost use Rattle.std.specs.Prelude.{◌≡◌, map, not};
+ghost use Rattle.std.specs.Prelude.{◌≡◌, ◌&&◌, map, not};
 ghost use Rattle.std.specs.List.{list_all};
 ghost use Rattle.rv_pmp.specs.Cfg as spec;
 
@@ -14,11 +14,11 @@ pub(crate) fn is_locked(cfg: u8) -> bool
     cfg / 128 % 2 == 1
 }
 
-/// Whether A, bits 4 and 3, is TOR.
-pub(crate) fn is_tor(cfg: u8) -> bool
-    ensures { result ≡ spec.is_tor cfg }
+/// Whether L is set and A, bits 4 and 3, is TOR.
+pub(crate) fn is_locked_tor(cfg: u8) -> bool
+    ensures { result ≡ (spec.is_locked cfg && spec.is_tor cfg) }
 {
-    cfg / 8 % 4 == 1
+    is_locked(cfg) && cfg / 8 % 4 == 1
 }
 
 /// Whether the bit for this kind of access is set.

@@ -5,7 +5,7 @@ ghost use Rattle.rv_pmp.specs.Cache.{IsCacheOf};
 use crate::cache::Cache;
 
 /// The cfg bytes and pmpaddr values of sixteen entries, and what is kept of them.
-#[derive(Clone, Copy, Debug)]
+#[derive(Clone, Copy)]
 pub(crate) struct KeptEntries {
     pub(crate) cfgs: [u8; 16],
     pub(crate) addrs: [u32; 16],

@@ -11,7 +11,7 @@ pub(crate) const END: u64 = 0x8_0000_0000;
 
 /// The addresses from 0 on in segments that follow one another. At most 33 are used, the first `count`: sixteen ranges have
 /// 32 ends.
-#[derive(Clone, Copy, Debug)]
+#[derive(Clone, Copy)]
 pub(crate) struct Segments {
     /// The first address past each segment; the next segment begins there.
     pub(crate) ends: [u64; 33],
@@ -35,6 +35,7 @@ impl Segments {
         requires order { AreInOrder self.now }
         requires inside { byte < reach_of self.now }
         ensures used { result < self.now.count }
+        ensures in_range { result < 33 }
         ensures from { start_of self.now result ≤ byte }
         ensures to { byte < slice_index self.now.ends result }
     {

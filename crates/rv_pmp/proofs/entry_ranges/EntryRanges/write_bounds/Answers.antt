@@ -1,6 +1,15 @@
 use Rattle.std.proofs.Common.{arith}
-use Rattle.rv_pmp.proofs.BoundsLemmas.{all_written}
+use Rattle.rv_pmp.proofs.BoundsLemmas.{none_more, both_more, all_written}
 use Rattle.rv_pmp.proofs.entry_ranges.EntryRanges.write_bounds.Goals as goal
+use Rattle.rv_pmp.proofs.entry_ranges.EntryRanges.write_bounds.Goals.{then-from-to, else-from-to}
+
+pub loop-number-preserved : goal.loop-number-preserved
+loop-number-preserved c =
+    let loop = c.loop-number in
+    elim c.if-from-to.branch [
+      | then-from-to w ↦ rw (w.bounds-is, w.count-is) (both_more c.args.self.now loop.bounds loop.count loop.number loop.invariant c.loop-number-test.true)
+      | else-from-to w ↦ rw (w.bounds-is, w.count-is) (none_more c.args.self.now loop.bounds loop.count loop.number loop.invariant w.if-from-to.false)
+    ]
 
 pub returns-clause-all : goal.returns-clause-all
 returns-clause-all c =

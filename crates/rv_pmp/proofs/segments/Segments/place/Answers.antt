@@ -11,4 +11,4 @@ returns c =
     let parted = IsPartitionedBy-leb (λ end. end) _ byte (used_rise s c.requires.order fits) in
     let point = IsPartitionPoint-from_clause (λ end. leb end byte) _ _ c.partition_point.ensures.partitioned parted (λ a r q k. search rules) in
     let is = at_place s byte c.partition_point.result fits c.requires.inside c.partition_point.ensures.bound point in
-    record { used = is.used; from = is.from; to = is.to }
+    record { used = is.used; in_range = omega (arith, is.used, c.requires.order.at_most); from = is.from; to = is.to }
