@@ -15,7 +15,7 @@ use std::marker::Model;
 const MOST_ADDRESSES: usize = 32;
 
 /// A set of at most 32 addresses.
-#[derive(Drop, Debug)]
+#[derive(Drop)]
 pub(crate) struct Addresses {
     /// The addresses, each above the one before.
     rising: ArrayVec<u32, MOST_ADDRESSES>,

@@ -12,10 +12,11 @@ use rv_hart::Machine;
 use rv_monitor::{Monitored, Slot};
 use rv_script::{Command, parse};
 use rv_text::Reply;
+use std::fmt;
 use std::marker::Model;
 
 /// A target under a debugger.
-#[derive(Drop, Debug)]
+#[derive(Drop)]
 pub struct Bench {
     target: Target,
     breaks: Addresses,
@@ -197,5 +198,12 @@ impl Bench {
                 0
             }
         }
+    }
+}
+
+impl fmt::Debug for Bench {
+    /// That it is one: what it has is told by its replies.
+    fn fmt<W: fmt::Write>(&self, f: &mut fmt::Formatter<W>) -> fmt::Result {
+        f.debug_struct("Bench").finish_non_exhaustive()
     }
 }
