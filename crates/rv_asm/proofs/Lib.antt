@@ -12,6 +12,7 @@ mod ReadMnemonics
 mod ReadNumbers
 mod ReadOperands
 mod RoundTrip
+mod ShortNames
 mod SpellingExamples
 mod WordCounts
 mod WordLemmas

@@ -1,9 +1,10 @@
 //! The words of a statement.
 
-ghost use Rattle.std.specs.Prelude.{◌≡◌, ◌≤◌, ◌∷◌, [], IfOk, MatchResult, Ok, Err, length, map};
+ghost use Rattle.std.specs.Prelude.{◌≡◌, ◌≤◌, ◌%◌, ◌^◌, ◌∷◌, [], IfOk, MatchResult, Ok, Err, length, map};
 ghost use Rattle.rv_word.specs.Cases.{option_case};
 ghost use Rattle.rv_encoding.specs.Rows.{word_of};
 ghost use Rattle.rv_asm.specs.LabelMap.{places_of};
+ghost use Rattle.rv_asm.specs.OperandRanges.{branch_offset_of};
 ghost use Rattle.rv_asm.specs.Program.{is_short as is_short_of, without_low_part as without_low_part_of, li_code, statement_size as size_of};
 ghost use Rattle.rv_asm.specs.Program.{distance as distance_of, statement_words as words_of};
 
@@ -12,7 +13,7 @@ use crate::name::Name;
 use crate::number::Number;
 use crate::statement::Statement;
 use arrayvec::ArrayVec;
-use rv_encoding::{Imm12, Instr, OpImmKind, UpperImm, encode};
+use rv_encoding::{BranchOffset, Imm12, Instr, OpImmKind, UpperImm, encode};
 use rv_word::{Reg, sext};
 use std::collections::BTreeMap;
 
@@ -36,33 +37,40 @@ fn without_low_part(value: u32) -> UpperImm
     UpperImm::new(value.wrapping_sub(sext(value, 12)))
 }
 
+/// One word.
+fn one(word: u32) -> Words
+    ensures { result.items ≡ word ∷ [] }
+{
+    let mut words = Words::new();
+    words.push(word);
+    words
+}
+
+/// The addi of the low part of a word.
+fn low_part(rd: Reg, rs1: Reg, value: u32) -> u32
+    ensures { result ≡ word_of (Instr.OpImm OpImmKind.Addi rd rs1 (value % 2 ^ 12)) }
+{
+    encode(&Instr::OpImm {
+        kind: OpImmKind::Addi,
+        rd,
+        rs1,
+        imm: Imm12::new(value % 4096),
+    })
+}
+
 /// The words that load a word into a register.
 #[tactic(auto, unfolding(crate::specs::Program::li_code))]
 fn load_words(rd: Reg, value: u32) -> Words
     ensures words { result.items ≡ map word_of (li_code rd value) }
     ensures len { length result.items ≡ length (li_code rd value) }
 {
-    let mut words = Words::new();
     if is_short(value) {
-        words.push(encode(&Instr::OpImm {
-            kind: OpImmKind::Addi,
-            rd,
-            rs1: Reg::new(0),
-            imm: Imm12::new(value % 4096),
-        }));
-        return words;
+        return one(low_part(rd, Reg::new(0), value));
     }
-    words.push(encode(&Instr::Lui {
-        rd,
-        imm: without_low_part(value),
-    }));
+    let imm = without_low_part(value);
+    let mut words = one(encode(&Instr::Lui { rd, imm }));
     if value % 4096 != 0 {
-        words.push(encode(&Instr::OpImm {
-            kind: OpImmKind::Addi,
-            rd,
-            rs1: rd,
-            imm: Imm12::new(value % 4096),
-        }));
+        words.push(low_part(rd, rd, value));
     }
     words
 }
@@ -104,13 +112,30 @@ fn distance_to(labels: &Labels, here: u32, label: &Name) -> Result<Number, AsmFa
     }
 }
 
-/// One word.
-fn one(instruction: &Instr) -> Words
-    ensures { result.items ≡ word_of instruction.now ∷ [] }
+/// The word of a jal to a label.
+///
+/// # Errors
+///
+/// `UnknownLabel` where no line has the label, and then `OutOfRange` where it is too far.
+#[tactic(auto, unfolding(crate::specs::Program::statement_words))]
+fn jump_words(labels: &Labels, place: u32, rd: Reg, label: &Name) -> Result<Words, AsmFaultKind>
+    ensures value { MatchResult result (λ words. words_of (places_of labels.now) place (Statement.JumpTo rd label.now) ≡ Ok words.items)
+        (λ kind. words_of (places_of labels.now) place (Statement.JumpTo rd label.now) ≡ Err kind) }
+    ensures len { IfOk result (λ words. length words.items ≡ 1) }
 {
-    let mut words = Words::new();
-    words.push(encode(instruction));
-    words
+    let offset = distance_to(labels, place, label)?.jump_offset()?;
+    Ok(one(encode(&Instr::Jal { rd, offset })))
+}
+
+/// The offset of a branch to a label.
+///
+/// # Errors
+///
+/// `UnknownLabel` where no line has the label, and then `OutOfRange` where it is too far.
+fn branch_offset_to(labels: &Labels, place: u32, label: &Name) -> Result<BranchOffset, AsmFaultKind>
+    ensures { result ≡ option_case (places_of labels.now label.now) (Err AsmFaultKind.UnknownLabel) (λ there. branch_offset_of (distance_of place there)) }
+{
+    distance_to(labels, place, label)?.branch_offset()
 }
 
 /// The words of a statement at a place.
@@ -129,30 +154,24 @@ pub(crate) fn statement_words(
     ensures len { IfOk result (λ words. length words.items ≡ size_of statement.now) }
 {
     match statement {
-        Statement::Instruction(instruction) => Ok(one(instruction)),
-        Statement::JumpTo { rd, label } => {
-            let offset = distance_to(labels, place, label)?.jump_offset()?;
-            Ok(one(&Instr::Jal { rd: *rd, offset }))
-        }
+        Statement::Instruction(instruction) => Ok(one(encode(instruction))),
+        Statement::JumpTo { rd, label } => jump_words(labels, place, *rd, label),
         Statement::BranchTo {
             kind,
             rs1,
             rs2,
             label,
         } => {
-            let offset = distance_to(labels, place, label)?.branch_offset()?;
-            Ok(one(&Instr::Branch {
-                kind: *kind,
-                rs1: *rs1,
-                rs2: *rs2,
+            let (kind, rs1, rs2) = (*kind, *rs1, *rs2);
+            let offset = branch_offset_to(labels, place, label)?;
+            Ok(one(encode(&Instr::Branch {
+                kind,
+                rs1,
+                rs2,
                 offset,
-            }))
+            })))
         }
         Statement::Li { rd, value } => Ok(load_words(*rd, *value)),
-        Statement::Word(word) => {
-            let mut words = Words::new();
-            words.push(*word);
-            Ok(words)
-        }
+        Statement::Word(word) => Ok(one(*word)),
     }
 }

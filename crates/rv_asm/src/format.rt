@@ -352,9 +352,17 @@ pub(crate) fn word_statement(operands: &[&[u8]]) -> Result<Statement, AsmFaultKi
     ensures { result ≡ word_of (map (λ operand. operand.now) operands.now) }
 {
     match operands {
-        [n] => Ok(Statement::Word(word(n)?)),
+        [n] => written_word(n),
         _ => Err(AsmFaultKind::BadOperand),
     }
+}
+
+/// The word of its operand, as it is.
+fn written_word(n: &[u8]) -> Result<Statement, AsmFaultKind>
+    ensures { result ≡ word_of (n.now ∷ []) }
+{
+    let word = word(n)?;
+    Ok(Statement::Word(word))
 }
 
 /// `li rd, n`.

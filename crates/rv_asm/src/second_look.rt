@@ -4,12 +4,39 @@ ghost use Rattle.std.specs.Prelude.{◌≡◌, ◌≢◌, ◌≤◌, ◌+◌, �
 ghost use Rattle.rv_asm.specs.LabelMap.{places_of};
 ghost use Rattle.rv_asm.specs.LineReading.{line_at};
 ghost use Rattle.rv_asm.specs.Program.{readings, own_fault, name_fault, first_fault, line_words, line_size, words_from};
+ghost use Rattle.rv_asm.specs.Program.{statement_words as statement_words_of, statement_size};
 
 use crate::code::{Labels, statement_words};
 use crate::fault::{AsmFault, AsmFaultKind};
-use crate::line::{Line, read_line};
+use crate::line::read_line;
+use crate::statement::Statement;
 use rv_text::split_line;
 use std::alloc::Global;
+
+/// Adds the words of a statement to those before it.
+///
+/// # Errors
+///
+/// `UnknownLabel`, or `OutOfRange` where the label that it names is too far, or `NoMemory`.
+fn add_statement(
+    words: &mut Vec<u32>,
+    labels: &Labels,
+    statement: &Statement,
+) -> Result<(), AsmFaultKind>
+    requires { length words.old.items ≤ 65536 }
+    ensures ok { OnOk result
+        ((added : List ℕ) × (statement_words_of (places_of labels.now) (length words.old.items) statement.now ≡ Ok added)
+        × (words.new.items ≡ words.old.items ++ added)) }
+    ensures len { OnOk result (length words.new.items ≡ length words.old.items + statement_size statement.now) }
+    ensures fault { IfErr result
+        (λ kind. kind ≢ AsmFaultKind.NoMemory → statement_words_of (places_of labels.now) (length words.old.items) statement.now ≡ Err kind) }
+{
+    let added = statement_words(labels, words.len() as u32, statement)?;
+    match words.extend_from_slice(added.as_slice()) {
+        Ok(()) => Ok(()),
+        Err(_) => Err(AsmFaultKind::NoMemory),
+    }
+}
 
 /// Adds the words of a line to those of the lines before it.
 ///
@@ -25,14 +52,9 @@ fn add_words(words: &mut Vec<u32>, labels: &Labels, text: &[u8]) -> Result<(), A
     ensures fault { IfErr result
         (λ kind. kind ≢ AsmFaultKind.NoMemory → line_words (places_of labels.now) (length words.old.items) (line_at text.now) ≡ Err kind) }
 {
-    let Line { statement, .. } = read_line(text)?;
-    let Some(statement) = statement else {
-        return Ok(());
-    };
-    let added = statement_words(labels, words.len() as u32, &statement)?;
-    match words.extend_from_slice(added.as_slice()) {
-        Ok(()) => Ok(()),
-        Err(_) => Err(AsmFaultKind::NoMemory),
+    match read_line(text)?.statement {
+        Some(statement) => add_statement(words, labels, &statement),
+        None => Ok(()),
     }
 }
 

@@ -25,45 +25,45 @@ use Rattle.rv_encoding.specs.declared.instr.Instr.TheVariants.{Csr, CsrImm, Ecal
 
 read_branch_is : (word : ℕ) (kind : BranchKind) (rs1 rs2 offset : ℕ) → bits word 6 0 ≡ 0b1100011 → branch_kind (bits word 14 12) ≡ Some kind
     → taken rs1_at word ≡ rs1 → taken rs2_at word ≡ rs2 → taken b_immediate_at word ≡ offset → read word ≡ Some (Branch kind rs1 rs2 offset)
-read_branch_is word kind rs1 rs2 offset opcode found rs1_is rs2_is offset_is = grind arith
+read_branch_is word kind rs1 rs2 offset opcode found rs1_is rs2_is offset_is = rw (opcode, found, rs1_is, rs2_is, offset_is) refl
 
 read_load_is : (word : ℕ) (kind : LoadKind) (rd rs1 offset : ℕ) → bits word 6 0 ≡ 0b0000011 → load_kind (bits word 14 12) ≡ Some kind
     → taken rd_at word ≡ rd → taken rs1_at word ≡ rs1 → taken i_immediate_at word ≡ offset → read word ≡ Some (Load kind rd rs1 offset)
-read_load_is word kind rd rs1 offset opcode found rd_is rs1_is offset_is = grind arith
+read_load_is word kind rd rs1 offset opcode found rd_is rs1_is offset_is = rw (opcode, found, rd_is, rs1_is, offset_is) refl
 
 read_store_is : (word : ℕ) (kind : StoreKind) (rs1 rs2 offset : ℕ) → bits word 6 0 ≡ 0b0100011 → store_kind (bits word 14 12) ≡ Some kind
     → taken rs1_at word ≡ rs1 → taken rs2_at word ≡ rs2 → taken s_immediate_at word ≡ offset → read word ≡ Some (Store kind rs1 rs2 offset)
-read_store_is word kind rs1 rs2 offset opcode found rs1_is rs2_is offset_is = grind arith
+read_store_is word kind rs1 rs2 offset opcode found rs1_is rs2_is offset_is = rw (opcode, found, rs1_is, rs2_is, offset_is) refl
 
 read_op_imm_is : (word : ℕ) (kind : OpImmKind) (rd rs1 imm : ℕ) → bits word 6 0 ≡ 0b0010011 → shift_kind (bits word 14 12) (bits word 31 25) ≡ None
     → op_imm_kind (bits word 14 12) ≡ Some kind → taken rd_at word ≡ rd → taken rs1_at word ≡ rs1 → taken i_immediate_at word ≡ imm
     → read word ≡ Some (OpImm kind rd rs1 imm)
-read_op_imm_is word kind rd rs1 imm opcode none found rd_is rs1_is imm_is = grind arith
+read_op_imm_is word kind rd rs1 imm opcode none found rd_is rs1_is imm_is = rw (opcode, none, found, rd_is, rs1_is, imm_is) refl
 
 read_shift_imm_is : (word : ℕ) (kind : ShiftKind) (rd rs1 shamt : ℕ) → bits word 6 0 ≡ 0b0010011
     → shift_kind (bits word 14 12) (bits word 31 25) ≡ Some kind → taken rd_at word ≡ rd → taken rs1_at word ≡ rs1 → taken shamt_at word ≡ shamt
     → read word ≡ Some (ShiftImm kind rd rs1 shamt)
-read_shift_imm_is word kind rd rs1 shamt opcode found rd_is rs1_is shamt_is = grind arith
+read_shift_imm_is word kind rd rs1 shamt opcode found rd_is rs1_is shamt_is = rw (opcode, found, rd_is, rs1_is, shamt_is) refl
 
 read_op_is : (word : ℕ) (kind : OpKind) (rd rs1 rs2 : ℕ) → bits word 6 0 ≡ 0b0110011 → op_kind (bits word 14 12) (bits word 31 25) ≡ Some kind
     → taken rd_at word ≡ rd → taken rs1_at word ≡ rs1 → taken rs2_at word ≡ rs2 → read word ≡ Some (Op kind rd rs1 rs2)
-read_op_is word kind rd rs1 rs2 opcode found rd_is rs1_is rs2_is = grind arith
+read_op_is word kind rd rs1 rs2 opcode found rd_is rs1_is rs2_is = rw (opcode, found, rd_is, rs1_is, rs2_is) refl
 
 read_csr_is : (word : ℕ) (kind : CsrKind) (rd rs1 csr : ℕ) → bits word 6 0 ≡ 0b1110011 → csr_kind (bits word 14 12) ≡ Some kind
     → taken rd_at word ≡ rd → taken rs1_at word ≡ rs1 → taken csr_at word ≡ csr → read word ≡ Some (Csr kind rd rs1 csr)
-read_csr_is word kind rd rs1 csr opcode found rd_is rs1_is csr_is = grind arith
+read_csr_is word kind rd rs1 csr opcode found rd_is rs1_is csr_is = rw (opcode, found, rd_is, rs1_is, csr_is) refl
 
 read_csr_imm_is : (word : ℕ) (kind : CsrKind) (rd uimm csr : ℕ) → bits word 6 0 ≡ 0b1110011 → csr_kind (bits word 14 12) ≡ None
     → csr_imm_kind (bits word 14 12) ≡ Some kind → taken rd_at word ≡ rd → taken uimm_at word ≡ uimm → taken csr_at word ≡ csr
     → read word ≡ Some (CsrImm kind rd uimm csr)
-read_csr_imm_is word kind rd uimm csr opcode none found rd_is uimm_is csr_is = grind arith
+read_csr_imm_is word kind rd uimm csr opcode none found rd_is uimm_is csr_is = rw (opcode, none, found, rd_is, uimm_is, csr_is) refl
 
 read_fence_is : (word fm pred succ rd rs1 : ℕ) → bits word 6 0 ≡ 0b0001111 → bits word 14 12 ≡ 0 → taken fm_at word ≡ fm → taken pred_at word ≡ pred
     → taken succ_at word ≡ succ → taken rd_at word ≡ rd → taken rs1_at word ≡ rs1 → read word ≡ Some (Fence fm pred succ rd rs1)
-read_fence_is word fm pred succ rd rs1 opcode funct3 fm_is pred_is succ_is rd_is rs1_is = grind arith
+read_fence_is word fm pred succ rd rs1 opcode funct3 fm_is pred_is succ_is rd_is rs1_is = rw (opcode, funct3, fm_is, pred_is, succ_is, rd_is, rs1_is) refl
 
 read_whole_word : (word : ℕ) → bits word 6 0 ≡ 0b1110011 → bits word 14 12 ≡ 0 → read word ≡ read_whole word
-read_whole_word word opcode funct3 = grind arith
+read_whole_word word opcode funct3 = rw (opcode, funct3) refl
 
 read_sfence_vma : (word rs1 rs2 : ℕ) → bits word 31 25 ≡ 0b0001001 → bits word 14 7 ≡ 0 → taken rs1_at word ≡ rs1 → taken rs2_at word ≡ rs2
     → read_whole word ≡ Some (SfenceVma rs1 rs2)
@@ -144,28 +144,28 @@ pub only_read : (word : ℕ) (i : Instr) → Spells word i → read word ≡ Som
 only_read word i spells = ap read (sym spells.1) ∙ read_word_of i spells.0
 
 pub only_jalr : (word : ℕ) (i : Instr) → bits word 6 0 ≡ 0b1100111 → Spells word i → read_jalr word ≡ Some i
-only_jalr word i opcode spells = let is = only_read word i spells in grind arith
+only_jalr word i opcode spells = let is = only_read word i spells in rw opcode at is
 
 pub only_branch : (word : ℕ) (i : Instr) → bits word 6 0 ≡ 0b1100011 → Spells word i → read_branch word ≡ Some i
-only_branch word i opcode spells = let is = only_read word i spells in grind arith
+only_branch word i opcode spells = let is = only_read word i spells in rw opcode at is
 
 pub only_load : (word : ℕ) (i : Instr) → bits word 6 0 ≡ 0b0000011 → Spells word i → read_load word ≡ Some i
-only_load word i opcode spells = let is = only_read word i spells in grind arith
+only_load word i opcode spells = let is = only_read word i spells in rw opcode at is
 
 pub only_store : (word : ℕ) (i : Instr) → bits word 6 0 ≡ 0b0100011 → Spells word i → read_store word ≡ Some i
-only_store word i opcode spells = let is = only_read word i spells in grind arith
+only_store word i opcode spells = let is = only_read word i spells in rw opcode at is
 
 pub only_op_imm : (word : ℕ) (i : Instr) → bits word 6 0 ≡ 0b0010011 → Spells word i → read_op_imm word ≡ Some i
-only_op_imm word i opcode spells = let is = only_read word i spells in grind arith
+only_op_imm word i opcode spells = let is = only_read word i spells in rw opcode at is
 
 pub only_op : (word : ℕ) (i : Instr) → bits word 6 0 ≡ 0b0110011 → Spells word i → read_op word ≡ Some i
-only_op word i opcode spells = let is = only_read word i spells in grind arith
+only_op word i opcode spells = let is = only_read word i spells in rw opcode at is
 
 pub only_fence : (word : ℕ) (i : Instr) → bits word 6 0 ≡ 0b0001111 → Spells word i → read_fence word ≡ Some i
-only_fence word i opcode spells = let is = only_read word i spells in grind arith
+only_fence word i opcode spells = let is = only_read word i spells in rw opcode at is
 
 pub only_system : (word : ℕ) (i : Instr) → bits word 6 0 ≡ 0b1110011 → Spells word i → read_system word ≡ Some i
-only_system word i opcode spells = let is = only_read word i spells in grind arith
+only_system word i opcode spells = let is = only_read word i spells in rw opcode at is
 
 pub only_whole : (word : ℕ) (i : Instr) → bits word 6 0 ≡ 0b1110011 → csr_kind (bits word 14 12) ≡ None → csr_imm_kind (bits word 14 12) ≡ None
     → Spells word i → read_whole word ≡ Some i

@@ -10,15 +10,33 @@ use super::operand::{
 use rv_encoding::{CsrNumber, FenceSet, Imm12, UpperImm};
 use rv_word::Reg;
 
+/// Writes a mnemonic that has operands.
+fn put_mnemonic(out: &mut Line, name: &str)
+    requires { length name.now ≤ 10 }
+    ensures bytes { out.new.bytes ≡ name.now ++ codes " " }
+    ensures len { array_string_len out.new ≤ 11 }
+{
+    out.clear();
+    out.push_str(name);
+    out.push_str(" ");
+}
+
+/// Writes what stands between two operands.
+fn push_comma(out: &mut Line)
+    requires room { array_string_len out.old + 2 ≤ 48 }
+    ensures bytes { out.new.bytes ≡ out.old.bytes ++ codes ", " }
+    ensures len { array_string_len out.new ≤ array_string_len out.old + 2 }
+{
+    out.push_str(", ");
+}
+
 /// Writes a mnemonic with its first register.
 fn put_name_and_register(out: &mut Line, name: &str, register: Reg)
     requires { length name.now ≤ 10 }
     ensures bytes { out.new.bytes ≡ name.now ++ codes " " ++ register_text register }
     ensures len { array_string_len out.new ≤ 15 }
 {
-    out.clear();
-    out.push_str(name);
-    out.push_str(" ");
+    put_mnemonic(out, name);
     push_register(out, register);
 }
 
@@ -28,7 +46,7 @@ fn push_next_register(out: &mut Line, register: Reg)
     ensures bytes { out.new.bytes ≡ out.old.bytes ++ codes ", " ++ register_text register }
     ensures len { array_string_len out.new ≤ array_string_len out.old + 6 }
 {
-    out.push_str(", ");
+    push_comma(out);
     push_register(out, register);
 }
 
@@ -49,7 +67,7 @@ pub(super) fn put_upper(out: &mut Line, name: &str, rd: Reg, imm: UpperImm)
     ensures { out.new.bytes ≡ line_text name.now (register_text rd ∷ hex_text (imm / 2 ^ 12) ∷ []) }
 {
     put_name_and_register(out, name, rd);
-    out.push_str(", ");
+    push_comma(out);
     push_hex(out, imm.word() >> 12);
 }
 
@@ -61,7 +79,7 @@ pub(super) fn put_jump(out: &mut Line, name: &str, rd: Reg, offset: u32)
     ensures { out.new.bytes ≡ line_text name.now (register_text rd ∷ signed_text 21 offset ∷ []) }
 {
     put_name_and_register(out, name, rd);
-    out.push_str(", ");
+    push_comma(out);
     push_signed(out, offset, 21);
 }
 
@@ -72,7 +90,7 @@ pub(super) fn put_address(out: &mut Line, name: &str, register: Reg, offset: Imm
     ensures { out.new.bytes ≡ line_text name.now (register_text register ∷ address_text offset base ∷ []) }
 {
     put_name_and_register(out, name, register);
-    out.push_str(", ");
+    push_comma(out);
     push_address(out, offset, base);
 }
 
@@ -86,7 +104,7 @@ pub(super) fn put_signed(out: &mut Line, name: &str, a: Reg, b: Reg, field: u32,
 {
     put_name_and_register(out, name, a);
     push_next_register(out, b);
-    out.push_str(", ");
+    push_comma(out);
     push_signed(out, field, width);
 }
 
@@ -98,7 +116,7 @@ pub(super) fn put_shift(out: &mut Line, name: &str, rd: Reg, rs1: Reg, shamt: u3
 {
     put_name_and_register(out, name, rd);
     push_next_register(out, rs1);
-    out.push_str(", ");
+    push_comma(out);
     push_decimal(out, shamt);
 }
 
@@ -129,11 +147,9 @@ pub(super) fn put_fence(out: &mut Line, name: &str, pred: FenceSet, succ: FenceS
     requires { length name.now ≤ 10 }
     ensures { out.new.bytes ≡ line_text name.now (accesses_text pred ∷ accesses_text succ ∷ []) }
 {
-    out.clear();
-    out.push_str(name);
-    out.push_str(" ");
+    put_mnemonic(out, name);
     push_accesses(out, pred);
-    out.push_str(", ");
+    push_comma(out);
     push_accesses(out, succ);
 }
 
@@ -144,7 +160,7 @@ pub(super) fn put_csr(out: &mut Line, name: &str, rd: Reg, csr: CsrNumber, rs1: 
     ensures { out.new.bytes ≡ line_text name.now (register_text rd ∷ csr_text csr ∷ register_text rs1 ∷ []) }
 {
     put_name_and_register(out, name, rd);
-    out.push_str(", ");
+    push_comma(out);
     push_csr(out, csr);
     push_next_register(out, rs1);
 }
@@ -156,8 +172,8 @@ pub(super) fn put_csr_imm(out: &mut Line, name: &str, rd: Reg, csr: CsrNumber, u
     ensures { out.new.bytes ≡ line_text name.now (register_text rd ∷ csr_text csr ∷ decimal uimm ∷ []) }
 {
     put_name_and_register(out, name, rd);
-    out.push_str(", ");
+    push_comma(out);
     push_csr(out, csr);
-    out.push_str(", ");
+    push_comma(out);
     push_decimal(out, uimm);
 }

@@ -1,15 +1,24 @@
 //! The mnemonics (Unprivileged ISA, chapter 24, and the listings of Privileged Architecture 20211203).
 
-ghost use Rattle.std.specs.Prelude.{◌≡◌, ◌≤◌, length};
+ghost use Rattle.std.specs.Prelude.{◌≡◌, ◌≤◌, ◌%◌, ◌^◌, length};
 ghost use Rattle.rv_encoding.specs.Codes as spec;
 ghost use Rattle.rv_encoding.specs.Listing.{name_of};
+ghost use Rattle.rv_encoding.specs.Rows.{row_of_instr};
 
 use rv_encoding::{BranchKind, CsrKind, Instr, LoadKind, OpImmKind, OpKind, ShiftKind, StoreKind};
 
 /// The mnemonic of an instruction, as in the listings.
+#[tactic(auto, using(crate::proofs::ShortNames::short_name))]
 pub(super) fn mnemonic(instr: &Instr) -> &'static str
     ensures name { result.now ≡ name_of instr.now }
     ensures short { length result.now ≤ 10 }
+{
+    name(instr)
+}
+
+/// The name of an instruction.
+fn name(instr: &Instr) -> &'static str
+    ensures { result.now ≡ name_of instr.now }
 {
     match *instr {
         Instr::Lui { .. } => "lui",
@@ -23,6 +32,16 @@ pub(super) fn mnemonic(instr: &Instr) -> &'static str
         Instr::ShiftImm { kind, .. } => shift_name(kind),
         Instr::Op { kind, .. } => op_name(kind),
         Instr::Fence { .. } => "fence",
+        _ => system_name(instr),
+    }
+}
+
+/// The name of an instruction of opcode 1110011.
+fn system_name(instr: &Instr) -> &'static str
+    requires { (row_of_instr instr.now).match % 2 ^ 7 ≡ 0b1110011 }
+    ensures { result.now ≡ name_of instr.now }
+{
+    match *instr {
         Instr::Csr { kind, .. } => csr_name(kind),
         Instr::CsrImm { kind, .. } => csr_imm_name(kind),
         Instr::Ecall => "ecall",
@@ -30,14 +49,13 @@ pub(super) fn mnemonic(instr: &Instr) -> &'static str
         Instr::Sret => "sret",
         Instr::Mret => "mret",
         Instr::Wfi => "wfi",
-        Instr::SfenceVma { .. } => "sfence.vma",
+        _ => "sfence.vma",
     }
 }
 
 /// The mnemonic of a branch.
 fn branch_name(kind: BranchKind) -> &'static str
-    ensures name { result.now ≡ spec.branch_name kind }
-    ensures short { length result.now ≤ 10 }
+    ensures { result.now ≡ spec.branch_name kind }
 {
     match kind {
         BranchKind::Beq => "beq",
@@ -51,8 +69,7 @@ fn branch_name(kind: BranchKind) -> &'static str
 
 /// The mnemonic of a load.
 fn load_name(kind: LoadKind) -> &'static str
-    ensures name { result.now ≡ spec.load_name kind }
-    ensures short { length result.now ≤ 10 }
+    ensures { result.now ≡ spec.load_name kind }
 {
     match kind {
         LoadKind::Lb => "lb",
@@ -65,8 +82,7 @@ fn load_name(kind: LoadKind) -> &'static str
 
 /// The mnemonic of a store.
 fn store_name(kind: StoreKind) -> &'static str
-    ensures name { result.now ≡ spec.store_name kind }
-    ensures short { length result.now ≤ 10 }
+    ensures { result.now ≡ spec.store_name kind }
 {
     match kind {
         StoreKind::Sb => "sb",
@@ -77,8 +93,7 @@ fn store_name(kind: StoreKind) -> &'static str
 
 /// The mnemonic of an operation on a register and an immediate.
 fn op_imm_name(kind: OpImmKind) -> &'static str
-    ensures name { result.now ≡ spec.op_imm_name kind }
-    ensures short { length result.now ≤ 10 }
+    ensures { result.now ≡ spec.op_imm_name kind }
 {
     match kind {
         OpImmKind::Addi => "addi",
@@ -92,8 +107,7 @@ fn op_imm_name(kind: OpImmKind) -> &'static str
 
 /// The mnemonic of a shift by an immediate.
 fn shift_name(kind: ShiftKind) -> &'static str
-    ensures name { result.now ≡ spec.shift_name kind }
-    ensures short { length result.now ≤ 10 }
+    ensures { result.now ≡ spec.shift_name kind }
 {
     match kind {
         ShiftKind::Slli => "slli",
@@ -104,8 +118,7 @@ fn shift_name(kind: ShiftKind) -> &'static str
 
 /// The mnemonic of an operation on two registers.
 fn op_name(kind: OpKind) -> &'static str
-    ensures name { result.now ≡ spec.op_name kind }
-    ensures short { length result.now ≤ 10 }
+    ensures { result.now ≡ spec.op_name kind }
 {
     match kind {
         OpKind::Add => "add",
@@ -131,8 +144,7 @@ fn op_name(kind: OpKind) -> &'static str
 
 /// The mnemonic of a change of a control and status register by a register.
 fn csr_name(kind: CsrKind) -> &'static str
-    ensures name { result.now ≡ spec.csr_name kind }
-    ensures short { length result.now ≤ 10 }
+    ensures { result.now ≡ spec.csr_name kind }
 {
     match kind {
         CsrKind::Write => "csrrw",
@@ -143,8 +155,7 @@ fn csr_name(kind: CsrKind) -> &'static str
 
 /// The mnemonic of a change of a control and status register by an immediate.
 fn csr_imm_name(kind: CsrKind) -> &'static str
-    ensures name { result.now ≡ spec.csr_imm_name kind }
-    ensures short { length result.now ≤ 10 }
+    ensures { result.now ≡ spec.csr_imm_name kind }
 {
     match kind {
         CsrKind::Write => "csrrwi",

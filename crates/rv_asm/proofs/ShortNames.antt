@@ -1,0 +1,7 @@
+-- The names of the instructions are short.
+use Rattle.std.proofs.Common.{◌≤◌, length, arith}
+use Rattle.rv_encoding.specs.Listing.{name_of}
+use Rattle.rv_encoding.specs.declared.instr.Instr.{Instr}
+
+pub short_name : (instr : Instr) → length (name_of instr) ≤ 10
+short_name instr = grind arith
