@@ -1,13 +1,23 @@
 -- Laws of memory: a write keeps the size, is read back, and leaves every byte outside it as it was.
-use Rattle.std.proofs.Common.{◌≡◌, ℕ, ◌+◌, ◌-◌, ◌<◌, ◌≤◌, ◌⊎◌, List, length, slice_index, Some, None, true, refl, subst, inl, inr, arith}
+use Rattle.std.proofs.Common.{◌≡◌, ℕ, ◌+◌, ◌-◌, ◌<◌, ◌≤◌, ◌⊎◌, List, [], ◌∷◌, ◌++◌, length, drop, slice_index, Some, None, true, refl, subst, inl, inr, arith}
 use Rattle.std.proofs.lemmas.Grind.{common_steps}
 use Rattle.std.proofs.lemmas.Bool.{cases_lt, lt-leb}
 use Rattle.std.specs.Prelude.{if◌then◌else◌}
+use Rattle.rv_word.specs.ByteOrder.{word_of_bytes}
 use Rattle.rv_word.specs.Widths.{bytes_in}
 use Rattle.rv_word.specs.declared.width.Width.{Width}
 use Rattle.rv_word.specs.declared.width.Width.TheVariants.{Byte, Half, Word}
 use Rattle.rv_memory.specs.Changes.{ChangesOnly}
-use Rattle.rv_memory.specs.Memory.{bytes_of, ram_base, is_inside, read, write, write_bytes, byte_at}
+use Rattle.rv_memory.specs.Memory.{bytes_of, ram_base, is_inside, read, write, write_bytes, byte_at, number_of_bytes}
+
+-- up to four bytes, and zeros after them, are the word that has their number
+pub padded : (bytes : List ℕ) (count : ℕ) → length bytes ≡ count → count ≤ 4 → word_of_bytes (bytes ++ drop count (0 ∷ 0 ∷ 0 ∷ 0 ∷ [])) ≡ number_of_bytes bytes
+padded [] count long few = rw (← long) refl
+padded (a ∷ []) count long few = rw (← long) (omega arith)
+padded (a ∷ b ∷ []) count long few = rw (← long) (omega arith)
+padded (a ∷ b ∷ c ∷ []) count long few = rw (← long) (omega arith)
+padded (a ∷ b ∷ c ∷ d ∷ []) count long few = omega arith
+padded (a ∷ b ∷ c ∷ d ∷ e ∷ rest) count long few = absurd (omega arith)
 
 -- the memory after a write has the same size
 pub length-write : (memory : List ℕ) (address : ℕ) (bytes after : List ℕ) → write memory address bytes ≡ Some after → length after ≡ length memory
