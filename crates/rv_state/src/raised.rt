@@ -49,7 +49,8 @@ impl Raised {
     /// Raises of the bits that software writes those of a word, and lowers the others.
     #[tactic(auto, using(crate::proofs::RaisedLemmas::software_part, crate::proofs::RaisedLemmas::timer_part, crate::proofs::RaisedLemmas::only_raised))]
     pub(crate) fn set_software(&mut self, word: u32)
-        ensures { self.new ≡ record self.old { software = software_pending_of word } }
+        ensures value { self.new ≡ record self.old { software = software_pending_of word } }
+        ensures kept { software_pending_of (software_pending_of word) ≡ software_pending_of word }
     {
         self.word = software_pending_of(word) + flag(7, is_set(self.word, 7));
     }
