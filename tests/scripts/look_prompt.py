@@ -31,7 +31,8 @@ class Terminal:
         self.seen = ""
 
     def control(self):
-        """Makes the terminal the program's own, so that Ctrl-C reaches it."""
+        """Makes the terminal the program's own, so that Ctrl-C reaches it, also where the shell that runs this ignores it."""
+        signal.signal(signal.SIGINT, signal.SIG_DFL)
         os.setsid()
         os.close(os.open(os.ttyname(self.slave), os.O_RDWR))
 
