@@ -3,8 +3,9 @@
 An edit is a text of lines. `file: src/x.rt` names a file of the crate. `fn: NAME` names a function of it, a method as
 `Type::method`, or `TypeTrait::method` where a trait's impl block has it. Then come pairs of lines `old: TEXT` and `new: TEXT`.
 Each old text stands exactly once in the body of that function, or, where there is no line `fn:`, in the whole file: so are
-constants, types, contracts and definitions edited. NAME.edit is a wrong body, which the prover must refuse. NAME.same changes
-nothing of meaning: the prover must not refuse it.
+constants, types, contracts and definitions edited, and a line `refused: NAME` first of all names the function that must be refused
+then, by its path in the crate. NAME.edit is a wrong body, which the prover must refuse. NAME.same changes nothing of meaning: the
+prover must not refuse it.
 """
 import functools
 import os
@@ -21,26 +22,28 @@ class BadEdit(Exception):
 
 
 class Edit:
-    """An edit: its crate, its name, the function that it changes, if it names one, its pairs (file, old text, new text), and
-    whether it is right."""
+    """An edit: its crate, its name, the function that it changes or else the one that is refused for it, as the prover names that,
+    its pairs (file, old text, new text), and whether it is right."""
 
     def __init__(self, crate, path):
         self.crate = crate
         self.name, ending = os.path.splitext(os.path.basename(path))
         self.is_right = ending == ".same"
-        self.function, self.pairs = read(path)
+        self.function, refused, self.pairs = read(path)
+        self.refused = f"{crate}::{refused}" if refused else None
 
     def __str__(self):
         return f"{self.crate}/{self.name}"
 
 
 def read(path):
-    """The function that an edit's file names, or None, and its pairs, each with the name of the file that it changes."""
+    """The function that an edit's file names with `fn:`, or None, the one that it names with `refused:`, or None, and its pairs, each
+    with the name of the file that it changes."""
     if not path.endswith((".edit", ".same")):
         raise BadEdit("its name ends neither in .edit nor in .same")
     with open(path, encoding="utf-8") as it:
         lines = [line for line in it.read().split("\n") if line.strip()]
-    file = function = old = None
+    file = function = refused = old = None
     pairs = []
     for line in lines:
         key, _, text = line.partition(":")
@@ -53,6 +56,10 @@ def read(path):
             function = text.strip()
             if not re.fullmatch(r"(\w+::)?\w+", function) or not file.endswith(".rt"):
                 raise BadEdit(f"'{line}' names no function of a file of src/")
+        elif key == "refused" and file is None and refused is None:
+            refused = text.strip()
+            if not re.fullmatch(r"\w+(::\w+)*", refused):
+                raise BadEdit(f"'{line}' names no function")
         elif key == "old" and file and old is None and text:
             old = text
         elif key == "new" and old is not None:
@@ -62,7 +69,9 @@ def read(path):
             raise BadEdit(f"the line '{line}' is out of place")
     if old is not None or not pairs:
         raise BadEdit("it has no pair of 'old:' and 'new:', or half of one")
-    return function, pairs
+    if bool(function) == bool(refused):
+        raise BadEdit("it has neither a line 'fn:' nor a line 'refused:', or both")
+    return function, refused, pairs
 
 
 def edited(folder, edits):

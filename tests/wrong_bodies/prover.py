@@ -1,8 +1,7 @@
 """Checks of a crate with edits: what the prover says of it, function by function.
 
-A check goes by `rattle check` with the words that `rt` gives it, in a scratch copy of the crate. A whole one goes over a folder
-of work that earlier checks of this run have kept, so that only what changed is proved again; one of some functions, and what they
-call, over nothing. Where a line is not of the form that is known here, the check counts for nothing: Unknown says so.
+A check goes by `rattle check --only` with the words that `rt` gives it, in a scratch copy of the crate: it is of some functions and
+what they call, and over nothing kept. Where a line is not of the form that is known here, the check counts for nothing: Unknown says so.
 """
 import importlib.machinery
 import importlib.util
@@ -46,8 +45,8 @@ class Answer:
         self.lines = text.rstrip("\n").split("\n")
         last = self.lines[-1]
         asked = re.fullmatch(r"only=(\d+) proved=(\d+)", last)
-        self.is_proved = status == 0 and (last.startswith("logic=proved ") or bool(asked) and asked[1] == asked[2])
-        self.is_refused = status == 1 and (last.startswith("logic=not-proved") or bool(asked))
+        self.is_proved = status == 0 and bool(asked) and asked[1] == asked[2]
+        self.is_refused = status == 1 and bool(asked)
         self.functions = dict(re.findall(r"^fn (\S+): (.*)$", text, re.M))
         if status == 0 and not self.is_proved or self.is_proved and not all(map(PROVED.fullmatch, self.functions.values())):
             raise Unknown(f"a check that ends well has other lines than are known: {last[:200]}")
@@ -100,17 +99,16 @@ class Prover:
 
     def __init__(self, rt, crate, scratch, jobs):
         self.rt, self.crate, self.scratch, self.jobs = rt, crate, scratch, jobs
-        self.sources, self.kept = f"{scratch}/sources", f"{scratch}/kept"
+        self.sources = f"{scratch}/sources"
         for part in rt.rtlib.PARTS:
             if os.path.isdir(f"{crate.folder}/{part}"):
                 shutil.copytree(f"{crate.folder}/{part}", f"{self.sources}/{part}")
-        os.makedirs(self.kept, exist_ok=True)
 
-    def check(self, texts, only=(), from_nothing=False):
-        """Checks the crate with these texts in place of its own, or only the functions of these names and what they call. A check
-        that is killed, as for memory, is tried once more, by one process."""
+    def check(self, texts, names):
+        """Checks the functions of these names, and what they call, with these texts in place of the crate's own. A check that is
+        killed, as for memory, is tried once more, by one process."""
         for jobs in (self.jobs, 1):
-            ran = self.run(texts, only, from_nothing, jobs)
+            ran = self.run(texts, names, jobs)
             if ran.returncode >= 0:
                 break
         else:
@@ -121,7 +119,7 @@ class Prover:
             raise Unknown(f"rattle ended with status {ran.returncode}: {ran.stdout.strip()[-200:]}")
         return Answer(ran.returncode, ran.stdout)
 
-    def run(self, texts, only, from_nothing, jobs):
+    def run(self, texts, names, jobs):
         with tempfile.TemporaryDirectory(dir=self.scratch) as room:
             shutil.copytree(self.sources, room, dirs_exist_ok=True)
             for file, text in texts.items():
@@ -129,7 +127,6 @@ class Prover:
                 with open(f"{room}/{file}", "w", encoding="utf-8") as it:
                     it.write(text)
             words = [self.rt.rtlib.RATTLE, "check", *self.crate.words(["--jobs", str(jobs)], keeps=False)]
-            words += [it for name in only for it in ("--only", name)]
-            words += [] if only or from_nothing else ["--incremental", self.kept]
+            words += [it for name in names for it in ("--only", name)]
             how = {"cwd": room, "stdin": subprocess.DEVNULL, "stdout": subprocess.PIPE, "stderr": subprocess.STDOUT}
             return subprocess.run([*self.rt.rtlib.guarded(), *words], errors="replace", **how)

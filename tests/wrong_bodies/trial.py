@@ -1,12 +1,10 @@
 """The trial of a crate's edits: what the prover says of each.
 
-All copies (copies.py) stand in one check, with everything that the crate has: each wrong one must be refused, each right one
-proved, and so must every function of the crate itself. Edits of a trait's methods cannot be copied: one of each method stands in a
-second check, in place. What these checks did not refuse is tried alone, in place, and so is what else cannot be copied; over all
-that was kept, the unchanged crate must prove again. Where only some of a
-crate's edits are tried, their checks are of those functions and what they call. An edit has failed too where it does not fit its
-file, does not compile, or is refused only because a proof file names what it took away; and a check whose lines are of no known
-form fails everything that it was to show.
+The crate as it stands is proved already. All copies (copies.py) stand in one check, of them and of what they call: each wrong one must
+be refused, each right one proved, and so must every function that they call. Edits of a trait's methods cannot be copied: one of each
+method stands in a second check, in place. What these checks did not refuse is tried alone, in place, and so is what else cannot be
+copied. An edit has failed too where it does not fit its file, does not compile, or is refused only because a proof file names what it
+took away; and a check whose lines are of no known form fails everything that it was to show.
 """
 import time
 
@@ -18,8 +16,8 @@ from prover import Unknown
 class Trial:
     """Edits of one crate, all of them or some, tried by a prover; the report is told of each."""
 
-    def __init__(self, prover, edits, is_whole, report):
-        self.prover, self.folder, self.is_whole, self.report = prover, prover.sources, is_whole, report
+    def __init__(self, prover, edits, report):
+        self.prover, self.folder, self.report = prover, prover.sources, report
         self.copied = [it for it in edits if can_be_copied(self.folder, it)]
         self.in_place = [it for it in edits if it not in self.copied]
         self.begun = self.started = time.time()
@@ -28,8 +26,6 @@ class Trial:
         missed = self.try_copies() if self.copied else []
         for it in [*missed, *self.try_in_place()]:
             self.alone(it)
-        if (missed or self.in_place) and self.is_whole and not self.prover.check({}).is_proved:
-            raise Unknown("the unchanged crate is no longer proved")
         count, crate = len(self.copied + self.in_place), self.prover.crate.name
         self.report.say(f"{crate}: {count} edits, in {time.time() - self.begun:.0f} s")
 
@@ -43,7 +39,7 @@ class Trial:
         copies = [Copy(self.folder, it, number) for number, it in enumerate(self.copied)]
         texts = with_copies(self.folder, copies)
         places = {it.edit: it.place(self.folder, texts) for it in copies}
-        answer = self.prover.check(texts, () if self.is_whole else [it.name for it in places.values()])
+        answer = self.prover.check(texts, [it.name for it in places.values()])
         if not (answer.is_refused or answer.is_proved):
             return self.not_compiled(answer, places)
         self.all_others_proved(answer, places)
@@ -56,7 +52,7 @@ class Trial:
         places = {it: place_of(self.folder, it) for it in places.values()}
         if len(places) < 2:
             return self.in_place
-        answer = self.prover.check(edited(self.folder, places), () if self.is_whole else [it.name for it in places.values()])
+        answer = self.prover.check(edited(self.folder, places), [it.name for it in places.values()])
         said = [it for it, place in places.items() if answer.is_refused and place.name in answer.functions]
         seconds = self.seconds() / len(places)
         shown = [it for it in said if self.is_shown(answer, it, places[it], seconds)]
@@ -73,7 +69,7 @@ class Trial:
         return self.try_copies() if self.copied else []
 
     def all_others_proved(self, answer, places):
-        """Every function that is no copy, and no closure of one, must be proved, or else nothing is shown by its copy."""
+        """Every function that is no copy, and no closure of one, must be proved, or else nothing is shown by what calls it."""
         names = {it.name for it in places.values()}
         if missing := names - {*answer.functions}:
             raise Unknown(f"a check says nothing of {sorted(missing)[0]}")
@@ -96,17 +92,14 @@ class Trial:
         return is_refused
 
     def alone(self, edit):
-        """Tries one edit in place; what is not refused is tried once more from nothing."""
+        """Tries one edit in place."""
         place = place_of(self.folder, edit)
-        only = [] if self.is_whole or not place else [place.name]
-        texts = edited(self.folder, [edit])
-        answer = self.prover.check(texts, only)
+        name = place.name if place else edit.refused
+        answer = self.prover.check(edited(self.folder, [edit]), [name])
         if edit.is_right:
             why = None if answer.is_proved else f"a right body, and refused: {answer.first()}"
         else:
-            why = flaw(answer, place)
-            if why and why.startswith("NOT REFUSED"):
-                why = flaw(self.prover.check(texts, only, from_nothing=True), place)
+            why = flaw(answer, place, name)
         if why:
             self.seconds()
             self.report.fails(edit, why)
@@ -114,16 +107,17 @@ class Trial:
             self.report.passes(edit, "a right body, and proved" if edit.is_right else "refused alone", self.seconds())
 
 
-def flaw(answer, place):
-    """Why this answer does not show that the edit of this function, or of none, is refused for its meaning, if it does not."""
+def flaw(answer, place, name):
+    """Why this answer does not show that the function of this name, which stands at this place or at none, is refused for the meaning
+    of the edit, if it does not."""
     if answer.is_proved:
-        return "NOT REFUSED: the crate is still proved with this edit"
+        return f"NOT REFUSED: {name} is still proved with this edit"
     if not answer.is_refused:
         return f"it does not compile, or did not reach the prover: {answer.first()}"
-    if place and place.name not in answer.functions:
-        return f"the prover says nothing of {place.name}"
-    if place and not answer.refuses(place.name):
-        return f"of the function that it changes the prover says only: {answer.functions[place.name][:200]}"
+    if name not in answer.functions:
+        return f"the prover says nothing of {name}"
+    if not answer.refuses(name):
+        return f"of {name} the prover says only: {answer.functions[name][:200]}"
     if answer.of_names_alone(place):
         return f"refused only for a name in a proof file: change a value and keep the names: {answer.first()}"
     return None
