@@ -1,7 +1,7 @@
 #!/usr/bin/env python3
-"""Prints the table of verdicts at the borders of a few sets of PMP entries, for crates/rv_pmp_tests/src/verdict_table.rt.
+"""Prints the table of verdicts at the borders of a few sets of PMP entries, for crates/rv_hart_tests/src/pmp_tests/verdict_table.rt.
 
-    tests/generators/pmp_verdicts.py > crates/rv_pmp_tests/src/verdict_table.rt && (cd crates/rv_pmp && rt fmt)
+    tests/generators/pmp_verdicts.py > crates/rv_hart_tests/src/pmp_tests/verdict_table.rt && (cd crates/rv_hart_tests && rt fmt)
 
 Each verdict is worked out byte by byte, in pmp_entries.py.
 """
@@ -53,8 +53,8 @@ def hexadecimal(number):
 def main():
     print("//! Verdicts at the borders of a few sets of entries, worked out byte by byte. Written by tests/generators/pmp_verdicts.py.")
     print()
-    print("use crate::tests::Expected::{Allowed, AllowedFree, Denied, DeniedFree, DeniedPartial};")
-    print("use crate::tests::Row;")
+    print("use super::Expected::{Allowed, AllowedFree, Denied, DeniedFree, DeniedPartial};")
+    print("use super::Row;")
     print("use rv_pmp::Access::{Fetch, Read, Write};")
     print("use rv_pmp::Mode::{M, S, U};")
     print("use rv_word::Width::{Byte, Half, Word};")

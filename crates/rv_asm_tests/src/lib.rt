@@ -1,7 +1,16 @@
-//! The tests of `rv_asm`, over its public calls alone. They stand in a crate of their own, so that the library is proved once.
+//! The tests of `rv_word`, `rv_encoding`, `rv_text`, `rv_script` and `rv_asm`, over their public calls alone. They stand in a crate of
+//! their own, so that no library is proved a second time for them.
 #![tactic(auto)]
 
 #[cfg(test)]
 mod assembler_tests;
 #[cfg(test)]
 mod disassembler_tests;
+#[cfg(test)]
+mod encoding_tests;
+#[cfg(test)]
+mod script_tests;
+#[cfg(test)]
+mod text_tests;
+#[cfg(test)]
+mod word_tests;

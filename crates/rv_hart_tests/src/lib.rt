@@ -1,5 +1,12 @@
-//! The tests of `rv_hart`, over its public calls alone. They stand in a crate of their own, so that the library is proved once.
+//! The tests of `rv_pmp`, `rv_memory`, `rv_state` and `rv_hart`, over their public calls alone. They stand in a crate of their own, so
+//! that no library is proved a second time for them.
 #![tactic(auto)]
 
 #[cfg(test)]
-mod tests;
+mod hart_tests;
+#[cfg(test)]
+mod memory_tests;
+#[cfg(test)]
+mod pmp_tests;
+#[cfg(test)]
+mod state_tests;

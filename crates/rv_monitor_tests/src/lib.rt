@@ -1,5 +1,8 @@
-//! The tests of `rv_monitor`, over its public calls alone. They stand in a crate of their own, so that the library is proved once.
+//! The tests of `rv_enclaves` and `rv_monitor`, over their public calls alone. They stand in a crate of their own, so that no library is
+//! proved a second time for them.
 #![tactic(auto)]
 
 #[cfg(test)]
-mod tests;
+mod enclaves_tests;
+#[cfg(test)]
+mod monitor_tests;

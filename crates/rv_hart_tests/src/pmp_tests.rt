@@ -1,13 +1,15 @@
 //! The numbers of the modes, verdicts at the borders of a few sets of entries, and the locks.
 
-use crate::verdict_table::{
+mod verdict_table;
+
+use rv_pmp::{Access, Mode, Pmp, PmpIndex, PmpRegister, Verdict};
+use rv_word::Width;
+use std::process::Abort;
+use verdict_table::{
     ALL_ONES, ALL_ONES_ENTRIES, LOCKED, LOCKED_ENTRIES, NA4_AT_BORDER, NA4_AT_BORDER_ENTRIES,
     NAPOT_IN_TOR, NAPOT_IN_TOR_ENTRIES, OVERLAPPING_TORS, OVERLAPPING_TORS_ENTRIES, PAST_THE_TOP,
     PAST_THE_TOP_ENTRIES, SIDE_BY_SIDE, SIDE_BY_SIDE_ENTRIES, SIXTEEN_APART, SIXTEEN_APART_ENTRIES,
 };
-use rv_pmp::{Access, Mode, Pmp, PmpIndex, PmpRegister, Verdict};
-use rv_word::Width;
-use std::process::Abort;
 
 /// An access, and the verdict on it.
 pub(crate) type Row = (Mode, Access, u32, Width, Expected);

@@ -1,7 +1,7 @@
 //! Verdicts at the borders of a few sets of entries, worked out byte by byte. Written by tests/generators/pmp_verdicts.py.
 
-use crate::tests::Expected::{Allowed, AllowedFree, Denied, DeniedFree, DeniedPartial};
-use crate::tests::Row;
+use super::Expected::{Allowed, AllowedFree, Denied, DeniedFree, DeniedPartial};
+use super::Row;
 use rv_pmp::Access::{Fetch, Read, Write};
 use rv_pmp::Mode::{M, S, U};
 use rv_word::Width::{Byte, Half, Word};
