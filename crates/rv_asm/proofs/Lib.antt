@@ -1,6 +1,5 @@
 mod DenotesLemmas
 mod Found
-mod HexTexts
 mod LabelLemmas
 mod LookLemmas
 mod Looked
@@ -12,7 +11,5 @@ mod ReadMnemonics
 mod ReadNumbers
 mod ReadOperands
 mod RoundTrip
-mod ShortNames
-mod SpellingExamples
 mod WordCounts
 mod WordLemmas

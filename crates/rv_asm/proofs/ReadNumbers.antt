@@ -14,9 +14,9 @@ use Rattle.rv_text.specs.Digits.{hex_digits}
 use Rattle.rv_asm.specs.Numbers.{plus, minus, decimal_digits, written_number}
 use Rattle.rv_text.specs.Numbers.{number_of_digits}
 use Rattle.rv_asm.specs.OperandRanges.{immediate_of, upper_immediate_of, five_bits_of, csr_number_of, branch_offset_of, jump_offset_of, word_of_number}
-use Rattle.rv_asm.specs.Spelling.{signed_text, hex_text}
+use Rattle.rv_disassembler.specs.Spelling.{signed_text, hex_text}
 use Rattle.rv_text.proofs.HexDigits.{length-hex_digits, AllDigits-hex_digits, digits_value-hex_digits}
-use Rattle.rv_asm.proofs.HexTexts.{one_digit, two_digits, three_digits, four_digits, five_digits}
+use Rattle.rv_disassembler.proofs.HexTexts.{one_digit, two_digits, three_digits, four_digits, five_digits}
 
 -- ---- digits
 

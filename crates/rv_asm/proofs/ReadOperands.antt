@@ -20,9 +20,9 @@ use Rattle.rv_asm.specs.RegisterNames.{registers}
 use Rattle.rv_asm.specs.Operands.{register_at, number_at, csr_at, base_of, address_of, address_at, target_at, fence_set_at, opening}
 use Rattle.rv_asm.specs.declared.operand.Target.TheVariants.{Offset}
 use Rattle.rv_asm.specs.Numbers.{plus, written_number}
-use Rattle.rv_asm.specs.Spelling.{register_text, hex_text, csr_text, signed_text, address_text, accesses_text}
+use Rattle.rv_disassembler.specs.Spelling.{register_text, hex_text, csr_text, signed_text, address_text, accesses_text}
 use Rattle.rv_text.proofs.HexDigits.{length-hex_digits}
-use Rattle.rv_asm.proofs.HexTexts.{one_digit, two_digits, three_digits, four_digits, five_digits}
+use Rattle.rv_disassembler.proofs.HexTexts.{one_digit, two_digits, three_digits, four_digits, five_digits}
 use Rattle.rv_asm.proofs.Plain.{is_plain, is_piece, IsPiece, IsPiece-from_test}
 use Rattle.rv_asm.proofs.ReadNumbers.{digit_between, signed_number, written-signed, written-hex, written-hex_text, written-decimal}
 

@@ -1,13 +1,15 @@
 -- What the disassembler writes of a word assembles to that word.
 use Rattle.std.proofs.Common.{◌≡◌, ℕ, ◌*◌, ◌/◌, ◌^◌, ◌<◌, ◌≤◌, Bool, true, false, List, [], ◌∷◌, ◌++◌, length, Some}
 use Rattle.std.proofs.Common.{None, Ok, refl, ap, ◌∙◌, arith, decimal, append_assoc, length-append}
-use Rattle.std.specs.Prelude.{◌==◌, ◌&&◌, ◌||◌, codes}
+use Rattle.std.specs.Prelude.{◌==◌, ◌&&◌, ◌||◌, codes, Option, IfSome, if◌then◌else◌}
 use Rattle.std.specs.List.{list_all, flat_map}
 use Rattle.std.proofs.lemmas.Bool.{and_parts, and_from}
 use Rattle.std.proofs.lemmas.Bool.Decides.{nat_tests}
 use Rattle.std.proofs.lemmas.List.Folds.{list_all-append}
+use Rattle.rv_word.specs.Cases.{option_case}
 use Rattle.rv_encoding.specs.Listing.{name_of}
-use Rattle.rv_encoding.specs.Rows.{word_of, IsInstr}
+use Rattle.rv_encoding.specs.Decoding.{decoded}
+use Rattle.rv_encoding.specs.Rows.{word_of, IsInstr, Spells}
 use Rattle.rv_encoding.specs.declared.kind.BranchKind.{BranchKind}
 use Rattle.rv_encoding.specs.declared.kind.LoadKind.{LoadKind}
 use Rattle.rv_encoding.specs.declared.kind.StoreKind.{StoreKind}
@@ -26,8 +28,8 @@ use Rattle.rv_text.specs.GoodLines.{is_text}
 use Rattle.rv_asm.specs.Mnemonics.{mnemonics}
 use Rattle.rv_asm.specs.Program.{assembled}
 use Rattle.rv_asm.specs.Statements.{statement_at, statement_of}
-use Rattle.rv_asm.specs.Spelling.{register_text, hex_text, csr_text, signed_text, address_text, accesses_text}
-use Rattle.rv_asm.specs.Spelling.{line_text, instr_text, word_text, is_told_by_operands}
+use Rattle.rv_disassembler.specs.Spelling.{register_text, hex_text, csr_text, signed_text, address_text, accesses_text}
+use Rattle.rv_disassembler.specs.Spelling.{line_text, instr_text, word_text, spelling, is_told_by_operands}
 use Rattle.rv_asm.specs.declared.mnemonic.Mnemonic.TheVariants as mnemonic
 use Rattle.rv_asm.specs.declared.statement.Statement.{Statement}
 use Rattle.rv_asm.specs.declared.statement.Statement.TheVariants.{Instruction, Word}
@@ -330,3 +332,19 @@ assembled-word_text word small =
     (word-statement ((codes "0x" ++ hex_digits 8 word) ++ []) ∙ cut ∙ read) in
     ap assembled (line_text-is (codes ".word") (codes "0x" ++ hex_digits 8 word) [])
     ∙ assembled-word (codes ".word" ++ spaced (codes "0x" ++ hex_digits 8 word) []) word line.one line.says
+
+-- ---- whatever a word is spelled
+
+assembled-told : (word : ℕ) (i : Instr) (told : Bool) → is_told_by_operands i ≡ told → word < 2 ^ 32 → Spells word i
+    → assembled (if told then instr_text i else word_text word) ≡ Ok (word ∷ [])
+assembled-told word i true is small spells = assembled-instr_text i spells.0 is ∙ ap (λ w. Ok (w ∷ [])) spells.1
+assembled-told word i false is small spells = assembled-word_text word small
+
+assembled-found : (word : ℕ) (found : Option Instr) → word < 2 ^ 32 → IfSome found (Spells word)
+    → assembled (option_case found (word_text word) (λ i. if is_told_by_operands i then instr_text i else word_text word)) ≡ Ok (word ∷ [])
+assembled-found word None small spells = assembled-word_text word small
+assembled-found word (Some i) small spells = assembled-told word i (is_told_by_operands i) refl small spells
+
+pub assembled_spelling : (word : ℕ) → word < 2 ^ 32 → IfSome (decoded word) (Spells word) → assembled (spelling word) ≡ Ok (word ∷ [])
+unfolding spelling
+assembled_spelling word small spells = assembled-found word (decoded word) small spells

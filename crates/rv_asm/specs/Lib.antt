@@ -12,6 +12,5 @@ pub mod OperandRanges
 pub mod Operands
 pub mod Program
 pub mod RegisterNames
-pub mod Spelling
 pub mod Statements
 pub mod Tables

@@ -17,7 +17,6 @@ mod disassembler;
 mod fault;
 mod first_look;
 mod format;
-mod hexadecimal;
 mod line;
 mod mnemonic;
 mod name;

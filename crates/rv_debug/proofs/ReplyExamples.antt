@@ -16,7 +16,7 @@ use Rattle.rv_pmp.specs.declared.access.Access.TheVariants.{Fetch, Read, Write}
 use Rattle.rv_pmp.specs.declared.verdict.Verdict.TheVariants.{Allowed, AllowedFree, Denied, DeniedPartial, DeniedFree}
 use Rattle.rv_word.specs.declared.width.Width.TheVariants.{Byte, Half, Word}
 use Rattle.rv_text.specs.Digits.{hex_digits}
-use Rattle.rv_asm.specs.Spelling.{spelling, instr_text, line_text, word_text}
+use Rattle.rv_disassembler.specs.Spelling.{spelling, instr_text, line_text, word_text}
 use Rattle.rv_word.specs.Logic.{by_bits}
 use Rattle.rv_encoding.specs.Decoding.{decoded}
 use Rattle.rv_pmp.specs.declared.mode.Mode.TheVariants.{U, S, M}

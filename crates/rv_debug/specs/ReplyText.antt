@@ -11,7 +11,7 @@ use Rattle.rv_state.specs.Causes.{cause_code}
 use Rattle.rv_state.specs.Registers.{register}
 use Rattle.rv_hart.specs.declared.trap.Trap.{Trap}
 use Rattle.rv_text.specs.Digits.{hex2, hex3, hex8}
-use Rattle.rv_asm.specs.Spelling.{spelling}
+use Rattle.rv_disassembler.specs.Spelling.{spelling}
 use Rattle.rv_script.specs.declared.command.CommandFault.{CommandFault}
 use Rattle.rv_script.specs.declared.command.CommandFault.TheVariants.{BadLine, UnknownCommand, BadOperand}
 use Rattle.rv_debug.specs.declared.scheduled.HartRan.{HartRan}

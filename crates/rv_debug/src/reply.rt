@@ -10,7 +10,7 @@ use crate::scheduled::HartRan;
 use crate::steps::{Ran, Stop};
 use crate::target::Target;
 use arrayvec::ArrayString;
-use rv_asm::disassemble;
+use rv_disassembler::disassemble;
 use rv_encoding::CsrNumber;
 use rv_hart::Trap;
 use rv_monitor::World;

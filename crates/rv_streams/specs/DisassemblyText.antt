@@ -3,7 +3,7 @@ use Rattle.std.specs.Prelude.{ℕ, ◌/◌, ◌%◌, ◌==◌, List, length, ◌
 use Rattle.std.specs.Simd.{first_chunks}
 use Rattle.rv_word.specs.ByteOrder.{word_of_bytes}
 use Rattle.rv_word.specs.Cases.{result_case}
-use Rattle.rv_asm.specs.Spelling.{spelling}
+use Rattle.rv_disassembler.specs.Spelling.{spelling}
 use Rattle.rv_text.specs.Digits.{hex8}
 use Rattle.rv_streams.specs.Image.{image_in}
 use Rattle.rv_streams.specs.declared.fault.BenchFault.{BenchFault}

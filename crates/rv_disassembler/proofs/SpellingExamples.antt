@@ -5,7 +5,7 @@ use Rattle.std.specs.Fmt.{digits}
 use Rattle.rv_word.specs.Logic.{by_bits}
 use Rattle.rv_encoding.specs.Decoding.{decoded}
 use Rattle.rv_text.specs.Digits.{hex_digits}
-use Rattle.rv_asm.specs.Spelling.{spelling, instr_text, line_text, word_text}
+use Rattle.rv_disassembler.specs.Spelling.{spelling, instr_text, line_text, word_text}
 
 abbrev examples : List (ℕ × List ℕ)
 examples =

@@ -2,7 +2,7 @@
 
 ghost use Rattle.std.specs.Prelude.{◌≡◌, ℕ, ◌+◌, ◌^◌, ◌<◌, ◌≤◌, ◌++◌, length, decimal};
 ghost use Rattle.arrayvec.specs.ArrayString.{array_string_len};
-ghost use Rattle.rv_asm.specs.Spelling.{register_text, hex_text, csr_text, signed_text, address_text, letter_text, accesses_text};
+ghost use Rattle.rv_disassembler.specs.Spelling.{register_text, hex_text, csr_text, signed_text, address_text, letter_text, accesses_text};
 
 use crate::hexadecimal::digit_count;
 use arrayvec::ArrayString;

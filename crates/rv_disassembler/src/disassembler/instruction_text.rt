@@ -2,7 +2,7 @@
 
 ghost use Rattle.std.specs.Prelude.{◌≡◌, ℕ, ◌+◌, ◌/◌, ◌^◌, ◌<◌, ◌≤◌, [], ◌∷◌, ◌++◌, length, codes, decimal};
 ghost use Rattle.arrayvec.specs.ArrayString.{array_string_len};
-ghost use Rattle.rv_asm.specs.Spelling.{register_text, hex_text, csr_text, signed_text, address_text, accesses_text, line_text};
+ghost use Rattle.rv_disassembler.specs.Spelling.{register_text, hex_text, csr_text, signed_text, address_text, accesses_text, line_text};
 
 use super::operand::{
     Line, push_accesses, push_address, push_csr, push_decimal, push_hex, push_register, push_signed,

@@ -1,0 +1,3 @@
+pub mod HexTexts
+mod ShortNames
+mod SpellingExamples
