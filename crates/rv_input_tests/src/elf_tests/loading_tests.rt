@@ -1,6 +1,6 @@
 //! What is in RAM after an image was loaded, or refused: the bytes of its segments, zeros behind them, and all others as before.
 
-use crate::files::{ProgramHeader, expect_number, file_of, segment};
+use super::files::{ProgramHeader, expect_number, file_of, segment};
 use rv_elf::{ElfFault, load, plan, plan_raw};
 use rv_memory::{RAM_BASE, Ram};
 use std::alloc::Global;

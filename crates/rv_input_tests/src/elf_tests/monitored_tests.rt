@@ -1,7 +1,7 @@
 //! What is planned with a monitor: no image may meet its range, 80000000 to 8000FFFF. Each case is also asked without one.
 
-use crate::company::FILE;
-use crate::files::{
+use super::company::FILE;
+use super::files::{
     expect_number, expect_plan, expect_raw_fault, expect_raw_plan, file_of, segment,
 };
 use rv_elf::{ElfFault, load, plan, plan_raw};

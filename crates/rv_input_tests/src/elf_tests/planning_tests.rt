@@ -1,7 +1,7 @@
 //! What is planned without a monitor, and each fault: alone, at its borders, and in company of others.
 
-use crate::company::{COMPANY, FILE};
-use crate::files::{
+use super::company::{COMPANY, FILE};
+use super::files::{
     changed, expect_number, expect_plan, expect_raw_fault, expect_raw_plan, file_of, segment,
 };
 use rv_elf::{ElfFault, Segment, is_elf, plan};

@@ -1,5 +1,0 @@
-//! The tests of `rv_command_line`, over its public calls alone. They stand in a crate of their own, so that the library is proved once.
-#![tactic(auto)]
-
-#[cfg(test)]
-mod tests;
