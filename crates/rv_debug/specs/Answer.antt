@@ -1,5 +1,5 @@
 -- The answers to commands: the state of the bench that one leaves, and the text of its reply. (This project's own commands.)
-use Rattle.std.specs.Prelude.{ℕ, List, [], ◌++◌, ◌==◌, nat_lt, Option, Result, Ok, Err, if◌then◌else◌}
+use Rattle.std.specs.Prelude.{ℕ, Bool, true, false, List, [], ◌++◌, ◌==◌, nat_lt, Option, Result, Ok, Err, if◌then◌else◌}
 use Rattle.rv_word.specs.Cases.{option_case, result_case}
 use Rattle.rv_word.specs.Widths.{bytes_in}
 use Rattle.rv_word.specs.declared.width.Width.{Width}
@@ -120,6 +120,18 @@ reply_to bench (Hart hart) = hart_reply bench.target hart
 reply_to bench (Sched schedule) = sched_reply bench.target (harts_in schedule)
 
 -- ---- an answer
+
+-- whether a command only shows something
+abbrev pub only_shows : Command → Bool
+only_shows (Reg number) = true
+only_shows Regs = true
+only_shows (Csr number) = true
+only_shows (Mem address count) = true
+only_shows (Dis address) = true
+only_shows Pmp = true
+only_shows Enclaves = true
+only_shows (Access mode access address width) = true
+only_shows _ = false
 
 -- a state, the text of a reply, and the slots of the enclaves that were entered: bit k is set for slot k
 pub record Answered : Type 0 where

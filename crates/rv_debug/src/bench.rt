@@ -37,7 +37,8 @@ impl Model for Bench {
 
 impl Bench {
     ghost use Rattle.std.specs.Prelude.{◌≡◌, ℕ, true, false, List, [], take};
-    ghost use Rattle.rv_debug.specs.Answer.{answer, line_answer};
+    ghost use Rattle.arrayvec.specs.ArrayVec.{array_vec_len};
+    ghost use Rattle.rv_debug.specs.Answer.{answer, line_answer, only_shows};
     ghost use Rattle.rv_debug.specs.BenchState.{bare, monitored};
     ghost use Rattle.rv_debug.specs.Isolation.{TellsReach, ChangesMemory, SparesResting, SparesOther};
     ghost use Rattle.rv_debug.specs.Returns.{IsStoredIn};
@@ -140,12 +141,28 @@ impl Bench {
             Command::Clear(address) => answer_removal(&mut self.breaks, address, out),
             Command::Watch(address) => push_set(out, self.watches.insert(address)),
             Command::Unwatch(address) => answer_removal(&mut self.watches, address, out),
+            Command::SetReg(reg, value) => answer_setreg(&mut self.target, reg, value, out),
+            Command::Poke(address, byte) => answer_poke(&mut self.target, address, byte, out),
+            Command::Timer(raised) => answer_timer(&mut self.target, raised, out),
+            Command::Hart(hart) => answer_hart(&mut self.target, hart, out),
+            Command::Sched(schedule) => return answer_sched(&mut self.target, &schedule, out),
+            _ => self.show(command, out),
+        }
+        0
+    }
+
+    /// Replies to a command that only shows something. Nothing changes.
+    #[tactic(auto, unfolding(crate::specs::Answer::answer))]
+    fn show(&self, command: &Command, out: &mut Reply)
+        requires kind { only_shows command.now ≡ true }
+        requires empty { array_vec_len out.old ≡ 0 }
+        ensures { answer self.now command.now ≡ record { state = self.now; reply = out.new.items; entered = 0 } }
+    {
+        match *command {
             Command::Reg(reg) => push_register(out, reg, self.target.regs().get(reg)),
             Command::Regs => push_registers(out, self.target.regs(), self.target.pc()),
-            Command::SetReg(reg, value) => answer_setreg(&mut self.target, reg, value, out),
             Command::Csr(csr) => answer_csr(&self.target, csr, out),
             Command::Mem(address, count) => answer_mem(&self.target, address, count, out),
-            Command::Poke(address, byte) => answer_poke(&mut self.target, address, byte, out),
             Command::Dis(address) => answer_dis(&self.target, address, out),
             Command::Pmp => push_pmp(out, self.target.csrs().pmp()),
             Command::Enclaves => push_enclaves(out, &self.target),
@@ -155,11 +172,8 @@ impl Bench {
                 address,
                 width,
             } => answer_access(&self.target, mode, access, address, width, out),
-            Command::Timer(raised) => answer_timer(&mut self.target, raised, out),
-            Command::Hart(hart) => answer_hart(&mut self.target, hart, out),
-            Command::Sched(schedule) => return answer_sched(&mut self.target, &schedule, out),
+            _ => {}
         }
-        0
     }
 
     /// Complements each byte of the region of a slot (b becomes 255 - b), and x1 to x31 of the context that is kept of its enclave (w
