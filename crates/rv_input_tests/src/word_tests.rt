@@ -4,6 +4,12 @@ use rv_word::{
     Width, and, and_not, bits, div, divu, le_bytes, le_word, mulh, mulhsu, mulhu, or, rem, remu,
     sext, signed, sll, sra, srl, xor,
 };
+use std::process::Abort;
+
+/// A word that was computed. The assertion stands here alone: in each test it would make its proof long.
+fn expect(rt: &impl Abort, found: u32, want: u32) {
+    assert_eq!(rt; found, want);
+}
 
 /// By zero, and the one quotient that fits no word (Unprivileged ISA, table 7.1); and the signs.
 #[test]
@@ -14,50 +20,46 @@ fn divides(rt: HostRuntime) {
         (0xffff_fff9, 2, 0xffff_fffd, 0xffff_ffff),
         (7, 0xffff_fffe, 0xffff_fffd, 1),
     ] {
-        assert_eq!(rt; div(dividend, divisor), quotient, "{dividend} by {divisor}");
-        assert_eq!(rt;
-            rem(dividend, divisor),
-            remainder,
-            "{dividend} by {divisor}"
-        );
+        expect(&rt, div(dividend, divisor), quotient);
+        expect(&rt, rem(dividend, divisor), remainder);
     }
-    assert_eq!(rt; divu(7, 0), 0xffff_ffff);
-    assert_eq!(rt; remu(7, 0), 7);
-    assert_eq!(rt; divu(0x8000_0000, 0xffff_ffff), 0);
-    assert_eq!(rt; remu(0x8000_0000, 0xffff_ffff), 0x8000_0000);
+    expect(&rt, divu(7, 0), 0xffff_ffff);
+    expect(&rt, remu(7, 0), 7);
+    expect(&rt, divu(0x8000_0000, 0xffff_ffff), 0);
+    expect(&rt, remu(0x8000_0000, 0xffff_ffff), 0x8000_0000);
 }
 
 #[test]
 fn multiplies(rt: HostRuntime) {
-    assert_eq!(rt; mulh(0xffff_ffff, 0xffff_ffff), 0);
-    assert_eq!(rt; mulhsu(0xffff_ffff, 0xffff_ffff), 0xffff_ffff);
-    assert_eq!(rt; mulhu(0xffff_ffff, 0xffff_ffff), 0xffff_fffe);
-    assert_eq!(rt; mulh(0x8000_0000, 0x8000_0000), 0x4000_0000);
+    expect(&rt, mulh(0xffff_ffff, 0xffff_ffff), 0);
+    expect(&rt, mulhsu(0xffff_ffff, 0xffff_ffff), 0xffff_ffff);
+    expect(&rt, mulhu(0xffff_ffff, 0xffff_ffff), 0xffff_fffe);
+    expect(&rt, mulh(0x8000_0000, 0x8000_0000), 0x4000_0000);
 }
 
 #[test]
 fn takes_words_apart(rt: HostRuntime) {
-    assert_eq!(rt; le_word(&[0x93, 0x80, 0xf0, 0xff]), 0xfff0_8093);
     assert_eq!(rt; le_bytes(0xfff0_8093), [0x93, 0x80, 0xf0, 0xff]);
-    assert_eq!(rt; bits(0xfff0_8093, 31, 20), 0xfff);
-    assert_eq!(rt; sext(0xfff, 12), 0xffff_ffff);
-    assert_eq!(rt; sext(0x7ff, 12), 0x7ff);
+    expect(&rt, le_word(&[0x93, 0x80, 0xf0, 0xff]), 0xfff0_8093);
+    expect(&rt, bits(0xfff0_8093, 31, 20), 0xfff);
+    expect(&rt, sext(0xfff, 12), 0xffff_ffff);
+    expect(&rt, sext(0x7ff, 12), 0x7ff);
 }
 
 #[test]
 fn goes_bit_by_bit(rt: HostRuntime) {
-    assert_eq!(rt; and(0b1100, 0b1010), 0b1000);
-    assert_eq!(rt; or(0b1100, 0b1010), 0b1110);
-    assert_eq!(rt; xor(0b1100, 0b1010), 0b0110);
-    assert_eq!(rt; and_not(0b1100, 0b1010), 0b0100);
+    expect(&rt, and(0b1100, 0b1010), 0b1000);
+    expect(&rt, or(0b1100, 0b1010), 0b1110);
+    expect(&rt, xor(0b1100, 0b1010), 0b0110);
+    expect(&rt, and_not(0b1100, 0b1010), 0b0100);
 }
 
 #[test]
 fn shifts(rt: HostRuntime) {
-    assert_eq!(rt; sll(0x8000_0001, 1), 2);
-    assert_eq!(rt; srl(0x8000_0001, 31), 1);
-    assert_eq!(rt; sra(0x8000_0001, 31), 0xffff_ffff);
-    assert_eq!(rt; sra(0x7fff_ffff, 30), 1);
+    expect(&rt, sll(0x8000_0001, 1), 2);
+    expect(&rt, srl(0x8000_0001, 31), 1);
+    expect(&rt, sra(0x8000_0001, 31), 0xffff_ffff);
+    expect(&rt, sra(0x7fff_ffff, 30), 1);
     assert_eq!(rt; signed(0xffff_fffe), -2);
     assert_eq!(rt; Width::Half.bytes(), 2);
 }
