@@ -50,3 +50,18 @@ part_of twin_examples/destroy_clears stdin "$scratch/in"
 expect "twin to a full device" 1 $? "$scratch/wanted" "$scratch/out"
 "$program" twin < "$scratch/in" >&- 2> "$scratch/out"
 expect "twin to an output that is closed" 1 $? "$scratch/wanted" "$scratch/out"
+
+# Help that cannot be written has a status of its own; the lines that tell a fault or refused words change none.
+: > "$scratch/wanted"
+for words in --help 'run --help' help; do
+  # shellcheck disable=SC2086 # several words
+  "$program" $words < /dev/null > /dev/full 2> "$scratch/out"
+  expect "$words to a full device" 1 $? "$scratch/wanted" "$scratch/out"
+  # shellcheck disable=SC2086
+  "$program" $words < /dev/null >&- 2> "$scratch/out"
+  expect "$words to an output that is closed" 1 $? "$scratch/wanted" "$scratch/out"
+done
+"$program" walk < /dev/null > /dev/full 2> "$scratch/out"
+expect "refused words to a full device" 2 $? "$scratch/wanted" "$scratch/out"
+printf '0\n' | "$program" > /dev/full 2> "$scratch/out"
+expect "the line of a fault to a full device" 1 $? "$scratch/wanted" "$scratch/out"

@@ -132,3 +132,15 @@ pub own_fault-long : (before : List Reading) (line : Line) (words : ℕ) → wor
     → own_fault before (Ok line) ≡ Some TooLong
 own_fault-long before line words is many =
     let over : nat_lt 65536 (words_in before + line_size (Ok line)) ≡ true = grind (arith, nat_tests) in rw over refl
+
+-- a line whose label has not stood before
+not_repeated : (look : FirstLook) (before : List Reading) (label : Option (List ℕ)) → HasRead look before
+    → option_case label false (λ name. is_some (places_of look.labels name)) ≡ false → repeated_name before label ≡ None
+not_repeated look before None has absent = refl
+not_repeated look before (Some name) has absent =
+    let new : is_some (place_in before name) ≡ false = sym (ap (λ (places : List ℕ → Option ℕ). is_some (places name)) has.labels) ∙ absent in
+    rw new refl
+
+pub label_fault-none : (look : FirstLook) (before : List Reading) (line : Line) → HasRead look before
+    → option_case line.label false (λ name. is_some (places_of look.labels name)) ≡ false → label_fault before (Ok line) ≡ None
+label_fault-none look before line has absent = not_repeated look before line.label has absent

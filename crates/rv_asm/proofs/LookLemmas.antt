@@ -1,9 +1,9 @@
 -- The first look, line after line.
-use Rattle.std.proofs.Common.{◌≡◌, ◌∙◌, refl, sym, ap, ap₂, ℕ, ◌+◌, ◌-◌, ◌≤◌, List, [], ◌∷◌, ◌++◌, length, length-append}
-use Rattle.std.proofs.Common.{take, Some, None, append_assoc, append-nil, map, arith}
-use Rattle.std.proofs.Math.Seq.{take-append_seam}
+use Rattle.std.proofs.Common.{◌≡◌, ◌⊎◌, inl, inr, ◌∙◌, refl, sym, ap, ℕ, ◌+◌, ◌≤◌, List, [], ◌∷◌, ◌++◌, length, length-append}
+use Rattle.std.proofs.Common.{Some, None, append_assoc, append-nil, map, arith}
 use Rattle.rv_asm.specs.LineReading.{line_at}
 use Rattle.rv_text.specs.Lines.{lines_of}
+use Rattle.rv_asm.specs.Lacking.{FailsAt, LacksForLabel}
 use Rattle.rv_asm.specs.Looks.{HasRead}
 use Rattle.rv_asm.specs.Program.{Reading, readings, own_fault, first_fault}
 use Rattle.rv_asm.specs.declared.first_look.FirstLook.{FirstLook}
@@ -43,12 +43,20 @@ faults_at look text rest after line fault has is at own =
     has.sound ∙ ap (λ lines. first_fault own_fault has.before (map line_at lines)) is
     ∙ fault_here own_fault has.before (readings after) (line_at line) fault.kind own ∙ ap (λ n. Some (record { line = n; kind = fault.kind })) (sym at)
 
-pub none_before : (look : FirstLook) (text rest : List ℕ) (fault : AsmFault) → (has : HasReadUpTo look text rest)
-    → fault.line ≡ length has.before + 1 → first_fault own_fault [] (take (fault.line - 1) (readings text)) ≡ None
-none_before look text rest fault has at =
-    let number : fault.line - 1 ≡ length has.before = omega (arith, at) in
-    ap (first_fault own_fault [])
-    (ap₂ (λ (n : ℕ) (lines : List Reading). take n lines) number has.split ∙ take-append_seam has.before (readings rest)) ∙ has.none
+-- the fault at the next line is that of the text, or memory was refused for its label
+pub fails_on : (look : FirstLook) (text rest after line : List ℕ) (fault : AsmFault) → (has : HasReadUpTo look text rest)
+    → lines_of rest ≡ line ∷ lines_of after → fault.line ≡ look.lines + 1 → FailsAt has.before (line_at line) fault.kind
+    → (first_fault own_fault [] (readings text) ≡ Some fault) ⊎ LacksForLabel (readings text) fault
+fails_on look text rest after line fault has is at (inl own) = inl (faults_at look text rest after line fault has is (at ∙ ap (λ n. n + 1) has.read.count) own)
+fails_on look text rest after line fault has is at (inr lacks) = inr (record {
+  before = has.before;
+  line = line_at line;
+  after = readings after;
+  split = has.split ∙ ap (λ lines. has.before ++ map line_at lines) is;
+  number = at ∙ ap (λ n. n + 1) has.read.count;
+  none = has.none;
+  here = lacks;
+})
 
 pub is_line_of : (look : FirstLook) (text rest after line : List ℕ) → (has : HasReadUpTo look text rest) → lines_of rest ≡ line ∷ lines_of after
     → length has.before + 1 ≤ length (readings text)

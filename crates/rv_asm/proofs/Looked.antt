@@ -1,9 +1,10 @@
 -- What both looks at a text have found.
-use Rattle.std.proofs.Common.{◌≡◌, ◌∙◌, sym, ap, ℕ, ◌+◌, ◌≤◌, List, [], ◌∷◌, ◌++◌, length, length-append, Option, Some, None}
-use Rattle.std.proofs.Common.{Result, Ok, Err, IfOk, IfErr, Vec, option_map, arith, refl, take, drop, ◌-◌}
-use Rattle.std.proofs.lemmas.List.{length-map, take-append-drop}
+use Rattle.std.proofs.Common.{◌≡◌, ◌⊎◌, inl, inr, ◌∙◌, sym, ap, ℕ, ◌+◌, ◌≤◌, List, [], ◌∷◌, ◌++◌, length, length-append, Option, Some, None}
+use Rattle.std.proofs.Common.{Result, Ok, Err, IfOk, IfErr, Vec, option_map, arith, refl, take}
+use Rattle.std.proofs.lemmas.List.{length-map}
 use Rattle.rv_word.specs.Cases.{option_case}
 use Rattle.rv_asm.specs.LabelMap.{places_of}
+use Rattle.rv_asm.specs.Lacking.{FailsFor, LacksForLabel}
 use Rattle.rv_asm.specs.LineReading.{line_at}
 use Rattle.rv_text.specs.Lines.{lines_of}
 use Rattle.rv_asm.specs.Looks.{HasRead, label_twice}
@@ -11,6 +12,7 @@ use Rattle.rv_asm.specs.Program.{Reading, readings, own_fault, label_fault, name
 use Rattle.rv_asm.specs.declared.first_look.FirstLook.{FirstLook}
 use Rattle.rv_asm.specs.declared.fault.AsmFault.{AsmFault}
 use Rattle.rv_asm.specs.declared.fault.AsmFaultKind.{AsmFaultKind}
+use Rattle.rv_asm.specs.declared.fault.AsmFaultKind.TheVariants.{NoMemory}
 use Rattle.rv_asm.proofs.LabelLemmas.{fault_after}
 
 pub length-readings : (text : List ℕ) → length (readings text) ≡ length (lines_of text)
@@ -39,29 +41,6 @@ fault_line fault before (line ∷ lines) found is =
     later_or_here (length before) (length lines) (length (before ++ line ∷ [])) (fault before line)
     (first_fault fault (before ++ line ∷ []) lines) found (length-append before (line ∷ [])) (fault_line fault (before ++ line ∷ []) lines found) is in
     (bounds.0, omega (arith, bounds.1))
-
--- where no line has a fault, none of the first has
-none_within : (o : Option AsmFaultKind) (f : AsmFaultKind → AsmFault) (rest : Option AsmFault) → option_case o rest (λ kind. Some (f kind)) ≡ None
-    → (o ≡ None) × (rest ≡ None)
-none_within None f rest is = (refl, is)
-none_within (Some kind) f rest is = cc
-
-none_in_front : (fault : List Reading → Reading → Option AsmFaultKind) (before lines others : List Reading)
-    → first_fault fault before (lines ++ others) ≡ None → first_fault fault before lines ≡ None
-none_in_front fault before [] others is = refl
-none_in_front fault before (line ∷ lines) others is =
-    let none = none_within (fault before line) (fault_after (length before)) (first_fault fault (before ++ line ∷ []) (lines ++ others)) is in
-    rw none.0 (none_in_front fault (before ++ line ∷ []) lines others none.1)
-
-pub none_of_first : (text : List ℕ) (count : ℕ) → first_fault own_fault [] (readings text) ≡ None → first_fault own_fault [] (take count (readings text)) ≡ None
-none_of_first text count is =
-    none_in_front own_fault [] (take count (readings text)) (drop count (readings text))
-    (ap (first_fault own_fault []) (take-append-drop count (readings text)) ∙ is)
-
-pub none_of_first_if : {A : Type 0} (text : List ℕ) (r : Result A AsmFault) → first_fault own_fault [] (readings text) ≡ None
-    → IfErr r (λ fault. first_fault own_fault [] (take (fault.line - 1) (readings text)) ≡ None)
-none_of_first_if text (Ok words) is = tt
-none_of_first_if text (Err fault) is = none_of_first text (fault.line - 1) is
 
 -- a fault of its own
 pub own_decides : (text : List ℕ) (fault : AsmFault) → first_fault own_fault [] (readings text) ≡ Some fault → assembled text ≡ Err fault
@@ -112,3 +91,23 @@ pub words_decide_if : {Z : Type 0} (text : List ℕ) (look : FirstLook) (r : Res
     × (first_fault (name_fault (places_of look.labels)) [] (readings text) ≡ None)) → IfOk r (λ words. assembled text ≡ Ok words.items)
 words_decide_if text look (Ok words) has none once found = words_decide text look words.items has none once found.1 found.0
 words_decide_if text look (Err fault) has none once found = tt
+
+-- the first look fails for a fault of a line's own, or for memory
+pub own_fails : (text : List ℕ) (fault : AsmFault) → (first_fault own_fault [] (readings text) ≡ Some fault) ⊎ LacksForLabel (readings text) fault
+    → FailsFor text fault
+own_fails text fault (inl own) = inl (own_decides text fault own)
+own_fails text fault (inr lacks) = inr (inl lacks)
+
+-- the second for a name, or for memory
+pub name_fails_if : {A : Type 0} (text : List ℕ) (look : FirstLook) (r : Result A AsmFault) → HasRead look (readings text)
+    → first_fault own_fault [] (readings text) ≡ None → look.repeated ≡ None
+    → IfErr r (λ fault. (first_fault (name_fault (places_of look.labels)) [] (readings text) ≡ Some fault)
+    ⊎ ((fault.kind ≡ NoMemory) × (first_fault (name_fault (places_of look.labels)) [] (take fault.line (readings text)) ≡ None))) → IfErr r (FailsFor text)
+name_fails_if text look (Ok words) has none once found = tt
+name_fails_if text look (Err fault) has none once (inl named) = inl (name_decides text look fault has none once named)
+name_fails_if text look (Err fault) has none once (inr lacks) = inr (inr (record {
+  memory = lacks.0;
+  own = none;
+  labels = not_twice text look has once;
+  names = ap (λ labels. first_fault (name_fault labels) [] (take fault.line (readings text))) (sym has.labels) ∙ lacks.1;
+}))

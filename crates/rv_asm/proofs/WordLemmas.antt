@@ -1,16 +1,17 @@
 -- The second look, line after line.
-use Rattle.std.proofs.Common.{◌≡◌, ◌∙◌, sym, ap, refl, ℕ, ◌+◌, ◌≤◌, nat_lt, Bool, true, false, if◌then◌else◌, List, [], ◌∷◌, ◌++◌, length}
-use Rattle.std.proofs.Common.{length-append, Option, Some, None, Ok, Err, append_assoc, append-nil, map, arith}
+use Rattle.std.proofs.Common.{◌≡◌, ◌⊎◌, inl, inr, ◌∙◌, sym, ap, refl, ℕ, ◌+◌, ◌≤◌, nat_lt, Bool, true, false, if◌then◌else◌, List, [], ◌∷◌, ◌++◌}
+use Rattle.std.proofs.Common.{length, length-append, take, Option, Some, None, Result, Ok, Err, IsOk, append_assoc, append-nil, map, arith}
 use Rattle.std.proofs.lemmas.Bool.Decides.{nat_tests}
+use Rattle.std.proofs.lemmas.List.{take_at}
 use Rattle.std.proofs.lemmas.List.Sums.{sum_by_push}
-use Rattle.rv_word.specs.Cases.{option_case}
+use Rattle.rv_word.specs.Cases.{option_case, result_case}
 use Rattle.rv_asm.specs.LineReading.{line_at}
 use Rattle.rv_text.specs.Lines.{lines_of}
 use Rattle.rv_asm.specs.Program.{Reading, readings, own_fault, name_fault, first_fault, line_words, line_size, words_in, words_from}
 use Rattle.rv_asm.specs.declared.fault.AsmFault.{AsmFault}
 use Rattle.rv_asm.specs.declared.fault.AsmFaultKind.{AsmFaultKind}
-use Rattle.rv_asm.specs.declared.fault.AsmFaultKind.TheVariants.{TooLong}
-use Rattle.rv_asm.proofs.LabelLemmas.{fault_after, fault_later, fault_here}
+use Rattle.rv_asm.specs.declared.fault.AsmFaultKind.TheVariants.{TooLong, NoMemory}
+use Rattle.rv_asm.proofs.LabelLemmas.{fault_after, fault_later, fault_here, first_fault-push}
 
 -- The words of lines are written, and the rest is still to be read.
 pub record HasWrittenUpTo (labels : List ℕ → Option ℕ) (words : List ℕ) (lines : ℕ) (text rest : List ℕ) : Type 0 where
@@ -21,6 +22,7 @@ pub record HasWrittenUpTo (labels : List ℕ → Option ℕ) (words : List ℕ) 
   pub split : readings text ≡ before ++ readings rest
   pub sound : first_fault own_fault before (readings rest) ≡ None
   pub named : first_fault (name_fault labels) [] (readings text) ≡ first_fault (name_fault labels) before (readings rest)
+  pub none : first_fault (name_fault labels) [] before ≡ None
   pub written : words_from labels [] (readings text) ≡ words ++ words_from labels before (readings rest)
 
 pub no_fault : (o : Option AsmFaultKind) (f : AsmFaultKind → AsmFault) (rest : Option AsmFault) → option_case o rest (λ kind. Some (f kind)) ≡ None
@@ -60,6 +62,7 @@ writes_on labels words new added lines text rest after line has is gives made si
       named =
           has.named ∙ ap (first_fault (name_fault labels) has.before) more
           ∙ fault_later (name_fault labels) has.before (readings after) this (rw here refl);
+      none = first_fault-push (name_fault labels) [] has.before this ∙ rw (has.none, here) refl;
       written =
           has.written ∙ ap (λ ls. words ++ words_from labels has.before ls) more
           ∙ rw (here, made) (sym (append_assoc words added (words_from labels (has.before ++ this ∷ []) (readings after))));
@@ -80,6 +83,33 @@ fails_at labels words lines text rest after line kind has is gives =
     let here : line_words labels (words_in has.before) (line_at line) ≡ Err kind = rw (← has.place) gives in
     has.named ∙ ap (λ ls. first_fault (name_fault labels) has.before (map line_at ls)) is
     ∙ fault_here (name_fault labels) has.before (readings after) (line_at line) kind (rw here refl) ∙ ap (λ n. Some (fault_after n kind)) (sym has.count)
+
+no_name_fault : (words : Result (List ℕ) AsmFaultKind) → IsOk words → result_case words (λ found. None) Some ≡ None
+no_name_fault (Ok found) is = refl
+no_name_fault (Err kind) is = cc
+
+-- no line through this one names what is not there
+none_through : (labels : List ℕ → Option ℕ) (words : List ℕ) (lines : ℕ) (text rest after line : List ℕ)
+    → (has : HasWrittenUpTo labels words lines text rest) → lines_of rest ≡ line ∷ lines_of after
+    → IsOk (line_words labels (length words) (line_at line)) → first_fault (name_fault labels) [] (take (lines + 1) (readings text)) ≡ None
+none_through labels words lines text rest after line has is gives =
+    let this = line_at line in
+    let whole : readings text ≡ (has.before ++ this ∷ []) ++ readings after =
+    has.split ∙ (ap (λ ls. has.before ++ map line_at ls) is ∙ sym (append_assoc has.before (this ∷ []) (readings after))) in
+    let front : take (lines + 1) (readings text) ≡ has.before ++ this ∷ [] =
+    ap (take (lines + 1)) whole ∙ take_at (has.before ++ this ∷ []) (readings after) (lines + 1) (omega (arith, has.count, length-append has.before (this ∷ []))) in
+    let here : name_fault labels has.before this ≡ None = no_name_fault (line_words labels (words_in has.before) this) (rw (← has.place) gives) in
+    ap (first_fault (name_fault labels) []) front ∙ (first_fault-push (name_fault labels) [] has.before this ∙ rw (has.none, here) refl)
+
+-- the fault at a line is that of the text, or memory was refused there
+pub fails_or_lacks : (labels : List ℕ → Option ℕ) (words : List ℕ) (lines : ℕ) (text rest after line : List ℕ) (kind : AsmFaultKind)
+    → (has : HasWrittenUpTo labels words lines text rest) → lines_of rest ≡ line ∷ lines_of after
+    → (line_words labels (length words) (line_at line) ≡ Err kind) ⊎ ((kind ≡ NoMemory) × IsOk (line_words labels (length words) (line_at line)))
+    → (first_fault (name_fault labels) [] (readings text) ≡ Some (record { line = lines + 1; kind = kind }))
+    ⊎ ((kind ≡ NoMemory) × (first_fault (name_fault labels) [] (take (lines + 1) (readings text)) ≡ None))
+fails_or_lacks labels words lines text rest after line kind has is (inl gives) = inl (fails_at labels words lines text rest after line kind has is gives)
+fails_or_lacks labels words lines text rest after line kind has is (inr lacks) =
+    inr (lacks.0, none_through labels words lines text rest after line has is lacks.1)
 
 pub is_line_of : (labels : List ℕ → Option ℕ) (words : List ℕ) (lines : ℕ) (text rest after line : List ℕ)
     → (has : HasWrittenUpTo labels words lines text rest) → lines_of rest ≡ line ∷ lines_of after → lines + 1 ≤ length (readings text)

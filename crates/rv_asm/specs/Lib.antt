@@ -4,6 +4,7 @@ pub mod Denotes
 pub mod Faults
 pub mod FenceSets
 pub mod LabelMap
+pub mod Lacking
 pub mod LineReading
 pub mod Looks
 pub mod Mnemonics

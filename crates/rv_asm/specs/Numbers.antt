@@ -1,5 +1,5 @@
 -- Numbers as an assembler text writes them, in the digits of ASCII, ISO/IEC 646.
-use Rattle.std.specs.Prelude.{ℕ, ◌-◌, ◌^◌, Bool, true, false, ◌&&◌, List, length, drop, min, codes, nat_eq, Option, Some, None, nat_lt, if◌then◌else◌}
+use Rattle.std.specs.Prelude.{ℕ, ◌-◌, ◌^◌, true, false, ◌&&◌, List, length, drop, min, codes, nat_eq, Option, Some, None, nat_lt, if◌then◌else◌}
 use Rattle.std.specs.List.{list_all, starts_with}
 use Rattle.std.specs.Option.{option_map}
 use Rattle.std.specs.Char.{is_digit}

@@ -1,9 +1,10 @@
 //! The words that an assembler text stands for.
 
-ghost use Rattle.std.specs.Prelude.{◌≡◌, ◌≢◌, ◌≤◌, ◌-◌, ℕ, List, [], None, IfOk, IfErr, Ok, Err, length, take};
+ghost use Rattle.std.specs.Prelude.{◌≡◌, ◌≤◌, ℕ, List, None, IfOk, IfErr, Ok, length};
 ghost use Rattle.rv_asm.specs.Denotes.{Denotes};
 ghost use Rattle.rv_text.specs.Lines.{lines_of};
-ghost use Rattle.rv_asm.specs.Program.{assembled, fault_in, first_fault, own_fault, readings};
+ghost use Rattle.rv_asm.specs.Lacking.{FailsFor};
+ghost use Rattle.rv_asm.specs.Program.{assembled, fault_in, readings};
 
 use crate::fault::{AsmFault, AsmFaultKind};
 use crate::first_look::FirstLook;
@@ -18,13 +19,12 @@ use std::alloc::Global;
 /// `TooLong` where there are more than 65536 words with it); else `LabelTwice` at the first line whose label stood
 /// before; else `UnknownLabel` or `OutOfRange` at the first line that names a label which no line has or which is too
 /// far. `NoMemory` at the line in hand where memory was refused.
-#[tactic(auto, using(crate::proofs::Looked::own_decides, crate::proofs::Looked::twice_decides, crate::proofs::Looked::name_decides))]
+#[tactic(auto, using(crate::proofs::Looked::own_fails, crate::proofs::Looked::twice_decides))]
 pub fn assemble(alloc: Global, text: &[u8]) -> Result<Vec<u32>, AsmFault>
     ensures ok { IfOk result (λ words. assembled text.now ≡ Ok words.items) }
     ensures few { IfOk result (λ words. length words.items ≤ 65536) }
-    ensures fault { IfErr result (λ fault. fault.kind ≢ AsmFaultKind.NoMemory → assembled text.now ≡ Err fault) }
-    // No line before that of the fault has a fault of its own, where memory was refused too.
-    ensures order { IfErr result (λ fault. first_fault own_fault [] (take (fault.line - 1) (readings text.now)) ≡ None) }
+    // Where memory was refused, the line has no fault for which that is told in its place.
+    ensures fault { IfErr result (FailsFor text.now) }
     // The fault's line is one of the text.
     ensures line { IfErr result (λ fault. (1 ≤ fault.line) × (fault.line ≤ length (lines_of text.now))) }
     // The words are those that the text denotes, ..

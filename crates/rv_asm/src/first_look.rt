@@ -1,7 +1,9 @@
 //! The first look at the lines of a text: their own faults, and where their labels stand.
 
-ghost use Rattle.std.specs.Prelude.{◌≡◌, ◌≢◌, ◌≤◌, ◌<◌, ◌+◌, ◌^◌, ◌-◌, ◌∷◌, [], ◌++◌, IfOk, IfErr, OnOk, Some, None, length, take, List};
+ghost use Rattle.std.specs.Prelude.{◌≡◌, ◌⊎◌, ◌≤◌, ◌<◌, ◌+◌, ◌^◌, ◌-◌, ◌∷◌, [], ◌++◌, IfOk, IfErr, OnOk, OnErr, Some, None, length, List, false, is_some};
 ghost use Rattle.rv_word.specs.Cases.{option_case};
+ghost use Rattle.rv_asm.specs.LabelMap.{places_of};
+ghost use Rattle.rv_asm.specs.Lacking.{FailsAt, LacksForLabel};
 ghost use Rattle.rv_asm.specs.Looks.{HasRead, AddsLabel};
 ghost use Rattle.rv_asm.specs.LineReading.{line_at};
 ghost use Rattle.rv_asm.specs.Program.{Reading, readings, own_fault, first_fault, statement_size as statement_size_of};
@@ -61,7 +63,8 @@ impl FirstLook {
     /// Where memory was refused.
     fn add_name(&mut self, name: Name) -> Result<(), AllocError>
         requires { self.old.lines < 2 ^ 64 - 1 }
-        ensures { OnOk result (AddsLabel self.old self.new (Some name)) }
+        ensures ok { OnOk result (AddsLabel self.old self.new (Some name)) }
+        ensures err { OnErr result (is_some (places_of self.old.labels name) ≡ false) }
     {
         if self.labels.contains_key(name.bytes()) {
             if self.repeated.is_none() {
@@ -82,7 +85,8 @@ impl FirstLook {
     /// Where memory was refused.
     fn add_label(&mut self, label: Option<Name>) -> Result<(), AllocError>
         requires { self.old.lines < 2 ^ 64 - 1 }
-        ensures { OnOk result (AddsLabel self.old self.new label) }
+        ensures ok { OnOk result (AddsLabel self.old self.new label) }
+        ensures err { OnErr result (option_case label false (λ name. is_some (places_of self.old.labels name)) ≡ false) }
     {
         match label {
             Some(name) => self.add_name(name),
@@ -103,8 +107,7 @@ impl FirstLook {
             → HasRead self.new (before ++ line_at text.now ∷ []) × (own_fault before (line_at text.now) ≡ None)) }
         ensures line { IfErr result (λ fault. fault.line ≡ self.old.lines + 1) }
         ensures fault { IfErr result
-            (λ fault. fault.kind ≢ AsmFaultKind.NoMemory → (before : List Reading) → HasRead self.old before
-            → own_fault before (line_at text.now) ≡ Some fault.kind) }
+            (λ fault. (before : List Reading) → HasRead self.old before → FailsAt before (line_at text.now) fault.kind) }
     {
         let number = self.lines + 1;
         let Line { label, statement } = match read_line(text) {
@@ -137,8 +140,7 @@ impl FirstLook {
     /// line in hand.
     pub(crate) fn over(alloc: Global, text: &[u8]) -> Result<FirstLook, AsmFault>
         ensures ok { IfOk result (λ look. HasRead look (readings text.now) × (first_fault own_fault [] (readings text.now) ≡ None)) }
-        ensures fault { IfErr result (λ fault. fault.kind ≢ AsmFaultKind.NoMemory → first_fault own_fault [] (readings text.now) ≡ Some fault) }
-        ensures order { IfErr result (λ fault. first_fault own_fault [] (take (fault.line - 1) (readings text.now)) ≡ None) }
+        ensures fault { IfErr result (λ fault. (first_fault own_fault [] (readings text.now) ≡ Some fault) ⊎ LacksForLabel (readings text.now) fault) }
         ensures line { IfErr result (λ fault. (1 ≤ fault.line) × (fault.line ≤ length (readings text.now))) }
     {
         let mut look = FirstLook::new(alloc);

@@ -1,6 +1,6 @@
 //! The second look at the lines of a text: their words, the labels being known.
 
-ghost use Rattle.std.specs.Prelude.{◌≡◌, ◌≢◌, ◌≤◌, ◌+◌, ◌++◌, [], None, Some, Ok, Err, IfOk, IfErr, OnOk, List, ℕ, length};
+ghost use Rattle.std.specs.Prelude.{◌≡◌, ◌⊎◌, ◌≤◌, ◌+◌, ◌++◌, [], None, Some, Ok, Err, IfOk, IfErr, IsOk, OnOk, List, ℕ, length, take};
 ghost use Rattle.rv_asm.specs.LabelMap.{places_of};
 ghost use Rattle.rv_asm.specs.LineReading.{line_at};
 ghost use Rattle.rv_asm.specs.Program.{readings, own_fault, name_fault, first_fault, line_words, line_size, words_from};
@@ -29,7 +29,8 @@ fn add_statement(
         × (words.new.items ≡ words.old.items ++ added)) }
     ensures len { OnOk result (length words.new.items ≡ length words.old.items + statement_size statement.now) }
     ensures fault { IfErr result
-        (λ kind. kind ≢ AsmFaultKind.NoMemory → statement_words_of (places_of labels.now) (length words.old.items) statement.now ≡ Err kind) }
+        (λ kind. (statement_words_of (places_of labels.now) (length words.old.items) statement.now ≡ Err kind)
+        ⊎ ((kind ≡ AsmFaultKind.NoMemory) × IsOk (statement_words_of (places_of labels.now) (length words.old.items) statement.now))) }
 {
     let added = statement_words(labels, words.len() as u32, statement)?;
     match words.extend_from_slice(added.as_slice()) {
@@ -50,7 +51,8 @@ fn add_words(words: &mut Vec<u32>, labels: &Labels, text: &[u8]) -> Result<(), A
         × (words.new.items ≡ words.old.items ++ added)) }
     ensures len { OnOk result (length words.new.items ≡ length words.old.items + line_size (line_at text.now)) }
     ensures fault { IfErr result
-        (λ kind. kind ≢ AsmFaultKind.NoMemory → line_words (places_of labels.now) (length words.old.items) (line_at text.now) ≡ Err kind) }
+        (λ kind. (line_words (places_of labels.now) (length words.old.items) (line_at text.now) ≡ Err kind)
+        ⊎ ((kind ≡ AsmFaultKind.NoMemory) × IsOk (line_words (places_of labels.now) (length words.old.items) (line_at text.now)))) }
 {
     match read_line(text)?.statement {
         Some(statement) => add_statement(words, labels, &statement),
@@ -71,7 +73,8 @@ pub(crate) fn words_of(alloc: Global, text: &[u8], labels: &Labels) -> Result<Ve
         × (first_fault (name_fault (places_of labels.now)) [] (readings text.now) ≡ None)) }
     ensures few { IfOk result (λ words. length words.items ≤ 65536) }
     ensures fault { IfErr result
-        (λ fault. fault.kind ≢ AsmFaultKind.NoMemory → first_fault (name_fault (places_of labels.now)) [] (readings text.now) ≡ Some fault) }
+        (λ fault. (first_fault (name_fault (places_of labels.now)) [] (readings text.now) ≡ Some fault)
+        ⊎ ((fault.kind ≡ AsmFaultKind.NoMemory) × (first_fault (name_fault (places_of labels.now)) [] (take fault.line (readings text.now)) ≡ None))) }
     ensures line { IfErr result (λ fault. (1 ≤ fault.line) × (fault.line ≤ length (readings text.now))) }
 {
     let mut words = Vec::new(alloc);

@@ -1,24 +1,27 @@
 -- Scripts conceal: by the law of one command, over the lines of a part; and from one input to another.
-use Rattle.std.proofs.Common.{◌≡◌, ℕ, List, [], ◌∷◌, ◌++◌, length, Result, Ok, Err, IfOk, IsOkAnd, refl, sym, ◌∙◌, ap}
-use Rattle.std.proofs.Common.{ap₂, arith, true}
+use Rattle.std.proofs.Common.{◌≡◌, inl, inr, ℕ, Bool, true, false, List, [], ◌∷◌, ◌++◌, Result, Ok, Err, IfOk, IsOkAnd, refl, sym, ◌∙◌, ap}
+use Rattle.std.proofs.Common.{ap₂, subst}
 use Rattle.rv_word.specs.Cases.{result_case}
 use Rattle.rv_text.specs.Lines.{lines_of, through_last_feed}
 use Rattle.rv_text.proofs.LineLemmas.{lines_of-append}
 use Rattle.rv_debug.specs.Answer.{Answered, answer_or_fault, line_answer}
 use Rattle.rv_debug.specs.BenchState.{BenchState}
 use Rattle.rv_script.specs.Command.{parse_of}
-use Rattle.rv_debug.specs.Confidentiality.{PassesOver, PokesInto}
+use Rattle.rv_debug.specs.Confidentiality.{PassesOver, PokesInto, is_live_in}
 use Rattle.rv_debug.specs.Targets.{KeepsMonitor}
 use Rattle.rv_debug.specs.BothBenches.{BenchesAgreeBut}
 use Rattle.rv_script.specs.declared.command.Command.{Command}
 use Rattle.rv_script.specs.declared.command.CommandFault.{CommandFault}
 use Rattle.rv_debug.proofs.AnswersAlike.{agree_again, confidentiality}
 use Rattle.rv_debug.proofs.PokesAlike.{agrees_with_itself, poke_law}
+use Rattle.rv_command_line.specs.declared.job.Job.{Job}
+use Rattle.rv_command_line.specs.declared.job.Job.TheVariants.{Run, Twin, Asm, Dis}
 use Rattle.rv_command_line.specs.declared.setup.Setup.{Setup}
 use Rattle.rv_streams.specs.declared.fault.BenchFault.{BenchFault}
 use Rattle.rv_streams.specs.Image.{image_in}
 use Rattle.rv_streams.specs.Separator.{after_separator, has_separator}
-use Rattle.rv_bench.specs.Confidentiality.{AnswerAlike, AreSecret, ConcealsSecret, ConcealsThrough, PassOver, PokeInto}
+use Rattle.rv_bench.specs.Confidentiality.{AnswerAlike, AreSecret, ConcealsSecret, ConcealsThrough, DifferInPokes, LinePassesOver, PassOver, PokeOrPass}
+use Rattle.rv_bench.specs.InMemory.{ConcealsInMemory}
 use Rattle.rv_bench.specs.Loaded.{started}
 use Rattle.rv_bench.specs.Output.{bench_in, output, replies_of}
 use Rattle.rv_bench.specs.Replies.{bench_line, replies, state_after}
@@ -35,7 +38,7 @@ module _ (e : ℕ) where
   -- ---- lines that pass over the enclave
 
   line_alike : (first second : BenchState) (line : List ℕ) → KeepsMonitor first.target → KeepsMonitor second.target → BenchesAgreeBut e first second
-      → IfOk (parse_of line) (PassesOver e first) → Alike (line_answer first line) (line_answer second line)
+      → LinePassesOver e first line → Alike (line_answer first line) (line_answer second line)
   unfolding line_answer
   line_alike first second line kept kept' agree = go (parse_of line) where
     go : (parsed : Result Command CommandFault) → IfOk parsed (PassesOver e first) → Alike (answer_or_fault first parsed) (answer_or_fault second parsed)
@@ -44,14 +47,23 @@ module _ (e : ℕ) where
         let passed = both.passed over.past in (passed.reply, (let state = passed.state in state.but))
     go (Err fault) over = (refl, agree)
 
+  -- equal benches answer alike whatever follows, as once the enclave has ended
+  while_live : (first second : BenchState) (lines : List (List ℕ)) → BenchesAgreeBut e first second → (live : Bool) → is_live_in e first.target ≡ live
+      → (is_live_in e first.target ≡ true → AnswerAlike e first second lines) → AnswerAlike e first second lines
+  while_live first second lines agree true is alike = alike is
+  while_live first second lines agree false is alike =
+      let same : first ≡ second = (agree_again e first second agree).gone is in
+      record { text = ap (λ bench. replies bench_line bench lines) same; state = inr (ap (λ bench. state_after bench_line bench lines) same) }
+
   lines_alike : (first second : BenchState) (lines : List (List ℕ)) → KeepsMonitor first.target → KeepsMonitor second.target
       → BenchesAgreeBut e first second → PassOver e first lines → AnswerAlike e first second lines
-  lines_alike first second [] kept kept' agree over = record { text = refl; state = agree_again e first second agree }
-  lines_alike first second (line ∷ lines) kept kept' agree (over, more) =
-      let (reply, next) = line_alike first second line kept kept' agree over in
+  lines_alike first second [] kept kept' agree over = record { text = refl; state = inl (agree_again e first second agree) }
+  lines_alike first second (line ∷ lines) kept kept' agree over =
+      while_live first second (line ∷ lines) agree (is_live_in e first.target) refl (λ live.
+      let (reply, next) = line_alike first second line kept kept' agree (over live).0 in
       let rest = lines_alike (line_answer first line).state (line_answer second line).state lines (keeps_line first line kept)
-      (keeps_line second line kept') next more in
-      record { text = ap₂ (λ (one others : List ℕ). one ++ others) reply rest.text; state = rest.state }
+      (keeps_line second line kept') next (over live).1 in
+      record { text = ap₂ (λ (one others : List ℕ). one ++ others) reply rest.text; state = rest.state })
 
   -- ---- lines that poke into its region
 
@@ -68,32 +80,37 @@ module _ (e : ℕ) where
     go (Ok here) (Err fault) pokes pokes' = absurd pokes'
     go (Err fault) there pokes pokes' = absurd pokes
 
+  poke_or_pass_alike : (first second : BenchState) (line other : List ℕ) → KeepsMonitor first.target → KeepsMonitor second.target
+      → BenchesAgreeBut e first second → PokeOrPass e first second line other → Alike (line_answer first line) (line_answer second other)
+  poke_or_pass_alike first second line other kept kept' agree (inl pokes) = poke_alike first second line other kept kept' agree pokes.0 pokes.1
+  poke_or_pass_alike first second line other kept kept' agree (inr passes) =
+      subst (λ l. Alike (line_answer first line) (line_answer second l)) passes.0 (line_alike first second line kept kept' agree passes.1)
+
   -- so many of either
   record PokedAlike (first second : BenchState) (lines lines' : List (List ℕ)) : Type 0 where
     pub text : replies bench_line first lines ≡ replies bench_line second lines'
     pub agree : BenchesAgreeBut e (state_after bench_line first lines) (state_after bench_line second lines')
 
   pokes_alike : (first second : BenchState) (lines lines' : List (List ℕ)) → KeepsMonitor first.target → KeepsMonitor second.target
-      → BenchesAgreeBut e first second → PokeInto e first lines → PokeInto e second lines' → length lines ≡ length lines'
-      → PokedAlike first second lines lines'
-  pokes_alike first second [] [] kept kept' agree pokes pokes' many = record { text = refl; agree = agree }
-  pokes_alike first second [] (line' ∷ lines') kept kept' agree pokes pokes' many = absurd (omega (arith, many))
-  pokes_alike first second (line ∷ lines) [] kept kept' agree pokes pokes' many = absurd (omega (arith, many))
-  pokes_alike first second (line ∷ lines) (line' ∷ lines') kept kept' agree (poke, more) (poke', more') many =
-      let (reply, next) = poke_alike first second line line' kept kept' agree poke poke' in
+      → BenchesAgreeBut e first second → DifferInPokes e first second lines lines' → PokedAlike first second lines lines'
+  pokes_alike first second [] [] kept kept' agree pokes = record { text = refl; agree = agree }
+  pokes_alike first second [] (line' ∷ lines') kept kept' agree pokes = absurd pokes
+  pokes_alike first second (line ∷ lines) [] kept kept' agree pokes = absurd pokes
+  pokes_alike first second (line ∷ lines) (line' ∷ lines') kept kept' agree (poke, more) =
+      let (reply, next) = poke_or_pass_alike first second line line' kept kept' agree poke in
       let rest = pokes_alike (line_answer first line).state (line_answer second line').state lines lines'
-      (keeps_line first line kept) (keeps_line second line' kept') next more more' (omega (arith, many)) in
+      (keeps_line first line kept) (keeps_line second line' kept') next more in
       record { text = ap₂ (λ (one others : List ℕ). one ++ others) reply rest.text; agree = rest.agree }
 
   -- ---- a script with a secret in it
 
-  script_alike : (bench : BenchState) (before secret another rest : List (List ℕ)) → KeepsMonitor bench.target → length secret ≡ length another
+  script_alike : (bench : BenchState) (before secret another rest : List (List ℕ)) → KeepsMonitor bench.target
       → AreSecret e (state_after bench_line bench before) secret another rest
       → replies bench_line bench (before ++ (secret ++ rest)) ≡ replies bench_line bench (before ++ (another ++ rest))
-  script_alike bench before secret another rest kept many are =
+  script_alike bench before secret another rest kept are =
       let start = state_after bench_line bench before in
       let keeps = keeps_lines bench before kept in
-      let poked = pokes_alike start start secret another keeps keeps (agrees_with_itself e start keeps are.idle) are.here are.there many in
+      let poked = pokes_alike start start secret another keeps keeps (agrees_with_itself e start keeps are.idle) are.pokes in
       let ends = lines_alike (state_after bench_line start secret) (state_after bench_line start another) rest
       (keeps_lines start secret keeps) (keeps_lines start another keeps) poked.agree are.passes in
       replies-append bench_line bench before (secret ++ rest)
@@ -127,8 +144,7 @@ stream_conceals setup input = from_start (bench_in setup input) (bench_keeps set
 -- ---- inputs
 
 module _ (setup : Setup) (e : ℕ) (front secret another rest : List ℕ) (whole : through_last_feed front ≡ front) (separated : has_separator front ≡ true)
-    (whole_secret : through_last_feed secret ≡ secret) (whole_another : through_last_feed another ≡ another)
-    (many : length (lines_of secret) ≡ length (lines_of another)) where
+    (whole_secret : through_last_feed secret ≡ secret) (whole_another : through_last_feed another ≡ another) where
   -- the output for an input that begins so
   output_is : (text : List ℕ) → through_last_feed text ≡ text
       → output setup (front ++ (text ++ rest)) ≡ replies_of (bench_in setup front) (lines_of (after_separator front) ++ (lines_of text ++ lines_of rest))
@@ -146,7 +162,7 @@ module _ (setup : Setup) (e : ℕ) (front secret another rest : List ℕ) (whole
       (λ bench. AreSecret e (state_after bench_line bench (lines_of (after_separator front))) (lines_of secret) (lines_of another) (lines_of rest))
       → Told bench secret ≡ Told bench another
   told_alike (Ok bench) kept are = ap Ok (script_alike e bench (lines_of (after_separator front)) (lines_of secret) (lines_of another)
-      (lines_of rest) kept many are)
+      (lines_of rest) kept are)
   told_alike (Err fault) kept are = refl
 
   outputs_alike : IfOk (bench_in setup front)
@@ -159,5 +175,11 @@ pub conceals_secret : (setup : Setup) (input : List ℕ) → ConcealsSecret setu
 conceals_secret setup input e other differ =
     ap (output setup) differ.input_is
     ∙ outputs_alike setup e differ.front differ.secret differ.another differ.rest differ.whole_front differ.separated
-    differ.whole_secret differ.whole_another differ.as_many differ.poked
+    differ.whole_secret differ.whole_another differ.poked
     ∙ sym (ap (output setup) differ.other_is)
+
+pub conceals_in_memory : (job : Job) (input : List ℕ) → ConcealsInMemory job input
+conceals_in_memory (Run setup) input = conceals_secret setup input
+conceals_in_memory (Twin setup slot) input = tt
+conceals_in_memory Asm input = tt
+conceals_in_memory Dis input = tt

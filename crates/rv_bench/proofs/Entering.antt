@@ -1,5 +1,5 @@
 -- Where the second script of two benches ends: at the line that enters the slot, or before any does.
-use Rattle.std.proofs.Common.{◌≡◌, ℕ, Bool, true, false, cond, List, [], ◌++◌, inl, inr, IsTrue, Option, Some, None, Ok, Err, sym}
+use Rattle.std.proofs.Common.{◌≡◌, ℕ, true, false, cond, List, [], ◌++◌, inl, inr, Option, Some, None, Ok, Err, sym}
 use Rattle.std.proofs.Common.{◌∙◌, ap, subst, append-nil}
 use Rattle.std.specs.Option.{IsSomeAnd}
 use Rattle.std.proofs.lemmas.Bool.{false≢true}
@@ -14,7 +14,7 @@ use Rattle.rv_streams.specs.declared.fault.BenchFault.{BenchFault}
 use Rattle.rv_streams.specs.declared.fault.BenchFault.TheVariants.{Read, Write}
 use Rattle.rv_streams.specs.declared.lines.Lines.{Lines}
 use Rattle.rv_streams.specs.declared.separator.ScriptEnd.TheVariants.{Input}
-use Rattle.rv_streams.specs.Calls.{SinkFailed, SinkWorked}
+use Rattle.rv_streams.specs.Calls.{SinkFailed, SinkFlushed}
 use Rattle.rv_streams.specs.Transfer.{WritesFront}
 use Rattle.rv_streams.specs.Unread.{unread, TellsEnd}
 use Rattle.rv_streams.proofs.Ends.{SinkFailed-after}
@@ -31,7 +31,7 @@ use Rattle.rv_bench.proofs.Runs.{AnswersNext-going, AnswersNext-state, AnswersNe
 
 -- ---- the same of what was written before by another name
 
-StopsAtRead-after : {A : Type 0} {by : Answering A} {start : A} {tells : Bool} {unread left kept old other new : List ℕ} → (IsTrue tells → old ≡ other)
+StopsAtRead-after : {A : Type 0} {by : Answering A} {start : A} {tells : Type 0} {unread left kept old other new : List ℕ} → (tells → old ≡ other)
     → StopsAtRead by Input start tells unread left kept old new → StopsAtRead by Input start tells unread left kept other new
 StopsAtRead-after {by = by} {start = start} same stops = record {
   text = stops.text;
@@ -45,13 +45,13 @@ StopsAtRead-after {by = by} {start = start} same stops = record {
   written = λ told. stops.written told ∙ ap (λ (t : List ℕ). t ++ replies by.answer start (lines_of stops.text)) (same told);
 }
 
-pub read_after : (slot : ℕ) (apart : Option Apart) (tells : Bool) (unread left kept old other new : List ℕ) → (IsTrue tells → old ≡ other)
+pub read_after : (slot : ℕ) (apart : Option Apart) (tells : Type 0) (unread left kept old other new : List ℕ) → (tells → old ≡ other)
     → IsSomeAnd apart (λ apart. StopsAtRead (both_benches slot) Input apart tells unread left kept old new)
     → IsSomeAnd apart (λ apart. StopsAtRead (both_benches slot) Input apart tells unread left kept other new)
 read_after slot None tells unread left kept old other new same never = never
 read_after slot (Some apart) tells unread left kept old other new same stops = StopsAtRead-after same stops
 
-StopsAtWrite-after : {A : Type 0} {by : Answering A} {start : A} {tells : Bool} {unread left old other new : List ℕ} → (IsTrue tells → old ≡ other)
+StopsAtWrite-after : {A : Type 0} {by : Answering A} {start : A} {tells : Type 0} {unread left old other new : List ℕ} → (tells → old ≡ other)
     → StopsAtWrite by Input start tells unread left old new → StopsAtWrite by Input start tells unread left other new
 StopsAtWrite-after {by = by} {start = start} {new = new} same stops =
     let texts = replies by.answer start stops.answered in record {
@@ -67,7 +67,7 @@ StopsAtWrite-after {by = by} {start = start} {new = new} same stops =
           (stops.written told);
     }
 
-pub write_after : (slot : ℕ) (apart : Option Apart) (tells : Bool) (unread left old other new : List ℕ) → (IsTrue tells → old ≡ other)
+pub write_after : (slot : ℕ) (apart : Option Apart) (tells : Type 0) (unread left old other new : List ℕ) → (tells → old ≡ other)
     → StopsSecondAtWrite slot apart tells unread left old new → StopsSecondAtWrite slot apart tells unread left other new
 write_after slot None tells unread left old other new same stopped =
     (stopped.0, λ told. subst (λ (t : List ℕ). WritesFront t new no_slot_text) (same told) (stopped.1 told))
@@ -124,11 +124,11 @@ two_benches-stop h slot start old new before after _ stops = absurd stops
 
 module _ {S W : Type 0} {g : SourceGhosts S} (h : SinkGhosts W) (slot : ℕ) {start now : Apart} {old new : Lines S g} {before mid : W} where
   -- to its end
-  module _ (run : AnswersToEnd h (both_benches slot) Input start now old new before mid) (tells : IsTrue g.tells) where
+  module _ (run : AnswersToEnd h (both_benches slot) Input start now old new before mid) (tells : g.tells) where
     all_state : now ≡ state_after (apart_line slot) start (lines_of (unread old))
     all_state = AnswersLines-state (run.answered tells) (FindsEnd-whole old run.last new Input _ run.found (run.answered tells).taken tells)
 
-    all_wrote : IsTrue h.tells → h.taken mid ≡ h.taken before ++ replies (apart_line slot) start (lines_of (unread old))
+    all_wrote : h.tells → h.taken mid ≡ h.taken before ++ replies (apart_line slot) start (lines_of (unread old))
     all_wrote = AnswersLines-all (run.answered tells) (FindsEnd-whole old run.last new Input _ run.found (run.answered tells).taken tells)
 
     never_entered : (state_after (apart_line slot) start (lines_of (unread old))).entered ≡ false
@@ -136,7 +136,7 @@ module _ {S W : Type 0} {g : SourceGhosts S} (h : SinkGhosts W) (slot : ℕ) {st
 
   -- to the line that enters
   module _ (run : AnswersToOver h (both_benches slot) Input start now old new before mid) where
-    enters : IsTrue g.tells → EntersSlot slot start (unread old) (unread new) new.is_at_end
+    enters : g.tells → EntersSlot slot start (unread old) (unread new) new.is_at_end
     enters tells = let next = run.next tells in record {
       lines = next.so_far.lines;
       line = next.takes.line;
@@ -145,7 +145,7 @@ module _ {S W : Type 0} {g : SourceGhosts S} (h : SinkGhosts W) (slot : ℕ) {st
       entered = ap (λ (apart : Apart). apart.entered) (sym (AnswersNext-state next)) ∙ run.over;
     }
 
-    over_wrote : IsTrue g.tells → IsTrue h.tells → h.taken mid ≡ h.taken before ++ script_text slot start (lines_of (unread old))
+    over_wrote : g.tells → h.tells → h.taken mid ≡ h.taken before ++ script_text slot start (lines_of (unread old))
     over_wrote tells told =
         let all = AnswersNext-wrote (run.next tells) run.told in
         entered_all slot start now _ _ _ _ _ _ all.taken.reads all.state run.over (all.written told)
@@ -158,14 +158,14 @@ module _ {S W : Type 0} {g : SourceGhosts S} (h : SinkGhosts W) (slot : ℕ) {st
     last_over : now.entered ≡ true → last ≡ []
     last_over over = last_is ∙ ap (λ b. cond b [] (end_text now.ran)) over
 
-    module _ {after : W} (ends : TellsEnd old new) (wrote : IsTrue h.tells → h.taken after ≡ h.taken mid ++ last) where
-      nothing_more : now.entered ≡ true → IsTrue h.tells → h.taken after ≡ h.taken mid
+    module _ {after : W} (ends : TellsEnd old new) (wrote : h.tells → h.taken after ≡ h.taken mid ++ last) where
+      nothing_more : now.entered ≡ true → h.tells → h.taken after ≡ h.taken mid
       nothing_more over told = wrote told ∙ (ap (λ t. h.taken mid ++ t) (last_over over) ∙ append-nil (h.taken mid))
 
-      pub two_benches-tell : SinkWorked h mid after → RunsSecond h slot (Some start) old new before after (Ok tt)
-      two_benches-tell worked = record {
+      pub two_benches-tell : SinkFlushed h mid after → RunsSecond h slot (Some start) old new before after (Ok tt)
+      two_benches-tell last = record {
         source = answers.source;
-        sink = (worked.0 ∙ answers.sink.0, worked.1 ∙ answers.sink.1);
+        sink = record { worked = (last.worked.0 ∙ answers.sink.0, last.worked.1 ∙ answers.sink.1); flushed = last.flushed };
         emptied = answers.emptied;
         read = elim answers.stopped [
           | inl run ↦ let at_end = at_input_end run.found in inl (record {
@@ -194,8 +194,8 @@ module _ {S W : Type 0} {g : SourceGhosts S} (h : SinkGhosts W) (slot : ℕ) {st
       }
 
     -- the sink fails in it
-    module _ {after : W} (stops : IsTrue h.tells → WritesFront (h.taken mid) (h.taken after) last) where
-      nothing_wrote : now.entered ≡ true → IsTrue h.tells → h.taken after ≡ h.taken mid
+    module _ {after : W} (stops : h.tells → WritesFront (h.taken mid) (h.taken after) last) where
+      nothing_wrote : now.entered ≡ true → h.tells → h.taken after ≡ h.taken mid
       nothing_wrote over told = front_none (h.taken mid) (h.taken after) (subst (WritesFront (h.taken mid) (h.taken after)) (last_over over) (stops told))
 
       pub two_benches-fail : SinkFailed h mid after → RunsSecond h slot (Some start) old new before after (Err Write)

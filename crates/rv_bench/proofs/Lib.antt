@@ -4,6 +4,7 @@ mod Entering
 mod FrontLines
 mod RepliesLemmas
 mod Runs
+mod SecretExample
 mod Spared
 mod Starts
 mod Streams

@@ -1,5 +1,5 @@
 -- A run, line by line.
-use Rattle.std.proofs.Common.{◌≡◌, ℕ, Bool, false, not, length, inl, inr, IsTrue, Result, Ok, arith, List, [], ◌∷◌, ◌++◌, take, refl, sym}
+use Rattle.std.proofs.Common.{◌≡◌, ℕ, Bool, true, false, not, length, inl, inr, Result, Ok, arith, List, [], ◌∷◌, ◌++◌, take, refl, sym}
 use Rattle.std.proofs.Common.{◌∙◌, ap, subst, append_assoc, append-nil, lit≤}
 use Rattle.std.proofs.lemmas.Bool.{false≢true}
 use Rattle.std.proofs.lemmas.List.{take-take, length-append}
@@ -37,7 +37,7 @@ AnswersLine-same {old = old} {now = now} {line = line} {answered = answered} ans
 
 -- ---- the lines so far
 
-module _ {A : Type 0} {by : Answering A} {end : ScriptEnd} {start : A} {tells : Bool} {unread old : List ℕ} where
+module _ {A : Type 0} {by : Answering A} {end : ScriptEnd} {start : A} {tells : Type 0} {unread old : List ℕ} where
   pub AnswersLines-none : {is_at_end : Bool} → AnswersLines by end start tells unread old start unread is_at_end old
   AnswersLines-none {is_at_end = is_at_end} = record {
     lines = [];
@@ -70,7 +70,7 @@ module _ {A : Type 0} {by : Answering A} {end : ScriptEnd} {start : A} {tells : 
     module _ {is_at_end : Bool} {rest : List ℕ} (so_far : AnswersLines by end start tells unread old now left is_at_end new)
         (whole : ReadsScript end unread rest so_far.lines) where
       -- at the end every line of the script has its reply
-      pub AnswersLines-all : IsTrue tells → new ≡ old ++ replies by.answer start (script_lines end (lines_of unread))
+      pub AnswersLines-all : tells → new ≡ old ++ replies by.answer start (script_lines end (lines_of unread))
       AnswersLines-all told = so_far.written told ∙ ap (λ lines. old ++ replies by.answer start lines) (sym whole.all)
 
       -- the state is that after all of them
@@ -78,7 +78,7 @@ module _ {A : Type 0} {by : Answering A} {end : ScriptEnd} {start : A} {tells : 
       AnswersLines-state = so_far.state ∙ ap (state_after by.answer start) (sym whole.all)
 
       -- and if the sink fails then, they have their replies
-      pub AnswersLines-written : {last : List ℕ} → by.is_over now ≡ false → (IsTrue tells → last ≡ new)
+      pub AnswersLines-written : {last : List ℕ} → by.is_over now ≡ false → (tells → last ≡ new)
           → StopsAtWrite by end start tells unread rest old last
       AnswersLines-written going kept = let reads = whole.reads in record {
         text = reads.text;
@@ -93,7 +93,7 @@ module _ {A : Type 0} {by : Answering A} {end : ScriptEnd} {start : A} {tells : 
       }
 
   -- what is written where the sink fails is a beginning of all replies
-  pub StopsAtWrite-front : {left new : List ℕ} → StopsAtWrite by end start tells unread left old new → IsTrue tells
+  pub StopsAtWrite-front : {left new : List ℕ} → StopsAtWrite by end start tells unread left old new → tells
       → WritesFront old new (replies by.answer start (script_lines end (lines_of unread)))
   StopsAtWrite-front {left = left} stops told =
       let (more, (front, wrote, said)) = stops.written told in
@@ -116,7 +116,7 @@ module _ {A : Type 0} {by : Answering A} {end : ScriptEnd} {start : A} {tells : 
 
 -- ---- one line more
 
-module _ {A : Type 0} {by : Answering A} {end : ScriptEnd} {start : A} {tells : Bool} {unread old mid : List ℕ} {after : A} {rest : List ℕ}
+module _ {A : Type 0} {by : Answering A} {end : ScriptEnd} {start : A} {tells : Type 0} {unread old mid : List ℕ} {after : A} {rest : List ℕ}
     {ends : Bool} {reply : List ℕ} (next : AnswersNext by end start tells unread old mid after rest ends reply) where
   abbrev lines : List (List ℕ)
   lines = next.so_far.lines ++ next.takes.line ∷ []
@@ -141,7 +141,7 @@ module _ {A : Type 0} {by : Answering A} {end : ScriptEnd} {start : A} {tells : 
   }
 
   -- its reply is written
-  pub AnswersNext-wrote : {new : List ℕ} → (IsTrue tells → new ≡ mid ++ reply) → AnswersLines by end start tells unread old after rest ends new
+  pub AnswersNext-wrote : {new : List ℕ} → (tells → new ≡ mid ++ reply) → AnswersLines by end start tells unread old after rest ends new
   AnswersNext-wrote wrote = let so_far = next.so_far in record {
     lines = lines;
     taken = AnswersNext-taken;
@@ -155,7 +155,7 @@ module _ {A : Type 0} {by : Answering A} {end : ScriptEnd} {start : A} {tells : 
   }
 
   -- the sink stops within it
-  pub AnswersNext-stops : {new : List ℕ} → (IsTrue tells → WritesFront mid new reply) → StopsAtWrite by end start tells unread rest old new
+  pub AnswersNext-stops : {new : List ℕ} → (tells → WritesFront mid new reply) → StopsAtWrite by end start tells unread rest old new
   AnswersNext-stops stops =
       let so_far = next.so_far in
       let reads = AnswersNext-taken.reads in
@@ -179,38 +179,39 @@ module _ {A : Type 0} {by : Answering A} {end : ScriptEnd} {start : A} {tells : 
 module _ {S W : Type 0} {g : SourceGhosts S} (h : SinkGhosts W) where
   -- no line of the script was left, and its replies are written
   RunsScript-whole : (end : ScriptEnd) (output : Result (List ℕ) BenchFault) {old mid new : Lines S g} {before after : W}
-      → SourceWorked g old.source new.source → held new ≡ [] → SinkWorked h before after → TellsEnd old new → FindsEnd end mid new
-      → (IsTrue g.tells → (lines : List (List ℕ)) × TakesScript end (unread old) (unread mid) mid.is_at_end lines)
-      → (IsTrue g.tells → IsOkAnd output (λ text. IsTrue h.tells → h.taken after ≡ h.taken before ++ text))
+      → SourceWorked g old.source new.source → held new ≡ [] → SinkWorked h before after → (end ≡ Input → h.is_flushed after ≡ true)
+      → TellsEnd old new → FindsEnd end mid new
+      → (g.tells → (lines : List (List ℕ)) × TakesScript end (unread old) (unread mid) mid.is_at_end lines)
+      → (g.tells → IsOkAnd output (λ text. h.tells → h.taken after ≡ h.taken before ++ text))
       → RunsScript h end output old new before after
-  RunsScript-whole Input output source emptied sink ends (inl at_end) taken written = record {
+  RunsScript-whole Input output source emptied sink flushed ends (inl at_end) taken written = record {
     at_end = at_end.at_end;
     ended = ends.ended at_end.at_end;
     emptied = emptied;
     source = source;
-    sink = sink;
+    sink = record { worked = sink; flushed = flushed refl };
     used_up = at_end.left;
     written = written;
   }
-  RunsScript-whole Input output source emptied sink ends (inr reads) taken written = absurd (false≢true reads.ends)
-  RunsScript-whole Separator output {old = old} {mid = mid} {new = new} source emptied sink ends found taken written =
+  RunsScript-whole Input output source emptied sink flushed ends (inr reads) taken written = absurd (false≢true reads.ends)
+  RunsScript-whole Separator output {old = old} {mid = mid} {new = new} source emptied sink flushed ends found taken written =
       record { reads = FindsEnd-separator old mid new source emptied found taken; sink = sink; written = written }
 
   -- What is written may be flushed after it; a sink that fails then has all replies.
   module _ {end : ScriptEnd} {start now : BenchState} {old new : Lines S g} {before mid : W}
       (answers : AnswersAll h one_bench end start now old new before mid) (ends : TellsEnd old new) where
-    pub one_bench-state : IsTrue g.tells → now ≡ state_after bench_line start (script_lines end (lines_of (unread old)))
+    pub one_bench-state : g.tells → now ≡ state_after bench_line start (script_lines end (lines_of (unread old)))
     one_bench-state tells = elim answers.stopped [
       | inl run ↦ AnswersLines-state (run.answered tells) (FindsEnd-whole old run.last new end _ run.found (run.answered tells).taken tells)
       | inr run ↦ absurd (false≢true run.over)
     ]
 
-    module _ {after : W} (same : IsTrue h.tells → h.taken after ≡ h.taken mid) where
-      pub one_bench-runs : SinkWorked h mid after
+    module _ {after : W} (same : h.tells → h.taken after ≡ h.taken mid) where
+      pub one_bench-runs : SinkWorked h mid after → (end ≡ Input → h.is_flushed after ≡ true)
           → RunsScript h end (Ok (replies bench_line start (script_lines end (lines_of (unread old))))) old new before after
-      one_bench-runs worked = elim answers.stopped [
+      one_bench-runs worked flushed = elim answers.stopped [
         | inl run ↦
-            RunsScript-whole end _ answers.source answers.emptied (worked.0 ∙ answers.sink.0, worked.1 ∙ answers.sink.1) ends run.found
+            RunsScript-whole end _ answers.source answers.emptied (worked.0 ∙ answers.sink.0, worked.1 ∙ answers.sink.1) flushed ends run.found
             (λ tells. ((run.answered tells).lines, (run.answered tells).taken))
             (λ tells told. same told ∙ AnswersLines-all (run.answered tells)
             (FindsEnd-whole old run.last new end _ run.found (run.answered tells).taken tells) told)
@@ -220,7 +221,7 @@ module _ {S W : Type 0} {g : SourceGhosts S} (h : SinkGhosts W) where
       pub one_bench-fails : SinkFailed h mid after → FailsIn h one_bench end start old new before after Write
       one_bench-fails failed = elim answers.stopped [
         | inl run ↦
-            let stops = λ (tells : IsTrue g.tells). AnswersLines-written (run.answered tells)
+            let stops = λ (tells : g.tells). AnswersLines-written (run.answered tells)
             (FindsEnd-whole old run.last new end _ run.found (run.answered tells).taken tells) refl same in (
               record {
                 source = answers.source;

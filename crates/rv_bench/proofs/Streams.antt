@@ -1,5 +1,5 @@
 -- A run over an input, by its image and by its script.
-use Rattle.std.proofs.Common.{◌≡◌, ℕ, List, ◌++◌, inr, IsTrue, Result, Ok, Err, refl, sym, ◌∙◌, ap, subst, arith}
+use Rattle.std.proofs.Common.{◌≡◌, ℕ, List, ◌++◌, inr, Result, Ok, Err, refl, sym, ◌∙◌, ap, subst, arith}
 use Rattle.std.specs.Result.{IsOkAnd}
 use Rattle.rv_text.specs.Lines.{lines_of}
 use Rattle.rv_debug.specs.BenchState.{BenchState}
@@ -31,19 +31,19 @@ ok_and (Ok x) P h = (x, refl, h)
 ok_and (Err e) P h = absurd h
 
 module _ {S W : Type 0} {g : SourceGhosts S} (h : SinkGhosts W) (setup : Setup) (image : List ℕ) (old mid new : Lines S g) (before after : W)
-    (reads : ReadsThroughSeparator old mid) (is : IsTrue g.tells → image_in (unread old) ≡ Ok image) (image_end : TellsEnd old mid)
+    (reads : ReadsThroughSeparator old mid) (is : g.tells → image_in (unread old) ≡ Ok image) (image_end : TellsEnd old mid)
     (script_end : TellsEnd mid new) where
   -- the bench of the input is that of the image
-  bench_is : (r : Result BenchState BenchFault) → started image setup ≡ r → IsTrue g.tells → bench_in setup (unread old) ≡ r
+  bench_is : (r : Result BenchState BenchFault) → started image setup ≡ r → g.tells → bench_in setup (unread old) ≡ r
   bench_is r starts tells = rw (is tells) starts
 
-  output_is : (state : BenchState) → started image setup ≡ Ok state → IsTrue g.tells
+  output_is : (state : BenchState) → started image setup ≡ Ok state → g.tells
       → output setup (unread old) ≡ Ok (replies bench_line state (lines_of (unread mid)))
   output_is state starts tells =
       ap (λ m. replies_of m (lines_of (after_separator (unread old)))) (bench_is (Ok state) starts tells)
       ∙ ap (λ t. Ok (replies bench_line state (lines_of t))) (sym (reads.rest tells))
 
-  fault_is : (fault : BenchFault) → started image setup ≡ Err fault → IsTrue g.tells → output setup (unread old) ≡ Err fault
+  fault_is : (fault : BenchFault) → started image setup ≡ Err fault → g.tells → output setup (unread old) ≡ Err fault
   fault_is fault starts tells = ap (λ m. replies_of m (lines_of (after_separator (unread old)))) (bench_is (Err fault) starts tells)
 
   failed : SourceFailed g mid.source new.source → SourceFailed g old.source new.source
@@ -61,7 +61,7 @@ module _ {S W : Type 0} {g : SourceGhosts S} (h : SinkGhosts W) (setup : Setup) 
           source = run.source ∙ reads.source;
           sink = run.sink;
           used_up = run.used_up;
-          written = λ tells. subst (λ o. IsOkAnd o (λ text. IsTrue h.tells → h.taken after ≡ h.taken before ++ text))
+          written = λ tells. subst (λ o. IsOkAnd o (λ text. h.tells → h.taken after ≡ h.taken before ++ text))
               (sym (output_is state starts tells)) (run.written tells);
         },
       )
@@ -83,7 +83,7 @@ module _ {S W : Type 0} {g : SourceGhosts S} (h : SinkGhosts W) (setup : Setup) 
           source = run.0.source ∙ reads.source;
           sink = run.0.sink;
           emptied = run.0.emptied;
-          front = λ tells. subst (λ o. IsOkAnd o (λ text. IsTrue h.tells → WritesFront (h.taken before) (h.taken after) text))
+          front = λ tells. subst (λ o. IsOkAnd o (λ text. h.tells → WritesFront (h.taken before) (h.taken after) text))
               (sym (output_is state starts tells)) (run.0.front tells);
         },
         λ tells.

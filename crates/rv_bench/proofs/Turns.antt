@@ -1,5 +1,5 @@
 -- Answering the lines of a script, turn by turn.
-use Rattle.std.proofs.Common.{◌≡◌, ℕ, false, true, arith, inl, inr, IsTrue, List, [], ◌++◌, ◌∙◌, refl}
+use Rattle.std.proofs.Common.{◌≡◌, ℕ, false, true, arith, inl, inr, List, [], ◌++◌, ◌∙◌, refl}
 use Rattle.rv_streams.specs.declared.device.Sink.{Ghosts as SinkGhosts}
 use Rattle.rv_streams.specs.declared.device.Source.{Ghosts as SourceGhosts}
 use Rattle.rv_streams.specs.declared.fault.BenchFault.TheVariants.{Read, Write}
@@ -20,7 +20,7 @@ module _ {S W : Type 0} {g : SourceGhosts S} (h : SinkGhosts W) {A : Type 0} (by
     (now : A) (mid : Lines S g) (between : W) where
   -- The lines so far are answered, it is not over, and no call has failed.
   pub record SoFar : Type 0 where
-    pub answered : IsTrue g.tells
+    pub answered : g.tells
         → AnswersLines by end start h.tells (unread old) (h.taken before) now (unread mid) mid.is_at_end (h.taken between)
     pub going : by.is_over now ≡ false
     pub ends : TellsEnd old mid
@@ -32,7 +32,7 @@ module _ {S W : Type 0} {g : SourceGhosts S} (h : SinkGhosts W) {A : Type 0} (by
     pub so_far : SoFar
     pub shown : List ℕ
     pub going : mid.is_at_end ≡ false
-    pub takes : IsTrue g.tells → TakesLine (unread mid) (unread new) new.is_at_end shown
+    pub takes : g.tells → TakesLine (unread mid) (unread new) new.is_at_end shown
     pub inside : ends_script end shown ≡ false
     pub answers : AnswersLine by now shown (record { state = after; reply = reply })
     pub ends : TellsEnd mid new
@@ -63,7 +63,7 @@ module _ {S W : Type 0} {g : SourceGhosts S} {h : SinkGhosts W} {A : Type 0} {by
 
     -- the source fails
     pub SoFar-read : (new : Lines S g) → SoFar h by end start old before now mid between → (mid.is_at_end ≡ false) × (new.is_at_end ≡ false)
-        → SourceFailed g mid.source new.source → (IsTrue g.tells → ReadsText (unread mid) (g.remaining new.source) (held new))
+        → SourceFailed g mid.source new.source → (g.tells → ReadsText (unread mid) (g.remaining new.source) (held new))
         → FailsIn h by end start old new before between Read
     SoFar-read new so_far going risen kept =
         let same = so_far.source in
@@ -73,7 +73,7 @@ module _ {S W : Type 0} {g : SourceGhosts S} {h : SinkGhosts W} {A : Type 0} {by
         )
 
     module _ {after : A} {new : Lines S g} {reply : List ℕ} (turn : Turn h by end start old before now mid between after new reply) where
-      next : IsTrue g.tells
+      next : g.tells
           → AnswersNext by end start h.tells (unread old) (h.taken before) (h.taken between) after (unread new) new.is_at_end reply
       next tells = record {
         now = now;
@@ -87,7 +87,7 @@ module _ {S W : Type 0} {g : SourceGhosts S} {h : SinkGhosts W} {A : Type 0} {by
       }
 
       -- the sink fails
-      pub Turn-stops : (last : W) → SinkFailed h between last → (IsTrue h.tells → WritesFront (h.taken between) (h.taken last) reply)
+      pub Turn-stops : (last : W) → SinkFailed h between last → (h.tells → WritesFront (h.taken between) (h.taken last) reply)
           → FailsIn h by end start old new before last Write
       Turn-stops last failed front = (
         record {
@@ -99,7 +99,7 @@ module _ {S W : Type 0} {g : SourceGhosts S} {h : SinkGhosts W} {A : Type 0} {by
         λ tells. AnswersNext-stops (next tells) front,
       )
 
-      module _ {last : W} (worked : SinkWorked h between last) (wrote : IsTrue h.tells → h.taken last ≡ h.taken between ++ reply) where
+      module _ {last : W} (worked : SinkWorked h between last) (wrote : h.tells → h.taken last ≡ h.taken between ++ reply) where
         -- it goes on
         pub Turn-goes : by.is_over after ≡ false → SoFar h by end start old before after new last
         Turn-goes going = record {

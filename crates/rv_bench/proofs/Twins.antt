@@ -1,5 +1,5 @@
 -- A twin run over an input, by its image and by its two scripts.
-use Rattle.std.proofs.Common.{◌≡◌, ℕ, true, false, List, ◌++◌, inl, inr, IsTrue, Option, Some, None, Result, Ok, Err, refl, sym, ◌∙◌, ap}
+use Rattle.std.proofs.Common.{◌≡◌, ℕ, true, false, List, ◌++◌, inl, inr, Option, Some, None, Result, Ok, Err, refl, sym, ◌∙◌, ap}
 use Rattle.std.proofs.Common.{subst, arith, append_assoc}
 use Rattle.std.specs.Option.{IsSomeAnd}
 use Rattle.std.specs.Result.{IsOkAnd}
@@ -64,17 +64,17 @@ pub not_numbered : (number : ℕ) (bench : BenchState) → KeepsMonitor bench.ta
 not_numbered number bench kept none = sym (not_apart number bench (none_numbered number bench.target kept none))
 
 module _ {S W : Type 0} {g : SourceGhosts S} (h : SinkGhosts W) (setup : Setup) (slot : ℕ) (image : List ℕ) (old mid : Lines S g) (before : W)
-    (reads : ReadsThroughSeparator old mid) (is : IsTrue g.tells → image_in (unread old) ≡ Ok image) where
+    (reads : ReadsThroughSeparator old mid) (is : g.tells → image_in (unread old) ≡ Ok image) where
   -- the bench of the input is that of the image
-  bench_is : (r : Result BenchState BenchFault) → started image (monitored setup) ≡ r → IsTrue g.tells → bench_in (monitored setup) (unread old) ≡ r
+  bench_is : (r : Result BenchState BenchFault) → started image (monitored setup) ≡ r → g.tells → bench_in (monitored setup) (unread old) ≡ r
   bench_is r starts tells = rw (is tells) starts
 
-  fault_is : (fault : BenchFault) → started image (monitored setup) ≡ Err fault → IsTrue g.tells → twin_output setup slot (unread old) ≡ Err fault
+  fault_is : (fault : BenchFault) → started image (monitored setup) ≡ Err fault → g.tells → twin_output setup slot (unread old) ≡ Err fault
   fault_is fault starts tells =
       ap (λ (m : Result BenchState BenchFault). result_case m (λ bench. Ok (scripts_text slot bench (after_separator (unread old)))) Err)
       (bench_is (Err fault) starts tells)
 
-  output_is : (bench : BenchState) → started image (monitored setup) ≡ Ok bench → IsTrue g.tells
+  output_is : (bench : BenchState) → started image (monitored setup) ≡ Ok bench → g.tells
       → twin_output setup slot (unread old) ≡ Ok (scripts_text slot bench (unread mid))
   output_is bench starts tells =
       ap (λ (m : Result BenchState BenchFault). result_case m (λ bench. Ok (scripts_text slot bench (after_separator (unread old)))) Err)
@@ -117,7 +117,7 @@ module _ {S W : Type 0} {g : SourceGhosts S} (h : SinkGhosts W) (setup : Setup) 
           source = run.0.source ∙ reads.source;
           sink = run.0.sink;
           emptied = run.0.emptied;
-          front = λ tells. subst (λ o. IsOkAnd o (λ text. IsTrue h.tells → WritesFront (h.taken before) (h.taken after) text))
+          front = λ tells. subst (λ o. IsOkAnd o (λ text. h.tells → WritesFront (h.taken before) (h.taken after) text))
               (sym (output_is bench starts tells))
               (λ told. front_more (h.taken before) (h.taken after) (first_text bench (unread mid)) _ (run.0.front tells told));
         },
@@ -136,15 +136,15 @@ module _ {S W : Type 0} {g : SourceGhosts S} (h : SinkGhosts W) (setup : Setup) 
 
     -- the first script was run, and the benches are set apart
     module _ (next : Lines S g) (between : W) (first : RunsLines h Separator bench mid next before between (Ok tt)) (then : BenchState)
-        (state : IsTrue g.tells → then ≡ after_first bench (unread mid)) (new : Lines S g) (after : W)
+        (state : g.tells → then ≡ after_first bench (unread mid)) (new : Lines S g) (after : W)
         (image_end : TellsEnd old mid) (first_end : TellsEnd mid next) (second_end : TellsEnd next new) where
       abbrev apart_at : List ℕ → Option Apart
       apart_at scripts = set_apart slot (after_first bench scripts)
 
-      apart_is : IsTrue g.tells → set_apart slot then ≡ apart_at (unread mid)
+      apart_is : g.tells → set_apart slot then ≡ apart_at (unread mid)
       apart_is tells = ap (set_apart slot) (state tells)
 
-      text_is : (text : List ℕ) → (tells : IsTrue g.tells) → second_text slot (set_apart slot then) (unread next) ≡ text
+      text_is : (text : List ℕ) → (tells : g.tells) → second_text slot (set_apart slot then) (unread next) ≡ text
           → first_text bench (unread mid) ++ text ≡ scripts_text slot bench (unread mid)
       text_is text tells same =
           ap (λ (t : List ℕ). first_text bench (unread mid) ++ t)
@@ -155,13 +155,13 @@ module _ {S W : Type 0} {g : SourceGhosts S} (h : SinkGhosts W) (setup : Setup) 
       rest_end = TellsEnd-more mid next new first_end second_end
 
       -- what holds of the second script and the benches that are set apart, of both scripts,
-      of_rest : IsTrue g.tells → (P : Option Apart → List ℕ → Type 0) → P (set_apart slot then) (unread next)
+      of_rest : g.tells → (P : Option Apart → List ℕ → Type 0) → P (set_apart slot then) (unread next)
           → P (apart_at (unread mid)) (after_separator (unread mid))
       of_rest tells P holds =
           subst (P (apart_at (unread mid))) (first.reads.rest tells) (subst (λ (apart : Option Apart). P apart (unread next)) (apart_is tells) holds)
 
       -- and of the whole input
-      of_scripts : IsTrue g.tells → (P : Option Apart → List ℕ → Type 0) → P (set_apart slot then) (unread next)
+      of_scripts : g.tells → (P : Option Apart → List ℕ → Type 0) → P (set_apart slot then) (unread next)
           → IsOkAnd (bench_in (monitored setup) (unread old))
           (λ bench. P (set_apart slot (after_first bench (after_separator (unread old)))) (after_separator (after_separator (unread old))))
       of_scripts tells P holds =
@@ -176,7 +176,7 @@ module _ {S W : Type 0} {g : SourceGhosts S} (h : SinkGhosts W) (setup : Setup) 
         has_size,
         record {
           source = run.source ∙ (first.reads.source ∙ reads.source);
-          sink = (run.sink.0 ∙ first.sink.0, run.sink.1 ∙ first.sink.1);
+          sink = record { worked = (run.sink.worked.0 ∙ first.sink.0, run.sink.worked.1 ∙ first.sink.1); flushed = run.sink.flushed };
           emptied = run.emptied;
           read = elim run.read [
             | inl ended ↦ inl (record {
@@ -188,7 +188,7 @@ module _ {S W : Type 0} {g : SourceGhosts S} (h : SinkGhosts W) (setup : Setup) 
             })
             | inr (over, told) ↦ inr (λ tells. of_scripts tells (λ apart script. IsOver slot apart script (unread new) new.is_at_end) (over tells), told)
           ];
-          written = λ tells. subst (λ o. IsOkAnd o (λ text. IsTrue h.tells → h.taken after ≡ h.taken before ++ text))
+          written = λ tells. subst (λ o. IsOkAnd o (λ text. h.tells → h.taken after ≡ h.taken before ++ text))
               (sym (output_is bench starts tells))
               (λ told. run.written tells told
               ∙ (ap (λ (t : List ℕ). t ++ second_text slot (set_apart slot then) (unread next)) (first.written tells told)
@@ -223,7 +223,7 @@ module _ {S W : Type 0} {g : SourceGhosts S} (h : SinkGhosts W) (setup : Setup) 
           source = run.0.source ∙ (first.reads.source ∙ reads.source);
           sink = SinkFailed-after h first.sink run.0.sink;
           emptied = run.0.emptied;
-          front = λ tells. subst (λ o. IsOkAnd o (λ text. IsTrue h.tells → WritesFront (h.taken before) (h.taken after) text))
+          front = λ tells. subst (λ o. IsOkAnd o (λ text. h.tells → WritesFront (h.taken before) (h.taken after) text))
               (sym (output_is bench starts tells))
               (λ told. subst (WritesFront (h.taken before) (h.taken after)) (text_is _ tells refl)
               (front_after (h.taken before) (h.taken between) (h.taken after) (first_text bench (unread mid)) _ (first.written tells told)

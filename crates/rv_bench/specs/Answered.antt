@@ -1,6 +1,6 @@
 -- What is answered to the lines of a script, by whatever answers them, as far as it is read: to its end, or to the line after which it is
 -- over. (This project's own streams.)
-use Rattle.std.specs.Prelude.{◌≡◌, ◌⊎◌, ℕ, Bool, true, false, List, [], ◌++◌, take, IsTrue, Ok, Err}
+use Rattle.std.specs.Prelude.{◌≡◌, ◌⊎◌, ℕ, Bool, true, false, List, [], ◌++◌, take, Ok, Err}
 use Rattle.rv_streams.specs.declared.device.Sink.{Ghosts as SinkGhosts}
 use Rattle.rv_streams.specs.declared.device.Source.{Ghosts as SourceGhosts}
 use Rattle.rv_streams.specs.declared.lines.Lines.{Lines}
@@ -18,13 +18,13 @@ abbrev pub AnswersLine : {A : Type 0} → Answering A → A → List ℕ → Rep
 AnswersLine by now line answered =
     (by.answer now line ≡ answered) × ((other : List ℕ) → take 121 other ≡ take 121 line → by.answer now other ≡ by.answer now line)
 
-module _ {A : Type 0} (by : Answering A) (end : ScriptEnd) (start : A) (tells : Bool) (unread old : List ℕ) where
+module _ {A : Type 0} (by : Answering A) (end : ScriptEnd) (start : A) (tells : Type 0) (unread old : List ℕ) where
   -- The lines of the script that were taken have their replies, where the sink tells.
   pub record AnswersLines (now : A) (left : List ℕ) (is_at_end : Bool) (new : List ℕ) : Type 0 where
     pub lines : List (List ℕ)
     pub taken : TakesScript end unread left is_at_end lines
     pub state : now ≡ state_after by.answer start lines
-    pub written : IsTrue tells → new ≡ old ++ replies by.answer start lines
+    pub written : tells → new ≡ old ++ replies by.answer start lines
 
   -- After these, after which it is not over, one more line was taken, which has this reply.
   pub record AnswersNext (mid : List ℕ) (after : A) (rest : List ℕ) (ends : Bool) (reply : List ℕ) : Type 0 where
@@ -44,7 +44,7 @@ module _ {S W : Type 0} {g : SourceGhosts S} (h : SinkGhosts W) {A : Type 0} (by
     pub last : Lines S g
     pub found : FindsEnd end last new
     pub going : by.is_over now ≡ false
-    pub answered : IsTrue g.tells
+    pub answered : g.tells
         → AnswersLines by end start h.tells (unread old) (h.taken before) now (unread last) last.is_at_end (h.taken after)
 
   -- The last line that was read is the one after which it is over.
@@ -56,8 +56,8 @@ module _ {S W : Type 0} {g : SourceGhosts S} (h : SinkGhosts W) {A : Type 0} (by
     pub is : by.answer was shown ≡ record { state = now; reply = reply }
     pub going : by.is_over was ≡ false
     pub over : by.is_over now ≡ true
-    pub told : IsTrue h.tells → h.taken after ≡ mid ++ reply
-    pub next : IsTrue g.tells → AnswersNext by end start h.tells (unread old) (h.taken before) mid now (unread new) new.is_at_end reply
+    pub told : h.tells → h.taken after ≡ mid ++ reply
+    pub next : g.tells → AnswersNext by end start h.tells (unread old) (h.taken before) mid now (unread new) new.is_at_end reply
 
   -- All lines that were read were answered.
   pub record AnswersAll : Type 0 where

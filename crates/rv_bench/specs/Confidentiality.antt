@@ -1,10 +1,10 @@
 -- Confidentiality over scripts: what is answered to lines that pass over an enclave tells nothing of it. (A law of this project's own
 -- monitor under its own debugger.)
-use Rattle.std.specs.Prelude.{◌≡◌, ℕ, List, [], ◌∷◌, ◌++◌, length, true, IfOk, IsOkAnd}
+use Rattle.std.specs.Prelude.{◌≡◌, ◌⊎◌, ℕ, List, [], ◌∷◌, ◌++◌, true, IfOk, IsOkAnd}
 use Rattle.rv_text.specs.Lines.{lines_of, through_last_feed}
 use Rattle.rv_debug.specs.BenchState.{BenchState}
 use Rattle.rv_script.specs.Command.{parse_of}
-use Rattle.rv_debug.specs.Confidentiality.{AgreeAgain, PassesOver, PokesInto}
+use Rattle.rv_debug.specs.Confidentiality.{AgreeAgain, PassesOver, PokesInto, is_live_in}
 use Rattle.rv_debug.specs.Targets.{KeepsMonitor}
 use Rattle.rv_debug.specs.BothBenches.{BenchesAgreeBut, can_scramble}
 use Rattle.rv_command_line.specs.declared.setup.Setup.{Setup}
@@ -14,15 +14,22 @@ use Rattle.rv_bench.specs.Replies.{bench_line, replies, state_after}
 
 -- ---- a part of a script
 
--- lines pass over the enclave of slot e: none names a byte of its region, and none enters it; a faulty line does neither
+-- A line passes over the enclave of slot e: it names no byte of its region, and does not enter it. A faulty line does neither.
+abbrev pub LinePassesOver : ℕ → BenchState → List ℕ → Type 0
+LinePassesOver e bench line = IfOk (parse_of line) (PassesOver e bench)
+
+-- Lines pass over the enclave that is live in slot e, as long as it is live. Of those that follow its end nothing is asked: they may enter
+-- another enclave that is created there.
 abbrev pub PassOver : ℕ → BenchState → List (List ℕ) → Type 0
 PassOver e bench [] = Unit {0}
-PassOver e bench (line ∷ lines) = IfOk (parse_of line) (PassesOver e bench) × PassOver e (bench_line bench line).state lines
+PassOver e bench (line ∷ lines) =
+    is_live_in e bench.target ≡ true → LinePassesOver e bench line × PassOver e (bench_line bench line).state lines
 
--- two benches give the same replies to lines, byte for byte, and agree again after them
+-- Two benches give the same replies to lines, byte for byte, and agree again after them; where the enclave has ended, they are equal.
 pub record AnswerAlike (e : ℕ) (first second : BenchState) (lines : List (List ℕ)) : Type 0 where
   pub text : replies bench_line first lines ≡ replies bench_line second lines
   pub state : AgreeAgain e (state_after bench_line first lines) (state_after bench_line second lines)
+      ⊎ (state_after bench_line first lines ≡ state_after bench_line second lines)
 
 -- After any lines, a part of the script that passes over an enclave is answered alike by every bench that agrees but for that enclave.
 abbrev pub ConcealsThrough : BenchState → Type 0
@@ -33,20 +40,27 @@ ConcealsThrough bench =
 
 -- ---- from bytes to bytes
 
--- lines poke bytes into the region of slot e, one each
-abbrev pub PokeInto : ℕ → BenchState → List (List ℕ) → Type 0
-PokeInto e bench [] = Unit {0}
-PokeInto e bench (line ∷ lines) = IsOkAnd (parse_of line) (PokesInto e bench) × PokeInto e (bench_line bench line).state lines
+-- two lines, one for each of two benches: each pokes a byte into the region of slot e, or they are one line, which passes over its enclave
+abbrev pub PokeOrPass : ℕ → BenchState → BenchState → List ℕ → List ℕ → Type 0
+PokeOrPass e first second line other =
+    (IsOkAnd (parse_of line) (PokesInto e first) × IsOkAnd (parse_of other) (PokesInto e second))
+    ⊎ ((line ≡ other) × LinePassesOver e first line)
 
--- Either lines poke bytes into the region of an enclave that is live and does not run, and after the first of them the rest of the script
--- passes over it.
+-- lines for two benches, as many for both, are the same but for what they poke into the enclave of slot e
+abbrev pub DifferInPokes : ℕ → BenchState → BenchState → List (List ℕ) → List (List ℕ) → Type 0
+DifferInPokes e first second [] [] = Unit {0}
+DifferInPokes e first second (line ∷ lines) (other ∷ others) =
+    PokeOrPass e first second line other × DifferInPokes e (bench_line first line).state (bench_line second other).state lines others
+DifferInPokes e first second _ _ = ⊥
+
+-- Either lines poke a secret into the region of an enclave that is live and does not run, over which the others pass, those between the
+-- pokes and the rest of the script.
 pub record AreSecret (e : ℕ) (bench : BenchState) (secret another rest : List (List ℕ)) : Type 0 where
   pub idle : can_scramble e bench ≡ true
-  pub here : PokeInto e bench secret
-  pub there : PokeInto e bench another
+  pub pokes : DifferInPokes e bench bench secret another
   pub passes : PassOver e (state_after bench_line bench secret) rest
 
--- Two inputs are the same but for lines in the middle of the script, as many in both, which poke a secret.
+-- Two inputs are the same but for lines in the middle of the script, which poke a secret.
 pub record DifferInSecret (e : ℕ) (setup : Setup) (input other : List ℕ) : Type 0 where
   pub front : List ℕ
   pub secret : List ℕ
@@ -57,7 +71,6 @@ pub record DifferInSecret (e : ℕ) (setup : Setup) (input other : List ℕ) : T
   pub whole_front : through_last_feed front ≡ front
   pub whole_secret : through_last_feed secret ≡ secret
   pub whole_another : through_last_feed another ≡ another
-  pub as_many : length (lines_of secret) ≡ length (lines_of another)
   pub separated : has_separator front ≡ true
   pub poked : IfOk (bench_in setup front) (λ bench.
       AreSecret e (state_after bench_line bench (lines_of (after_separator front))) (lines_of secret) (lines_of another) (lines_of rest))

@@ -1,10 +1,12 @@
 pub mod Answered
 pub mod Apart
 pub mod Confidentiality
+pub mod InMemory
 pub mod Integrity
 pub mod Jobs
 pub mod Loaded
 pub mod Output
+pub mod Performing
 pub mod Replies
 pub mod Run
 pub mod Stream

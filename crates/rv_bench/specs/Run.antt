@@ -1,5 +1,5 @@
 -- What a run over the lines of a script does, result by result. (This project's own streams.)
-use Rattle.std.specs.Prelude.{◌≡◌, ℕ, ◌+◌, ◌≤◌, Bool, true, false, List, [], ◌++◌, length, take, IsTrue, IsOkAnd, Result, Ok, Err}
+use Rattle.std.specs.Prelude.{◌≡◌, ℕ, ◌+◌, ◌≤◌, true, false, List, [], ◌++◌, length, take, IsOkAnd, Result, Ok, Err}
 use Rattle.rv_text.specs.Lines.{has_feed, lines_of, through_last_feed}
 use Rattle.rv_debug.specs.BenchState.{BenchState}
 use Rattle.rv_memory.specs.Memory.{is_ram_size}
@@ -12,7 +12,7 @@ use Rattle.rv_streams.specs.declared.fault.BenchFault.TheVariants.{Image, Ram, R
 use Rattle.rv_streams.specs.declared.lines.Lines.{Lines}
 use Rattle.rv_streams.specs.declared.separator.ScriptEnd.{ScriptEnd}
 use Rattle.rv_streams.specs.declared.separator.ScriptEnd.TheVariants.{Input, Separator}
-use Rattle.rv_streams.specs.Calls.{SourceWorked, SourceFailed, SinkWorked, SinkFailed}
+use Rattle.rv_streams.specs.Calls.{SourceWorked, SourceFailed, SinkWorked, SinkFlushed, SinkFailed}
 use Rattle.rv_streams.specs.Faults.{Outcome}
 use Rattle.rv_streams.specs.Script.{script_lines, ReadsThroughSeparator}
 use Rattle.rv_streams.specs.Transfer.{WritesFront}
@@ -23,7 +23,7 @@ use Rattle.rv_bench.specs.Replies.{Answering, bench_line, one_bench, replies, st
 module _ {A : Type 0} (by : Answering A) where
   -- The source failed. A text of whole lines of the script has its replies, after which it is not over, and the line that was begun is
   -- kept, at most 122 bytes of it, so that a later call goes on from there. What was written is known where the sink tells.
-  pub record StopsAtRead (end : ScriptEnd) (start : A) (tells : Bool) (unread left kept old new : List ℕ) : Type 0 where
+  pub record StopsAtRead (end : ScriptEnd) (start : A) (tells : Type 0) (unread left kept old new : List ℕ) : Type 0 where
     pub text : List ℕ
     pub begun : List ℕ
     pub split : unread ≡ text ++ (begun ++ left)
@@ -32,11 +32,11 @@ module _ {A : Type 0} (by : Answering A) where
     pub front : kept ≡ take 122 begun
     pub inside : script_lines end (lines_of text) ≡ lines_of text
     pub going : by.is_over (state_after by.answer start (lines_of text)) ≡ false
-    pub written : IsTrue tells → new ≡ old ++ replies by.answer start (lines_of text)
+    pub written : tells → new ≡ old ++ replies by.answer start (lines_of text)
 
   -- The sink failed, or took nothing. Lines of the script were answered, after which it is not over, and at most one more line was read:
   -- the next of the script, of whose reply a beginning was written, or the line that ends the script. A later call goes on after these.
-  pub record StopsAtWrite (end : ScriptEnd) (start : A) (tells : Bool) (unread left old new : List ℕ) : Type 0 where
+  pub record StopsAtWrite (end : ScriptEnd) (start : A) (tells : Type 0) (unread left old new : List ℕ) : Type 0 where
     pub text : List ℕ
     pub answered : List (List ℕ)
     pub next : List (List ℕ)
@@ -45,25 +45,25 @@ module _ {A : Type 0} (by : Answering A) where
     pub are_lines : script_lines end (lines_of text) ≡ answered ++ next
     pub all : lines_of unread ≡ lines_of text ++ lines_of left
     pub going : by.is_over (state_after by.answer start answered) ≡ false
-    pub written : IsTrue tells
+    pub written : tells
         → WritesFront (old ++ replies by.answer start answered) new (replies by.answer (state_after by.answer start answered) next)
 
 module _ {S W : Type 0} {g : SourceGhosts S} (h : SinkGhosts W) where
-  -- All was read, to the end that the source answered, and just the output was written.
+  -- All was read, to the end that the source answered, and just the output was written, and the sink flushed behind it.
   pub record RunsToEnd (output : Result (List ℕ) BenchFault) (old new : Lines S g) (before after : W) : Type 0 where
     pub at_end : new.is_at_end ≡ true
     pub ended : HasEnded old new
     pub emptied : held new ≡ []
     pub source : SourceWorked g old.source new.source
-    pub sink : SinkWorked h before after
-    pub used_up : IsTrue g.tells → unread new ≡ []
-    pub written : IsTrue g.tells → IsOkAnd output (λ text. IsTrue h.tells → h.taken after ≡ h.taken before ++ text)
+    pub sink : SinkFlushed h before after
+    pub used_up : g.tells → unread new ≡ []
+    pub written : g.tells → IsOkAnd output (λ text. h.tells → h.taken after ≡ h.taken before ++ text)
 
   -- All was read through the first separator, or to the end that the source answered, and just the output was written.
   pub record RunsToSeparator (output : Result (List ℕ) BenchFault) (old new : Lines S g) (before after : W) : Type 0 where
     pub reads : ReadsThroughSeparator old new
     pub sink : SinkWorked h before after
-    pub written : IsTrue g.tells → IsOkAnd output (λ text. IsTrue h.tells → h.taken after ≡ h.taken before ++ text)
+    pub written : g.tells → IsOkAnd output (λ text. h.tells → h.taken after ≡ h.taken before ++ text)
 
   -- the script was run, up to its end
   abbrev pub RunsScript : ScriptEnd → Result (List ℕ) BenchFault → Lines S g → Lines S g → W → W → Type 0
@@ -81,16 +81,16 @@ module _ {S W : Type 0} {g : SourceGhosts S} (h : SinkGhosts W) where
     pub source : SourceWorked g old.source new.source
     pub sink : SinkFailed h before after
     pub emptied : held new ≡ []
-    pub front : IsTrue g.tells → IsOkAnd output (λ text. IsTrue h.tells → WritesFront (h.taken before) (h.taken after) text)
+    pub front : g.tells → IsOkAnd output (λ text. h.tells → WritesFront (h.taken before) (h.taken after) text)
 
   -- what each failure means of a run over the lines of a script, from the state before it
   abbrev pub FailsIn : {A : Type 0} → Answering A → ScriptEnd → A → Lines S g → Lines S g → W → W → BenchFault → Type 0
   FailsIn by end start old new before after Read =
       FailsToRead old new before after
-      × (IsTrue g.tells → StopsAtRead by end start h.tells (unread old) (g.remaining new.source) (held new) (h.taken before) (h.taken after))
+      × (g.tells → StopsAtRead by end start h.tells (unread old) (g.remaining new.source) (held new) (h.taken before) (h.taken after))
   FailsIn by end start old new before after Write =
       FailsToWrite (Ok (replies by.answer start (script_lines end (lines_of (unread old))))) old new before after
-      × (IsTrue g.tells → StopsAtWrite by end start h.tells (unread old) (unread new) (h.taken before) (h.taken after))
+      × (g.tells → StopsAtWrite by end start h.tells (unread old) (unread new) (h.taken before) (h.taken after))
   FailsIn by end start old new before after _ = ⊥
 
   -- what each result of a run of one bench over the lines of a script means, from the state of the bench before it

@@ -22,7 +22,7 @@ use Rattle.rv_bench.specs.Run.{RunsToEnd, FailsToRead, FailsToWrite, StopsAtRead
 module _ {S W : Type 0} {g : SourceGhosts S} (h : SinkGhosts W) (setup : Setup) (old new : Lines S g) (before after : W) where
   -- the input has this fault in place of an output
   abbrev pub IsFault : BenchFault → Type 0
-  IsFault fault = IsTrue g.tells → output setup (unread old) ≡ Err fault
+  IsFault fault = g.tells → output setup (unread old) ≡ Err fault
 
   -- The source failed: in the image, when nothing is written, or else in the script, which follows a separator.
   abbrev pub StopsStreamAtRead : Type 0
@@ -41,14 +41,14 @@ module _ {S W : Type 0} {g : SourceGhosts S} (h : SinkGhosts W) (setup : Setup) 
   -- byte is written.
   abbrev pub RunsStream : Outcome → Type 0
   RunsStream (Ok _) = (is_ram_size setup.ram ≡ true) × RunsToEnd h (output setup (unread old)) old new before after
-  RunsStream (Err Read) = FailsToRead h old new before after × (IsTrue g.tells → StopsStreamAtRead)
+  RunsStream (Err Read) = FailsToRead h old new before after × (g.tells → StopsStreamAtRead)
   RunsStream (Err Write) =
-      (is_ram_size setup.ram ≡ true) × FailsToWrite h (output setup (unread old)) old new before after × (IsTrue g.tells → StopsStreamAtWrite)
+      (is_ram_size setup.ram ≡ true) × FailsToWrite h (output setup (unread old)) old new before after × (g.tells → StopsStreamAtWrite)
   RunsStream (Err Hex) = FindsFault Hex old new × IsFault Hex × (after ≡ before)
   RunsStream (Err TooLong) = FindsFault TooLong old new × IsFault TooLong × (after ≡ before)
   RunsStream (Err NoMemory) = LacksMemory old new × (after ≡ before)
   RunsStream (Err (Ram BadSize)) = (is_ram_size setup.ram ≡ false) × ReadsThroughSeparator old new × IsFault (Ram BadSize) × (after ≡ before)
   RunsStream (Err (Ram NoRamMemory)) =
-      (is_ram_size setup.ram ≡ true) × ReadsThroughSeparator old new × (IsTrue g.tells → IsOk (image_in (unread old))) × (after ≡ before)
+      (is_ram_size setup.ram ≡ true) × ReadsThroughSeparator old new × (g.tells → IsOk (image_in (unread old))) × (after ≡ before)
   RunsStream (Err (Image fault)) = (is_ram_size setup.ram ≡ true) × ReadsThroughSeparator old new × IsFault (Image fault) × (after ≡ before)
   RunsStream (Err _) = ⊥

@@ -14,7 +14,7 @@ use Rattle.rv_streams.specs.declared.fault.BenchFault.{BenchFault}
 use Rattle.rv_streams.specs.declared.fault.BenchFault.TheVariants.{Image, Ram, Read, Write, Hex, TooLong, NoMemory}
 use Rattle.rv_streams.specs.declared.lines.Lines.{Lines}
 use Rattle.rv_streams.specs.declared.separator.ScriptEnd.TheVariants.{Input, Separator}
-use Rattle.rv_streams.specs.Calls.{SourceWorked, SinkWorked}
+use Rattle.rv_streams.specs.Calls.{SourceWorked, SinkFlushed}
 use Rattle.rv_streams.specs.Image.{image_in, ReadsInImage}
 use Rattle.rv_streams.specs.LineText.{ReadsLines}
 use Rattle.rv_streams.specs.ReadImage.{FindsFault, LacksMemory}
@@ -76,15 +76,15 @@ abbrev pub IsNeverEntered : ℕ → Option Apart → List ℕ → Type 0
 IsNeverEntered slot apart input = IsSomeAnd apart (λ apart. (state_after (apart_line slot) apart (lines_of input)).entered ≡ false)
 
 -- The sink failed in the line that tells the end of the input, no line having entered the slot.
-pub record StopsInEnd (slot : ℕ) (apart : Apart) (tells : Bool) (unread left old new : List ℕ) : Type 0 where
+pub record StopsInEnd (slot : ℕ) (apart : Apart) (tells : Type 0) (unread left old new : List ℕ) : Type 0 where
   pub used_up : left ≡ []
   pub going : (state_after (apart_line slot) apart (lines_of unread)).entered ≡ false
-  pub written : IsTrue tells
+  pub written : tells
       → WritesFront (old ++ replies (apart_line slot) apart (lines_of unread)) new (end_text (state_after (apart_line slot) apart (lines_of unread)).ran)
 
 -- the sink failed in the second script, or in the line that tells that there is no slot
-abbrev pub StopsSecondAtWrite : ℕ → Option Apart → Bool → List ℕ → List ℕ → List ℕ → List ℕ → Type 0
-StopsSecondAtWrite slot None tells unread left old new = (left ≡ unread) × (IsTrue tells → WritesFront old new no_slot_text)
+abbrev pub StopsSecondAtWrite : ℕ → Option Apart → Type 0 → List ℕ → List ℕ → List ℕ → List ℕ → Type 0
+StopsSecondAtWrite slot None tells unread left old new = (left ≡ unread) × (tells → WritesFront old new no_slot_text)
 StopsSecondAtWrite slot (Some apart) tells unread left old new =
     StopsAtWrite (both_benches slot) Input apart tells unread left old new ⊎ StopsInEnd slot apart tells unread left old new
 
@@ -94,24 +94,24 @@ EndsIn last written = (front : List ℕ) × (written ≡ front ++ last)
 
 -- what is told last where the run was over before the end
 abbrev pub TellsOver : {W : Type 0} → SinkGhosts W → W → Type 0
-TellsOver h after = IsTrue h.tells → EndsIn no_slot_text (h.taken after) ⊎ ((ran : ℕ) × EndsIn (entered_text ran) (h.taken after))
+TellsOver h after = h.tells → EndsIn no_slot_text (h.taken after) ⊎ ((ran : ℕ) × EndsIn (entered_text ran) (h.taken after))
 
 module _ {S W : Type 0} {g : SourceGhosts S} (h : SinkGhosts W) where
   -- The run went to the end of the input, which the source answered, and no line entered the slot. That is told last.
   pub record GoesToEnd (NeverEntered : Type 0) (old new : Lines S g) (after : W) : Type 0 where
     pub at_end : new.is_at_end ≡ true
     pub ended : HasEnded old new
-    pub used_up : IsTrue g.tells → unread new ≡ []
-    pub going : IsTrue g.tells → NeverEntered
-    pub told : IsTrue h.tells → (ran : ℕ) × EndsIn (end_text ran) (h.taken after)
+    pub used_up : g.tells → unread new ≡ []
+    pub going : g.tells → NeverEntered
+    pub told : h.tells → (ran : ℕ) × EndsIn (end_text ran) (h.taken after)
 
-  -- The text was written, and all was read to the end of the input, or as far as the run went.
+  -- The text was written, the sink flushed behind it, and all was read to the end of the input, or as far as the run went.
   pub record Tells (output : Result (List ℕ) BenchFault) (NeverEntered Over : Type 0) (old new : Lines S g) (before after : W) : Type 0 where
     pub source : SourceWorked g old.source new.source
-    pub sink : SinkWorked h before after
+    pub sink : SinkFlushed h before after
     pub emptied : held new ≡ []
-    pub read : GoesToEnd NeverEntered old new after ⊎ ((IsTrue g.tells → Over) × TellsOver h after)
-    pub written : IsTrue g.tells → IsOkAnd output (λ text. IsTrue h.tells → h.taken after ≡ h.taken before ++ text)
+    pub read : GoesToEnd NeverEntered old new after ⊎ ((g.tells → Over) × TellsOver h after)
+    pub written : g.tells → IsOkAnd output (λ text. h.tells → h.taken after ≡ h.taken before ++ text)
 
   -- What each result of the second part means, by the benches once they are set apart.
   abbrev pub RunsSecond : ℕ → Option Apart → Lines S g → Lines S g → W → W → Outcome → Type 0
@@ -120,17 +120,17 @@ module _ {S W : Type 0} {g : SourceGhosts S} (h : SinkGhosts W) where
       old new before after
   RunsSecond slot apart old new before after (Err Read) =
       FailsToRead h old new before after
-      × (IsTrue g.tells → IsSomeAnd apart (λ apart.
+      × (g.tells → IsSomeAnd apart (λ apart.
       StopsAtRead (both_benches slot) Input apart h.tells (unread old) (g.remaining new.source) (held new) (h.taken before) (h.taken after)))
   RunsSecond slot apart old new before after (Err Write) =
       FailsToWrite h (Ok (second_text slot apart (unread old))) old new before after
-      × (IsTrue g.tells → StopsSecondAtWrite slot apart h.tells (unread old) (unread new) (h.taken before) (h.taken after))
+      × (g.tells → StopsSecondAtWrite slot apart h.tells (unread old) (unread new) (h.taken before) (h.taken after))
   RunsSecond slot apart old new before after (Err _) = ⊥
 
 module _ {S W : Type 0} {g : SourceGhosts S} (h : SinkGhosts W) (setup : Setup) (slot : ℕ) (old new : Lines S g) (before after : W) where
   -- the input has this fault in place of a text
   abbrev pub HasFault : BenchFault → Type 0
-  HasFault fault = IsTrue g.tells → twin_output setup slot (unread old) ≡ Err fault
+  HasFault fault = g.tells → twin_output setup slot (unread old) ≡ Err fault
 
   -- the source failed in the first script, or in the second, which follows a separator
   abbrev pub StopsInScripts : List ℕ → BenchState → Type 0
@@ -173,14 +173,14 @@ module _ {S W : Type 0} {g : SourceGhosts S} (h : SinkGhosts W) (setup : Setup) 
   -- What each result of `run_twin` means. The image's text, the RAM's size and the image are asked in this order, before a byte is written.
   abbrev pub RunsTwin : Outcome → Type 0
   RunsTwin (Ok _) = (is_ram_size setup.ram ≡ true) × Tells h (twin_output setup slot (unread old)) IsTwinNeverEntered IsTwinOver old new before after
-  RunsTwin (Err Read) = FailsToRead h old new before after × (IsTrue g.tells → StopsTwinAtRead)
+  RunsTwin (Err Read) = FailsToRead h old new before after × (g.tells → StopsTwinAtRead)
   RunsTwin (Err Write) =
-      (is_ram_size setup.ram ≡ true) × FailsToWrite h (twin_output setup slot (unread old)) old new before after × (IsTrue g.tells → StopsTwinAtWrite)
+      (is_ram_size setup.ram ≡ true) × FailsToWrite h (twin_output setup slot (unread old)) old new before after × (g.tells → StopsTwinAtWrite)
   RunsTwin (Err Hex) = FindsFault Hex old new × HasFault Hex × (after ≡ before)
   RunsTwin (Err TooLong) = FindsFault TooLong old new × HasFault TooLong × (after ≡ before)
   RunsTwin (Err NoMemory) = LacksMemory old new × (after ≡ before)
   RunsTwin (Err (Ram BadSize)) = (is_ram_size setup.ram ≡ false) × ReadsThroughSeparator old new × HasFault (Ram BadSize) × (after ≡ before)
   RunsTwin (Err (Ram NoRamMemory)) =
-      (is_ram_size setup.ram ≡ true) × ReadsThroughSeparator old new × (IsTrue g.tells → IsOk (image_in (unread old))) × (after ≡ before)
+      (is_ram_size setup.ram ≡ true) × ReadsThroughSeparator old new × (g.tells → IsOk (image_in (unread old))) × (after ≡ before)
   RunsTwin (Err (Image fault)) = (is_ram_size setup.ram ≡ true) × ReadsThroughSeparator old new × HasFault (Image fault) × (after ≡ before)
   RunsTwin (Err _) = ⊥

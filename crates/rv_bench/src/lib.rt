@@ -17,12 +17,16 @@
 mod answers;
 mod apart;
 mod equal;
+mod in_memory;
 mod job;
+mod program;
 mod run;
 mod start;
 mod twin;
 
+pub use in_memory::run_in_memory;
 pub use job::run_job;
+pub use program::{perform, refuse};
 pub use run::{run_bench, run_stream};
 pub use rv_command_line::{Harts, ImageKind, Job, Setup, WordsFault, read_words};
 pub use rv_elf::ElfFault;

@@ -1,6 +1,6 @@
 //! A source and a sink over memory for tests: they move few bytes a call, and fail at a set call.
-ghost use Rattle.std.specs.Prelude.{◌≡◌, ◌<◌, [], true, false, length};
-ghost use Rattle.rv_streams.specs.MemoryStreams.{rest_of, bytes_of};
+ghost use Rattle.std.specs.Prelude.{◌≡◌, ◌<◌, [], ⊤, length};
+ghost use Rattle.rv_streams.specs.MemoryStreams.{rest_of, bytes_of, has_flushed};
 
 use rv_bench::{DeviceFault, MemorySink, MemorySource, Sink, Source};
 
@@ -49,7 +49,7 @@ impl<'a> FaultySource<'a> {
 }
 
 impl<'a> Source for FaultySource<'a> {
-    ghost tells = { true };
+    ghost tells = { ⊤ };
 
     ghost remaining = { λ faulty. rest_of faulty.source };
 
@@ -117,9 +117,11 @@ impl<'a> FaultySink<'a> {
 }
 
 impl<'a> Sink for FaultySink<'a> {
-    ghost tells = { true };
+    ghost tells = { ⊤ };
 
     ghost taken = { λ faulty. bytes_of faulty.sink };
+
+    ghost is_flushed = { λ faulty. has_flushed faulty.sink };
 
     ghost refusals = { λ faulty. faulty.refused_parts };
 
@@ -152,7 +154,7 @@ impl<'a> Sink for FaultySink<'a> {
             self.failed_calls += 1;
             return Err(DeviceFault);
         }
-        Ok(())
+        self.sink.flush()
     }
 }
 
@@ -181,7 +183,7 @@ impl FeedSource {
 }
 
 impl Source for FeedSource {
-    ghost tells = { false };
+    ghost tells = { ⊥ };
 
     ghost remaining = { λ _. [] };
 

@@ -2,6 +2,8 @@
 #![tactic(auto)]
 
 #[cfg(test)]
+mod byte_by_byte;
+#[cfg(test)]
 mod device_tests;
 #[cfg(test)]
 mod expecting;
@@ -12,6 +14,10 @@ mod image_tests;
 #[cfg(test)]
 mod job_tests;
 #[cfg(test)]
+mod program_tests;
+#[cfg(test)]
 mod run_tests;
+#[cfg(test)]
+mod standard_tests;
 #[cfg(test)]
 mod stream_tests;

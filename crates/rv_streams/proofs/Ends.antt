@@ -1,7 +1,8 @@
 -- How lines come to their end.
-use Rattle.std.proofs.Common.{◌≡◌, ℕ, Bool, true, false, inl, inr, Result, Ok, refl, sym, ap, ◌∙◌, arith, IsTrue}
+use Rattle.std.proofs.Common.{◌≡◌, ℕ, Bool, true, false, ◌||◌, inl, inr, Result, Ok, refl, sym, ap, ◌∙◌, arith, IsTrue}
 use Rattle.std.proofs.lemmas.Bool.{false≢true}
-use Rattle.std.specs.Result.{is_err}
+use Rattle.std.proofs.Math.Bool.{or-true}
+use Rattle.std.specs.Result.{is_err, is_ok}
 use Rattle.rv_streams.specs.declared.device.Source.{Ghosts}
 use Rattle.rv_streams.specs.declared.lines.Lines.{Lines}
 use Rattle.rv_streams.specs.declared.device.Sink.{Ghosts as SinkGhosts}
@@ -38,6 +39,10 @@ pub SinkFailed-after : {W : Type 0} (h : SinkGhosts W) {old mid new : W} → Sin
 SinkFailed-after h worked (inl risen) = let same = worked.0 in inl (omega (arith, risen, same))
 SinkFailed-after h worked (inr risen) = let same = worked.1 in inr (omega (arith, risen, same))
 
+-- a flush that was done
+pub is_flushed-at_ok : {A E : Type 0} (old new : Bool) (r : Result A E) (a : A) → new ≡ (old || is_ok r) → r ≡ Ok a → new ≡ true
+is_flushed-at_ok old new r a is ok = is ∙ (ap (λ r. old || is_ok r) ok ∙ or-true old)
+
 -- one call and another
 pub TellsEnd-more : {S : Type 0} {g : Ghosts S} (old mid new : Lines S g) → TellsEnd old mid → TellsEnd mid new → TellsEnd old new
 TellsEnd-more {S} {g} old mid new first next = record {
@@ -61,7 +66,7 @@ TellsEnd-more {S} {g} old mid new first next = record {
 
 -- what was read through a separator, and not to the end of the input, has one
 pub separator_read : {S : Type 0} {g : Ghosts S} (old mid new : Lines S g) → ReadsThroughSeparator old mid → TellsEnd mid new → new.is_at_end ≡ false
-    → IsTrue g.tells → IsTrue (has_separator (unread old))
+    → g.tells → IsTrue (has_separator (unread old))
 separator_read old mid new reads end going tells = elim reads.ended [
   | inl at_end ↦ absurd (false≢true (sym going ∙ (end.stays at_end).0))
   | inr has ↦ has tells

@@ -180,12 +180,12 @@ module _ {unread left rest : List ℕ} {ends : Bool} {image shown : List ℕ} wh
 
   -- memory for the bytes of one line more was refused
   pub SpellsImage-refused : {word : List ℕ} → TakesInImage unread left rest ends image shown
-      → Some word ≡ line_word shown → IsSomeAnd (bytes_of_digits word) (λ bytes. length image + length bytes ≤ 33554432)
+      → Some word ≡ line_word shown → IsSomeAnd (bytes_of_digits word) (λ bytes. (0 < length bytes) × (length image + length bytes ≤ 33554432))
       → ReadsFrontOfImage unread rest
   SpellsImage-refused {word = word} at is gives =
       let so_far = at.so_far in
       let takes = at.takes in
-      let (bytes, writes, few) = some_and (bytes_of_digits word) (λ bytes. length image + length bytes ≤ 33554432) gives in
+      let (bytes, writes, (some, few)) = some_and (bytes_of_digits word) (λ bytes. (0 < length bytes) × (length image + length bytes ≤ 33554432)) gives in
       let line = takes.line in
       let has = TakesLine-word left rest ends shown (Some word) takes is in
       let spells : line_bytes line ≡ Some bytes = ap (option_and_then bytes_of_digits) has ∙ writes in
@@ -194,7 +194,7 @@ module _ {unread left rest : List ℕ} {ends : Bool} {image shown : List ℕ} wh
       let short : length (bytes_of_lines (so_far.lines ++ line ∷ [])) ≤ 33554432 =
       omega (arith, few, ap length all, length-append (bytes_of_lines so_far.lines) bytes, ap length so_far.spelled) in record {
         lines = so_far.lines ++ line ∷ [];
-        some = omega (arith, length-append so_far.lines (line ∷ []));
+        some = omega (arith, some, ap length all, length-append (bytes_of_lines so_far.lines) bytes);
         reads = SpellsImage-unmarked unread left rest ends image shown so_far takes (not_separator at);
         image = image_of-sound (so_far.lines ++ line ∷ []) sound short;
       }

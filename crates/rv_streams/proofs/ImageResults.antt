@@ -1,5 +1,5 @@
 -- What reading an image gives, by the line that ends it.
-use Rattle.std.proofs.Common.{◌≡◌, ◌≤◌, ℕ, false, arith, codes, IsTrue, List, [], Some, None, Ok, Err, Vec, vec_len, ap, sym, ◌∙◌}
+use Rattle.std.proofs.Common.{◌≡◌, ◌≤◌, ℕ, false, arith, codes, List, [], Some, None, Ok, Err, Vec, vec_len, ap, sym, ◌∙◌}
 use Rattle.std.specs.Str.{bytes_eq}
 use Rattle.rv_streams.specs.declared.device.Source.{Ghosts}
 use Rattle.rv_streams.specs.declared.fault.BenchFault.{BenchFault}
@@ -26,7 +26,7 @@ other_word line word is other = ap is_dashes (sym is) ∙ other
 module _ {S : Type 0} {g : Ghosts S} (Z : Type 0) (old new : Lines S g) (source : SourceWorked g old.source new.source) (emptied : held new ≡ []) where
   -- a line whose bytes are not added
   pub refused : (left image added shown word : List ℕ) (fault : BenchFault)
-      → (IsTrue g.tells → TakesInImage (unread old) left (unread new) new.is_at_end image shown)
+      → (g.tells → TakesInImage (unread old) left (unread new) new.is_at_end image shown)
       → Some word ≡ line_word shown → AddsBytes word image added (Err fault)
       → ReadsImage {Z = Z} old new (Err fault)
   refused left image added shown word Hex at is adds = record {
@@ -47,7 +47,7 @@ module _ {S : Type 0} {g : Ghosts S} (Z : Type 0) (old new : Lines S g) (source 
 
   -- no line of the image was left
   pub image_read : (mid : Lines S g) (image : Vec ℕ Z) → FindsEnd Separator mid new → vec_len image ≤ 33554432
-      → (IsTrue g.tells → SpellsImage (unread old) (unread mid) mid.is_at_end image.items) → ReadsImage old new (Ok image)
+      → (g.tells → SpellsImage (unread old) (unread mid) mid.is_at_end image.items) → ReadsImage old new (Ok image)
   image_read mid image found few spells = (
     FindsEnd-separator old mid new source emptied found (λ tells. ((spells tells).lines, SpellsImage-taken (spells tells))),
     few,

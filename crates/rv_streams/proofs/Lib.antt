@@ -6,6 +6,7 @@ pub mod ImageResults
 pub mod LineTextLemmas
 pub mod Mapped
 pub mod ScriptLemmas
+pub mod StandardStreamsLemmas
 pub mod TakeWhileLemmas
 pub mod WordLengths
 pub mod Writing

@@ -117,7 +117,7 @@ ReadsScript-through end unread left rest ends shown lines so_far takes e =
 module _ {S : Type 0} {g : Ghosts S} (old mid new : Lines S g) where
   -- where no line of the script was left, these are all
   pub FindsEnd-whole : (end : ScriptEnd) (lines : List (List ℕ)) → FindsEnd end mid new → TakesScript end (unread old) (unread mid) mid.is_at_end lines
-      → IsTrue g.tells → ReadsScript end (unread old) (unread new) lines
+      → g.tells → ReadsScript end (unread old) (unread new) lines
   FindsEnd-whole end lines (inl at_end) so_far tells =
       ReadsScript-ended end (unread old) (unread mid) (unread new) mid.is_at_end lines so_far (at_end.none tells) (at_end.left tells)
   FindsEnd-whole end lines (inr reads) so_far tells =
@@ -126,7 +126,7 @@ module _ {S : Type 0} {g : Ghosts S} (old mid new : Lines S g) where
 
   -- the line that ended the script is in the input
   ends-there : (lines : List (List ℕ)) → ReadsScriptEnd Separator mid new → TakesScript Separator (unread old) (unread mid) mid.is_at_end lines
-      → IsTrue g.tells → IsTrue (has_separator (unread old))
+      → g.tells → IsTrue (has_separator (unread old))
   ends-there lines reads so_far tells =
       let takes = reads.takes tells in
       has_separator-there lines (lines_of (unread new)) takes.line (unread old)
@@ -135,7 +135,7 @@ module _ {S : Type 0} {g : Ghosts S} (old mid new : Lines S g) where
 
   -- what follows the separator is left
   pub FindsEnd-separator : SourceWorked g old.source new.source → held new ≡ [] → FindsEnd Separator mid new
-      → (IsTrue g.tells → (lines : List (List ℕ)) × TakesScript Separator (unread old) (unread mid) mid.is_at_end lines)
+      → (g.tells → (lines : List (List ℕ)) × TakesScript Separator (unread old) (unread mid) mid.is_at_end lines)
       → ReadsThroughSeparator old new
   FindsEnd-separator source emptied found taken = record {
     source = source;

@@ -1,15 +1,15 @@
 -- What assembling a source does, result by result. (This project's own streams.)
-use Rattle.std.specs.Prelude.{◌≡◌, ◌≢◌, ℕ, ◌+◌, ◌-◌, ◌<◌, ◌≤◌, List, [], ◌++◌, length, take, None, IsTrue, IsOkAnd, Result}
+use Rattle.std.specs.Prelude.{◌≡◌, ◌⊎◌, ℕ, ◌+◌, ◌<◌, ◌≤◌, List, [], ◌++◌, length, IsOkAnd, Result}
 use Rattle.std.specs.Prelude.{Ok, Err, Vec}
 use Rattle.rv_text.specs.Lines.{lines_of}
-use Rattle.rv_asm.specs.Program.{first_fault, own_fault, readings}
-use Rattle.rv_asm.specs.declared.fault.AsmFaultKind.TheVariants as asm
+use Rattle.rv_asm.specs.Lacking.{LacksMemory}
+use Rattle.rv_asm.specs.declared.fault.AsmFault.{AsmFault}
 use Rattle.rv_streams.specs.declared.device.Sink.{Ghosts as SinkGhosts}
 use Rattle.rv_streams.specs.declared.device.Source.{Ghosts as SourceGhosts}
 use Rattle.rv_streams.specs.declared.fault.BenchFault.{BenchFault}
 use Rattle.rv_streams.specs.declared.fault.BenchFault.TheVariants.{Read, Write, TooLong, NoMemory, Asm}
 use Rattle.rv_streams.specs.AssemblyText.{asm_output}
-use Rattle.rv_streams.specs.Calls.{SourceWorked, SourceFailed, SinkWorked, SinkFailed}
+use Rattle.rv_streams.specs.Calls.{SourceWorked, SourceFailed, SinkFlushed, SinkFailed}
 use Rattle.rv_streams.specs.Device.{HasRisen}
 use Rattle.rv_streams.specs.Faults.{Outcome}
 use Rattle.rv_streams.specs.Transfer.{ReadsAtMost, ReadsMoreThan, WritesFront}
@@ -18,7 +18,7 @@ use Rattle.rv_streams.specs.Transfer.{ReadsAtMost, ReadsMoreThan, WritesFront}
 abbrev pub AddsPart : List ℕ → List ℕ → List ℕ → Outcome → Type 0
 AddsPart part old new (Ok _) = (new ≡ old ++ part) × (length new ≤ 4194304)
 AddsPart part old new (Err TooLong) = (4194304 < length old + length part) × (new ≡ old)
-AddsPart part old new (Err NoMemory) = (length old + length part ≤ 4194304) × (new ≡ old)
+AddsPart part old new (Err NoMemory) = (0 < length part) × (length old + length part ≤ 4194304) × (new ≡ old)
 AddsPart part old new (Err _) = ⊥
 
 module _ {S : Type 0} (g : SourceGhosts S) where
@@ -26,56 +26,56 @@ module _ {S : Type 0} (g : SourceGhosts S) where
   pub record ReadsWholeText (old new : S) : Type 0 where
     pub source : SourceWorked g old new
     pub ended : HasRisen (g.ends old) (g.ends new)
-    pub few : IsTrue g.tells → length (g.remaining old) ≤ 4194304
-    pub used_up : IsTrue g.tells → g.remaining new ≡ []
+    pub few : g.tells → length (g.remaining old) ≤ 4194304
+    pub used_up : g.tells → g.remaining new ≡ []
 
   -- The source failed before it answered an end.
   pub record FailsInText (old new : S) : Type 0 where
     pub source : SourceFailed g old new
     pub going : g.ends new ≡ g.ends old
-    pub reads : IsTrue g.tells → ReadsAtMost 4194304 (g.remaining old) (g.remaining new)
+    pub reads : g.tells → ReadsAtMost 4194304 (g.remaining old) (g.remaining new)
 
   -- The text is too long, which was found before the source answered an end.
   pub record FindsTooMuch (old new : S) : Type 0 where
     pub source : SourceWorked g old new
     pub going : g.ends new ≡ g.ends old
-    pub reads : IsTrue g.tells → ReadsMoreThan 4194304 (g.remaining old) (g.remaining new)
+    pub reads : g.tells → ReadsMoreThan 4194304 (g.remaining old) (g.remaining new)
 
-  -- Memory was refused for the text, before the source answered an end.
+  -- Memory was refused for the text, of which a byte was read, before the source answered an end.
   pub record LacksMemoryForText (old new : S) : Type 0 where
     pub source : SourceWorked g old new
     pub going : g.ends new ≡ g.ends old
-    pub reads : IsTrue g.tells → ReadsAtMost 4194304 (g.remaining old) (g.remaining new)
+    pub some : g.tells → length (g.remaining new) < length (g.remaining old)
+    pub reads : g.tells → ReadsAtMost 4194304 (g.remaining old) (g.remaining new)
 
   -- what each result of reading a text means
   abbrev pub ReadsText : {Z : Type 0} → S → S → Result (Vec ℕ Z) BenchFault → Type 0
-  ReadsText old new (Ok text) = ReadsWholeText old new × (length text.items ≤ 4194304) × (IsTrue g.tells → text.items ≡ g.remaining old)
+  ReadsText old new (Ok text) = ReadsWholeText old new × (length text.items ≤ 4194304) × (g.tells → text.items ≡ g.remaining old)
   ReadsText old new (Err Read) = FailsInText old new
   ReadsText old new (Err TooLong) = FindsTooMuch old new
   ReadsText old new (Err NoMemory) = LacksMemoryForText old new
   ReadsText old new (Err _) = ⊥
 
--- no line before this one has a fault of its own
-abbrev pub IsFaultlessBefore : ℕ → List ℕ → Type 0
-IsFaultlessBefore line text = first_fault own_fault [] (take (line - 1) (readings text)) ≡ None
+-- the fault is what is put out in place of the words, or memory was refused at a line that has none
+abbrev pub FailsAsm : List ℕ → AsmFault → Type 0
+FailsAsm text fault = (asm_output text ≡ Err (Asm fault)) ⊎ LacksMemory text fault
 
 module _ {S W : Type 0} (g : SourceGhosts S) (h : SinkGhosts W) (old new : S) (before after : W) where
   -- What each result of `run_asm` means: nothing is written before the whole text was read and assembled. Where memory is refused at a line of
-  -- it, those before have no fault of their own.
+  -- it, it has no fault that is told there in the place of that.
   abbrev pub RunsAsm : Outcome → Type 0
   RunsAsm (Ok _) =
-      ReadsWholeText g old new × SinkWorked h before after
-      × (IsTrue g.tells → IsOkAnd (asm_output (g.remaining old)) (λ text. IsTrue h.tells → h.taken after ≡ h.taken before ++ text))
+      ReadsWholeText g old new × SinkFlushed h before after
+      × (g.tells → IsOkAnd (asm_output (g.remaining old)) (λ text. h.tells → h.taken after ≡ h.taken before ++ text))
   RunsAsm (Err Read) = FailsInText g old new × (after ≡ before)
-  RunsAsm (Err TooLong) = FindsTooMuch g old new × (IsTrue g.tells → asm_output (g.remaining old) ≡ Err TooLong) × (after ≡ before)
+  RunsAsm (Err TooLong) = FindsTooMuch g old new × (g.tells → asm_output (g.remaining old) ≡ Err TooLong) × (after ≡ before)
   RunsAsm (Err NoMemory) = LacksMemoryForText g old new × (after ≡ before)
   RunsAsm (Err (Asm fault)) =
       ReadsWholeText g old new
-      × (IsTrue g.tells → (1 ≤ fault.line) × (fault.line ≤ length (lines_of (g.remaining old))))
-      × (IsTrue g.tells → IsFaultlessBefore fault.line (g.remaining old))
-      × (IsTrue g.tells → fault.kind ≢ asm.NoMemory → asm_output (g.remaining old) ≡ Err (Asm fault))
+      × (g.tells → (1 ≤ fault.line) × (fault.line ≤ length (lines_of (g.remaining old))))
+      × (g.tells → FailsAsm (g.remaining old) fault)
       × (after ≡ before)
   RunsAsm (Err Write) =
       ReadsWholeText g old new × SinkFailed h before after
-      × (IsTrue g.tells → IsOkAnd (asm_output (g.remaining old)) (λ text. IsTrue h.tells → WritesFront (h.taken before) (h.taken after) text))
+      × (g.tells → IsOkAnd (asm_output (g.remaining old)) (λ text. h.tells → WritesFront (h.taken before) (h.taken after) text))
   RunsAsm (Err _) = ⊥

@@ -1,5 +1,5 @@
 -- What the calls of a device have come to since an earlier state of it. (This project's own streams.)
-use Rattle.std.specs.Prelude.{◌≡◌, ◌⊎◌}
+use Rattle.std.specs.Prelude.{◌≡◌, ◌⊎◌, true}
 use Rattle.rv_streams.specs.declared.device.Source.{Ghosts as SourceGhosts}
 use Rattle.rv_streams.specs.declared.device.Sink.{Ghosts as SinkGhosts}
 use Rattle.rv_streams.specs.Device.{HasRisen}
@@ -17,6 +17,11 @@ module _ {W : Type 0} (h : SinkGhosts W) (old new : W) where
   -- no call of the sink failed, and of no part that was not empty it took nothing
   abbrev pub SinkWorked : Type 0
   SinkWorked = (h.failures new ≡ h.failures old) × (h.refusals new ≡ h.refusals old)
+
+  -- no call of the sink failed, and it was flushed after the last byte that it took
+  pub record SinkFlushed : Type 0 where
+    pub worked : SinkWorked
+    pub flushed : h.is_flushed new ≡ true
 
   -- a call of the sink failed, or of a part that was not empty it took nothing
   abbrev pub SinkFailed : Type 0

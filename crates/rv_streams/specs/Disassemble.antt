@@ -1,10 +1,10 @@
 -- What disassembling an image does, result by result. (This project's own streams.)
-use Rattle.std.specs.Prelude.{◌≡◌, ◌⊎◌, ◌++◌, IsTrue, IsOk, IsOkAnd, Ok, Err}
+use Rattle.std.specs.Prelude.{◌≡◌, ◌⊎◌, ◌++◌, IsOk, IsOkAnd, Ok, Err}
 use Rattle.rv_streams.specs.declared.device.Sink.{Ghosts as SinkGhosts}
 use Rattle.rv_streams.specs.declared.device.Source.{Ghosts as SourceGhosts}
 use Rattle.rv_streams.specs.declared.fault.BenchFault.TheVariants.{Read, Write, Hex, TooLong, NoMemory}
 use Rattle.rv_streams.specs.declared.lines.Lines.{Lines}
-use Rattle.rv_streams.specs.Calls.{SinkWorked, SinkFailed}
+use Rattle.rv_streams.specs.Calls.{SinkFlushed, SinkFailed}
 use Rattle.rv_streams.specs.DisassemblyText.{dis_output}
 use Rattle.rv_streams.specs.Image.{image_in}
 use Rattle.rv_streams.specs.ReadImage.{FailsInImage, FindsFault, LacksMemory}
@@ -16,19 +16,19 @@ use Rattle.rv_streams.specs.Unread.{unread}
 module _ {S W : Type 0} {g : SourceGhosts S} (h : SinkGhosts W) (old new : Lines S g) (before after : W) where
   -- The number of the image's bytes is no multiple of 4, which is asked of the whole image.
   abbrev pub FindsPartOfWord : Type 0
-  FindsPartOfWord = ReadsThroughSeparator old new × (IsTrue g.tells → IsOk (image_in (unread old)))
+  FindsPartOfWord = ReadsThroughSeparator old new × (g.tells → IsOk (image_in (unread old)))
 
   -- what each result of `run_dis` means: nothing is written before the whole image was read
   abbrev pub RunsDis : Outcome → Type 0
   RunsDis (Ok _) =
-      ReadsThroughSeparator old new × SinkWorked h before after
-      × (IsTrue g.tells → IsOkAnd (dis_output (unread old)) (λ text. IsTrue h.tells → h.taken after ≡ h.taken before ++ text))
+      ReadsThroughSeparator old new × SinkFlushed h before after
+      × (g.tells → IsOkAnd (dis_output (unread old)) (λ text. h.tells → h.taken after ≡ h.taken before ++ text))
   RunsDis (Err Read) = FailsInImage old new × (after ≡ before)
   RunsDis (Err Hex) =
-      (FindsFault Hex old new ⊎ FindsPartOfWord) × (IsTrue g.tells → dis_output (unread old) ≡ Err Hex) × (after ≡ before)
-  RunsDis (Err TooLong) = FindsFault TooLong old new × (IsTrue g.tells → dis_output (unread old) ≡ Err TooLong) × (after ≡ before)
+      (FindsFault Hex old new ⊎ FindsPartOfWord) × (g.tells → dis_output (unread old) ≡ Err Hex) × (after ≡ before)
+  RunsDis (Err TooLong) = FindsFault TooLong old new × (g.tells → dis_output (unread old) ≡ Err TooLong) × (after ≡ before)
   RunsDis (Err NoMemory) = LacksMemory old new × (after ≡ before)
   RunsDis (Err Write) =
       ReadsThroughSeparator old new × SinkFailed h before after
-      × (IsTrue g.tells → IsOkAnd (dis_output (unread old)) (λ text. IsTrue h.tells → WritesFront (h.taken before) (h.taken after) text))
+      × (g.tells → IsOkAnd (dis_output (unread old)) (λ text. h.tells → WritesFront (h.taken before) (h.taken after) text))
   RunsDis (Err _) = ⊥

@@ -56,10 +56,10 @@ pub record ReadsUnmarked (unread left : List ℕ) (lines : List (List ℕ)) : Ty
   pub rest : left ≡ after_lines (length lines) unread
   pub unmarked : before_separator lines ≡ lines
 
--- Lines of the image were read, one or more, none of them `--`, none faulty and not too many.
+-- Lines of the image were read, with one byte or more, none of them `--`, none faulty and not too many.
 pub record ReadsFrontOfImage (unread left : List ℕ) : Type 0 where
   pub lines : List (List ℕ)
-  pub some : 0 < length lines
+  pub some : 0 < length (bytes_of_lines lines)
   pub reads : ReadsUnmarked unread left lines
   pub image : image_of lines ≡ Ok (bytes_of_lines lines)
 
@@ -76,5 +76,6 @@ abbrev pub AddsBytes : List ℕ → List ℕ → List ℕ → Result (Unit {0}) 
 AddsBytes word old new (Ok _) = IsSomeAnd (bytes_of_digits word) (λ bytes. new ≡ old ++ bytes)
 AddsBytes word old new (Err Hex) = (bytes_of_digits word ≡ None) × (new ≡ old)
 AddsBytes word old new (Err TooLong) = IsSomeAnd (bytes_of_digits word) (λ bytes. 33554432 < length old + length bytes) × (new ≡ old)
-AddsBytes word old new (Err NoMemory) = IsSomeAnd (bytes_of_digits word) (λ bytes. length old + length bytes ≤ 33554432) × (new ≡ old)
+AddsBytes word old new (Err NoMemory) =
+    IsSomeAnd (bytes_of_digits word) (λ bytes. (0 < length bytes) × (length old + length bytes ≤ 33554432)) × (new ≡ old)
 AddsBytes word old new (Err _) = ⊥

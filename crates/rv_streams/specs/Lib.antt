@@ -6,6 +6,7 @@ pub mod Separator
 pub mod Script
 pub mod Unread
 pub mod MemoryStreams
+pub mod StandardStreams
 pub mod Faults
 pub mod Image
 pub mod ReadImage

@@ -1,5 +1,5 @@
 -- What a source over memory still has, and what a sink over memory has taken. (This project's own streams.)
-use Rattle.std.specs.Prelude.{ℕ, ◌-◌, List, length, take}
+use Rattle.std.specs.Prelude.{ℕ, Bool, ◌-◌, List, length, take}
 use Rattle.rv_streams.specs.declared.memory.MemorySource.{MemorySource}
 use Rattle.rv_streams.specs.declared.memory.MemorySink.{MemorySink}
 
@@ -14,3 +14,7 @@ bytes_of sink = take sink.taken_len sink.buffer.now
 -- how many more bytes fit
 abbrev pub room_of : MemorySink → ℕ
 room_of sink = length sink.buffer.now - sink.taken_len
+
+-- no byte was taken since a flush, or at all
+abbrev pub has_flushed : MemorySink → Bool
+has_flushed sink = sink.is_flushed

@@ -1,5 +1,5 @@
 -- What reading an image does, result by result. (This project's own format.)
-use Rattle.std.specs.Prelude.{◌≡◌, ◌≤◌, ℕ, false, [], IsTrue, Vec, vec_len, Result, Ok, Err}
+use Rattle.std.specs.Prelude.{◌≡◌, ◌≤◌, ℕ, false, [], Vec, vec_len, Result, Ok, Err}
 use Rattle.rv_streams.specs.declared.device.Source.{Ghosts}
 use Rattle.rv_streams.specs.declared.fault.BenchFault.{BenchFault}
 use Rattle.rv_streams.specs.declared.fault.BenchFault.TheVariants.{Read, Hex, TooLong, NoMemory}
@@ -14,25 +14,25 @@ module _ {S : Type 0} {g : Ghosts S} where
   pub record FailsInImage (old new : Lines S g) : Type 0 where
     pub source : SourceFailed g old.source new.source
     pub going : new.is_at_end ≡ false
-    pub reads : IsTrue g.tells → ReadsInImage (unread old) (g.remaining new.source) (held new)
+    pub reads : g.tells → ReadsInImage (unread old) (g.remaining new.source) (held new)
 
   -- The text of the image has this fault, at the last line that was read.
   pub record FindsFault (fault : BenchFault) (old new : Lines S g) : Type 0 where
     pub source : SourceWorked g old.source new.source
     pub emptied : held new ≡ []
-    pub image : IsTrue g.tells → image_in (unread old) ≡ Err fault
-    pub reads : IsTrue g.tells → StopsAtFault (unread old) (unread new) fault
+    pub image : g.tells → image_in (unread old) ≡ Err fault
+    pub reads : g.tells → StopsAtFault (unread old) (unread new) fault
 
   -- Memory was refused for the last line that was read.
   pub record LacksMemory (old new : Lines S g) : Type 0 where
     pub source : SourceWorked g old.source new.source
     pub emptied : held new ≡ []
-    pub reads : IsTrue g.tells → ReadsFrontOfImage (unread old) (unread new)
+    pub reads : g.tells → ReadsFrontOfImage (unread old) (unread new)
 
   -- what each result of `read_image` means
   abbrev pub ReadsImage : {Z : Type 0} → Lines S g → Lines S g → Result (Vec ℕ Z) BenchFault → Type 0
   ReadsImage old new (Ok image) =
-      ReadsThroughSeparator old new × (vec_len image ≤ 33554432) × (IsTrue g.tells → image_in (unread old) ≡ Ok image.items)
+      ReadsThroughSeparator old new × (vec_len image ≤ 33554432) × (g.tells → image_in (unread old) ≡ Ok image.items)
   ReadsImage old new (Err Read) = FailsInImage old new
   ReadsImage old new (Err Hex) = FindsFault Hex old new
   ReadsImage old new (Err TooLong) = FindsFault TooLong old new

@@ -1,6 +1,6 @@
 //! From an assembler text to the bytes of its words.
 
-ghost use Rattle.std.specs.Prelude.{◌≡◌, ◌+◌, ◌≤◌, ◌++◌, ◌⊎◌, IsTrue, OnOk, OnErr};
+ghost use Rattle.std.specs.Prelude.{◌≡◌, ◌+◌, ◌≤◌, ◌++◌, ◌⊎◌, true, OnOk, OnErr};
 ghost use Rattle.arrayvec.specs.ArrayVec.{array_vec_len};
 ghost use Rattle.rv_streams.specs.Assemble.{RunsAsm};
 ghost use Rattle.rv_streams.specs.AssemblyText.{word_line, asm_text};
@@ -41,8 +41,9 @@ fn push_word(out: &mut Reply, word: u32)
 /// Only where the sink failed in this call, or took no byte of a part that was not empty. A beginning of the lines is
 /// written then.
 fn write_words<W: Sink>(words: &[u32], sink: &mut W) -> Result<(), DeviceFault>
-    ensures written { OnOk result (IsTrue W.tells → W.taken sink.new ≡ W.taken sink.old ++ asm_text words.now) }
-    ensures front { IsTrue W.tells → WritesFront (W.taken sink.old) (W.taken sink.new) (asm_text words.now) }
+    ensures written { OnOk result (W.tells → W.taken sink.new ≡ W.taken sink.old ++ asm_text words.now) }
+    ensures front { W.tells → WritesFront (W.taken sink.old) (W.taken sink.new) (asm_text words.now) }
+    ensures flushed { OnOk result (W.is_flushed sink.new ≡ true) }
     ensures ok { OnOk result ((W.failures sink.new ≡ W.failures sink.old) × (W.refusals sink.new ≡ W.refusals sink.old)) }
     ensures err { OnErr result (HasRisen (W.failures sink.old) (W.failures sink.new) ⊎ HasRisen (W.refusals sink.old) (W.refusals sink.new)) }
 {

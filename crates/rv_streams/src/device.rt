@@ -1,5 +1,5 @@
 //! What a source of bytes and a sink for bytes promise.
-ghost use Rattle.std.specs.Prelude.{◌≡◌, ℕ, Bool, List, [], ◌++◌, ◌+◌, ◌-◌, ◌^◌, ◌≤◌, min, take, length, IsTrue, is_err};
+ghost use Rattle.std.specs.Prelude.{◌≡◌, ℕ, Bool, List, [], ◌++◌, ◌+◌, ◌-◌, ◌^◌, ◌≤◌, ◌==◌, ◌&&◌, ◌||◌, min, take, length, IsTrue, is_err, is_ok};
 ghost use Rattle.rv_streams.specs.Device.{moved_count, answers_none, counted};
 
 /// A call of a device failed: nothing was given or taken in that call.
@@ -8,8 +8,8 @@ pub struct DeviceFault;
 
 /// A device that gives bytes.
 pub trait Source {
-    // Whether it is known which bytes will come.
-    ghost tells: { Bool };
+    // That it is known which bytes will come.
+    ghost tells: { Type 0 };
 
     // The bytes still to come, where they are known.
     ghost remaining: { Self → List ℕ };
@@ -31,8 +31,8 @@ pub trait Source {
     /// Where the device failed. No byte is lost then, and a later call goes on.
     fn read_some(&mut self, buffer: &mut [u8]) -> Result<usize, DeviceFault>
         ensures room { moved_count result ≤ length buffer.new }
-        ensures bytes { IsTrue tells → remaining self.old ≡ take (moved_count result) buffer.new ++ remaining self.new }
-        ensures end { IsTrue tells → IsTrue (answers_none result (length buffer.new)) → remaining self.new ≡ [] }
+        ensures bytes { tells → remaining self.old ≡ take (moved_count result) buffer.new ++ remaining self.new }
+        ensures end { tells → IsTrue (answers_none result (length buffer.new)) → remaining self.new ≡ [] }
         ensures ends { ends self.new ≡ counted (answers_none result (length buffer.new)) (ends self.old) }
         ensures failures { failures self.new ≡ counted (is_err result) (failures self.old) }
         ensures failing { failures self.old ≡ 2 ^ 64 - 1 → result ≡ Err record {} }
@@ -41,11 +41,14 @@ pub trait Source {
 
 /// A device that takes bytes.
 pub trait Sink {
-    // Whether it is known which bytes have been taken.
-    ghost tells: { Bool };
+    // That it is known which bytes have been taken.
+    ghost tells: { Type 0 };
 
     // The bytes taken so far, where they are known.
     ghost taken: { Self → List ℕ };
+
+    // That no byte was taken since a flush was done, or at all.
+    ghost is_flushed: { Self → Bool };
 
     // How many parts that were not empty had no byte taken, up to the greatest `u64`, at which the count stays.
     ghost refusals: { Self → ℕ };
@@ -60,7 +63,8 @@ pub trait Sink {
     /// Where the device failed. No byte of the part is taken then.
     fn write_some(&mut self, part: &[u8]) -> Result<usize, DeviceFault>
         ensures bound { moved_count result ≤ length part.now }
-        ensures bytes { IsTrue tells → taken self.new ≡ taken self.old ++ take (moved_count result) part.now }
+        ensures bytes { tells → taken self.new ≡ taken self.old ++ take (moved_count result) part.now }
+        ensures flushed { is_flushed self.new ≡ (is_flushed self.old && (moved_count result == 0)) }
         ensures refusals { refusals self.new ≡ counted (answers_none result (length part.now)) (refusals self.old) }
         ensures failures { failures self.new ≡ counted (is_err result) (failures self.old) }
         ensures failing { failures self.old ≡ 2 ^ 64 - 1 → result ≡ Err record {} };
@@ -71,7 +75,8 @@ pub trait Sink {
     ///
     /// Where the device failed. What was not passed on is still held.
     fn flush(&mut self) -> Result<(), DeviceFault>
-        ensures bytes { IsTrue tells → taken self.new ≡ taken self.old }
+        ensures bytes { tells → taken self.new ≡ taken self.old }
+        ensures flushed { is_flushed self.new ≡ (is_flushed self.old || is_ok result) }
         ensures refusals { refusals self.new ≡ refusals self.old }
         ensures failures { failures self.new ≡ counted (is_err result) (failures self.old) }
         ensures failing { failures self.old ≡ 2 ^ 64 - 1 → result ≡ Err record {} };

@@ -7,6 +7,7 @@ ghost use Rattle.rv_streams.specs.Unread.{TellsEnd};
 use crate::device::Source;
 use crate::fault::BenchFault;
 use crate::lines::Lines;
+use crate::room::add_behind;
 use crate::separator::{is_dashes, only_word};
 use rv_text::MAX_LINE;
 use std::alloc::Global;
@@ -35,10 +36,7 @@ fn add_bytes(image: &mut Vec<u8>, word: &[u8]) -> Result<(), BenchFault>
     if image.len() + count > IMAGE_MAX {
         return Err(BenchFault::TooLong);
     }
-    match image.extend_from_slice(&bytes[..count]) {
-        Ok(()) => Ok(()),
-        Err(_) => Err(BenchFault::NoMemory),
-    }
+    add_behind(image, &bytes[..count])
 }
 
 /// Reads the image: the lines up to the first one whose only word is `--`, which is read too, or all lines.

@@ -21,6 +21,7 @@ mod image;
 mod line;
 mod lines;
 mod memory;
+mod room;
 mod separator;
 mod stdio;
 mod transfer;

@@ -38,8 +38,8 @@ pub(crate) enum Stop {
 pub(crate) fn read_text<S: Source>(source: &mut S, line: &mut Line) -> Result<Stop, DeviceFault>
     requires short { length line.old.items ≤ 122 }
     requires unfinished { has_feed line.old.items ≡ false }
-    ensures bytes { IsTrue S.tells → ReadsText (line.old.items ++ S.remaining source.old) (left_from result (S.remaining source.new)) line.new.items }
-    ensures end { IsTrue S.tells → result ≡ Ok Stop.End → S.remaining source.new ≡ [] }
+    ensures bytes { S.tells → ReadsText (line.old.items ++ S.remaining source.old) (left_from result (S.remaining source.new)) line.new.items }
+    ensures end { S.tells → result ≡ Ok Stop.End → S.remaining source.new ≡ [] }
     ensures ends { S.ends source.new ≡ counted (stops_at_end result) (S.ends source.old) }
     ensures failures { S.failures source.new ≡ counted (is_err result) (S.failures source.old) }
     ensures short { length line.new.items ≤ 122 }

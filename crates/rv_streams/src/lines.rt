@@ -20,7 +20,7 @@ pub struct Lines<S: Source> {
     ghost unfinished: { has_feed line.items ≡ false },
     ghost told: { is_at_end ≡ true → 0 < S.ends source },
     ghost empty: { is_at_end ≡ true → line.items ≡ [] },
-    ghost none_left: { is_at_end ≡ true → IsTrue S.tells → S.remaining source ≡ [] },
+    ghost none_left: { is_at_end ≡ true → S.tells → S.remaining source ≡ [] },
 }
 
 impl<S: Source> Lines<S> {
@@ -66,7 +66,7 @@ impl<S: Source> Lines<S> {
     pub fn is_at_end(&self) -> bool
         ensures end { result ≡ self.now.is_at_end }
         ensures told { IsTrue result → 0 < S.ends self.now.source }
-        ensures nothing { IsTrue result → IsTrue S.tells → unread self.now ≡ [] }
+        ensures nothing { IsTrue result → S.tells → unread self.now ≡ [] }
     {
         self.is_at_end
     }
@@ -79,15 +79,15 @@ impl<S: Source> Lines<S> {
     /// Where the source failed in this call. The first 122 bytes of the line that was begun are kept, and a further call goes
     /// on from there.
     pub fn next_line(&mut self) -> Result<Option<Line>, DeviceFault>
-        ensures line { IsTrue S.tells → IfOk result (λ found. IfSome found (λ line.
+        ensures line { S.tells → IfOk result (λ found. IfSome found (λ line.
             TakesLine (unread self.old) (unread self.new) self.new.is_at_end line.items)) }
         ensures going { IfOk result (λ found. OnSome found (self.old.is_at_end ≡ false)) }
         ensures none { IfOk result (λ found. IfNone found (self.new.is_at_end ≡ true)) }
-        ensures nothing { IsTrue S.tells → IfOk result (λ found. IfNone found ((unread self.old ≡ []) × (unread self.new ≡ []))) }
+        ensures nothing { S.tells → IfOk result (λ found. IfNone found ((unread self.old ≡ []) × (unread self.new ≡ []))) }
         ensures end { TellsEnd self.old self.new }
         ensures failures { S.failures self.new.source ≡ counted (is_err result) (S.failures self.old.source) }
         ensures err { OnErr result ((self.old.is_at_end ≡ false) × (self.new.is_at_end ≡ false)) }
-        ensures kept { IsTrue S.tells → OnErr result (ReadsText (unread self.old) (S.remaining self.new.source) (held self.new)) }
+        ensures kept { S.tells → OnErr result (ReadsText (unread self.old) (S.remaining self.new.source) (held self.new)) }
         ensures emptied { OnOk result (held self.new ≡ []) }
         ensures falls { IfOk result (λ found. OnSome found (calls_left self.new < calls_left self.old)) }
     {
@@ -116,7 +116,7 @@ impl<S: Source> Lines<S> {
     ///
     /// As `next_line`.
     pub fn next_line_before(&mut self, end: ScriptEnd) -> Result<Option<Line>, DeviceFault>
-        ensures line { IsTrue S.tells → IfOk result (λ found. IfSome found (λ line.
+        ensures line { S.tells → IfOk result (λ found. IfSome found (λ line.
             TakesLine (unread self.old) (unread self.new) self.new.is_at_end line.items)) }
         ensures inside { IfOk result (λ found. IfSome found (λ line. ends_script end line.items ≡ false)) }
         ensures going { IfOk result (λ found. OnSome found (self.old.is_at_end ≡ false)) }
@@ -124,7 +124,7 @@ impl<S: Source> Lines<S> {
         ensures end { TellsEnd self.old self.new }
         ensures failures { S.failures self.new.source ≡ counted (is_err result) (S.failures self.old.source) }
         ensures err { OnErr result ((self.old.is_at_end ≡ false) × (self.new.is_at_end ≡ false)) }
-        ensures kept { IsTrue S.tells → OnErr result (ReadsText (unread self.old) (S.remaining self.new.source) (held self.new)) }
+        ensures kept { S.tells → OnErr result (ReadsText (unread self.old) (S.remaining self.new.source) (held self.new)) }
         ensures emptied { OnOk result (held self.new ≡ []) }
         ensures falls { IfOk result (λ found. OnSome found (calls_left self.new < calls_left self.old)) }
     {

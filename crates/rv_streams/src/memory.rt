@@ -1,7 +1,7 @@
 //! A source and a sink over memory that is lent to them. They take no memory of their own, and never fail.
-ghost use Rattle.std.specs.Prelude.{◌≡◌, ◌==◌, ◌&&◌, ◌++◌, ◌+◌, ◌-◌, ◌^◌, ◌≤◌, [], true, nat_lt, min, length, take, is_err};
+ghost use Rattle.std.specs.Prelude.{◌≡◌, ◌==◌, ◌&&◌, ◌++◌, ◌+◌, ◌-◌, ◌^◌, ◌≤◌, [], ⊤, true, nat_lt, min, length, take, is_err};
 ghost use Rattle.rv_streams.specs.Device.{moved_count, answers_none, counted};
-ghost use Rattle.rv_streams.specs.MemoryStreams.{rest_of, bytes_of, room_of};
+ghost use Rattle.rv_streams.specs.MemoryStreams.{rest_of, bytes_of, room_of, has_flushed};
 
 use crate::device::{DeviceFault, Sink, Source};
 
@@ -33,7 +33,7 @@ impl<'a> MemorySource<'a> {
 }
 
 impl<'a> Source for MemorySource<'a> {
-    ghost tells = { true };
+    ghost tells = { ⊤ };
 
     ghost remaining = { rest_of };
 
@@ -60,6 +60,7 @@ impl<'a> Source for MemorySource<'a> {
 pub struct MemorySink<'a> {
     buffer: &'a mut [u8],
     taken_len: usize,
+    is_flushed: bool,
     refused_parts: u64,
 }
 
@@ -68,11 +69,13 @@ impl<'a> MemorySink<'a> {
     pub fn new(buffer: &'a mut [u8]) -> MemorySink<'a>
         ensures bytes { bytes_of result ≡ [] }
         ensures room { room_of result ≡ length buffer.old }
+        ensures flushed { has_flushed result ≡ true }
         ensures refusals { result.refused_parts ≡ 0 }
     {
         MemorySink {
             buffer,
             taken_len: 0,
+            is_flushed: true,
             refused_parts: 0,
         }
     }
@@ -90,6 +93,7 @@ impl<'a> MemorySink<'a> {
         ensures count { result ≡ min (length part.now) (room_of self.old) }
         ensures bytes { bytes_of self.new ≡ bytes_of self.old ++ take result part.now }
         ensures room { room_of self.new + result ≡ room_of self.old }
+        ensures flushed { has_flushed self.new ≡ (has_flushed self.old && (result == 0)) }
         ensures refusals { self.new.refused_parts ≡ counted ((result == 0) && nat_lt 0 (length part.now)) self.old.refused_parts }
     {
         let room = self.buffer.len().saturating_sub(self.taken_len);
@@ -102,14 +106,17 @@ impl<'a> MemorySink<'a> {
         }
         self.buffer[self.taken_len..self.taken_len + count].copy_from_slice(&part[..count]);
         self.taken_len += count;
+        self.is_flushed = false;
         count
     }
 }
 
 impl<'a> Sink for MemorySink<'a> {
-    ghost tells = { true };
+    ghost tells = { ⊤ };
 
     ghost taken = { bytes_of };
+
+    ghost is_flushed = { has_flushed };
 
     ghost refusals = { λ sink. sink.refused_parts };
 
@@ -119,6 +126,7 @@ impl<'a> Sink for MemorySink<'a> {
         ensures count { result ≡ Ok (min (length part.now) (room_of self.old)) }
         ensures bound { moved_count result ≤ length part.now }
         ensures bytes { bytes_of self.new ≡ bytes_of self.old ++ take (moved_count result) part.now }
+        ensures flushed { has_flushed self.new ≡ (has_flushed self.old && (moved_count result == 0)) }
         ensures refusals { self.new.refused_parts ≡ counted (answers_none result (length part.now)) self.old.refused_parts }
         ensures failures { 0 ≡ counted (is_err result) 0 }
         ensures failing { 0 ≡ 2 ^ 64 - 1 → result ≡ Err record {} }
@@ -127,6 +135,7 @@ impl<'a> Sink for MemorySink<'a> {
     }
 
     fn flush(&mut self) -> Result<(), DeviceFault> {
+        self.is_flushed = true;
         Ok(())
     }
 }

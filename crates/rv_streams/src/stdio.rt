@@ -1,6 +1,6 @@
-//! A source over any reader of std and a sink over any writer, as over the standard streams. Of their bytes nothing is claimed.
-ghost use Rattle.std.specs.Prelude.{◌≡◌, ◌-◌, ◌^◌, ◌≤◌, [], false};
-ghost use Rattle.rv_streams.specs.Device.{counted};
+//! A source over any reader of std and a sink over any writer, as over the standard streams. They tell of their bytes what std tells of the
+//! reader's and the writer's.
+ghost use Rattle.std.specs.Prelude.{◌≡◌, ◌-◌, ◌^◌, ◌≤◌, min, take, length};
 
 use crate::device::{DeviceFault, Sink, Source};
 use std::io::{Read, Write};
@@ -8,7 +8,18 @@ use std::io::{Read, Write};
 /// How many bytes are read ahead of what was asked for.
 const READ_LEN: usize = 4096;
 
-/// A source that reads ahead from a reader. After 2^64 - 1 calls that gave a byte it ends.
+/// Copies as many bytes as there are, and as have room, and answers how many.
+fn give(bytes: &[u8], buffer: &mut [u8]) -> usize
+    ensures count { result ≡ min (length bytes.now) (length buffer.old) }
+    ensures copied { take result buffer.new ≡ take result bytes.now }
+    ensures len { length buffer.new ≡ length buffer.old }
+{
+    let count = bytes.len().min(buffer.len());
+    buffer[..count].copy_from_slice(&bytes[..count]);
+    count
+}
+
+/// A source that reads ahead from a reader. After 2^64 - 1 calls that gave a byte every call fails.
 #[derive(Drop, Debug)]
 pub struct StandardSource<R: Read> {
     reader: R,
@@ -23,8 +34,13 @@ pub struct StandardSource<R: Read> {
 }
 
 impl<R: Read> StandardSource<R> {
+    ghost use Rattle.std.specs.Prelude.{◌≡◌, ◌-◌, ◌^◌, ◌<◌, [], OnOk, is_err};
+    ghost use Rattle.rv_streams.specs.Device.{counted};
+    ghost use Rattle.rv_streams.specs.StandardStreams.{TellsAll, known, rest_of};
+
     /// A source over this reader, of which nothing is read yet.
     pub fn new(reader: R) -> StandardSource<R>
+        ensures bytes { rest_of result ≡ known (R.remaining reader) }
         ensures ends { result.end_count ≡ 0 }
         ensures failures { result.failed_calls ≡ 0 }
         ensures calls { result.calls_left ≡ 2 ^ 64 - 1 }
@@ -39,12 +55,43 @@ impl<R: Read> StandardSource<R> {
             end_count: 0,
         }
     }
+
+    /// Reads ahead where all that was read ahead is given: then nothing is ahead only at the end.
+    ///
+    /// # Errors
+    ///
+    /// Where the reader failed. Nothing is lost then.
+    fn read_ahead(&mut self) -> Result<(), DeviceFault>
+        requires { self.old.failed_calls < 2 ^ 64 - 1 }
+        ensures bytes { TellsAll R.remaining → rest_of self.new ≡ rest_of self.old }
+        ensures end { OnOk result (TellsAll R.remaining → self.new.start ≡ self.new.end → rest_of self.new ≡ []) }
+        ensures calls { self.new.calls_left ≡ self.old.calls_left }
+        ensures ends { self.new.end_count ≡ self.old.end_count }
+        ensures failures { self.new.failed_calls ≡ counted (is_err result) self.old.failed_calls }
+    {
+        if self.start < self.end {
+            return Ok(());
+        }
+        match self.reader.read(&mut self.buffer) {
+            Ok(count) => {
+                self.start = 0;
+                self.end = count;
+                Ok(())
+            }
+            Err(_) => {
+                self.failed_calls += 1;
+                Err(DeviceFault)
+            }
+        }
+    }
 }
 
 impl<R: Read> Source for StandardSource<R> {
-    ghost tells = { false };
+    ghost use Rattle.rv_streams.specs.StandardStreams.{TellsAll, rest_of};
 
-    ghost remaining = { λ _. [] };
+    ghost tells = { TellsAll R.remaining };
+
+    ghost remaining = { rest_of };
 
     ghost ends = { λ source. source.end_count };
 
@@ -60,27 +107,15 @@ impl<R: Read> Source for StandardSource<R> {
             return Ok(0);
         }
         if self.calls_left == 0 {
-            self.end_count = self.end_count.saturating_add(1);
-            return Ok(0);
+            self.failed_calls += 1;
+            return Err(DeviceFault);
         }
-        if self.start == self.end {
-            match self.reader.read(&mut self.buffer) {
-                Ok(count) => {
-                    self.start = 0;
-                    self.end = count;
-                }
-                Err(_) => {
-                    self.failed_calls += 1;
-                    return Err(DeviceFault);
-                }
-            }
-        }
-        let count = (self.end - self.start).min(buffer.len());
+        self.read_ahead()?;
+        let count = give(&self.buffer[self.start..self.end], buffer);
         if count == 0 {
             self.end_count = self.end_count.saturating_add(1);
             return Ok(0);
         }
-        buffer[..count].copy_from_slice(&self.buffer[self.start..self.start + count]);
         self.start += count;
         self.calls_left -= 1;
         Ok(count)
@@ -91,28 +126,51 @@ impl<R: Read> Source for StandardSource<R> {
 #[derive(Drop, Debug)]
 pub struct StandardSink<W: Write> {
     writer: W,
+    is_flushed: bool,
     failed_calls: u64,
     refused_parts: u64,
 }
 
 impl<W: Write> StandardSink<W> {
+    ghost use Rattle.std.specs.Prelude.{◌≡◌, true};
+
     /// A sink over this writer, to which nothing is passed yet.
     pub fn new(writer: W) -> StandardSink<W>
+        ensures writer { result.writer ≡ writer }
+        ensures flushed { result.is_flushed ≡ true }
         ensures failures { result.failed_calls ≡ 0 }
         ensures refusals { result.refused_parts ≡ 0 }
     {
         StandardSink {
             writer,
+            is_flushed: true,
             failed_calls: 0,
             refused_parts: 0,
         }
     }
+
+    /// Gives the writer back, to which all that was taken is passed on.
+    pub fn into_writer(self) -> W
+        ensures { result ≡ self.writer }
+    {
+        let StandardSink {
+            writer,
+            is_flushed: _,
+            failed_calls: _,
+            refused_parts: _,
+        } = self;
+        writer
+    }
 }
 
 impl<W: Write> Sink for StandardSink<W> {
-    ghost tells = { false };
+    ghost use Rattle.rv_streams.specs.StandardStreams.{TellsAll, passed_on};
 
-    ghost taken = { λ _. [] };
+    ghost tells = { TellsAll W.contents };
+
+    ghost taken = { passed_on W.contents };
+
+    ghost is_flushed = { λ sink. sink.is_flushed };
 
     ghost refusals = { λ sink. sink.refused_parts };
 
@@ -124,7 +182,9 @@ impl<W: Write> Sink for StandardSink<W> {
         }
         match self.writer.write(part) {
             Ok(count) => {
-                if count == 0 && !part.is_empty() {
+                if count > 0 {
+                    self.is_flushed = false;
+                } else if !part.is_empty() {
                     self.refused_parts = self.refused_parts.saturating_add(1);
                 }
                 Ok(count)
@@ -141,7 +201,10 @@ impl<W: Write> Sink for StandardSink<W> {
             return Err(DeviceFault);
         }
         match self.writer.flush() {
-            Ok(()) => Ok(()),
+            Ok(()) => {
+                self.is_flushed = true;
+                Ok(())
+            }
             Err(_) => {
                 self.failed_calls += 1;
                 Err(DeviceFault)

@@ -5,6 +5,7 @@ ghost use Rattle.rv_streams.specs.Assemble.{AddsPart, ReadsText};
 
 use crate::device::Source;
 use crate::fault::BenchFault;
+use crate::room::add_behind;
 use std::alloc::Global;
 
 /// The most bytes of an assembler text.
@@ -27,10 +28,7 @@ fn add_part(text: &mut Vec<u8>, part: &[u8]) -> Result<(), BenchFault>
     if text.len() + part.len() > ASM_TEXT_MAX {
         return Err(BenchFault::TooLong);
     }
-    match text.extend_from_slice(part) {
-        Ok(()) => Ok(()),
-        Err(_) => Err(BenchFault::NoMemory),
-    }
+    add_behind(text, part)
 }
 
 /// Reads all bytes of a source, to its end.
@@ -40,7 +38,7 @@ fn add_part(text: &mut Vec<u8>, part: &[u8]) -> Result<(), BenchFault>
 /// The first that is met:
 /// - `Read` where the source failed in this call;
 /// - `TooLong` where there are more than `ASM_TEXT_MAX` bytes;
-/// - `NoMemory` where memory for them was refused.
+/// - `NoMemory` where memory for them was refused, of which one at least was read.
 pub(crate) fn read_whole<S: Source>(alloc: Global, source: &mut S) -> Result<Vec<u8>, BenchFault>
     ensures { ReadsText S.Source source.old source.new result }
 {

@@ -1,4 +1,4 @@
-use Rattle.std.proofs.Common.{rules, ◌≡◌, ◌++◌, ◌∙◌, IsTrue, refl, sym, ap, subst, Ok, Err}
+use Rattle.std.proofs.Common.{rules, ◌≡◌, ◌++◌, ◌∙◌, refl, sym, ap, subst, Ok, Err}
 use Rattle.std.proofs.lemmas.Result.{IfOk-at_ok, IfErr-at_err}
 use Rattle.rv_streams.specs.declared.fault.BenchFault.TheVariants.{Read, Write}
 use Rattle.rv_streams.specs.Transfer.{WritesFront}
@@ -29,7 +29,7 @@ turn g c =
     }
 
 -- its reply was written
-wrote : (g : given.Over) (c : After-is_over g) → IsTrue g.W.Sink.tells
+wrote : (g : given.Over) (c : After-is_over g) → g.W.Sink.tells
     → g.W.Sink.taken c.write_all.new.sink ≡ g.W.Sink.taken c.loop-told.sink ++ g.T.Told.AsSlice.items c.answer_line.new.out
 wrote g c told =
     let done = ok_mapped _ c.write_all.result c.map_err-in-Some.result _ c.map_err-in-Some.ensures.cases c.in_ok-map_err.was in

@@ -1,4 +1,4 @@
-use Rattle.std.proofs.Common.{rules, ◌++◌, ◌∙◌, refl, sym, ap, subst, inl, inr, ℕ, IsTrue, Option, None, Some}
+use Rattle.std.proofs.Common.{rules, ◌++◌, ◌∙◌, refl, sym, ap, subst, inl, inr, ℕ, Option, None, Some}
 use Rattle.std.proofs.lemmas.Result.{IfOk-at_ok}
 use Rattle.rv_streams.specs.declared.fault.BenchFault.TheVariants.{Write}
 use Rattle.rv_streams.specs.Transfer.{WritesFront}
@@ -18,15 +18,15 @@ returns-in_default-clause-outcome g c =
     (mapped (RunsSecond g.W.Sink c.args.number None c.args.lines.now c.args.lines.now c.args.sink.now c.write_last.new.sink)
     _ Write c.write_last.result c.map_err.result c.map_err.ensures.cases (λ e d is. search rules)
     (λ _ wrote.
-    let text = λ (told : IsTrue g.W.Sink.tells). IfOk-at_ok _ wrote c.write_last.ensures.written told ∙ ap (λ t. before ++ t) c.no_slot.ensures in record {
+    let text = λ (told : g.W.Sink.tells). IfOk-at_ok _ wrote c.write_last.ensures.written told ∙ ap (λ t. before ++ t) c.no_slot.ensures in record {
       source = refl;
-      sink = IfOk-at_ok _ wrote c.write_last.ensures.ok;
+      sink = record { worked = IfOk-at_ok _ wrote c.write_last.ensures.ok; flushed = IfOk-at_ok _ wrote c.write_last.ensures.flushed };
       emptied = c.requires;
       read = inr (λ tells. refl, λ told. inl (before, text told));
       written = λ tells told. text told;
     })
     (λ _ failed.
-    let front = λ (told : IsTrue g.W.Sink.tells). subst (WritesFront before (g.W.Sink.taken c.write_last.new.sink)) c.no_slot.ensures
+    let front = λ (told : g.W.Sink.tells). subst (WritesFront before (g.W.Sink.taken c.write_last.new.sink)) c.no_slot.ensures
     (c.write_last.ensures.front told) in (
       record { source = refl; sink = search rules; emptied = c.requires; front = λ tells told. front told },
       λ tells. (refl, front),
@@ -52,5 +52,5 @@ returns-clause-outcome g c =
     _ Write c.write_last-2.result c.map_err-2.result c.map_err-2.ensures.cases (λ e d is. search rules)
     (λ _ wrote. two_benches-tell g.W.Sink c.in-Some.found.slot answers c.last.ensures c.run_lines.ensures.end
     (IfOk-at_ok _ wrote c.write_last-2.ensures.written)
-    (IfOk-at_ok _ wrote c.write_last-2.ensures.ok))
+    (record { worked = IfOk-at_ok _ wrote c.write_last-2.ensures.ok; flushed = IfOk-at_ok _ wrote c.write_last-2.ensures.flushed }))
     (λ _ failed. two_benches-fail g.W.Sink c.in-Some.found.slot answers c.last.ensures c.write_last-2.ensures.front (search rules)))

@@ -28,7 +28,8 @@ returns-clause-outcome g c =
     let first = c.in_ok-run_lines.ensures.outcome in
     second_part g.W.Sink c.args.setup.now c.args.slot c.as_slice.result.now c.args.lines.now c.read_image.new.lines c.args.sink.now
     c.in_ok-image.ensures.outcome.0 (λ tells. c.in_ok-image.ensures.outcome.2 tells ∙ ap Ok (sym c.as_slice.ensures.value))
-    _ c.in_ok-benches.ensures c.run_lines.new.lines c.run_lines.new.sink (one_bench-runs g.W.Sink first c.run_lines.ensures.end (λ _. refl) (refl, refl)) _
+    _ c.in_ok-benches.ensures c.run_lines.new.lines c.run_lines.new.sink
+    (one_bench-runs g.W.Sink first c.run_lines.ensures.end (λ _. refl) (refl, refl) (λ is. cc)) _
     (one_bench-state g.W.Sink first c.run_lines.ensures.end)
     c.run_second.new.lines c.run_second.new.sink c.in_ok-image.ensures.end c.run_lines.ensures.end c.run_second.ensures.end
     c.run_second.result c.run_second.ensures.outcome

@@ -1,16 +1,15 @@
-use Rattle.std.proofs.Common.{rules, ◌≡◌, ◌≢◌, ◌≤◌, ◌∙◌, ◌++◌, Global, IsTrue, List, ℕ, length, Ok, Err, refl, ap, sym, subst}
+use Rattle.std.proofs.Common.{rules, ◌≡◌, inl, inr, ◌≤◌, ◌∙◌, ◌++◌, Global, List, ℕ, length, Ok, Err, refl, ap, sym, subst}
 use Rattle.std.proofs.Common.{arith}
 use Rattle.std.proofs.lemmas.List.{length-append}
 use Rattle.std.proofs.lemmas.Result.{IfOk-at_ok, IfErr-at_err}
 use Rattle.rv_text.specs.Lines.{lines_of}
-use Rattle.rv_asm.specs.Program.{assembled}
+use Rattle.rv_asm.specs.Lacking.{FailsFor}
 use Rattle.rv_asm.specs.declared.fault.AsmFault.{AsmFault}
-use Rattle.rv_asm.specs.declared.fault.AsmFaultKind.TheVariants as asm
 use Rattle.rv_streams.specs.declared.device.Sink.{Ghosts as SinkGhosts}
 use Rattle.rv_streams.specs.declared.device.Source.{Ghosts as SourceGhosts}
 use Rattle.rv_streams.specs.declared.fault.BenchFault.{BenchFault}
 use Rattle.rv_streams.specs.declared.fault.BenchFault.TheVariants.{Read, Write, TooLong, NoMemory, Asm}
-use Rattle.rv_streams.specs.Assemble.{IsFaultlessBefore, ReadsText, ReadsWholeText, RunsAsm}
+use Rattle.rv_streams.specs.Assemble.{FailsAsm, ReadsText, ReadsWholeText, RunsAsm}
 use Rattle.rv_streams.specs.AssemblyText.{asm_text, asm_output}
 use Rattle.rv_streams.specs.Transfer.{WritesFront}
 use Rattle.rv_streams.proofs.Assembling.{asm_output-ok, asm_output-fault, asm_output-too_long}
@@ -42,7 +41,7 @@ few : (text read : List ℕ) → read ≡ text → length text ≤ 4194304 → l
 few text read is short = subst (λ t. length t ≤ 4194304) (sym is) short
 
 -- the output is that of the words
-is_ok : (g : given.Over) (c : In-Ok g) → IsTrue g.S.Source.tells → asm_output (g.S.Source.remaining c.args.source.now) ≡ Ok (asm_text c.in-Ok.words.items)
+is_ok : (g : given.Over) (c : In-Ok g) → g.S.Source.tells → asm_output (g.S.Source.remaining c.args.source.now) ≡ Ok (asm_text c.in-Ok.words.items)
 is_ok g c tells =
     let read = c.as_slice.ensures.value ∙ c.in_ok-text.ensures.2 tells in
     ap asm_output (sym read) ∙ asm_output-ok _ _ (few _ _ c.as_slice.ensures.value c.in_ok-text.ensures.1) c.in-Ok.ensures.ok
@@ -55,7 +54,7 @@ returns-in-Ok g c =
     _ Write c.write_words.result c.map_err.result c.map_err.ensures.cases (λ e d is. search rules)
     (λ _ wrote. (
       c.in_ok-text.ensures.0,
-      IfOk-at_ok _ wrote c.write_words.ensures.ok,
+      record { worked = IfOk-at_ok _ wrote c.write_words.ensures.ok; flushed = IfOk-at_ok _ wrote c.write_words.ensures.flushed },
       λ tells. IsOkAnd-at _ _ _ (whole tells) (λ told. IfOk-at_ok _ wrote c.write_words.ensures.written told
           ∙ ap (λ ws. g.W.Sink.taken c.args.sink.now ++ asm_text ws) words),
     ))
@@ -68,16 +67,18 @@ returns-in-Ok g c =
     ))
 
 -- a text that has a fault
+fails : (text : List ℕ) (fault : AsmFault) → length text ≤ 4194304 → FailsFor text fault → FailsAsm text fault
+fails text fault short (inl told) = inl (asm_output-fault text fault short told)
+fails text fault short (inr lacks) = inr lacks
+
 faulty : {S W : Type 0} (g : SourceGhosts S) (h : SinkGhosts W) (old new : S) (sink : W) (text : List ℕ) (fault : AsmFault)
-    → ReadsWholeText g old new → (IsTrue g.tells → text ≡ g.remaining old) → length text ≤ 4194304
-    → (1 ≤ fault.line) × (fault.line ≤ length (lines_of text)) → IsFaultlessBefore fault.line text
-    → (fault.kind ≢ asm.NoMemory → assembled text ≡ Err fault)
+    → ReadsWholeText g old new → (g.tells → text ≡ g.remaining old) → length text ≤ 4194304
+    → (1 ≤ fault.line) × (fault.line ≤ length (lines_of text)) → FailsFor text fault
     → RunsAsm g h old new sink sink (Err (Asm fault))
-faulty g h old new sink text fault reads is short line before told = (
+faulty g h old new sink text fault reads is short line told = (
   reads,
   λ tells. subst (λ t. (1 ≤ fault.line) × (fault.line ≤ length (lines_of t))) (is tells) line,
-  λ tells. subst (IsFaultlessBefore fault.line) (is tells) before,
-  λ tells other. ap asm_output (sym (is tells)) ∙ asm_output-fault text fault short (told other),
+  λ tells. subst (λ t. FailsAsm t fault) (is tells) (fails text fault short told),
   refl,
 )
 
@@ -85,4 +86,4 @@ pub returns : goal.returns
 returns g c =
     faulty g.S.Source g.W.Sink c.args.source.now c.read_whole.new.source c.args.sink.now c.as_slice.result.now c.in-Err.fault
     c.in_ok-text.ensures.0 (λ tells. c.as_slice.ensures.value ∙ c.in_ok-text.ensures.2 tells) (few _ _ c.as_slice.ensures.value c.in_ok-text.ensures.1)
-    c.in-Err.ensures.line c.in-Err.ensures.order c.in-Err.ensures.fault
+    c.in-Err.ensures.line c.in-Err.ensures.fault

@@ -1,4 +1,4 @@
-use Rattle.std.proofs.Common.{◌≡◌, IsTrue, take}
+use Rattle.std.proofs.Common.{◌≡◌, take}
 use Rattle.rv_streams.specs.AssemblyText.{asm_text}
 use Rattle.rv_streams.specs.Transfer.{WritesUpTo}
 use Rattle.rv_streams.proofs.asm.write_words.Given as goal
@@ -8,6 +8,6 @@ abbrev pub invariant-loop-word : goal.invariant-loop-word
 invariant-loop-word g l = record {
   failures : g.W.Sink.failures l.sink ≡ g.W.Sink.failures l.initial.sink;
   refusals : g.W.Sink.refusals l.sink ≡ g.W.Sink.refusals l.initial.sink;
-  written : IsTrue g.W.Sink.tells
+  written : g.W.Sink.tells
       → WritesUpTo (g.W.Sink.taken l.initial.sink) (g.W.Sink.taken l.sink) (asm_text (take l.word-index l.words)) l.gathered.items;
 }

@@ -1,4 +1,4 @@
-use Rattle.std.proofs.Common.{◌≡◌, IsTrue, take}
+use Rattle.std.proofs.Common.{◌≡◌, take}
 use Rattle.std.specs.List.{flat_map}
 use Rattle.rv_word.specs.ByteOrder.{word_of_bytes}
 use Rattle.rv_streams.specs.DisassemblyText.{dis_line}
@@ -10,7 +10,7 @@ abbrev pub invariant-loop-bytes : goal.invariant-loop-bytes
 invariant-loop-bytes g l = record {
   failures : g.W.Sink.failures l.sink ≡ g.W.Sink.failures l.initial.sink;
   refusals : g.W.Sink.refusals l.sink ≡ g.W.Sink.refusals l.initial.sink;
-  written : IsTrue g.W.Sink.tells
+  written : g.W.Sink.tells
       → WritesUpTo (g.W.Sink.taken l.initial.sink) (g.W.Sink.taken l.sink)
       (flat_map (λ bytes. dis_line (word_of_bytes bytes)) (take l.bytes-index l.words)) l.gathered.items;
 }

@@ -1,6 +1,6 @@
 -- What the crate hex decodes is what the pairs of digits write.
 use Rattle.std.proofs.Common.{rules, ◌≡◌, ℕ, ◌+◌, ◌*◌, ◌%◌, Bool, true, false, cond, ◌&&◌, inl, inr, List, [], ◌∷◌, length}
-use Rattle.std.proofs.Common.{Option, Some, None, Result, Ok, Err, refl, sym, ◌∙◌, ap, arith}
+use Rattle.std.proofs.Common.{Option, Some, None, Result, Ok, Err, refl, sym, subst, ◌∙◌, ap, arith}
 use Rattle.std.proofs.lemmas.Grind.{common_steps}
 use Rattle.std.proofs.lemmas.Bool.{cases_eq}
 use Rattle.std.proofs.lemmas.Bool.Decides.{nat_tests}
@@ -9,7 +9,9 @@ use Rattle.std.specs.List.{list_all}
 use Rattle.std.specs.Result.{result_ok}
 use Rattle.hex.specs.declared.error.FromHexError.{FromHexError}
 use Rattle.hex.specs.Hex.{hex_digit_value, digit_or_error, decode_pairs, decode_of, ◌>>=◌}
-use Rattle.rv_streams.specs.Image.{pair_values, bytes_of_digits}
+use Rattle.rv_streams.specs.declared.fault.BenchFault.TheVariants.{NoMemory}
+use Rattle.rv_streams.specs.Faults.{Outcome}
+use Rattle.rv_streams.specs.Image.{AddsBytes, pair_values, bytes_of_digits}
 use Rattle.rv_streams.proofs.image.add_bytes.Goals as goal
 
 -- the two readings of a digit agree
@@ -73,8 +75,14 @@ returns-then-is_err-clause-outcome c = (rw (bytes_of_digits-decoded c.args.word.
 pub returns-then-len-count-gt-IMAGE_MAX-clause-outcome : goal.returns-then-len-count-gt-IMAGE_MAX-clause-outcome
 returns-then-len-count-gt-IMAGE_MAX-clause-outcome c = (rw (bytes_of_digits-decoded c.args.word.now) (search rules), refl)
 
-pub returns-in-Ok-clause-outcome : goal.returns-in-Ok-clause-outcome
-returns-in-Ok-clause-outcome c = rw (bytes_of_digits-decoded c.args.word.now) (grind (arith, common_steps))
-
-pub returns-in-Err-clause-outcome : goal.returns-in-Err-clause-outcome
-returns-in-Err-clause-outcome c = (rw (bytes_of_digits-decoded c.args.word.now) (search rules), search rules)
+pub returns-clause-outcome : goal.returns-clause-outcome
+returns-clause-outcome c = by_result c.add_behind.result refl where
+  by_result : (r : Outcome) → c.add_behind.result ≡ r → AddsBytes c.args.word.now c.args.image.now.items c.add_behind.new.bytes.items r
+  by_result (Ok done) is =
+      let items = rw is at c.add_behind.ensures.items in rw (bytes_of_digits-decoded c.args.word.now) (grind (arith, common_steps))
+  by_result (Err fault) is =
+      let items = rw is at c.add_behind.ensures.items in
+      let full = rw is at c.add_behind.ensures.full in
+      let memory : fault ≡ NoMemory = rw is at c.add_behind.ensures.fault in
+      subst (λ f. AddsBytes c.args.word.now c.args.image.now.items c.add_behind.new.bytes.items (Err f)) (sym memory)
+      (rw (bytes_of_digits-decoded c.args.word.now) (grind (arith, common_steps)), items)

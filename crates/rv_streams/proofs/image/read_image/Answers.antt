@@ -1,4 +1,4 @@
-use Rattle.std.proofs.Common.{rules, ◌≡◌, ◌∙◌, false, Global, IsTrue, Ok, Err, sym, ap, subst, arith, inl, inr}
+use Rattle.std.proofs.Common.{rules, ◌≡◌, ◌∙◌, false, Global, Ok, Err, sym, ap, subst, arith, inl, inr}
 use Rattle.std.proofs.lemmas.Result.{IfOk-at_ok, IfErr-at_err}
 use Rattle.rv_streams.specs.declared.fault.BenchFault.TheVariants.{Read, Hex}
 use Rattle.rv_streams.specs.LineText.{TakesLine}
@@ -15,7 +15,7 @@ use Rattle.rv_streams.proofs.image.read_image.Goals as goal
 use Rattle.rv_streams.proofs.image.read_image.Goals.{After-as_slice}
 
 -- the lines so far, and the one that was taken
-taken : (g : given.Over) (c : After-as_slice g) → is_separator c.as_slice.result.now ≡ false → IsTrue g.S.Source.tells
+taken : (g : given.Over) (c : After-as_slice g) → is_separator c.as_slice.result.now ≡ false → g.S.Source.tells
     → TakesInImage (unread c.args.lines.now) (unread c.loop-image.lines)
     (unread c.next_line.new.self) c.next_line.new.self.is_at_end c.loop-image.image.items c.as_slice.result.now
 taken g c other tells =

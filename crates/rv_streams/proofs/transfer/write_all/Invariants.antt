@@ -1,4 +1,4 @@
-use Rattle.std.proofs.Common.{◌≡◌, IsTrue, length}
+use Rattle.std.proofs.Common.{◌≡◌, length}
 use Rattle.rv_streams.specs.Transfer.{WritesUpTo}
 use Rattle.rv_streams.proofs.transfer.write_all.Given as goal
 
@@ -7,7 +7,7 @@ abbrev pub invariant-loop-rest : goal.invariant-loop-rest
 invariant-loop-rest g l = record {
   failures : g.W.Sink.failures l.sink ≡ g.W.Sink.failures l.initial.sink;
   refusals : g.W.Sink.refusals l.sink ≡ g.W.Sink.refusals l.initial.sink;
-  written : IsTrue g.W.Sink.tells → WritesUpTo (g.W.Sink.taken l.initial.sink) (g.W.Sink.taken l.sink) l.text l.rest;
+  written : g.W.Sink.tells → WritesUpTo (g.W.Sink.taken l.initial.sink) (g.W.Sink.taken l.sink) l.text l.rest;
 }
 
 abbrev pub decreases-loop-rest : goal.decreases-loop-rest

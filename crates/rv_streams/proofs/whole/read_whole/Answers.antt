@@ -1,4 +1,4 @@
-use Rattle.std.proofs.Common.{rules, ◌≡◌, ◌++◌, ℕ, Global, IsTrue, List, take, Err, arith, sym, ap, append_assoc, ◌∙◌}
+use Rattle.std.proofs.Common.{rules, ◌≡◌, ◌++◌, ℕ, Global, List, length, take, Err, arith, sym, ap, append_assoc, ◌∙◌}
 use Rattle.std.proofs.lemmas.List.{length-append}
 use Rattle.rv_streams.specs.declared.device.Source.{Ghosts}
 use Rattle.rv_streams.specs.declared.fault.BenchFault.{BenchFault}
@@ -10,12 +10,17 @@ use Rattle.rv_streams.proofs.whole.read_whole.Goals as goal
 
 -- a part that is not added
 refused : {S : Type 0} (Z : Type 0) (g : Ghosts S) (old new : S) (text part added : List ℕ) (fault : BenchFault)
-    → SourceWorked g old new → g.ends new ≡ g.ends old → (IsTrue g.tells → g.remaining old ≡ (text ++ part) ++ g.remaining new)
+    → SourceWorked g old new → g.ends new ≡ g.ends old → (g.tells → g.remaining old ≡ (text ++ part) ++ g.remaining new)
     → AddsPart part text added (Err fault) → ReadsText g {Z = Z} old new (Err fault)
 refused Z g old new text part added TooLong source going split adds =
     record { source = source; going = going; reads = λ tells. (text ++ part, split tells, omega (arith, adds.0, length-append text part)) }
-refused Z g old new text part added NoMemory source going split adds =
-    record { source = source; going = going; reads = λ tells. (text ++ part, split tells, omega (arith, adds.0, length-append text part)) }
+refused Z g old new text part added NoMemory source going split adds = record {
+  source = source;
+  going = going;
+  some = λ tells. let (some, few, same) = adds in
+      omega (arith, some, ap length (split tells), length-append (text ++ part) (g.remaining new), length-append text part);
+  reads = λ tells. let (some, few, same) = adds in (text ++ part, split tells, omega (arith, few, length-append text part));
+}
 refused Z g old new text part added _ source going split adds = absurd adds
 
 pub returns-in_err-add_part : goal.returns-in_err-add_part

@@ -1,4 +1,4 @@
-use Rattle.std.proofs.Common.{◌≡◌, ◌≤◌, ◌++◌, IsTrue, length}
+use Rattle.std.proofs.Common.{◌≡◌, ◌≤◌, ◌++◌, length}
 use Rattle.rv_streams.proofs.whole.read_whole.Given as goal
 
 -- the text so far is the front of what the source had, and no call has failed
@@ -7,7 +7,7 @@ invariant-loop-text g l = record {
   few : length l.text.items ≤ 4194304;
   ends : g.S.Source.ends l.source ≡ g.S.Source.ends l.initial.source;
   failures : g.S.Source.failures l.source ≡ g.S.Source.failures l.initial.source;
-  front : IsTrue g.S.Source.tells → g.S.Source.remaining l.initial.source ≡ l.text.items ++ g.S.Source.remaining l.source;
+  front : g.S.Source.tells → g.S.Source.remaining l.initial.source ≡ l.text.items ++ g.S.Source.remaining l.source;
 }
 
 abbrev pub decreases-loop-text : goal.decreases-loop-text

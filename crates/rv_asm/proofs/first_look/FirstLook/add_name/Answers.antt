@@ -5,8 +5,8 @@ use Rattle.rv_asm.specs.LabelMap.{places_of}
 use Rattle.rv_asm.proofs.LabelLemmas.{adds_new}
 use Rattle.rv_asm.proofs.first_look.FirstLook.add_name.Goals as goal
 
-pub returns-in-Ok : goal.returns-in-Ok
-returns-in-Ok c =
+pub returns-in-Ok-clause-ok : goal.returns-in-Ok-clause-ok
+returns-in-Ok-clause-ok c =
     let look = c.args.self.now in
     let absent : is_some (places_of look.labels c.args.name) ≡ false = rw c.bytes.ensures at (sym c.contains_key.ensures ∙ c.if-contains_key.false) in
     let taken : (other : List ℕ)
@@ -18,3 +18,6 @@ returns-in-Ok c =
       labels = λ other. taken other ∙ adds_new (places_of look.labels) c.args.name other look.words absent;
       repeated = rw absent refl;
     }
+
+pub returns-in-Err-clause-err : goal.returns-in-Err-clause-err
+returns-in-Err-clause-err c = rw c.bytes.ensures at (sym c.contains_key.ensures ∙ c.if-contains_key.false)

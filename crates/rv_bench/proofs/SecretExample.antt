@@ -1,0 +1,87 @@
+-- An example of the law of secrets: a script pokes a key into the enclave of slot 0, and its other lines pass over that enclave. Whatever the
+-- key, the output is the same.
+use Rattle.std.proofs.Common.{◌≡◌, inl, inr, List, ℕ, ◌++◌, codes, IfOk, Result, Ok, Err, refl, true}
+use Rattle.rv_enclaves.specs.Blocks.{has}
+use Rattle.rv_text.specs.GoodLines.{is_text}
+use Rattle.rv_text.specs.Lines.{lines_of, through_last_feed}
+use Rattle.rv_text.specs.Numbers.{number_of_digits}
+use Rattle.rv_text.specs.Words.{words_of}
+use Rattle.rv_script.specs.Command.{keyword_of, meaning_of, parse_of}
+use Rattle.rv_script.specs.Numbers.{hexadecimal_of, byte_of_text}
+use Rattle.rv_script.specs.declared.command.Command.TheVariants.{Poke}
+use Rattle.rv_debug.specs.Answer.{answer}
+use Rattle.rv_debug.specs.BenchState.{BenchState}
+use Rattle.rv_debug.specs.BothBenches.{can_scramble, is_blind, region_of}
+use Rattle.rv_command_line.specs.declared.setup.Setup.{Setup}
+use Rattle.rv_streams.specs.declared.fault.BenchFault.{BenchFault}
+use Rattle.rv_streams.specs.Separator.{after_separator, has_separator}
+use Rattle.rv_bench.specs.Confidentiality.{AreSecret, LinePassesOver}
+use Rattle.rv_bench.specs.Output.{bench_in, output}
+use Rattle.rv_bench.specs.Replies.{bench_line, state_after}
+use Rattle.rv_streams.proofs.Mapped.{IsOkAnd-at}
+use Rattle.rv_bench.proofs.Concealed.{conceals_secret}
+
+abbrev key : List ℕ
+key = codes "poke 80020000 41\n# that was the key\n"
+
+abbrev other_key : List ℕ
+other_key = codes "poke 80020ffc 5a\n# that was the key\n"
+
+abbrev rest : List ℕ
+rest = codes "enclaves\nregs\n"
+
+-- the enclave is live and runs on no hart, and these are bytes of its region
+pub record HasEnclave (bench : BenchState) : Type 0 where
+  pub idle : can_scramble 0 bench ≡ true
+  pub first : has (region_of 0 bench.target) 0x80020000 ≡ true
+  pub second : has (region_of 0 bench.target) 0x80020ffc ≡ true
+
+comment_passes : (bench : BenchState) → LinePassesOver 0 bench (codes "# that was the key")
+unfolding parse_of is_text meaning_of words_of is_blind answer
+comment_passes bench = record { blind = refl; past = refl }
+
+enclaves_pass : (bench : BenchState) → LinePassesOver 0 bench (codes "enclaves")
+unfolding parse_of is_text meaning_of words_of keyword_of is_blind answer
+enclaves_pass bench = record { blind = refl; past = refl }
+
+regs_pass : (bench : BenchState) → LinePassesOver 0 bench (codes "regs")
+unfolding parse_of is_text meaning_of words_of keyword_of is_blind answer
+regs_pass bench = record { blind = refl; past = refl }
+
+first_poke : parse_of (codes "poke 80020000 41") ≡ Ok (Poke 0x80020000 0x41)
+unfolding parse_of is_text meaning_of words_of keyword_of hexadecimal_of number_of_digits byte_of_text
+first_poke = refl
+
+second_poke : parse_of (codes "poke 80020ffc 5a") ≡ Ok (Poke 0x80020ffc 0x5a)
+unfolding parse_of is_text meaning_of words_of keyword_of hexadecimal_of number_of_digits byte_of_text
+second_poke = refl
+
+is_secret : (bench : BenchState) → HasEnclave bench → AreSecret 0 bench (lines_of key) (lines_of other_key) (lines_of rest)
+is_secret bench there = record {
+  idle = there.idle;
+  pokes = (inl (IsOkAnd-at _ _ _ first_poke there.first, IsOkAnd-at _ _ _ second_poke there.second), (inr (refl, comment_passes _), tt));
+  passes = λ live. (enclaves_pass _, λ live. (regs_pass _, tt));
+}
+
+from_bench : (bench : Result BenchState BenchFault) (before : List (List ℕ)) → IfOk bench (λ bench. HasEnclave (state_after bench_line bench before))
+    → IfOk bench (λ bench. AreSecret 0 (state_after bench_line bench before) (lines_of key) (lines_of other_key) (lines_of rest))
+from_bench (Ok bench) before there = is_secret (state_after bench_line bench before) there
+from_bench (Err fault) before there = tt
+
+pub key_is_concealed : (setup : Setup) (front : List ℕ) → through_last_feed front ≡ front → has_separator front ≡ true
+    → IfOk (bench_in setup front) (λ bench. HasEnclave (state_after bench_line bench (lines_of (after_separator front))))
+    → output setup (front ++ (key ++ rest)) ≡ output setup (front ++ (other_key ++ rest))
+key_is_concealed setup front whole separated there =
+    conceals_secret setup (front ++ (key ++ rest)) 0 (front ++ (other_key ++ rest)) (record {
+      front = front;
+      secret = key;
+      another = other_key;
+      rest = rest;
+      input_is = refl;
+      other_is = refl;
+      whole_front = whole;
+      whole_secret = refl;
+      whole_another = refl;
+      separated = separated;
+      poked = from_bench (bench_in setup front) (lines_of (after_separator front)) there;
+    })

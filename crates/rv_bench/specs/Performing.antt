@@ -1,0 +1,90 @@
+-- What the program does with its words and its streams, and its status. (This project's own program; the text is ASCII, ISO/IEC 646.)
+use Rattle.std.specs.Prelude.{◌≡◌, ◌⊎◌, ℕ, List, [], ◌++◌, codes, decimal, string_bytes, Ok, Err}
+use Rattle.clap.specs.Words.{Text}
+use Rattle.rv_asm.specs.Faults.{asm_fault_number}
+use Rattle.rv_elf.specs.Faults.{elf_fault_number}
+use Rattle.rv_memory.specs.Faults.{ram_fault_number}
+use Rattle.rv_command_line.specs.declared.job.Job.{Job}
+use Rattle.rv_command_line.specs.declared.words_fault.WordsFault.{WordsFault}
+use Rattle.rv_command_line.specs.declared.words_fault.WordsFault.TheVariants as words
+use Rattle.rv_command_line.specs.Faults.{IsFaultOf}
+use Rattle.rv_command_line.specs.Job.{job_of}
+use Rattle.rv_command_line.specs.Refusals.{refusals_of}
+use Rattle.rv_streams.specs.declared.device.Sink.{Ghosts as SinkGhosts}
+use Rattle.rv_streams.specs.declared.device.Source.{Ghosts as SourceGhosts}
+use Rattle.rv_streams.specs.declared.fault.BenchFault.{BenchFault}
+use Rattle.rv_streams.specs.declared.fault.BenchFault.TheVariants.{Image, Ram, Read, Write, Hex, TooLong, NoMemory, Asm}
+use Rattle.rv_streams.specs.Calls.{SinkFlushed, SinkFailed}
+use Rattle.rv_streams.specs.Faults.{Outcome}
+use Rattle.rv_streams.specs.Transfer.{WritesFront}
+use Rattle.rv_bench.specs.Jobs.{DoesJob}
+
+-- ---- the lines of faults
+
+-- of a fault of the output nothing is written
+unfoldable pub fault_text : BenchFault → List ℕ
+fault_text (Image fault) = codes "rvbench: image " ++ (decimal (elf_fault_number fault) ++ codes "\n")
+fault_text (Ram fault) = codes "rvbench: ram " ++ (decimal (ram_fault_number fault) ++ codes "\n")
+fault_text Read = codes "rvbench: read\n"
+fault_text Write = []
+fault_text Hex = codes "rvbench: hex\n"
+fault_text TooLong = codes "rvbench: too long\n"
+fault_text NoMemory = codes "rvbench: memory\n"
+fault_text (Asm fault) =
+    codes "rvbench: line " ++ (decimal fault.line ++ (codes " fault " ++ (decimal (asm_fault_number fault.kind) ++ codes "\n")))
+
+-- ---- statuses
+
+abbrev pub status_of : Outcome → ℕ
+status_of (Ok _) = 0
+status_of (Err fault) = 1
+
+-- ---- what is done
+
+module _ {W : Type 0} (h : SinkGhosts W) where
+  -- A text was written behind what was taken before, and the sink flushed.
+  pub record TellsAll (before after : W) (text : List ℕ) : Type 0 where
+    pub sink : SinkFlushed h before after
+    pub written : h.tells → h.taken after ≡ h.taken before ++ text
+
+  -- The sink failed, and took a beginning of the text.
+  pub record TellsFront (before after : W) (text : List ℕ) : Type 0 where
+    pub sink : SinkFailed h before after
+    pub front : h.tells → WritesFront (h.taken before) (h.taken after) text
+
+  -- what was told in addition, where that did not change the status
+  abbrev pub Tells : W → W → List ℕ → Type 0
+  Tells before after text = TellsAll before after text ⊎ TellsFront before after text
+
+  -- what is told of an outcome, behind what the job has written: the line of its fault
+  abbrev pub TellsOutcome : Outcome → W → W → Type 0
+  TellsOutcome (Ok _) before after = after ≡ before
+  TellsOutcome (Err Write) before after = after ≡ before
+  TellsOutcome (Err fault) before after = Tells before after (fault_text fault)
+
+  -- What is told of words that name no job, and the status: help is done where its text was written.
+  abbrev pub Refuses : W → W → WordsFault → ℕ → Type 0
+  Refuses before after words.Refused status = Tells before after (codes "rvbench: command line\n") × (status ≡ 2)
+  Refuses before after words.NoMemory status = Tells before after (codes "rvbench: memory\n") × (status ≡ 1)
+  Refuses before after (words.Help text) status =
+      (TellsAll before after (string_bytes text) × (status ≡ 0)) ⊎ (TellsFront before after (string_bytes text) × (status ≡ 1))
+
+module _ {S W : Type 0} (g : SourceGhosts S) (h : SinkGhosts W) (source : S) (before after : W) where
+  -- the job was done, and its outcome told
+  pub record DoesAndTells (job : Job) (status : ℕ) : Type 0 where
+    pub left : S
+    pub outcome : Outcome
+    pub mid : W
+    pub does : DoesJob g h source left before mid job outcome
+    pub told : TellsOutcome h outcome mid after
+    pub status_is : status ≡ status_of outcome
+
+  -- the words name no job, for one of the reasons that they have, or memory was refused
+  pub record RefusesWords (given : List Text) (status : ℕ) : Type 0 where
+    pub fault : WordsFault
+    pub reason : IsFaultOf (refusals_of given) fault
+    pub refuses : Refuses h before after fault status
+
+  -- the words name a job, which was done, or they name none
+  abbrev pub Performs : List Text → ℕ → Type 0
+  Performs given status = ((refusals_of given ≡ []) × DoesAndTells (job_of given) status) ⊎ RefusesWords given status

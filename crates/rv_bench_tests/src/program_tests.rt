@@ -1,0 +1,170 @@
+//! What the program does with its words: the job, the lines of its faults, the statuses, and that it flushes.
+use crate::expecting::{expect_bytes, expect_number};
+use crate::faulty::{AtSetCall, FaultySink, FaultySource};
+use rv_bench::{MemorySink, MemorySource, WordsFault, perform, refuse};
+use std::alloc::Global;
+use std::process::Abort;
+
+const INPUT: &[u8] = b"9300f0ff\n--\nstep 1\nreg 1\n";
+
+const OUTPUT: &[u8] = b"ran 1 pc=80000004 mode=M world=bare why=done trap=-\nx1=ffffffff\n";
+
+/// Does what words ask for over memory: what it writes, and its status.
+fn expect_performed(
+    rt: &impl Abort,
+    alloc: Global,
+    words: &[&str],
+    input: &[u8],
+    written: &[u8],
+    status: u8,
+) {
+    let mut buffer = [0u8; 128];
+    let mut sink = MemorySink::new(&mut buffer);
+    let found = perform(alloc, words, MemorySource::new(input), &mut sink);
+    expect_bytes(rt, sink.bytes(), written, 0);
+    expect_number(rt, u64::from(found), u64::from(status), 0);
+}
+
+#[test]
+fn does_the_job_of_its_words(rt: HostRuntime) {
+    expect_performed(&rt, rt.alloc(), &["rvbench"], INPUT, OUTPUT, 0);
+    expect_performed(&rt, rt.alloc(), &["rvbench", "run"], INPUT, OUTPUT, 0);
+    expect_performed(
+        &rt,
+        rt.alloc(),
+        &["rvbench", "asm"],
+        b"nop\n",
+        b"13000000\n",
+        0,
+    );
+    let words = ["rvbench", "dis"];
+    expect_performed(
+        &rt,
+        rt.alloc(),
+        &words,
+        b"13000000\n",
+        b"00000013 addi x0, x0, 0\n",
+        0,
+    );
+}
+
+#[test]
+fn refuses_other_words(rt: HostRuntime) {
+    let line = b"rvbench: command line\n";
+    expect_performed(&rt, rt.alloc(), &["rvbench", "walk"], INPUT, line, 2);
+    expect_performed(
+        &rt,
+        rt.alloc(),
+        &["rvbench", "run", "--ram", "many"],
+        INPUT,
+        line,
+        2,
+    );
+}
+
+#[test]
+fn tells_the_faults_of_inputs(rt: HostRuntime) {
+    let asm = ["rvbench", "asm"];
+    expect_performed(
+        &rt,
+        rt.alloc(),
+        &asm,
+        b"nop\nfoo\n",
+        b"rvbench: line 2 fault 2\n",
+        1,
+    );
+    expect_performed(
+        &rt,
+        rt.alloc(),
+        &["rvbench"],
+        b"0\n--\n",
+        b"rvbench: hex\n",
+        1,
+    );
+    let words = ["rvbench", "run", "--kind", "elf"];
+    expect_performed(
+        &rt,
+        rt.alloc(),
+        &words,
+        b"7f45\n--\n",
+        b"rvbench: image 1\n",
+        1,
+    );
+    let words = ["rvbench", "run", "--ram", "1"];
+    expect_performed(&rt, rt.alloc(), &words, INPUT, b"rvbench: ram 1\n", 1);
+}
+
+#[test]
+fn gives_help(rt: HostRuntime) {
+    let mut buffer = [0u8; 8192];
+    let mut sink = MemorySink::new(&mut buffer);
+    let status = perform(
+        rt.alloc(),
+        &["rvbench", "--help"],
+        MemorySource::new(b""),
+        &mut sink,
+    );
+    expect_number(&rt, u64::from(status), 0, 0);
+    assert!(&rt; sink.bytes().len() > 500);
+}
+
+/// A reason why words name no job is told so, with this status.
+fn expect_refused(rt: &impl Abort, fault: &WordsFault, written: &[u8], status: u8) {
+    let mut buffer = [0u8; 64];
+    let mut sink = FaultySink::new(&mut buffer, 64, 0, AtSetCall::Fail);
+    expect_number(
+        rt,
+        u64::from(refuse(fault, &mut sink)),
+        u64::from(status),
+        0,
+    );
+    expect_bytes(rt, sink.bytes(), written, 0);
+    expect_number(rt, sink.calls(), 2, 0);
+}
+
+#[test]
+fn tells_why_words_are_refused(rt: HostRuntime) {
+    expect_refused(&rt, &WordsFault::Refused, b"rvbench: command line\n", 2);
+    expect_refused(&rt, &WordsFault::NoMemory, b"rvbench: memory\n", 1);
+    let help = String::from_str(rt.alloc(), "help\n").expect(&rt, "a text");
+    expect_refused(&rt, &WordsFault::Help(help), b"help\n", 0);
+}
+
+#[test]
+fn tells_a_failed_read(rt: HostRuntime) {
+    let mut buffer = [0u8; 128];
+    let mut sink = FaultySink::new(&mut buffer, 128, 0, AtSetCall::Fail);
+    let source = FaultySource::new(INPUT, 1, 21);
+    let status = perform(rt.alloc(), &["rvbench"], source, &mut sink);
+    expect_number(&rt, u64::from(status), 1, 0);
+    let written = b"ran 1 pc=80000004 mode=M world=bare why=done trap=-\nrvbench: read\n";
+    expect_bytes(&rt, sink.bytes(), written, 0);
+}
+
+/// The sink fails at a call: what is written then, the status, and that nothing is called after it.
+fn expect_failed_write(
+    rt: &impl Abort,
+    alloc: Global,
+    input: &[u8],
+    set_call: u64,
+    written: &[u8],
+    status: u8,
+) {
+    let mut buffer = [0u8; 128];
+    let mut sink = FaultySink::new(&mut buffer, 128, set_call, AtSetCall::Fail);
+    let found = perform(alloc, &["rvbench"], MemorySource::new(input), &mut sink);
+    expect_bytes(rt, sink.bytes(), written, set_call);
+    expect_number(rt, u64::from(found), u64::from(status), set_call);
+    expect_number(rt, sink.calls(), set_call, set_call);
+}
+
+#[test]
+fn tells_a_failed_write_by_its_status(rt: HostRuntime) {
+    // the first reply, the second, and the flush behind them
+    expect_failed_write(&rt, rt.alloc(), INPUT, 1, b"", 1);
+    expect_failed_write(&rt, rt.alloc(), INPUT, 2, &OUTPUT[..52], 1);
+    expect_failed_write(&rt, rt.alloc(), INPUT, 3, OUTPUT, 1);
+    // the line of a fault, and the flush behind it
+    expect_failed_write(&rt, rt.alloc(), b"0\n", 1, b"", 1);
+    expect_failed_write(&rt, rt.alloc(), b"0\n", 2, b"rvbench: hex\n", 1);
+}

@@ -1,0 +1,151 @@
+//! Jobs by the program's own devices, over readers and writers of std: slices, cursors, vectors, and such that move a byte at a time.
+use crate::byte_by_byte::{ByteReader, ByteWriter};
+use crate::expecting::{expect_bytes, expect_outcome};
+use rv_bench::{BenchFault, StandardSink, StandardSource, run_in_memory, run_job};
+use rv_command_line::{Harts, ImageKind, Job, Setup};
+use std::alloc::Global;
+use std::io::{Cursor, Read, Write};
+use std::process::Abort;
+
+/// A host that creates an enclave.
+const MONITORED: Setup = Setup {
+    kind: ImageKind::Auto,
+    ram: 196_608,
+    monitored: true,
+    harts: Harts::One,
+};
+
+/// A job, an input and its output.
+struct Example {
+    job: Job,
+    input: &'static [u8],
+    output: &'static [u8],
+}
+
+const RUN: Example = Example {
+    job: Job::Run(Setup {
+        kind: ImageKind::Auto,
+        ram: 65536,
+        monitored: false,
+        harts: Harts::One,
+    }),
+    input: b"9300f0ff\n--\nstep 1\nreg 1\n",
+    output: b"ran 1 pc=80000004 mode=M world=bare why=done trap=-\nx1=ffffffff\n",
+};
+
+const TWIN: Example = Example {
+    job: Job::Twin(MONITORED, 0),
+    input: b"73000000\n--\nreg 1\n--\nreg 1\n",
+    output: b"x1=00000000\ntwin no slot\n",
+};
+
+const ASM: Example = Example {
+    job: Job::Asm,
+    input: b"loop: addi x1, x1, -1\n bne x1, x0, loop\n",
+    output: b"9380f0ff\ne39e00fe\n",
+};
+
+const DIS: Example = Example {
+    job: Job::Dis,
+    input: b"0f00f00f\n--\nstep 1\n",
+    output: b"0ff0000f fence iorw, iorw\n",
+};
+
+/// Does a job from a reader to a writer, and gives the writer back.
+fn written<R: Read + Drop, W: Write>(
+    rt: &impl Abort,
+    alloc: Global,
+    job: &Job,
+    reader: R,
+    writer: W,
+) -> W {
+    let mut sink = StandardSink::new(writer);
+    let (_, outcome) = run_job(alloc, job, StandardSource::new(reader), &mut sink);
+    expect_outcome(rt, outcome, Ok(()), 0);
+    sink.into_writer()
+}
+
+/// Does a job over each kind of reader and of writer.
+fn expect_everywhere(rt: &impl Abort, alloc: Global, example: &Example) {
+    let Example { job, input, output } = example;
+    let slice = written(rt, alloc, job, *input, Vec::new(alloc));
+    expect_bytes(rt, slice.as_slice(), output, 0);
+    let cursor = written(
+        rt,
+        alloc,
+        job,
+        Cursor::new(*input),
+        Cursor::new(Vec::new(alloc)),
+    );
+    expect_bytes(rt, cursor.into_inner().as_slice(), output, 1);
+    let bytes = written(
+        rt,
+        alloc,
+        job,
+        ByteReader::new(input),
+        ByteWriter::new(Vec::new(alloc)),
+    );
+    expect_bytes(rt, bytes.bytes(), output, 2);
+    match run_in_memory(alloc, job, input) {
+        Ok(text) => expect_bytes(rt, text.as_slice(), output, 3),
+        Err(fault) => expect_outcome(rt, Err(fault), Ok(()), 3),
+    }
+}
+
+#[test]
+fn runs_over_readers_and_writers(rt: HostRuntime) {
+    expect_everywhere(&rt, rt.alloc(), &RUN);
+}
+
+#[test]
+fn runs_two_over_readers_and_writers(rt: HostRuntime) {
+    expect_everywhere(&rt, rt.alloc(), &TWIN);
+}
+
+#[test]
+fn assembles_over_readers_and_writers(rt: HostRuntime) {
+    expect_everywhere(&rt, rt.alloc(), &ASM);
+}
+
+#[test]
+fn disassembles_over_readers_and_writers(rt: HostRuntime) {
+    expect_everywhere(&rt, rt.alloc(), &DIS);
+}
+
+#[test]
+fn tells_the_fault_of_an_input(rt: HostRuntime) {
+    for (job, input, want) in [
+        (Job::Run(MONITORED), b"0\n--\n".as_slice(), BenchFault::Hex),
+        (Job::Dis, b"000000\n".as_slice(), BenchFault::Hex),
+    ] {
+        let outcome = match run_in_memory(rt.alloc(), &job, input) {
+            Ok(_) => Ok(()),
+            Err(fault) => Err(fault),
+        };
+        expect_outcome(&rt, outcome, Err(want), 0);
+    }
+}
+
+/// A create, and then a key that is poked into the enclave, with a line between its bytes; what follows passes over the enclave, ends it,
+/// and creates and enters another one in its place.
+const WITH_A_KEY: &[u8] = b"73000000730000007300000073000000\n--\n\
+    setreg 17 0a454e43\nsetreg 16 1\nsetreg 10 80020000\nsetreg 11 1000\nsetreg 14 80020000\nstep 1\n\
+    poke 80020000 41\n# between\nreg 10\npoke 80020ffc 42\n\
+    enclaves\nsetreg 16 2\nsetreg 10 0\nstep 1\nmem 80020000 4\n\
+    setreg 16 1\nsetreg 10 80020000\nsetreg 11 1000\nsetreg 14 80020000\nstep 1\nsetreg 16 3\nsetreg 10 0\nstep 1\nregs\n";
+
+const WITH_ANOTHER: &[u8] = b"73000000730000007300000073000000\n--\n\
+    setreg 17 0a454e43\nsetreg 16 1\nsetreg 10 80020000\nsetreg 11 1000\nsetreg 14 80020000\nstep 1\n\
+    poke 80020abc 5a\n# between\nreg 10\npoke 80020000 0\n\
+    enclaves\nsetreg 16 2\nsetreg 10 0\nstep 1\nmem 80020000 4\n\
+    setreg 16 1\nsetreg 10 80020000\nsetreg 11 1000\nsetreg 14 80020000\nstep 1\nsetreg 16 3\nsetreg 10 0\nstep 1\nregs\n";
+
+#[test]
+fn conceals_a_key(rt: HostRuntime) {
+    let job = Job::Run(MONITORED);
+    let first = run_in_memory(rt.alloc(), &job, WITH_A_KEY).expect(&rt, "an output");
+    let second = run_in_memory(rt.alloc(), &job, WITH_ANOTHER).expect(&rt, "an output");
+    // the last lines are those of the enclave that was entered
+    assert!(&rt; first.as_slice().ends_with(b"pc=80020000\n"));
+    expect_bytes(&rt, first.as_slice(), second.as_slice(), 0);
+}
