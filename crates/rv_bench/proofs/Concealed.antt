@@ -9,16 +9,17 @@ use Rattle.rv_debug.specs.BenchState.{BenchState}
 use Rattle.rv_script.specs.Command.{parse_of}
 use Rattle.rv_debug.specs.Confidentiality.{PassesOver, PokesInto}
 use Rattle.rv_debug.specs.Targets.{KeepsMonitor}
-use Rattle.rv_debug.specs.BothBenches.{BenchesAgreeBut}
+use Rattle.rv_debug.specs.BothBenches.{BenchesAgreeBut, PassesBy, RestsIn}
 use Rattle.rv_script.specs.declared.command.Command.{Command}
 use Rattle.rv_script.specs.declared.command.CommandFault.{CommandFault}
 use Rattle.rv_debug.proofs.AnswersAlike.{agree_again, confidentiality}
+use Rattle.rv_debug.proofs.AtRest.{poked_rests, rest_law, scramble_rests}
 use Rattle.rv_debug.proofs.PokesAlike.{agrees_with_itself, poke_law}
 use Rattle.rv_command_line.specs.declared.setup.Setup.{Setup}
 use Rattle.rv_streams.specs.declared.fault.BenchFault.{BenchFault}
 use Rattle.rv_streams.specs.Image.{image_in}
 use Rattle.rv_streams.specs.Separator.{after_separator, has_separator}
-use Rattle.rv_bench.specs.Confidentiality.{AnswerAlike, AreSecret, ConcealsSecret, ConcealsThrough, PassOver, PokeInto}
+use Rattle.rv_bench.specs.Confidentiality.{AnswerAlike, AreSecret, ConcealsSecret, ConcealsThrough, PassBy, PassOver, PokeInto}
 use Rattle.rv_bench.specs.Loaded.{started}
 use Rattle.rv_bench.specs.Output.{bench_in, output, replies_of}
 use Rattle.rv_bench.specs.Replies.{bench_line, replies, state_after}
@@ -35,23 +36,42 @@ module _ (e : ℕ) where
   -- ---- lines that pass over the enclave
 
   line_alike : (first second : BenchState) (line : List ℕ) → KeepsMonitor first.target → KeepsMonitor second.target → BenchesAgreeBut e first second
-      → IfOk (parse_of line) (PassesOver e first) → Alike (line_answer first line) (line_answer second line)
+      → IfOk (parse_of line) (PassesOver e first) → IfOk (parse_of line) (PassesBy e first) → Alike (line_answer first line) (line_answer second line)
   unfolding line_answer
   line_alike first second line kept kept' agree = go (parse_of line) where
-    go : (parsed : Result Command CommandFault) → IfOk parsed (PassesOver e first) → Alike (answer_or_fault first parsed) (answer_or_fault second parsed)
-    go (Ok command) over =
-        let both = confidentiality e first second command kept kept' agree over.blind in
+    go : (parsed : Result Command CommandFault) → IfOk parsed (PassesOver e first) → IfOk parsed (PassesBy e first)
+        → Alike (answer_or_fault first parsed) (answer_or_fault second parsed)
+    go (Ok command) over by =
+        let both = confidentiality e first second command kept kept' agree over.blind by in
         let passed = both.passed over.past in (passed.reply, (let state = passed.state in state.but))
-    go (Err fault) over = (refl, agree)
+    go (Err fault) over by = (refl, agree)
 
   lines_alike : (first second : BenchState) (lines : List (List ℕ)) → KeepsMonitor first.target → KeepsMonitor second.target
-      → BenchesAgreeBut e first second → PassOver e first lines → AnswerAlike e first second lines
-  lines_alike first second [] kept kept' agree over = record { text = refl; state = agree_again e first second agree }
-  lines_alike first second (line ∷ lines) kept kept' agree (over, more) =
-      let (reply, next) = line_alike first second line kept kept' agree over in
+      → BenchesAgreeBut e first second → PassOver e first lines → PassBy e first lines → AnswerAlike e first second lines
+  lines_alike first second [] kept kept' agree over by = record { text = refl; state = agree_again e first second kept agree }
+  lines_alike first second (line ∷ lines) kept kept' agree (over, more) (by, more_by) =
+      let (reply, next) = line_alike first second line kept kept' agree over by in
       let rest = lines_alike (line_answer first line).state (line_answer second line).state lines (keeps_line first line kept)
-      (keeps_line second line kept') next more in
+      (keeps_line second line kept') next more more_by in
       record { text = ap₂ (λ (one others : List ℕ). one ++ others) reply rest.text; state = rest.state }
+
+  -- ---- an enclave that runs on no hart at first
+
+  line_rests : (bench : BenchState) (line : List ℕ) → KeepsMonitor bench.target → RestsIn e bench.target → IfOk (parse_of line) (PassesOver e bench)
+      → IfOk (parse_of line) (PassesBy e bench) × RestsIn e (line_answer bench line).state.target
+  unfolding line_answer
+  line_rests bench line kept rests = go (parse_of line) where
+    go : (parsed : Result Command CommandFault) → IfOk parsed (PassesOver e bench)
+        → IfOk parsed (PassesBy e bench) × RestsIn e (answer_or_fault bench parsed).state.target
+    go (Ok command) over = let stays = rest_law e bench command kept rests in (stays.by, stays.rests over.past)
+    go (Err fault) over = (tt, rests)
+
+  lines_rest : (bench : BenchState) (lines : List (List ℕ)) → KeepsMonitor bench.target → RestsIn e bench.target → PassOver e bench lines
+      → PassBy e bench lines
+  lines_rest bench [] kept rests over = tt
+  lines_rest bench (line ∷ lines) kept rests (over, more) =
+      let (by, next) = line_rests bench line kept rests over in
+      (by, lines_rest (line_answer bench line).state lines (keeps_line bench line kept) next more)
 
   -- ---- lines that poke into its region
 
@@ -85,6 +105,21 @@ module _ (e : ℕ) where
       (keeps_line first line kept) (keeps_line second line' kept') next more more' (omega (arith, many)) in
       record { text = ap₂ (λ (one others : List ℕ). one ++ others) reply rest.text; agree = rest.agree }
 
+  -- behind which the enclave runs where it did
+  poke_rests : (bench : BenchState) (line : List ℕ) → KeepsMonitor bench.target → RestsIn e bench.target → IsOkAnd (parse_of line) (PokesInto e bench)
+      → RestsIn e (line_answer bench line).state.target
+  unfolding line_answer
+  poke_rests bench line kept rests = go (parse_of line) where
+    go : (parsed : Result Command CommandFault) → IsOkAnd parsed (PokesInto e bench) → RestsIn e (answer_or_fault bench parsed).state.target
+    go (Ok command) pokes = poked_rests e bench command kept rests pokes
+    go (Err fault) pokes = absurd pokes
+
+  pokes_rest : (bench : BenchState) (lines : List (List ℕ)) → KeepsMonitor bench.target → RestsIn e bench.target → PokeInto e bench lines
+      → RestsIn e (state_after bench_line bench lines).target
+  pokes_rest bench [] kept rests pokes = rests
+  pokes_rest bench (line ∷ lines) kept rests (poke, more) =
+      pokes_rest (line_answer bench line).state lines (keeps_line bench line kept) (poke_rests bench line kept rests poke) more
+
   -- ---- a script with a secret in it
 
   script_alike : (bench : BenchState) (before secret another rest : List (List ℕ)) → KeepsMonitor bench.target → length secret ≡ length another
@@ -93,9 +128,11 @@ module _ (e : ℕ) where
   script_alike bench before secret another rest kept many are =
       let start = state_after bench_line bench before in
       let keeps = keeps_lines bench before kept in
-      let poked = pokes_alike start start secret another keeps keeps (agrees_with_itself e start keeps are.idle) are.here are.there many in
+      let poked = pokes_alike start start secret another keeps keeps (agrees_with_itself e start) are.here are.there many in
       let ends = lines_alike (state_after bench_line start secret) (state_after bench_line start another) rest
-      (keeps_lines start secret keeps) (keeps_lines start another keeps) poked.agree are.passes in
+      (keeps_lines start secret keeps) (keeps_lines start another keeps) poked.agree are.passes
+      (lines_rest (state_after bench_line start secret) rest (keeps_lines start secret keeps)
+      (pokes_rest start secret keeps (scramble_rests e start.target keeps are.idle) are.here) are.passes) in
       replies-append bench_line bench before (secret ++ rest)
       ∙ ap (λ (text : List ℕ). replies bench_line bench before ++ text)
       (replies-append bench_line start secret rest ∙ ap₂ (λ (one others : List ℕ). one ++ others) poked.text ends.text
@@ -105,8 +142,10 @@ module _ (e : ℕ) where
 -- ---- scripts
 
 conceals_through : (bench : BenchState) → KeepsMonitor bench.target → ConcealsThrough bench
-conceals_through bench kept e before part other kept' agree over =
-    lines_alike e (state_after bench_line bench before) other part (keeps_lines bench before kept) kept' agree over
+conceals_through bench kept = record {
+  alike = λ e before part other kept' agree over by. lines_alike e (state_after bench_line bench before) other part (keeps_lines bench before kept) kept' agree over by;
+  at_rest = λ e before part rests over. lines_rest e (state_after bench_line bench before) part (keeps_lines bench before kept) rests over;
+}
 
 from_start : (bench : Result BenchState BenchFault) → IfOk bench (λ state. KeepsMonitor state.target) → IfOk bench ConcealsThrough
 from_start (Ok state) kept = conceals_through state kept

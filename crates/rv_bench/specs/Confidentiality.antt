@@ -6,7 +6,7 @@ use Rattle.rv_debug.specs.BenchState.{BenchState}
 use Rattle.rv_script.specs.Command.{parse_of}
 use Rattle.rv_debug.specs.Confidentiality.{AgreeAgain, PassesOver, PokesInto}
 use Rattle.rv_debug.specs.Targets.{KeepsMonitor}
-use Rattle.rv_debug.specs.BothBenches.{BenchesAgreeBut, can_scramble}
+use Rattle.rv_debug.specs.BothBenches.{BenchesAgreeBut, PassesBy, RestsIn, can_scramble}
 use Rattle.rv_command_line.specs.declared.setup.Setup.{Setup}
 use Rattle.rv_streams.specs.Separator.{after_separator, has_separator}
 use Rattle.rv_bench.specs.Output.{bench_in, output}
@@ -19,17 +19,24 @@ abbrev pub PassOver : ℕ → BenchState → List (List ℕ) → Type 0
 PassOver e bench [] = Unit {0}
 PassOver e bench (line ∷ lines) = IfOk (parse_of line) (PassesOver e bench) × PassOver e (bench_line bench line).state lines
 
+-- and none steps or shows a hart on which the enclave runs
+abbrev pub PassBy : ℕ → BenchState → List (List ℕ) → Type 0
+PassBy e bench [] = Unit {0}
+PassBy e bench (line ∷ lines) = IfOk (parse_of line) (PassesBy e bench) × PassBy e (bench_line bench line).state lines
+
 -- two benches give the same replies to lines, byte for byte, and agree again after them
 pub record AnswerAlike (e : ℕ) (first second : BenchState) (lines : List (List ℕ)) : Type 0 where
   pub text : replies bench_line first lines ≡ replies bench_line second lines
   pub state : AgreeAgain e (state_after bench_line first lines) (state_after bench_line second lines)
 
--- After any lines, a part of the script that passes over an enclave is answered alike by every bench that agrees but for that enclave.
-abbrev pub ConcealsThrough : BenchState → Type 0
-ConcealsThrough bench =
-    (e : ℕ) (before part : List (List ℕ)) (other : BenchState) → KeepsMonitor other.target
-    → BenchesAgreeBut e (state_after bench_line bench before) other → PassOver e (state_after bench_line bench before) part
-    → AnswerAlike e (state_after bench_line bench before) other part
+-- After any lines, a part of the script that passes over an enclave, and by the hart on which it runs, is answered alike by every bench that
+-- agrees but for that enclave; where the enclave runs on no hart at first, whatever passes over it is such a part.
+pub record ConcealsThrough (bench : BenchState) : Type 0 where
+  pub alike : (e : ℕ) (before part : List (List ℕ)) (other : BenchState) → KeepsMonitor other.target
+      → BenchesAgreeBut e (state_after bench_line bench before) other → PassOver e (state_after bench_line bench before) part
+      → PassBy e (state_after bench_line bench before) part → AnswerAlike e (state_after bench_line bench before) other part
+  pub at_rest : (e : ℕ) (before part : List (List ℕ)) → RestsIn e (state_after bench_line bench before).target
+      → PassOver e (state_after bench_line bench before) part → PassBy e (state_after bench_line bench before) part
 
 -- ---- from bytes to bytes
 

@@ -1,9 +1,9 @@
 -- From the command with which the host enters an enclave to the one with which the enclave leaves, whatever commands stand between them:
 -- the host goes on as it was before the step that entered, past its ecall, but for a0 and a1. (A law of this project's own debugger over
 -- its own monitor; Keystone, EuroSys 2020, in this project's profile.)
-use Rattle.std.specs.Prelude.{ℕ, ◌≡◌, true, false, List, [], ◌∷◌, ◌++◌}
+use Rattle.std.specs.Prelude.{ℕ, ◌≡◌, true, List, [], ◌∷◌, ◌++◌}
 use Rattle.rv_monitor.specs.HartLaws.{sched}
-use Rattle.rv_monitor.specs.Returns.{HostComesBack}
+use Rattle.rv_monitor.specs.Returns.{HostComesBack, RunsThrough}
 use Rattle.rv_monitor.specs.State.{MonitoredState, AreStored, machine_of, seen_by}
 use Rattle.rv_monitor.specs.Step.{monitored_step, step_of}
 use Rattle.rv_enclaves.specs.Table.{is_host}
@@ -18,12 +18,6 @@ use Rattle.rv_debug.specs.declared.target.Target.TheVariants.{Bare, Monitored}
 
 -- ---- steps
 
--- on a hart an enclave runs, before, between and after the steps of these harts
-abbrev pub RunsOn : ℕ → List ℕ → MonitoredState → Type 0
-RunsOn hart [] machine = is_host (seen_by hart machine).seat.world ≡ false
-RunsOn hart (named ∷ harts) machine =
-    (is_host (seen_by hart machine).seat.world ≡ false) × RunsOn hart harts (step_of named machine).state
-
 -- one of these steps is of this hart and from this state, in which the host runs; behind it an enclave runs on the hart through the rest
 pub record EntersWithin (hart : ℕ) (harts : List ℕ) (machine entry : MonitoredState) : Type 0 where
   pub before : List ℕ
@@ -31,14 +25,14 @@ pub record EntersWithin (hart : ℕ) (harts : List ℕ) (machine entry : Monitor
   pub is : harts ≡ before ++ hart ∷ rest
   pub at : entry ≡ seen_by hart (sched before machine).state
   pub host : is_host entry.seat.world ≡ true
-  pub runs : RunsOn hart rest (step_of hart (sched before machine).state).state
+  pub runs : RunsThrough hart rest (step_of hart (sched before machine).state).state
 
 -- an enclave runs on the hart up to this state; from it one of these steps is of this hart, and leads to the host
 pub record LeavesWithin (hart : ℕ) (harts : List ℕ) (machine exit : MonitoredState) : Type 0 where
   pub before : List ℕ
   pub rest : List ℕ
   pub is : harts ≡ before ++ hart ∷ rest
-  pub runs : RunsOn hart before machine
+  pub runs : RunsThrough hart before machine
   pub at : exit ≡ seen_by hart (sched before machine).state
   pub host : is_host (monitored_step exit).state.seat.world ≡ true
 
@@ -52,7 +46,7 @@ EntersUnder hart harts (Monitored chosen) entry = EntersWithin hart harts (machi
 -- an enclave runs on the hart through its steps
 abbrev pub RunsUnder : ℕ → List ℕ → Target → Type 0
 RunsUnder hart harts (Bare machine) = ⊥
-RunsUnder hart harts (Monitored chosen) = RunsOn hart harts (machine_of chosen)
+RunsUnder hart harts (Monitored chosen) = RunsThrough hart harts (machine_of chosen)
 
 -- an enclave leaves by one of them from this state
 abbrev pub LeavesUnder : ℕ → List ℕ → Target → MonitoredState → Type 0
