@@ -60,7 +60,8 @@ fn run_script<S: Source, W: Sink>(
 /// bench has as many harts as the setup says, any other has one. Once the RAM is made, no memory is taken.
 ///
 /// Under the monitor every part of a script spares each enclave that rests through it (`integrity`), and is answered alike by every
-/// bench that agrees but for an enclave over which it passes: byte for byte, and the benches agree again after it (`conceals`).
+/// bench that agrees but for an enclave over which it passes, and of whose hart it steps and shows nothing: byte for byte, and the benches
+/// agree again after it (`conceals`).
 ///
 /// # Errors
 ///

@@ -12,7 +12,7 @@ use Rattle.rv_monitor.specs.State.{MonitoredState, OnTurn, IsKept, machine_of, s
 use Rattle.rv_monitor.specs.Step.{monitored_step, step_of}
 use Rattle.rv_monitor.specs.declared.seat.Seat.{Seat}
 use Rattle.rv_monitor.proofs.HartsAlike.{sched_kept, step_kept}
-use Rattle.rv_monitor.proofs.Returned.{back_from, entered_from, first_runs, host_on, host_stored, last_runs, next, step_seen, steps_keep}
+use Rattle.rv_monitor.proofs.Returned.{back_from, entered_from, first_runs, host_on, host_stored, last_runs, next, return_law as schedule_law, step_seen, steps_keep}
 use Rattle.rv_monitor.proofs.Switched.{switch_law}
 use Rattle.rv_monitor.proofs.Turned.{seen_kept, seen_stored, seen_twice}
 use Rattle.rv_enclaves.specs.Contexts.{IsStored}
@@ -23,7 +23,7 @@ use Rattle.rv_debug.specs.Answer.{answer}
 use Rattle.rv_debug.specs.BenchState.{BenchState}
 use Rattle.rv_debug.specs.Deeds.{Deed, Nothing, Steps, Register, TimerLine, OneByte, deed, done, harts_stepped}
 use Rattle.rv_debug.specs.Isolation.{after_commands}
-use Rattle.rv_debug.specs.Returns.{EntersUnder, EntersWithin, IsStoredIn, LeavesUnder, LeavesWithin, ReturnLaw, RunsUnder, RunsUnderAll}
+use Rattle.rv_debug.specs.Returns.{EntersAndLeaves, EntersAndLeavesUnder, EntersUnder, EntersWithin, IsStoredIn, LeavesUnder, LeavesWithin, ReturnLaw, ReturnWithinLaw, RunsUnder, RunsUnderAll}
 use Rattle.rv_debug.specs.Targets.{KeepsMonitor}
 use Rattle.rv_debug.specs.declared.target.Target.{Target}
 use Rattle.rv_debug.specs.declared.target.Target.TheVariants.{Bare, Monitored}
@@ -165,3 +165,25 @@ return_law hart bench first last commands entry exit kept enters stored_between 
     let all = commands_keep hart between commands (keeps_monitor bench first kept) runs in
     let end = after_commands between commands in
     leaves_under hart (harts_stepped (deed end last)) end.target entry exit all.0 stored (all.1 ∙ entered) leaves
+
+-- ---- within one command
+
+goes_within : (hart : ℕ) (harts : List ℕ) (machine entry exit : MonitoredState) → IsKept machine → EntersAndLeaves hart harts machine entry exit
+    → HostComesBack entry exit (monitored_step exit)
+goes_within hart harts machine entry exit kept goes =
+    let here = (sched goes.before machine).state in
+    let last = seen_by hart (sched goes.between (step_of hart here).state).state in
+    let host = ap (λ (m : MonitoredState). is_host m.seat.world) (sym goes.at) ∙ goes.host in
+    let again = ap (λ (m : MonitoredState). is_host (monitored_step m).state.seat.world) (sym goes.leaves) ∙ goes.again in
+    let back = schedule_law hart goes.between here (sched_kept goes.before machine kept) goes.stored host goes.runs again in
+    subst (λ (m : MonitoredState). HostComesBack m exit (monitored_step exit)) (sym goes.at)
+    (subst (λ (m : MonitoredState). HostComesBack (seen_by hart here) m (monitored_step m)) (sym goes.leaves) back)
+
+goes_under : (hart : ℕ) (harts : List ℕ) (target : Target) (entry exit : MonitoredState) → KeepsMonitor target
+    → EntersAndLeavesUnder hart harts target entry exit → HostComesBack entry exit (monitored_step exit)
+goes_under hart harts (Bare machine) entry exit kept goes = absurd goes
+goes_under hart harts (Monitored machine) entry exit kept goes =
+    goes_within hart harts (machine_of machine) entry exit (seen_kept machine.hart machine.state kept) goes
+
+pub return_within : ReturnWithinLaw
+return_within hart bench command entry exit kept goes = goes_under hart (harts_stepped (deed bench command)) bench.target entry exit kept goes

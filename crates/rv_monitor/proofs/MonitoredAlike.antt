@@ -109,13 +109,6 @@ beside_by e s t s' t' None (Some b) x y x' y' slots harts agree own = cc
 beside_by e s t s' t' (Some a) None x y x' y' slots harts agree own = cc
 beside_by e s t s' t' (Some a) (Some b) x y x' y' slots harts agree own = laid_agree e slots a b agree
 
-abbrev pick : Seat → Option Seat → Seat
-pick own o = option_case o own (λ other. other)
-
-turned_seat : (seat : Seat) (other : Option Seat) (shared : Shared) → seat_of 1 (on seat other shared) ≡ pick seat other
-turned_seat seat None shared = refl
-turned_seat seat (Some other) shared = refl
-
 after_agree : (e : ℕ) (one other : MonitoredState) → IsKept one → IsKept other → AgreeBut e one other
     → Agree e (monitored_step one) (monitored_step other) → (j : ℕ)
     → SeatsAgreeBut e (seat_of j (monitored_step one).state) (seat_of j (monitored_step other).state)
