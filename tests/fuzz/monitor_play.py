@@ -3,15 +3,18 @@
 answer as the model of monitor_bench.py does. Regions and windows come from a small pool, so that several enclaves live, run,
 stop, exit and are destroyed in one script; the code of all worlds is ecalls, accesses, returns, jumps and illegal words. With
 --harts 2 the harts take turns, and race. With --twin the script is cut in two, and its second part goes to two benches that differ in
-one enclave, which must answer alike.
+one enclave, which must answer alike. With --beside it is cut in two where an enclave runs on one of two harts: there one secret after another
+is put into its region and its registers, and the second part, which is of the other hart, must be answered the same whichever it is.
 
-    tests/fuzz/monitor_play.py PROGRAM [--twin] [--harts H] [--seed S] [--count N] [--lines L]    N scripts of L lines, from this seed on
+    tests/fuzz/monitor_play.py PROGRAM [--twin | --beside] [--harts H] [--seed S] [--count N] [--lines L]
+                                                                                                  N scripts of L lines, from this seed on
     tests/fuzz/monitor_play.py --alone ..                                                         plays the model alone
 
 Where a reply differs, the script is made as small as it gets and printed, with both replies. The last line counts the scripts.
 """
 import argparse
 import collections
+import functools
 import os
 import random
 import subprocess
@@ -36,6 +39,7 @@ WINDOWS = [(0, 0), (0, 0), (0x8002C000, 0x1000), (0x8002C000, 0x4000), (0x8002D0
            (0x80026000, 0x2000), (0x8003B000, 0x1000), (0x8003E000, 0x1000)]
 BORDERS = [START, HOST_ENTRY, PAST, *{at for base, size in REGIONS + WINDOWS for at in (base, base + size)}]
 SIZES = [0, 1, 0x800, 0x1000, 0x1001, 0x2000, 0x3000, 0x4000, 0x8000, 0x10000, 0x40000, 0x80000000, ONES]
+SECRETS = 4
 CSRS = ["stvec", "sstatus", "sscratch", "sepc", "scause", "stval"]
 SHOWN = [*CSRS, "mstatus", "mie", "mip", "mepc", "mcause", "mtval", "mtvec", "mcycle", "minstret", "pmpcfg0", "pmpcfg3",
          "pmpaddr1"]
@@ -300,6 +304,52 @@ class TwinPlay(Play):
         return self.replies + ([] if self.is_over else ["twin end %d" % self.twins.count])
 
 
+class BesidePlay(Play):
+    """After a quarter of the script an enclave runs on one hart, and the rest of it names no byte of its region, and neither steps nor shows
+    that hart."""
+    own, region, secret_at = None, None, None
+
+    def __init__(self, seed, count, harts=2):
+        super().__init__(seed, count, 2)
+
+    def play(self, count):
+        super().play(count // 4)
+        for _ in range(200):
+            fitting = [i for i, hart in enumerate(self.harts) if hart.world is not None and not self.is_nowhere(self.harts[1 - i])]
+            if fitting or self.is_stuck():
+                break
+            self.turn()
+        self.taken["beside" if fitting else "none beside"] += 1
+        if fitting:
+            own = self.rng.choice(fitting)
+            self.on(own)
+            self.region, self.secret_at = self.machine.table[self.machine.world].region, len(self.lines)
+            self.on(1 - own)
+            self.own = own
+            super().play(count)
+
+    def say(self, *lines):
+        passing = lines if self.own is None else [*filter(self.passes_by, lines)]
+        super().say(*passing)
+        if self.own is not None:
+            self.taken.update("beside " + line.split()[0] for line in passing)
+
+    def passes_by(self, line):
+        word, *arguments = line.split()
+        if word in ("mem", "dis", "poke"):
+            at, (base, size) = int(arguments[0], 16), self.region
+            count = int(arguments[1]) if word == "mem" else 4 if word == "dis" else 1
+            return at + count <= base or base + size <= at
+        return word != "sched" and line != "hart %d" % self.own
+
+    def with_secret(self, number):
+        """The script with a secret in it: as many lines for each number."""
+        rng, (base, size) = random.Random(number), self.region
+        secret = ["poke %x %x" % (base + rng.randrange(size), rng.randrange(256)) for _ in range(24)]
+        secret += ["setreg %d %x" % (reg, rng.getrandbits(32)) for reg in range(1, 32)]
+        return self.lines[:self.secret_at] + secret + self.lines[self.secret_at:]
+
+
 # ---- the program beside the model
 
 def answered(program, play, lines):
@@ -352,19 +402,23 @@ def told(program, play, seed):
 def main(words):
     parser = argparse.ArgumentParser()
     parser.add_argument("program", nargs="?")
-    for option in ("--twin", "--alone"):
+    for option in ("--twin", "--beside", "--alone"):
         parser.add_argument(option, action="store_true")
     for option, default in (("--seed", 1), ("--count", 4), ("--lines", 1500), ("--harts", 1)):
         parser.add_argument(option, type=int, default=default)
     asked = parser.parse_args(words)
     taken, failed, program = collections.Counter(), 0, None if asked.alone else os.path.realpath(asked.program)
     for seed in range(asked.seed, asked.seed + asked.count):
-        play = (TwinPlay if asked.twin else Play)(seed, asked.lines, asked.harts)
+        play = (TwinPlay if asked.twin else BesidePlay if asked.beside else Play)(seed, asked.lines, asked.harts)
         taken.update(play.taken)
-        given = right(play, play.lines) if asked.alone else answered(program, play, play.lines)
+        answer = right if asked.alone else functools.partial(answered, program)
+        given = answer(play, play.lines)
         if given != "".join(reply + "\n" for reply in play.all_replies()):
             failed += 1
             print("seed %d: the model differs from itself" % seed) if asked.alone else told(program, play, seed)
+        elif asked.beside and play.secret_at and len({answer(play, play.with_secret(number)) for number in range(SECRETS)}) > 1:
+            failed += 1
+            print("seed %d: a secret of the enclave on hart %d changes the output" % (seed, play.own))
     print("; ".join("%s %d" % it for it in sorted(taken.items())))
     print("%d passed, %d failed" % (asked.count - failed, failed))
     return 1 if failed else 0

@@ -1,5 +1,5 @@
 # The monitored machine beside its model, played at random from a fixed seed, one bench and then two that differ in one enclave, each
-# of one hart and of two: every reply is the same. On the way enclaves come to every state and out of it again, and the two benches come
+# of one hart and of two, and one with one secret after another in an enclave that runs on the other hart: every reply is the same. On the way enclaves come to every state and out of it again, and the two benches come
 # to every end; two harts run enclaves at one time, and call for what the other runs.
 play() {
   python3 "$here/fuzz/monitor_play.py" "$program" --seed 1 "$@" > "$scratch/played"
@@ -25,3 +25,6 @@ play --harts 2 --count 12
 met "${states[@]}" "both in enclaves" "called where it runs elsewhere"
 play --twin --harts 2 --count 32
 met "${twins[@]}" "twin hart" "twin sched" "both in enclaves" "called where it runs elsewhere"
+play --beside --count 24
+met "beside" "beside step" "beside run" "beside regs" "beside csr" "beside access" "beside enclaves" "beside pmp" "beside setreg" \
+  "called where it runs elsewhere"

@@ -1,11 +1,13 @@
 #!/usr/bin/env python3
 """Builds the attacks of examples/attacks, and examples/race: victim.s, or runner.s where no twin is run, and behind it a folder's
 attack.s, or the folder's program.s, are assembled by assembly_model.py to the folder's image and listing, the image is put before the
-script of its stdin, and the model of monitor_bench.py writes its stdout.
+script of its stdin, and the model of monitor_bench.py writes its stdout. Where the script has a secret, a second input, other, has another
+one: each byte and word of it is the complement.
 
     tests/generators/attacks.py            builds all of them
     tests/generators/attacks.py --check    tells whether they are as it builds them, and whether each attack fails: both benches answer
-                                           each line alike, or the enclave that runs comes to its end and has counted to 32
+                                           each line alike, both secrets have the same output, or the enclave that runs comes to its end
+                                           and has counted to 32
 
 Nothing here comes from the bench.
 """
@@ -20,6 +22,7 @@ from monitor_model import HOST_ENTRY
 
 ROOT = os.path.dirname(os.path.dirname(os.path.dirname(os.path.abspath(__file__))))
 EXAMPLES = os.path.join(ROOT, "examples")
+SECRET = "# the secret"
 
 
 def text_of(*names):
@@ -62,6 +65,29 @@ def source_of(name):
     return text_of("attacks", "victim.s" if is_twin(name) else "runner.s") + attack if attack else text_of(name, "program.s")
 
 
+def has_secret(name):
+    return SECRET in text_of(name, "stdin")
+
+
+def parts_of_secret(stdin):
+    """What stands before the lines of the secret, these, and what stands behind them, which begins with a comment."""
+    front, rest = stdin.split(SECRET, 1)
+    comment, rest = rest.split("\n", 1)
+    secret, behind = rest.split("#", 1)
+    return front + SECRET + comment + "\n", secret.splitlines(), "#" + behind
+
+
+def complement(line):
+    """A poke of the complement of its byte, or a setreg of that of its word."""
+    word, place, value = line.split()
+    return f"{word} {place} " + ("%02x" % (0xFF - int(value, 16)) if word == "poke" else "%08x" % (0xFFFFFFFF - int(value, 16)))
+
+
+def other_of(stdin):
+    front, secret, behind = parts_of_secret(stdin)
+    return front + "".join(complement(line) + "\n" for line in secret) + behind
+
+
 def built(name):
     """The texts of a folder's files, by their names."""
     source = source_of(name)
@@ -72,7 +98,8 @@ def built(name):
     stdin = image + "".join(line + "\n" for line in ["--", *script])
     stdout, status = wanted(stdin, text_of(name, "words").split())
     assert status == 0, (name, stdout)
-    return {"image": image, "listing": listing_of(source, words), "stdin": stdin, "stdout": stdout}
+    files = {"image": image, "listing": listing_of(source, words), "stdin": stdin, "stdout": stdout}
+    return files | ({"other": other_of(stdin)} if has_secret(name) else {})
 
 
 def are_alike(stdout):
@@ -84,6 +111,19 @@ def are_alike(stdout):
 def has_counted(stdout):
     """Whether the last that is shown is the exit of the enclave, with 32."""
     return stdout.endswith("\nx10=00000000\nx11=00000020\n")
+
+
+def fault_of(name):
+    """How an attack did not fail, or nothing."""
+    stdout = text_of(name, "stdout")
+    if name == "race":
+        return ""
+    if has_secret(name):
+        other = wanted(text_of(name, "other"), text_of(name, "words").split())[0]
+        return "" if other == stdout != "" else "its secret changes the output"
+    if is_twin(name):
+        return "" if are_alike(stdout) else "the benches differ"
+    return "" if has_counted(stdout) else "the enclave has not counted to 32"
 
 
 def main(arguments):
@@ -99,8 +139,7 @@ def main(arguments):
                     file.write(text)
             elif text_of(name, part) != text:
                 wrong.append("%s/%s" % (name, part))
-        if name != "race" and not (are_alike if is_twin(name) else has_counted)(text_of(name, "stdout")):
-            wrong.append(name + (": the benches differ" if is_twin(name) else ": the enclave has not counted to 32"))
+        wrong += [f"{name}: {it}" for it in [fault_of(name)] if it]
     print("\n".join(["differs: " + it for it in wrong] + ["%d compared, %d differ" % (count, len(wrong))]))
     return 1 if wrong else 0
 

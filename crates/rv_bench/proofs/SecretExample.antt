@@ -58,9 +58,9 @@ second_poke = refl
 
 is_secret : (bench : BenchState) → HasEnclave bench → AreSecret 0 bench (lines_of key) (lines_of other_key) (lines_of rest)
 is_secret bench there = record {
-  idle = there.idle;
   pokes = (inl (IsOkAnd-at _ _ _ first_poke there.first, IsOkAnd-at _ _ _ second_poke there.second), (inr (refl, comment_passes _), tt));
   passes = λ live. (enclaves_pass _, λ live. (regs_pass _, tt));
+  by = inl there.idle;
 }
 
 from_bench : (bench : Result BenchState BenchFault) (before : List (List ℕ)) → IfOk bench (λ bench. HasEnclave (state_after bench_line bench before))

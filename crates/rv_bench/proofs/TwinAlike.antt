@@ -1,7 +1,7 @@
 -- Two benches with one script stay alike, and each spares what rests: by the laws of one command, over the lines.
 use Rattle.std.proofs.Common.{◌≡◌, ℕ, Bool, true, false, List, [], ◌∷◌, ◌++◌, Option, Some, None, IfSome, Result, Ok, Err, IfOk, refl, sym}
 use Rattle.std.proofs.Common.{◌∙◌, ap, subst}
-use Rattle.std.specs.Prelude.{◌&&◌, if◌then◌else◌}
+use Rattle.std.specs.Prelude.{◌&&◌, ◌||◌, if◌then◌else◌}
 use Rattle.rv_word.specs.Cases.{result_case}
 use Rattle.rv_monitor.proofs.Scrambled.{scramble_agrees, scramble_kept}
 use Rattle.rv_debug.specs.Answer.{answer}
@@ -10,7 +10,7 @@ use Rattle.rv_script.specs.Command.{parse_of}
 use Rattle.rv_debug.specs.Confidentiality.{AlikeBy, StayAlike}
 use Rattle.rv_debug.specs.Isolation.{IsSparedIn, after_commands}
 use Rattle.rv_debug.specs.Targets.{KeepsMonitor}
-use Rattle.rv_debug.specs.BothBenches.{BenchesAgreeBut, BothAnswered, BothTold, TargetsAgreeBut, both_answer, both_do, both_line_answer, both_told}
+use Rattle.rv_debug.specs.BothBenches.{BenchesAgreeBut, BothAnswered, BothTold, RestsIn, TargetsAgreeBut, both_answer, both_do, both_line_answer, both_told}
 use Rattle.rv_debug.specs.BothBenches.{can_scramble}
 use Rattle.rv_debug.specs.BothBenches.{can_scramble_in, is_blank, is_blind, scrambled, scrambled_in}
 use Rattle.rv_debug.specs.declared.both.BothLine.{BothLine}
@@ -21,6 +21,7 @@ use Rattle.rv_script.specs.declared.command.Command.{Command}
 use Rattle.rv_script.specs.declared.command.CommandFault.{CommandFault}
 use Rattle.rv_debug.specs.declared.target.Target.{Target}
 use Rattle.rv_debug.specs.declared.target.Target.TheVariants.{Bare, Monitored}
+use Rattle.rv_debug.proofs.AtRest.{rest_law, scramble_rests}
 use Rattle.rv_debug.proofs.BothAlike.{both_alike}
 use Rattle.rv_debug.proofs.DeedsKept.{keeps_monitor}
 use Rattle.rv_debug.proofs.Isolation.{integrity}
@@ -53,12 +54,16 @@ module _ (slot : ℕ) where
   abbrev after_if : Bool → BenchState → BenchState → Command → BothAnswered
   after_if blind a b c = if blind then done a b c else record { first = a; second = b; first_reply = []; second_reply = []; why = NotBlind }
 
+  -- they agree, and the slot's enclave runs on no hart
+  abbrev Together : BenchState → BenchState → Type 0
+  Together a b = BenchesAgreeBut slot a b × RestsIn slot a.target
+
   -- what becomes of both, whether they did it or not
   record Becomes (a b : BenchState) (c : Command) (after : BothAnswered) : Type 0 where
     pub first_kept : KeepsMonitor after.first.target
     pub second_kept : KeepsMonitor after.second.target
-    pub all : after.why ≡ All → (after.first_reply ≡ after.second_reply) × BenchesAgreeBut slot after.first after.second
-    pub blind : after.why ≡ NotBlind → BenchesAgreeBut slot after.first after.second
+    pub all : after.why ≡ All → (after.first_reply ≡ after.second_reply) × Together after.first after.second
+    pub blind : after.why ≡ NotBlind → Together after.first after.second
     pub first : after.first ≡ after_commands a (done_by_both after.why c)
     pub second : after.second ≡ after_commands b (done_by_both after.why c)
 
@@ -70,16 +75,22 @@ module _ (slot : ℕ) where
   never_blind true is = cc
   never_blind false is = cc
 
-  becomes : (a b : BenchState) (c : Command) → KeepsMonitor a.target → KeepsMonitor b.target → BenchesAgreeBut slot a b
+  not_entered : (x y : Bool) → (if x || y then Entered else All) ≡ All → x ≡ false
+  not_entered true y is = cc
+  not_entered false y is = refl
+
+  becomes : (a b : BenchState) (c : Command) → KeepsMonitor a.target → KeepsMonitor b.target → Together a b
       → Becomes a b c (both_answer slot a b c)
   unfolding both_answer
-  becomes a b c kept kept' agree = go (is_blind slot a c && is_blind slot b c) (both_alike slot a b c kept kept') where
+  becomes a b c kept kept' together = go (is_blind slot a c && is_blind slot b c) (both_alike slot a b c kept kept') where
     go : (blind : Bool) → StayAlike slot a b c (after_if blind a b c) → Becomes a b c (after_if blind a b c)
     go true alike = record {
       first_kept = keeps_monitor a c kept;
       second_kept = keeps_monitor b c kept';
-      all = λ is. let passed = subst (λ (why : BothWhy). AlikeBy slot a b c (done a b c) why) is (alike agree) in
-          (passed.reply, (let state = passed.state in state.but));
+      all = λ is.
+          let stays = rest_law slot a c kept together.1 in
+          let passed = subst (λ (why : BothWhy). AlikeBy slot a b c (done a b c) why) is (alike together.0 stays.by) in
+          (passed.reply, ((let state = passed.state in state.but), stays.rests (not_entered _ _ is)));
       blind = λ is. absurd (never_blind _ is);
       first = ended _ a c;
       second = ended _ b c;
@@ -88,7 +99,7 @@ module _ (slot : ℕ) where
       first_kept = kept;
       second_kept = kept';
       all = λ is. cc;
-      blind = λ is. agree;
+      blind = λ is. together;
       first = refl;
       second = refl;
     }
@@ -97,7 +108,7 @@ module _ (slot : ℕ) where
 
   -- the benches are kept, and agree as long as the slot was not entered
   record Going (apart : Apart) : Type 0 where
-    pub agree : apart.entered ≡ false → BenchesAgreeBut slot apart.first apart.second
+    pub agree : apart.entered ≡ false → Together apart.first apart.second
     pub first : KeepsMonitor apart.first.target
     pub second : KeepsMonitor apart.second.target
 
@@ -143,7 +154,8 @@ module _ (slot : ℕ) where
   stay_together : (start : Apart) → Going start → StayTogether slot start
   stay_together start going lines line is =
       let apart = lines_going start lines going in
-      (apart.agree is, told_alike (state_after (apart_line slot) start lines) line apart is)
+      let together = apart.agree is in
+      (together.0, together.1, told_alike (state_after (apart_line slot) start lines) line apart is)
 
   -- ---- integrity
 
@@ -232,7 +244,11 @@ module _ (slot : ℕ) where
         → IfSome (if may then Some (record { first = bench; second = scrambled slot bench; ran = 0; entered = false }) else None) Going
     go true is =
         let apart = targets_apart bench.target kept is in
-        record { agree = λ going. record { target = apart.0; breaks = refl; watches = refl }; first = kept; second = apart.1 }
+        record {
+          agree = λ going. (record { target = apart.0; breaks = refl; watches = refl }, scramble_rests slot bench.target kept is);
+          first = kept;
+          second = apart.1;
+        }
     go false is = tt
 
 -- ---- whole inputs

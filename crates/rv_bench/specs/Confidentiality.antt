@@ -6,7 +6,7 @@ use Rattle.rv_debug.specs.BenchState.{BenchState}
 use Rattle.rv_script.specs.Command.{parse_of}
 use Rattle.rv_debug.specs.Confidentiality.{AgreeAgain, PassesOver, PokesInto, is_live_in}
 use Rattle.rv_debug.specs.Targets.{KeepsMonitor}
-use Rattle.rv_debug.specs.BothBenches.{BenchesAgreeBut, can_scramble}
+use Rattle.rv_debug.specs.BothBenches.{BenchesAgreeBut, PassesBy, RestsIn, can_scramble}
 use Rattle.rv_command_line.specs.declared.setup.Setup.{Setup}
 use Rattle.rv_streams.specs.Separator.{after_separator, has_separator}
 use Rattle.rv_bench.specs.Output.{bench_in, output}
@@ -14,9 +14,13 @@ use Rattle.rv_bench.specs.Replies.{bench_line, replies, state_after}
 
 -- ---- a part of a script
 
--- A line passes over the enclave of slot e: it names no byte of its region, and does not enter it. A faulty line does neither.
+-- a line passes over the enclave of slot e: it names no byte of its region, and does not enter it; a faulty line does neither
 abbrev pub LinePassesOver : ℕ → BenchState → List ℕ → Type 0
 LinePassesOver e bench line = IfOk (parse_of line) (PassesOver e bench)
+
+-- and by the hart on which the enclave runs: it neither steps nor shows it
+abbrev pub LinePassesBy : ℕ → BenchState → List ℕ → Type 0
+LinePassesBy e bench line = IfOk (parse_of line) (PassesBy e bench)
 
 -- Lines pass over the enclave that is live in slot e, as long as it is live. Of those that follow its end nothing is asked: they may enter
 -- another enclave that is created there.
@@ -25,18 +29,25 @@ PassOver e bench [] = Unit {0}
 PassOver e bench (line ∷ lines) =
     is_live_in e bench.target ≡ true → LinePassesOver e bench line × PassOver e (bench_line bench line).state lines
 
--- Two benches give the same replies to lines, byte for byte, and agree again after them; where the enclave has ended, they are equal.
+-- and by its hart, as long as it is live
+abbrev pub PassBy : ℕ → BenchState → List (List ℕ) → Type 0
+PassBy e bench [] = Unit {0}
+PassBy e bench (line ∷ lines) =
+    is_live_in e bench.target ≡ true → LinePassesBy e bench line × PassBy e (bench_line bench line).state lines
+
+-- Two benches give the same replies to lines, byte for byte, and agree again after them.
 pub record AnswerAlike (e : ℕ) (first second : BenchState) (lines : List (List ℕ)) : Type 0 where
   pub text : replies bench_line first lines ≡ replies bench_line second lines
   pub state : AgreeAgain e (state_after bench_line first lines) (state_after bench_line second lines)
-      ⊎ (state_after bench_line first lines ≡ state_after bench_line second lines)
 
--- After any lines, a part of the script that passes over an enclave is answered alike by every bench that agrees but for that enclave.
-abbrev pub ConcealsThrough : BenchState → Type 0
-ConcealsThrough bench =
-    (e : ℕ) (before part : List (List ℕ)) (other : BenchState) → KeepsMonitor other.target
-    → BenchesAgreeBut e (state_after bench_line bench before) other → PassOver e (state_after bench_line bench before) part
-    → AnswerAlike e (state_after bench_line bench before) other part
+-- After any lines, a part of the script that passes over an enclave, and by the hart on which it runs, is answered alike by every bench that
+-- agrees but for that enclave; where the enclave runs on no hart at first, whatever passes over it is such a part.
+pub record ConcealsThrough (bench : BenchState) : Type 0 where
+  pub alike : (e : ℕ) (before part : List (List ℕ)) (other : BenchState) → KeepsMonitor other.target
+      → BenchesAgreeBut e (state_after bench_line bench before) other → PassOver e (state_after bench_line bench before) part
+      → PassBy e (state_after bench_line bench before) part → AnswerAlike e (state_after bench_line bench before) other part
+  pub at_rest : (e : ℕ) (before part : List (List ℕ)) → RestsIn e (state_after bench_line bench before).target
+      → PassOver e (state_after bench_line bench before) part → PassBy e (state_after bench_line bench before) part
 
 -- ---- from bytes to bytes
 
@@ -53,12 +64,17 @@ DifferInPokes e first second (line ∷ lines) (other ∷ others) =
     PokeOrPass e first second line other × DifferInPokes e (bench_line first line).state (bench_line second other).state lines others
 DifferInPokes e first second _ _ = ⊥
 
--- Either lines poke a secret into the region of an enclave that is live and does not run, over which the others pass, those between the
--- pokes and the rest of the script.
+-- each of these lines passes by the hart on which the enclave of slot e runs
+abbrev pub EachPassesBy : ℕ → BenchState → List (List ℕ) → Type 0
+EachPassesBy e bench [] = Unit {0}
+EachPassesBy e bench (line ∷ lines) = LinePassesBy e bench line × EachPassesBy e (bench_line bench line).state lines
+
+-- Either lines poke a secret into the region of an enclave, over which the others pass, those between the pokes and the rest of the script. It
+-- runs on no hart, or they pass by the one on which it runs.
 pub record AreSecret (e : ℕ) (bench : BenchState) (secret another rest : List (List ℕ)) : Type 0 where
-  pub idle : can_scramble e bench ≡ true
   pub pokes : DifferInPokes e bench bench secret another
   pub passes : PassOver e (state_after bench_line bench secret) rest
+  pub by : (can_scramble e bench ≡ true) ⊎ (EachPassesBy e bench secret × PassBy e (state_after bench_line bench secret) rest)
 
 -- Two inputs are the same but for lines in the middle of the script, which poke a secret.
 pub record DifferInSecret (e : ℕ) (setup : Setup) (input other : List ℕ) : Type 0 where

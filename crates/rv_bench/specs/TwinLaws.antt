@@ -4,7 +4,7 @@ use Rattle.std.specs.Prelude.{◌≡◌, ℕ, false, List, [], ◌∷◌, ◌++�
 use Rattle.rv_word.specs.Cases.{result_case}
 use Rattle.rv_script.specs.Command.{parse_of}
 use Rattle.rv_debug.specs.Isolation.{IsSparedIn, RestsUnderAll}
-use Rattle.rv_debug.specs.BothBenches.{BenchesAgreeBut, both_answer}
+use Rattle.rv_debug.specs.BothBenches.{BenchesAgreeBut, RestsIn, both_answer}
 use Rattle.rv_debug.specs.declared.both.BothWhy.{BothWhy}
 use Rattle.rv_debug.specs.declared.both.BothWhy.TheVariants.{All, NotBlind}
 use Rattle.rv_script.specs.declared.command.Command.{Command}
@@ -26,12 +26,13 @@ IsToldAlike slot apart line =
     let after = both_answer slot apart.first apart.second command in
     after.why ≡ All → after.first_reply ≡ after.second_reply)
 
--- as long as the slot was not entered, the benches agree but for it, and the next line is told alike
+-- as long as the slot was not entered, the benches agree but for it, its enclave runs on no hart, and the next line is told alike
 abbrev pub StayTogether : ℕ → Apart → Type 0
 StayTogether slot start =
     (lines : List (List ℕ)) (line : List ℕ)
     → (let apart = state_after (apart_line slot) start lines in
-    apart.entered ≡ false → BenchesAgreeBut slot apart.first apart.second × IsToldAlike slot apart line)
+    apart.entered ≡ false
+    → BenchesAgreeBut slot apart.first apart.second × RestsIn slot apart.first.target × IsToldAlike slot apart line)
 
 -- ---- integrity
 

@@ -60,7 +60,8 @@ fn run_script<S: Source, W: Sink>(
 /// bench has as many harts as the setup says, any other has one. Once the RAM is made, no memory is taken.
 ///
 /// Under the monitor every part of a script spares each enclave that rests through it (`integrity`), and is answered alike by every
-/// bench that agrees but for an enclave over which it passes: byte for byte, and the benches agree again after it (`conceals`).
+/// bench that agrees but for an enclave over which it passes, and of whose hart it steps and shows nothing: byte for byte, and the benches
+/// agree again after it (`conceals`).
 ///
 /// # Errors
 ///
@@ -92,8 +93,8 @@ pub fn run_bench<S: Source, W: Sink>(
 /// Reads an image, and then runs the lines after it as `run_bench` does, under the same laws of integrity and of confidentiality.
 ///
 /// `secret` is confidentiality from bytes to bytes: two inputs that differ only in what lines of the script poke into the region of an
-/// enclave that is live and does not run, and over which the rest of the script passes, have the same output. What stood in the region
-/// when it was created is not concealed, since the measurement tells it.
+/// enclave, over which all other lines from there on pass, and by the hart on which it runs, have the same output. What stood in the
+/// region when it was created is not concealed, since the measurement tells it.
 ///
 /// # Errors
 ///

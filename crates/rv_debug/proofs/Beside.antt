@@ -11,9 +11,9 @@ use Rattle.rv_monitor.specs.State.{MonitoredState, OnTurn, IsKept, machine_of, s
 use Rattle.rv_monitor.specs.Step.{monitored_step, step_of}
 use Rattle.rv_monitor.specs.declared.seat.Seat.{Seat}
 use Rattle.rv_monitor.proofs.HartsAlike.{step_kept}
-use Rattle.rv_monitor.proofs.HartsSpare.{seated_after, seen_shared}
+use Rattle.rv_monitor.proofs.Beside.{seated_after}
 use Rattle.rv_monitor.proofs.LastAct.{beside_as_is}
-use Rattle.rv_monitor.proofs.Turned.{seen_kept, seen_twice}
+use Rattle.rv_monitor.proofs.Turned.{seen_kept, seen_shared, seen_twice}
 use Rattle.rv_enclaves.specs.Table.{Slots}
 use Rattle.rv_enclaves.specs.declared.shared.Shared.{Shared}
 use Rattle.rv_script.specs.declared.command.Command.{Command}

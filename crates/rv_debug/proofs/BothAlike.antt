@@ -10,7 +10,7 @@ use Rattle.rv_script.specs.Command.{bytes_named}
 use Rattle.rv_script.specs.declared.command.Command.{Command}
 use Rattle.rv_debug.specs.Answer.{answer}
 use Rattle.rv_debug.specs.BenchState.{BenchState}
-use Rattle.rv_debug.specs.Confidentiality.{AlikeBy, AnswerAlike, PassAll, PassBy, StayAlike}
+use Rattle.rv_debug.specs.Confidentiality.{AlikeBy, AllPassBy, AnswerAlike, PassAll, PassBy, StayAlike}
 use Rattle.rv_debug.specs.Isolation.{after_commands}
 use Rattle.rv_debug.specs.Targets.{KeepsMonitor}
 use Rattle.rv_debug.specs.BothBenches.{BenchesAgreeBut, BothAnswered, BothRan, TargetsAgreeBut, both_answer, both_do, both_run, go_on, is_blind, is_entered}
@@ -74,14 +74,14 @@ module _ (e : ℕ) where
   ]
 
   pub both_alike : (a b : BenchState) (c : Command) → KeepsMonitor a.target → KeepsMonitor b.target → StayAlike e a b c (both_answer e a b c)
-  both_alike a b c kept kept' agree = elim (one_cases a b c) [
+  both_alike a b c kept kept' agree by = elim (one_cases a b c) [
     | inl stop ↦
         let none = neither _ _ (same_blind a b c agree) stop.0 in
         subst (λ (after : BothAnswered). AlikeBy e a b c after after.why) (sym stop.1)
         (record { here = none; there = sym (same_blind a b c agree) ∙ none })
     | inr goes ↦
         subst (λ (after : BothAnswered). AlikeBy e a b c after after.why) (sym goes.1)
-        (done_alike a b c (confidentiality e a b c kept kept' agree goes.0))
+        (done_alike a b c (confidentiality e a b c kept kept' agree goes.0 by))
   ]
 
   -- ---- a list of commands
@@ -122,11 +122,11 @@ module _ (e : ℕ) where
 
   -- ---- what both have in common
 
-  abbrev PassEnd : BenchState → BenchState → List Command → BothRan → Type 0
-  PassEnd a b cs end = PassBy e a b cs end.ran end.why
+  abbrev pub PassEnd : BenchState → BenchState → List Command → BothRan → Type 0
+  PassEnd a b cs end = AllPassBy e a (take end.ran cs) → PassBy e a b cs end.ran end.why
 
-  none_passed : (a b : BenchState) → BenchesAgreeBut e a b → PassAll e a b []
-  none_passed a b agree = record { replies = refl; state = agree_again e a b agree }
+  none_passed : (a b : BenchState) → KeepsMonitor a.target → BenchesAgreeBut e a b → PassAll e a b []
+  none_passed a b kept agree = record { replies = refl; state = agree_again e a b kept agree }
 
   one_passed : (a b : BenchState) (c : Command) (cs : List Command) → (answer a c).reply ≡ (answer b c).reply
       → PassAll e (answer a c).state (answer b c).state cs → PassAll e a b (c ∷ cs)
@@ -141,25 +141,30 @@ module _ (e : ℕ) where
   more_passed a b c cs ran NotBlind reply more = one_passed a b c (take ran cs) reply more
   more_passed a b c cs ran Entered reply more = (suc more.0, ap (λ (n : ℕ). suc n) more.1, one_passed a b c (take more.0 cs) reply more.2)
 
+  -- the last that was done entered the slot
+  entered_last : (a b : BenchState) (c : Command) (cs : List Command) → KeepsMonitor a.target → BenchesAgreeBut e a b
+      → both_answer e a b c ≡ done a b c → (done a b c).why ≡ Entered → PassEnd a b (c ∷ cs) (both_run e a b (c ∷ cs))
+  entered_last a b c cs kept agree goes why =
+      subst (PassEnd a b (c ∷ cs)) (sym (goes_by a b c cs (done a b c) Entered goes why)) (λ by. (0, refl, none_passed a b kept agree))
+
   pub run_alike : (a b : BenchState) (cs : List Command) → KeepsMonitor a.target → KeepsMonitor b.target → BenchesAgreeBut e a b
       → PassEnd a b cs (both_run e a b cs)
-  run_alike a b [] kept kept' agree = subst (PassEnd a b []) (sym (none_by a b)) (none_passed a b agree)
+  run_alike a b [] kept kept' agree = subst (PassEnd a b []) (sym (none_by a b)) (λ by. none_passed a b kept agree)
   run_alike a b (c ∷ cs) kept kept' agree = elim (one_cases a b c) [
-    | inl stop ↦ subst (PassEnd a b (c ∷ cs)) (sym (goes_by a b c cs (stopped a b) NotBlind stop.1 refl)) (none_passed a b agree)
-    | inr goes ↦
-        let alike = confidentiality e a b c kept kept' agree goes.0 in
-        elim (cases_Bool (is_entered e (answer a c).entered)) [
-          | inl here ↦
-              let why = why_is a b c true true here (sym alike.entered ∙ here) in
-              subst (PassEnd a b (c ∷ cs)) (sym (goes_by a b c cs (done a b c) Entered goes.1 why)) (0, refl, none_passed a b agree)
-          | inr none ↦
-              let why = why_is a b c false false none (sym alike.entered ∙ none) in
-              let passed = alike.passed none in
-              let rest = both_run e (answer a c).state (answer b c).state cs in
-              subst (PassEnd a b (c ∷ cs)) (sym (goes_by a b c cs (done a b c) All goes.1 why))
-              (more_passed a b c cs rest.ran rest.why passed.reply
-              (run_alike (answer a c).state (answer b c).state cs (keeps_monitor a c kept) (keeps_monitor b c kept') passed.state.but))
-        ]
+    | inl stop ↦ subst (PassEnd a b (c ∷ cs)) (sym (goes_by a b c cs (stopped a b) NotBlind stop.1 refl)) (λ by. none_passed a b kept agree)
+    | inr goes ↦ elim (cases_Bool (is_entered e (answer a c).entered)) [
+      | inl here ↦ entered_last a b c cs kept agree goes.1 (why_is a b c true (is_entered e (answer b c).entered) here refl)
+      | inr none ↦ elim (cases_Bool (is_entered e (answer b c).entered)) [
+        | inl there ↦ entered_last a b c cs kept agree goes.1 (why_is a b c false true none there)
+        | inr none' ↦
+            let rest = both_run e (answer a c).state (answer b c).state cs in
+            subst (PassEnd a b (c ∷ cs)) (sym (goes_by a b c cs (done a b c) All goes.1 (why_is a b c false false none none'))) (λ by.
+            let alike = confidentiality e a b c kept kept' agree goes.0 by.0 in
+            let passed = alike.passed none in
+            more_passed a b c cs rest.ran rest.why passed.reply
+            (run_alike (answer a c).state (answer b c).state cs (keeps_monitor a c kept) (keeps_monitor b c kept') passed.state.but (by.1 none)))
+      ]
+    ]
   ]
 
   -- ---- in the loop

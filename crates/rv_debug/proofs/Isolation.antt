@@ -5,22 +5,22 @@ use Rattle.std.proofs.lemmas.Bool.{cases_lt, cases_eq}
 use Rattle.rv_memory.specs.Memory.{read, write, byte_at}
 use Rattle.rv_memory.proofs.MemoryLaws.{byte_at-write}
 use Rattle.rv_hart.specs.State.{State}
-use Rattle.rv_monitor.specs.HartLaws.{IsLeftAlone, sched}
+use Rattle.rv_monitor.specs.AgreeBut.{runs_on}
+use Rattle.rv_monitor.specs.HartLaws.{IsLeftAlone, RunsOnNone, sched}
 use Rattle.rv_monitor.specs.Integrity.{IsSpared}
 use Rattle.rv_monitor.specs.State.{OnTurn, IsKept, machine_of}
-use Rattle.rv_monitor.proofs.HartsSpare.{sched_changes, sched_spares}
+use Rattle.rv_monitor.proofs.HartsSpare.{running_law, sched_changes, sched_spares, spared_twice}
 use Rattle.rv_monitor.proofs.KeptReaches.{kept_reach}
-use Rattle.rv_monitor.proofs.RunsSpare.{spared_twice}
 use Rattle.rv_monitor.proofs.Turned.{seen_kept}
 use Rattle.rv_enclaves.specs.Blocks.{has}
-use Rattle.rv_enclaves.specs.Table.{region}
+use Rattle.rv_enclaves.specs.Table.{is_live, region}
 use Rattle.rv_enclaves.specs.declared.shared.Shared.{Shared}
 use Rattle.rv_script.specs.declared.command.Command.{Command}
 use Rattle.rv_script.specs.declared.command.Command.TheVariants.{Access}
 use Rattle.rv_debug.specs.Answer.{answer}
 use Rattle.rv_debug.specs.BenchState.{BenchState}
-use Rattle.rv_debug.specs.Deeds.{Deed, Steps, OneByte, deed, done}
-use Rattle.rv_debug.specs.Isolation.{TellsReach, ChangesMemory, IntegrityLaw, IsLiveIn, IsMonitored, IsSparedIn, MayChange, RestsThroughDeed, SparesResting}
+use Rattle.rv_debug.specs.Deeds.{Deed, Steps, OneByte, deed, done, harts_stepped}
+use Rattle.rv_debug.specs.Isolation.{TellsReach, ChangesMemory, IntegrityLaw, IsLiveIn, IsMonitored, IsSparedIn, MayChange, PokesNone, RestsThroughDeed, RunningLaw, SparesResting}
 use Rattle.rv_debug.specs.Isolation.{after_commands}
 use Rattle.rv_debug.specs.Targets.{KeepsMonitor, memory_of}
 use Rattle.rv_debug.specs.declared.target.Target.{Target}
@@ -51,7 +51,7 @@ steps_spare k chosen harts machine kept alone =
     let spared = sched_spares k harts (machine_of machine) (seen_kept machine.hart machine.state kept) alone in
     subst (IsSparedIn k (Monitored machine)) (sym (turns_are_sched harts machine chosen))
     (subst (IsSpared k before) (sym (shared_after chosen end))
-    (subst (λ (shared : Shared). IsSpared k shared end.shared) (shared_before machine) spared))
+    (subst (λ (shared : Shared). IsSpared k shared end.shared) (shared_before machine) spared.spared))
 
 beside : (byte address : ℕ) → byte ≢ address → byte < address ⊎ address + 1 ≤ byte
 beside byte address other = elim (cases_lt byte address) [ inl below ↦ inl below | inr above ↦ inr (omega (arith, other)) ]
@@ -89,6 +89,26 @@ spares (Bare machine) d kept k rests = absurd (none_rests k machine d rests)
 pub spares_resting : (bench : BenchState) (command : Command) → KeepsMonitor bench.target → SparesResting bench command (answer bench command).state
 unfolding answer
 spares_resting bench command kept = spares bench.target (deed bench command) kept
+
+-- ---- an enclave that runs on a hart which no step is of
+
+rests_by : (k own : ℕ) (chosen : OnTurn) (d : Deed) → IsKept chosen.state → runs_on k own (machine_of chosen) ≡ true
+    → RunsOnNone k (harts_stepped d) (machine_of chosen) → PokesNone k (Monitored chosen) d → RestsThroughDeed k (Monitored chosen) d
+rests_by k own chosen d kept runs none pokes = by d none pokes where
+  machine_kept : IsKept (machine_of chosen)
+  machine_kept = seen_kept chosen.hart chosen.state kept
+
+  live : IsLiveIn k (Monitored chosen)
+  live = ap (λ (shared : Shared). is_live shared.table k) (sym (shared_before chosen)) ∙ running_law k own [] (machine_of chosen) machine_kept runs tt
+
+  by : (d : Deed) → RunsOnNone k (harts_stepped d) (machine_of chosen) → PokesNone k (Monitored chosen) d → RestsThroughDeed k (Monitored chosen) d
+  by (Steps harts last) none pokes = running_law k own harts (machine_of chosen) machine_kept runs none
+  by (OneByte address byte) none pokes = (live, pokes)
+  by _ none pokes = live
+
+pub running : RunningLaw
+running k own chosen breaks watches command kept runs none pokes =
+    rests_by k own chosen (deed (record { target = Monitored chosen; breaks = breaks; watches = watches }) command) kept runs none pokes
 
 -- ---- the bytes that are changed
 

@@ -2,6 +2,7 @@ mod AddressLaws
 pub mod AddressLemmas
 pub mod Answers
 pub mod AnswersAlike
+pub mod AtRest
 pub mod BothAlike
 mod FastRuns
 mod FastTargets

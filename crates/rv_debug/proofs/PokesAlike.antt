@@ -7,21 +7,21 @@ use Rattle.rv_memory.specs.Memory.{ram_base, is_inside, write, write_bytes}
 use Rattle.rv_memory.proofs.MemoryLaws.{length-write, index-below, index-above, write-is}
 use Rattle.rv_monitor.specs.Debugger.{with_memory}
 use Rattle.rv_monitor.specs.State.{MonitoredState, OnTurn, IsKept}
-use Rattle.rv_monitor.proofs.Scrambled.{done_rests, itself_agrees}
+use Rattle.rv_monitor.proofs.Agreeing.{agrees_itself, shared_agree}
 use Rattle.rv_enclaves.specs.SharedButFor.{AgreeOutside, is_private}
 use Rattle.rv_enclaves.specs.Blocks.{has, is_block_size, is_lawful}
 use Rattle.rv_enclaves.specs.Table.{Slots, IsLawfulSlot, region, region_of as region_in, slot_at}
 use Rattle.rv_enclaves.specs.declared.slot_info.SlotInfo.{SlotInfo}
 use Rattle.rv_enclaves.proofs.Agreement.{inside-is, write-some}
+use Rattle.rv_enclaves.proofs.Alike.{itself}
 use Rattle.rv_script.specs.declared.command.Command.TheVariants.{Poke}
 use Rattle.rv_debug.specs.Answer.{answer}
 use Rattle.rv_debug.specs.BenchState.{BenchState}
 use Rattle.rv_debug.specs.Confidentiality.{PassAlike, PokeLaw}
 use Rattle.rv_debug.specs.Targets.{KeepsMonitor}
-use Rattle.rv_debug.specs.BothBenches.{BenchesAgreeBut, ChosenAgreeBut, TargetsAgreeBut, can_scramble, can_scramble_in, region_of}
+use Rattle.rv_debug.specs.BothBenches.{BenchesAgreeBut, ChosenAgreeBut, TargetsAgreeBut, region_of}
 use Rattle.rv_debug.specs.declared.target.Target.{Target}
 use Rattle.rv_debug.specs.declared.target.Target.TheVariants.{Bare, Monitored}
-use Rattle.rv_debug.proofs.AnswersAlike.{agree_again}
 
 -- ---- memory
 
@@ -91,19 +91,13 @@ module _ (e : ℕ) (one other : OnTurn) (here there byte byte' : ℕ) (agree : C
       let shared = state.shared in
       record {
         hart = agree.hart;
-        state = record {
-          seat = state.seat;
-          beside = state.beside;
-          rests = state.rests;
-          rests_beside = state.rests_beside;
-          shared = record {
-            table = shared.table;
-            memory = hidden_writes (is_private one.state.shared.table e) one.state.shared.memory other.state.shared.memory here there byte byte' m n
-                shared.memory first second secret secret';
-            contexts = shared.contexts;
-            gone = λ free. let never : true ≡ false = sym (has_live (slot_at one.state.shared.table e) here secret) ∙ free in cc;
-          };
-        };
+        state = shared_agree e one.state other.state _ _ state (record {
+          table = shared.table;
+          memory = hidden_writes (is_private one.state.shared.table e) one.state.shared.memory other.state.shared.memory here there byte byte' m n
+              shared.memory first second secret secret';
+          contexts = shared.contexts;
+          gone = λ free. let never : true ≡ false = sym (has_live (slot_at one.state.shared.table e) here secret) ∙ free in cc;
+        });
       }
 
 -- ---- benches
@@ -123,7 +117,10 @@ targets_alike e (Monitored one) (Monitored other) breaks watches here there byte
     rw (first, second) (record {
       reply = refl;
       entered = refl;
-      state = agree_again e _ _ (record { target = both; breaks = refl; watches = refl });
+      state = record {
+        but = record { target = both; breaks = refl; watches = refl };
+        gone = λ free. let never : true ≡ false = sym (has_live (slot_at one.state.shared.table e) here secret) ∙ free in cc;
+      };
     })
 targets_alike e (Bare one) other breaks watches here there byte byte' kept kept' agree secret secret' = let never = has_live None here secret in cc
 targets_alike e (Monitored one) (Bare other) breaks watches here there byte byte' kept kept' agree secret secret' = absurd agree
@@ -139,11 +136,9 @@ poke_law e first second _ there kept kept' agree secret secret' = absurd secret
 
 -- ---- a bench and itself
 
-targets_itself : (e : ℕ) (target : Target) → KeepsMonitor target → can_scramble_in e target ≡ true → TargetsAgreeBut e target target
-targets_itself e (Bare machine) kept may = cc
-targets_itself e (Monitored chosen) kept may =
-    record { hart = refl; state = itself_agrees chosen.state e kept (done_rests true chosen.state e (sym may) refl) }
+targets_itself : (e : ℕ) (target : Target) → TargetsAgreeBut e target target
+targets_itself e (Bare machine) = refl
+targets_itself e (Monitored chosen) = record { hart = refl; state = agrees_itself e chosen.state (itself e chosen.state.shared) }
 
--- a bench agrees with itself but for an enclave that is live and does not run
-pub agrees_with_itself : (e : ℕ) (bench : BenchState) → KeepsMonitor bench.target → can_scramble e bench ≡ true → BenchesAgreeBut e bench bench
-agrees_with_itself e bench kept may = record { target = targets_itself e bench.target kept may; breaks = refl; watches = refl }
+pub agrees_with_itself : (e : ℕ) (bench : BenchState) → BenchesAgreeBut e bench bench
+agrees_with_itself e bench = record { target = targets_itself e bench.target; breaks = refl; watches = refl }

@@ -8,13 +8,12 @@ use Rattle.rv_monitor.specs.Debugger.{with_memory, with_reg, with_timer}
 use Rattle.rv_monitor.specs.HartLaws.{sched}
 use Rattle.rv_monitor.specs.Refused.{past_ecall}
 use Rattle.rv_monitor.specs.Returns.{HostComesBack}
-use Rattle.rv_monitor.specs.State.{MonitoredState, OnTurn, IsKept, machine_of, seated_beside, seen_by, turned}
+use Rattle.rv_monitor.specs.State.{MonitoredState, OnTurn, IsKept, machine_of, seen_by}
 use Rattle.rv_monitor.specs.Step.{monitored_step, step_of}
 use Rattle.rv_monitor.specs.declared.seat.Seat.{Seat}
 use Rattle.rv_monitor.proofs.HartsAlike.{sched_kept, step_kept}
-use Rattle.rv_monitor.proofs.HartsSpare.{seated_after}
-use Rattle.rv_monitor.proofs.Returned.{back_from, entered_from, host_stored}
-use Rattle.rv_monitor.proofs.Switched.{kept_between, switch_law}
+use Rattle.rv_monitor.proofs.Returned.{back_from, entered_from, first_runs, host_on, host_stored, last_runs, next, return_law as schedule_law, step_seen, steps_keep}
+use Rattle.rv_monitor.proofs.Switched.{switch_law}
 use Rattle.rv_monitor.proofs.Turned.{seen_kept, seen_stored, seen_twice}
 use Rattle.rv_enclaves.specs.Contexts.{IsStored}
 use Rattle.rv_enclaves.specs.Table.{is_host}
@@ -24,7 +23,7 @@ use Rattle.rv_debug.specs.Answer.{answer}
 use Rattle.rv_debug.specs.BenchState.{BenchState}
 use Rattle.rv_debug.specs.Deeds.{Deed, Nothing, Steps, Register, TimerLine, OneByte, deed, done, harts_stepped}
 use Rattle.rv_debug.specs.Isolation.{after_commands}
-use Rattle.rv_debug.specs.Returns.{EntersUnder, EntersWithin, IsStoredIn, LeavesUnder, LeavesWithin, ReturnLaw, RunsOn, RunsUnder, RunsUnderAll}
+use Rattle.rv_debug.specs.Returns.{EntersAndLeaves, EntersAndLeavesUnder, EntersUnder, EntersWithin, IsStoredIn, LeavesUnder, LeavesWithin, ReturnLaw, ReturnWithinLaw, RunsUnder, RunsUnderAll}
 use Rattle.rv_debug.specs.Targets.{KeepsMonitor}
 use Rattle.rv_debug.specs.declared.target.Target.{Target}
 use Rattle.rv_debug.specs.declared.target.Target.TheVariants.{Bare, Monitored}
@@ -34,89 +33,11 @@ use Rattle.rv_debug.proofs.Turns.{turns_are_sched}
 abbrev KeptStored : Option Context → Type 0
 KeptStored o = IfSome o (λ context. IsStored context.supervisor)
 
--- what is kept of the host of a hart
-abbrev host_on : ℕ → MonitoredState → Option Context
-host_on hart machine = (seen_by hart machine).seat.host_context
-
--- ---- a step of the hart beside
-
-abbrev next : MonitoredState → MonitoredState
-next machine = (monitored_step machine).state
-
-turned_none : (machine : MonitoredState) → machine.other ≡ None → turned machine ≡ machine
-turned_none machine is = rw is refl
-
-turned_some : (machine : MonitoredState) (seat : Seat) → machine.other ≡ Some seat → (turned machine).seat ≡ seat
-turned_some machine seat is = rw is refl
-
-beside_by : (machine : MonitoredState) (o : Option Seat) → machine.other ≡ o → IsKept machine → is_host (turned machine).seat.world ≡ false
-    → is_host (turned (next machine)).seat.world ≡ false → (turned (next machine)).seat.host_context ≡ (turned machine).seat.host_context
-beside_by machine None is kept runs still =
-    let here = turned_none machine is in
-    let after : (next machine).other ≡ None = seated_after machine kept ∙ ap (seated_beside (next machine).shared.table) is in
-    let there = turned_none (next machine) after in
-    ap (λ (m : MonitoredState). m.seat.host_context) there
-    ∙ kept_between machine
-    (ap (λ (m : MonitoredState). is_host m.seat.world) (sym here) ∙ runs) (ap (λ (m : MonitoredState). is_host m.seat.world) (sym there) ∙ still)
-    ∙ ap (λ (m : MonitoredState). m.seat.host_context) (sym here)
-beside_by machine (Some seat) is kept runs still =
-    let after = seated_after machine kept ∙ ap (seated_beside (next machine).shared.table) is in
-    ap (λ (s : Seat). s.host_context) (turned_some (next machine) _ after) ∙ ap (λ (s : Seat). s.host_context) (sym (turned_some machine seat is))
-
-beside_keeps : (machine : MonitoredState) → IsKept machine → is_host (turned machine).seat.world ≡ false
-    → is_host (turned (next machine)).seat.world ≡ false
-    → (turned (next machine)).seat.host_context ≡ (turned machine).seat.host_context
-beside_keeps machine = beside_by machine machine.other refl
-
--- ---- a step of either hart
-
-own_keeps : (hart : ℕ) (machine : MonitoredState) → is_host (seen_by hart machine).seat.world ≡ false
-    → is_host (seen_by hart (step_of hart machine).state).seat.world ≡ false
-    → host_on hart (step_of hart machine).state ≡ host_on hart machine
-unfolding step_of
-own_keeps hart machine runs still =
-    let seen = seen_by hart machine in
-    let twice = seen_twice hart (next seen) in
-    ap (λ (m : MonitoredState). m.seat.host_context) twice
-    ∙ kept_between seen runs (ap (λ (m : MonitoredState). is_host m.seat.world) (sym twice) ∙ still)
-
-step_keeps : (hart named : ℕ) (machine : MonitoredState) → IsKept machine → is_host (seen_by hart machine).seat.world ≡ false
-    → is_host (seen_by hart (step_of named machine).state).seat.world ≡ false
-    → host_on hart (step_of named machine).state ≡ host_on hart machine
-unfolding step_of
-step_keeps zero zero machine kept runs still = own_keeps zero machine runs still
-step_keeps (suc n) (suc i) machine kept runs still = own_keeps (suc n) machine runs still
-step_keeps (suc n) zero machine kept runs still = beside_keeps machine kept runs still
-step_keeps zero (suc i) machine kept runs still =
-    let twice = seen_twice 1 machine in
-    beside_keeps (turned machine) (seen_kept 1 machine kept) (ap (λ (m : MonitoredState). is_host m.seat.world) twice ∙ runs) still
-    ∙ ap (λ (m : MonitoredState). m.seat.host_context) twice
-
 -- ---- steps of harts in their order
-
-first_runs : (hart : ℕ) (harts : List ℕ) (machine : MonitoredState) → RunsOn hart harts machine → is_host (seen_by hart machine).seat.world ≡ false
-first_runs hart [] machine runs = runs
-first_runs hart (named ∷ harts) machine runs = runs.0
-
-steps_keep : (hart : ℕ) (harts : List ℕ) (machine : MonitoredState) → IsKept machine → RunsOn hart harts machine
-    → host_on hart (sched harts machine).state ≡ host_on hart machine
-steps_keep hart [] machine kept runs = refl
-steps_keep hart (named ∷ harts) machine kept runs =
-    let after = (step_of named machine).state in
-    steps_keep hart harts after (step_kept named machine kept) runs.1 ∙ step_keeps hart named machine kept runs.0 (first_runs hart harts after runs.1)
-
-last_runs : (hart : ℕ) (harts : List ℕ) (machine : MonitoredState) → RunsOn hart harts machine
-    → is_host (seen_by hart (sched harts machine).state).seat.world ≡ false
-last_runs hart [] machine runs = runs
-last_runs hart (named ∷ harts) machine runs = last_runs hart harts (step_of named machine).state runs.1
 
 sched_on : (before rest : List ℕ) (machine : MonitoredState) → (sched (before ++ rest) machine).state ≡ (sched rest (sched before machine).state).state
 sched_on [] rest machine = refl
 sched_on (named ∷ before) rest machine = sched_on before rest (step_of named machine).state
-
-step_seen : (hart : ℕ) (machine : MonitoredState) → seen_by hart (step_of hart machine).state ≡ next (seen_by hart machine)
-unfolding step_of
-step_seen hart machine = seen_twice hart (next (seen_by hart machine))
 
 -- ---- what is done
 
@@ -244,3 +165,25 @@ return_law hart bench first last commands entry exit kept enters stored_between 
     let all = commands_keep hart between commands (keeps_monitor bench first kept) runs in
     let end = after_commands between commands in
     leaves_under hart (harts_stepped (deed end last)) end.target entry exit all.0 stored (all.1 ∙ entered) leaves
+
+-- ---- within one command
+
+goes_within : (hart : ℕ) (harts : List ℕ) (machine entry exit : MonitoredState) → IsKept machine → EntersAndLeaves hart harts machine entry exit
+    → HostComesBack entry exit (monitored_step exit)
+goes_within hart harts machine entry exit kept goes =
+    let here = (sched goes.before machine).state in
+    let last = seen_by hart (sched goes.between (step_of hart here).state).state in
+    let host = ap (λ (m : MonitoredState). is_host m.seat.world) (sym goes.at) ∙ goes.host in
+    let again = ap (λ (m : MonitoredState). is_host (monitored_step m).state.seat.world) (sym goes.leaves) ∙ goes.again in
+    let back = schedule_law hart goes.between here (sched_kept goes.before machine kept) goes.stored host goes.runs again in
+    subst (λ (m : MonitoredState). HostComesBack m exit (monitored_step exit)) (sym goes.at)
+    (subst (λ (m : MonitoredState). HostComesBack (seen_by hart here) m (monitored_step m)) (sym goes.leaves) back)
+
+goes_under : (hart : ℕ) (harts : List ℕ) (target : Target) (entry exit : MonitoredState) → KeepsMonitor target
+    → EntersAndLeavesUnder hart harts target entry exit → HostComesBack entry exit (monitored_step exit)
+goes_under hart harts (Bare machine) entry exit kept goes = absurd goes
+goes_under hart harts (Monitored machine) entry exit kept goes =
+    goes_within hart harts (machine_of machine) entry exit (seen_kept machine.hart machine.state kept) goes
+
+pub return_within : ReturnWithinLaw
+return_within hart bench command entry exit kept goes = goes_under hart (harts_stepped (deed bench command)) bench.target entry exit kept goes

@@ -1,17 +1,21 @@
--- Runs of two monitored machines that agree but for an enclave: they do the same, up to the step that enters it.
-use Rattle.std.proofs.Common.{◌≡◌, ℕ, zero, suc, ◌⊎◌, ◌==◌, Bool, true, false, cond, List, Option, Some, None, refl, ◌∙◌, ap, subst}
+-- Runs of two monitored machines that agree but for an enclave that is not the world of the chosen hart: they do the same, up to the step
+-- that enters it.
+use Rattle.std.proofs.Common.{◌≡◌, ℕ, zero, suc, ◌⊎◌, ◌==◌, Bool, true, false, cond, List, Option, Some, None, refl, sym, ◌∙◌, ap, subst}
 use Rattle.std.proofs.Common.{inl, inr, arith}
 use Rattle.std.specs.Prelude.{bit_or, ◌^◌}
-use Rattle.std.proofs.lemmas.Bool.{cases_eq}
+use Rattle.std.proofs.lemmas.Bool.{cases_Bool, cases_eq}
 use Rattle.std.proofs.lemmas.Nat.Bits.{bit_at_or, bit_at-lt, bit_at-pow_same}
 use Rattle.rv_word.specs.Cases.{option_case}
+use Rattle.rv_enclaves.specs.Table.{is_world_of}
 use Rattle.rv_monitor.specs.AgreeBut.{AgreeBut}
+use Rattle.rv_monitor.specs.Integrity.{enters}
 use Rattle.rv_monitor.specs.State.{MonitoredState, IsKept}
 use Rattle.rv_monitor.specs.Step.{monitored_step}
 use Rattle.rv_monitor.specs.declared.outcome.Outcome.{Outcome}
 use Rattle.rv_monitor.specs.declared.seat.Seat.{Seat}
 use Rattle.rv_monitor.proofs.MonitoredAlike.{confidentiality}
-use Rattle.rv_monitor.proofs.RunsAlike.{kept_law}
+use Rattle.rv_monitor.proofs.HartsAlike.{entered_some, own_apart}
+use Rattle.rv_monitor.proofs.Kept.{kept_law}
 use Rattle.rv_debug.specs.Addresses.{is_among}
 use Rattle.rv_debug.specs.Steps.{AfterSteps, AfterRun, with_slot, with_step, ended, run}
 use Rattle.rv_debug.specs.Stops.{lowest_accessed}
@@ -47,10 +51,11 @@ pub record BothIn (e : ℕ) (one other : AfterRun MonitoredState) : Type 0 where
   pub here : is_entered e one.ran.entered ≡ true
   pub there : is_entered e other.ran.entered ≡ true
 
--- they did the same, and agree again
+-- they did the same, and agree again, and the chosen hart does not run the enclave
 pub record BothPast (e : ℕ) (one other : AfterRun MonitoredState) : Type 0 where
   pub ran : one.ran ≡ other.ran
   pub state : AgreeBut e one.state other.state
+  pub rests : is_world_of e one.state.seat.world ≡ false
 
 abbrev pub RunAlike : ℕ → AfterRun MonitoredState → AfterRun MonitoredState → Type 0
 RunAlike e one other = BothIn e one other ⊎ BothPast e one other
@@ -103,33 +108,40 @@ module _ (e : ℕ) (breaks watches : List ℕ) where
       now (stays-entered left after now)
 
   next-alike : (left : ℕ) (after : AfterSteps MonitoredState) (other : MonitoredState) (hit : Option ℕ) (last here : Bool)
-      → AgreeBut e after.state other → RunAlike e (on left after) (on left (with_state after other))
+      → AgreeBut e after.state other → is_world_of e after.state.seat.world ≡ false
+      → RunAlike e (on left after) (on left (with_state after other))
       → RunAlike e (next left after hit last here) (next left (with_state after other) hit last here)
-  next-alike left after other (Some address) last here agree more = inr (record { ran = refl; state = agree })
-  next-alike left after other None true here agree more = inr (record { ran = refl; state = agree })
-  next-alike left after other None false true agree more = inr (record { ran = refl; state = agree })
-  next-alike left after other None false false agree more = more
+  next-alike left after other (Some address) last here agree rests more = inr (record { ran = refl; state = agree; rests = rests })
+  next-alike left after other None true here agree rests more = inr (record { ran = refl; state = agree; rests = rests })
+  next-alike left after other None false true agree rests more = inr (record { ran = refl; state = agree; rests = rests })
+  next-alike left after other None false false agree rests more = more
 
   pub run-alike : (left : ℕ) (before : AfterSteps MonitoredState) (other : MonitoredState) → IsKept before.state → IsKept other
-      → AgreeBut e before.state other → RunAlike e (on left before) (on left (with_state before other))
+      → AgreeBut e before.state other → is_world_of e before.state.seat.world ≡ false
+      → RunAlike e (on left before) (on left (with_state before other))
   unfolding run
-  run-alike zero before other kept kept' agree = inr (record { ran = refl; state = agree })
-  run-alike (suc left) before other kept kept' agree =
+  run-alike zero before other kept kept' agree rests = inr (record { ran = refl; state = agree; rests = rests })
+  run-alike (suc left) before other kept kept' agree rests =
       let one = monitored_step before.state in
       let two = monitored_step other in
       let after = after_step before one.outcome one.state in
       let hit = lowest_accessed watches one.outcome.step.touched in
-      elim (confidentiality before.state kept e other kept' agree) [
-        | inl enters ↦ inl (record {
-          here = entered-next left before one.outcome one.state enters.here;
-          there = entered-next left (with_state before other) two.outcome two.state enters.there;
-        })
-        | inr past ↦
-            let more = run-alike left after two.state (kept_law before.state kept) (kept_law other kept') past.state in
-            let alike = next-alike left after two.state hit (left == 0) (is_among one.state.seat.hart.pc breaks) past.state more in
-            let place = ap (λ (seat : Seat). is_among seat.hart.pc breaks) past.state.seat in
+      let both = confidentiality before.state kept e other kept' agree rests in
+      elim (cases_Bool (enters e one.outcome.entered)) [
+        | inl enters_it ↦
+            let is = entered_some e one.outcome.entered enters_it in
+            inl (record {
+              here = entered-next left before one.outcome one.state is;
+              there = entered-next left (with_state before other) two.outcome two.state (ap (λ (outcome : Outcome). outcome.entered) (sym both.outcome) ∙ is);
+            })
+        | inr passes ↦
+            let still = own_apart e before.state rests passes in
+            let more = run-alike left after two.state (kept_law before.state kept) (kept_law other kept') both.state still in
+            let alike = next-alike left after two.state hit (left == 0) (is_among one.state.seat.hart.pc breaks) both.state still more in
+            let seats = (let state = both.state in state.seats 0) in
+            let place = ap (λ (seat : Seat). is_among seat.hart.pc breaks) (seats.same still) in
             subst (λ (outcome : Outcome). RunAlike e (next_run left before one.outcome one.state)
-            (next_run left (with_state before other) outcome two.state)) past.outcome
+            (next_run left (with_state before other) outcome two.state)) both.outcome
             (subst (λ (here : Bool). RunAlike e (next_run left before one.outcome one.state)
             (next left (with_state after two.state) hit (left == 0) here)) place alike)
       ]

@@ -4,8 +4,7 @@ use Rattle.rv_monitor.specs.HartLaws.{sched}
 use Rattle.rv_monitor.specs.State.{MonitoredState, OnTurn, IsKept, machine_of, seen_from}
 use Rattle.rv_monitor.specs.Step.{step_of}
 use Rattle.rv_monitor.proofs.HartsAlike.{sched_kept}
-use Rattle.rv_monitor.proofs.HartsSpare.{seen_shared}
-use Rattle.rv_monitor.proofs.Turned.{seen_kept}
+use Rattle.rv_monitor.proofs.Turned.{seen_kept, seen_shared}
 use Rattle.rv_debug.specs.Turns.{AfterTurns, no_turns, turns, with_turn}
 use Rattle.rv_debug.specs.Targets.{IsBare, KeepsMonitor, chosen_stepped, stepped, turned_to}
 use Rattle.rv_debug.specs.declared.scheduled.Scheduled.{Scheduled}

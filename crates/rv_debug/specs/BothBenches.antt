@@ -3,7 +3,8 @@
 use Rattle.std.specs.Prelude.{ℕ, ◌≡◌, suc, ◌==◌, Bool, true, false, not, ◌&&◌, ◌||◌, if◌then◌else◌, List, [], ◌∷◌, Result, Ok}
 use Rattle.std.specs.Prelude.{Err}
 use Rattle.std.specs.Int.{bit_at}
-use Rattle.rv_monitor.specs.AgreeBut.{AgreeBut}
+use Rattle.rv_monitor.specs.AgreeBut.{AgreeBut, runs_on}
+use Rattle.rv_monitor.specs.HartLaws.{RunsOnNone}
 use Rattle.rv_monitor.specs.Scrambled.{scrambled as scrambled_of}
 use Rattle.rv_enclaves.specs.Blocks.{no_block, meets}
 use Rattle.rv_enclaves.specs.Scramble.{can_scramble as can_scramble_of}
@@ -11,13 +12,13 @@ use Rattle.rv_enclaves.specs.Table.{region}
 use Rattle.rv_enclaves.specs.declared.block.Block.{Block}
 use Rattle.rv_script.specs.Command.{bytes_named, parse_of}
 use Rattle.rv_script.specs.declared.command.Command.{Command}
-use Rattle.rv_script.specs.declared.command.Command.TheVariants.{Blank}
+use Rattle.rv_script.specs.declared.command.Command.TheVariants.{Blank, Step, Run, Reg, Regs, Csr, Sched}
 use Rattle.rv_script.specs.declared.command.CommandFault.{CommandFault}
 use Rattle.rv_debug.specs.Answer.{Answered, answer}
 use Rattle.rv_debug.specs.BenchState.{BenchState}
 use Rattle.rv_debug.specs.ReplyText.{fault_text}
-use Rattle.rv_monitor.specs.State.{OnTurn}
-use Rattle.rv_debug.specs.Targets.{chosen_at}
+use Rattle.rv_monitor.specs.State.{OnTurn, machine_of}
+use Rattle.rv_debug.specs.Targets.{chosen_at, chosen_of}
 use Rattle.rv_debug.specs.declared.both.BothLine.{BothLine}
 use Rattle.rv_debug.specs.declared.both.BothLine.TheVariants.{Faulty, Given}
 use Rattle.rv_debug.specs.declared.both.BothWhy.{BothWhy}
@@ -27,8 +28,8 @@ use Rattle.rv_debug.specs.declared.target.Target.TheVariants.{Bare, Monitored}
 
 -- ---- what two benches agree in
 
--- the enclave of slot e runs in neither, and they are equal but for the bytes of its region and its context, and altogether where it is
--- not live; a machine alone has no enclave
+-- the chosen hart is the same, and the machines agree but for the enclave of slot e, wherever it runs: they are equal but for the bytes of
+-- its region, its context, and the hart on which it runs, if it runs; a machine alone has no enclave
 pub record ChosenAgreeBut (e : ℕ) (one other : OnTurn) : Type 0 where
   pub hart : one.hart ≡ other.hart
   pub state : AgreeBut e one.state other.state
@@ -43,7 +44,7 @@ pub record BenchesAgreeBut (e : ℕ) (one other : BenchState) : Type 0 where
   pub breaks : one.breaks ≡ other.breaks
   pub watches : one.watches ≡ other.watches
 
--- ---- what a command shows of memory, and what it enters
+-- ---- what a command shows, and what it enters
 
 -- the region of slot e, without bytes where its enclave is not live
 abbrev pub region_of : ℕ → Target → Block
@@ -53,6 +54,30 @@ region_of e (Monitored chosen) = region chosen.state.shared.table e
 -- the command is not a mem, dis or poke with a byte in the region of slot e
 unfoldable pub is_blind : ℕ → BenchState → Command → Bool
 is_blind e bench command = not (meets (bytes_named command) (region_of e bench.target))
+
+-- the harts that a command steps, or of which it shows registers, pc, mode or world; `sched` tells where each hart is
+abbrev pub harts_shown : Target → Command → List ℕ
+harts_shown target (Step count) = chosen_of target ∷ []
+harts_shown target (Run count) = chosen_of target ∷ []
+harts_shown target (Reg number) = chosen_of target ∷ []
+harts_shown target Regs = chosen_of target ∷ []
+harts_shown target (Csr number) = chosen_of target ∷ []
+harts_shown target (Sched schedule) = 0 ∷ 1 ∷ []
+harts_shown target _ = []
+
+-- the enclave of slot e runs on none of these harts
+abbrev pub RunsOnNoneIn : ℕ → List ℕ → Target → Type 0
+RunsOnNoneIn e harts (Bare machine) = Unit {0}
+RunsOnNoneIn e harts (Monitored chosen) = RunsOnNone e harts (machine_of chosen)
+
+-- it runs on none that there is
+abbrev pub RestsIn : ℕ → Target → Type 0
+RestsIn e (Bare machine) = Unit {0}
+RestsIn e (Monitored chosen) = (hart : ℕ) → runs_on e hart (machine_of chosen) ≡ false
+
+-- the command neither steps nor shows a hart on which it runs
+abbrev pub PassesBy : ℕ → BenchState → Command → Type 0
+PassesBy e bench command = RunsOnNoneIn e (harts_shown bench.target command) bench.target
 
 -- slot e is one of these, of which each has its bit set
 abbrev pub is_entered : ℕ → ℕ → Bool

@@ -1,5 +1,5 @@
--- What two benches that agree but for an enclave show and leave, given the same commands: nothing of that enclave, up to the command
--- that enters it. (Laws of this project's own debugger over its own monitor.)
+-- What two benches that agree but for an enclave show and leave, given the same commands that pass by the hart on which it runs: nothing of
+-- that enclave, up to the command that enters it. (Laws of this project's own debugger over its own monitor.)
 use Rattle.std.specs.Prelude.{ℕ, ◌≡◌, suc, Bool, true, false, List, [], ◌∷◌, take}
 use Rattle.rv_enclaves.specs.Blocks.{has}
 use Rattle.rv_enclaves.specs.Table.{is_live}
@@ -9,7 +9,7 @@ use Rattle.rv_debug.specs.Answer.{Answered, answer}
 use Rattle.rv_debug.specs.BenchState.{BenchState}
 use Rattle.rv_debug.specs.Isolation.{after_commands}
 use Rattle.rv_debug.specs.Targets.{KeepsMonitor}
-use Rattle.rv_debug.specs.BothBenches.{BenchesAgreeBut, BothAnswered, is_blind, is_entered, region_of}
+use Rattle.rv_debug.specs.BothBenches.{BenchesAgreeBut, BothAnswered, PassesBy, RestsIn, is_blind, is_entered, region_of}
 use Rattle.rv_debug.specs.declared.both.BothWhy.{BothWhy}
 use Rattle.rv_debug.specs.declared.both.BothWhy.TheVariants.{All, Entered, NotBlind}
 use Rattle.rv_debug.specs.declared.target.Target.{Target}
@@ -41,13 +41,21 @@ pub record AnswerAlike (e : ℕ) (first second : Answered) : Type 0 where
 abbrev pub ConfidentialityLaw : Type 0
 ConfidentialityLaw =
     (e : ℕ) (first second : BenchState) (command : Command) → KeepsMonitor first.target → KeepsMonitor second.target
-    → BenchesAgreeBut e first second → is_blind e first command ≡ true
+    → BenchesAgreeBut e first second → is_blind e first command ≡ true → PassesBy e first command
     → AnswerAlike e (answer first command) (answer second command)
 
 -- a command passes over the enclave of slot e: it names no byte of its region, and does not enter it
 pub record PassesOver (e : ℕ) (bench : BenchState) (command : Command) : Type 0 where
   pub blind : is_blind e bench command ≡ true
   pub past : is_entered e (answer bench command).entered ≡ false
+
+-- every command passes by an enclave that runs on no hart; and behind one that does not enter it, it runs on none
+pub record StaysAtRest (e : ℕ) (bench : BenchState) (command : Command) : Type 0 where
+  pub by : PassesBy e bench command
+  pub rests : is_entered e (answer bench command).entered ≡ false → RestsIn e (answer bench command).state.target
+
+abbrev pub RestLaw : Type 0
+RestLaw = (e : ℕ) (bench : BenchState) (command : Command) → KeepsMonitor bench.target → RestsIn e bench.target → StaysAtRest e bench command
 
 -- a byte is poked into the region of slot e
 abbrev pub PokesInto : ℕ → BenchState → Command → Type 0
@@ -80,7 +88,8 @@ AlikeBy e first second command after Entered = BothEntered e first second comman
 AlikeBy e first second command after NotBlind = NeitherDid e first second command
 
 abbrev pub StayAlike : ℕ → BenchState → BenchState → Command → BothAnswered → Type 0
-StayAlike e first second command after = BenchesAgreeBut e first second → AlikeBy e first second command after after.why
+StayAlike e first second command after =
+    BenchesAgreeBut e first second → PassesBy e first command → AlikeBy e first second command after after.why
 
 -- ---- a list of commands
 
@@ -88,6 +97,13 @@ StayAlike e first second command after = BenchesAgreeBut e first second → Alik
 abbrev pub replies_to : BenchState → List Command → List (List ℕ)
 replies_to bench [] = []
 replies_to bench (command ∷ commands) = (answer bench command).reply ∷ replies_to (answer bench command).state commands
+
+-- each of these commands passes by the hart of slot e, up to the first that enters it
+abbrev pub AllPassBy : ℕ → BenchState → List Command → Type 0
+AllPassBy e bench [] = Unit {0}
+AllPassBy e bench (command ∷ commands) =
+    PassesBy e bench command
+    × (is_entered e (answer bench command).entered ≡ false → AllPassBy e (answer bench command).state commands)
 
 -- the replies to all of them are equal, and the benches agree after them
 pub record PassAll (e : ℕ) (first second : BenchState) (commands : List Command) : Type 0 where

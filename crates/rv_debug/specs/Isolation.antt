@@ -10,9 +10,10 @@ use Rattle.rv_pmp.specs.declared.mode.Mode.{Mode}
 use Rattle.rv_pmp.specs.declared.mode.Mode.TheVariants.{M}
 use Rattle.rv_memory.specs.Accesses.{verdict_on}
 use Rattle.rv_memory.specs.Memory.{byte_at, is_inside}
-use Rattle.rv_monitor.specs.HartLaws.{IsChangedInOrder, IsLeftAlone}
+use Rattle.rv_monitor.specs.AgreeBut.{runs_on}
+use Rattle.rv_monitor.specs.HartLaws.{IsChangedInOrder, IsLeftAlone, RunsOnNone}
 use Rattle.rv_monitor.specs.Integrity.{IsSpared}
-use Rattle.rv_monitor.specs.State.{MonitoredState, machine_of, seated_beside, seen_by}
+use Rattle.rv_monitor.specs.State.{IsKept, MonitoredState, OnTurn, machine_of, seated_beside, seen_by}
 use Rattle.rv_enclaves.specs.Blocks.{has}
 use Rattle.rv_enclaves.specs.Reach.{in_reach}
 use Rattle.rv_enclaves.specs.Table.{region, is_live}
@@ -20,7 +21,7 @@ use Rattle.rv_script.specs.declared.command.Command.{Command}
 use Rattle.rv_script.specs.declared.command.Command.TheVariants.{Access}
 use Rattle.rv_debug.specs.Answer.{access_reply, answer}
 use Rattle.rv_debug.specs.BenchState.{BenchState}
-use Rattle.rv_debug.specs.Deeds.{Deed, Steps, Register, TimerLine, OneByte, deed}
+use Rattle.rv_debug.specs.Deeds.{Deed, Steps, Register, TimerLine, OneByte, deed, harts_stepped}
 use Rattle.rv_debug.specs.ReplyText.{verdict_text}
 use Rattle.rv_debug.specs.Targets.{KeepsMonitor, chosen_of, memory_of}
 use Rattle.rv_debug.specs.declared.target.Target.{Target}
@@ -82,6 +83,18 @@ RestsUnder k bench command = RestsThroughDeed k bench.target (deed bench command
 abbrev pub IsSparedIn : ℕ → Target → Target → Type 0
 IsSparedIn k (Monitored before) (Monitored after) = IsSpared k before.state.shared after.state.shared
 IsSparedIn k _ _ = ⊥
+
+-- one that runs on a hart rests under every command that does not step that hart, and pokes no byte of its region
+abbrev pub PokesNone : ℕ → Target → Deed → Type 0
+PokesNone k target (OneByte address byte) = IsApart k address target
+PokesNone k target _ = Unit {0}
+
+abbrev pub RunningLaw : Type 0
+RunningLaw =
+    (k own : ℕ) (chosen : OnTurn) (breaks watches : List ℕ) (command : Command) → IsKept chosen.state → runs_on k own (machine_of chosen) ≡ true
+    → (let bench : BenchState = record { target = Monitored chosen; breaks = breaks; watches = watches } in
+    let does = deed bench command in
+    RunsOnNone k (harts_stepped does) (machine_of chosen) → PokesNone k bench.target does → RestsUnder k bench command)
 
 -- a command spares each enclave that rests through it
 abbrev pub SparesResting : BenchState → Command → BenchState → Type 0

@@ -1,10 +1,11 @@
 -- From the command with which the host enters an enclave to the one with which the enclave leaves, whatever commands stand between them:
 -- the host goes on as it was before the step that entered, past its ecall, but for a0 and a1. (A law of this project's own debugger over
 -- its own monitor; Keystone, EuroSys 2020, in this project's profile.)
-use Rattle.std.specs.Prelude.{ℕ, ◌≡◌, true, false, List, [], ◌∷◌, ◌++◌}
+use Rattle.std.specs.Prelude.{ℕ, ◌≡◌, true, List, [], ◌∷◌, ◌++◌}
+use Rattle.rv_monitor.specs.AgreeBut.{seat_of}
 use Rattle.rv_monitor.specs.HartLaws.{sched}
-use Rattle.rv_monitor.specs.Returns.{HostComesBack}
-use Rattle.rv_monitor.specs.State.{MonitoredState, AreStored, machine_of, seen_by}
+use Rattle.rv_monitor.specs.Returns.{HostComesBack, RunsThrough}
+use Rattle.rv_monitor.specs.State.{MonitoredState, AreStored, HostIsStored, machine_of, seen_by}
 use Rattle.rv_monitor.specs.Step.{monitored_step, step_of}
 use Rattle.rv_enclaves.specs.Table.{is_host}
 use Rattle.rv_script.specs.declared.command.Command.{Command}
@@ -18,12 +19,6 @@ use Rattle.rv_debug.specs.declared.target.Target.TheVariants.{Bare, Monitored}
 
 -- ---- steps
 
--- on a hart an enclave runs, before, between and after the steps of these harts
-abbrev pub RunsOn : ℕ → List ℕ → MonitoredState → Type 0
-RunsOn hart [] machine = is_host (seen_by hart machine).seat.world ≡ false
-RunsOn hart (named ∷ harts) machine =
-    (is_host (seen_by hart machine).seat.world ≡ false) × RunsOn hart harts (step_of named machine).state
-
 -- one of these steps is of this hart and from this state, in which the host runs; behind it an enclave runs on the hart through the rest
 pub record EntersWithin (hart : ℕ) (harts : List ℕ) (machine entry : MonitoredState) : Type 0 where
   pub before : List ℕ
@@ -31,16 +26,30 @@ pub record EntersWithin (hart : ℕ) (harts : List ℕ) (machine entry : Monitor
   pub is : harts ≡ before ++ hart ∷ rest
   pub at : entry ≡ seen_by hart (sched before machine).state
   pub host : is_host entry.seat.world ≡ true
-  pub runs : RunsOn hart rest (step_of hart (sched before machine).state).state
+  pub runs : RunsThrough hart rest (step_of hart (sched before machine).state).state
 
 -- an enclave runs on the hart up to this state; from it one of these steps is of this hart, and leads to the host
 pub record LeavesWithin (hart : ℕ) (harts : List ℕ) (machine exit : MonitoredState) : Type 0 where
   pub before : List ℕ
   pub rest : List ℕ
   pub is : harts ≡ before ++ hart ∷ rest
-  pub runs : RunsOn hart before machine
+  pub runs : RunsThrough hart before machine
   pub at : exit ≡ seen_by hart (sched before machine).state
   pub host : is_host (monitored_step exit).state.seat.world ≡ true
+
+-- Both within one list of steps: a step of this hart enters an enclave from the one state, in which the host runs; an enclave runs on the
+-- hart through steps between, and a step of it leads to the host from the other. What the first keeps of the host is as a hart stores it.
+pub record EntersAndLeaves (hart : ℕ) (harts : List ℕ) (machine entry exit : MonitoredState) : Type 0 where
+  pub before : List ℕ
+  pub between : List ℕ
+  pub rest : List ℕ
+  pub is : harts ≡ before ++ hart ∷ (between ++ hart ∷ rest)
+  pub at : entry ≡ seen_by hart (sched before machine).state
+  pub host : is_host entry.seat.world ≡ true
+  pub stored : HostIsStored (seat_of hart (step_of hart (sched before machine).state).state)
+  pub runs : RunsThrough hart between (step_of hart (sched before machine).state).state
+  pub leaves : exit ≡ seen_by hart (sched between (step_of hart (sched before machine).state).state).state
+  pub again : is_host (monitored_step exit).state.seat.world ≡ true
 
 -- ---- commands
 
@@ -52,12 +61,17 @@ EntersUnder hart harts (Monitored chosen) entry = EntersWithin hart harts (machi
 -- an enclave runs on the hart through its steps
 abbrev pub RunsUnder : ℕ → List ℕ → Target → Type 0
 RunsUnder hart harts (Bare machine) = ⊥
-RunsUnder hart harts (Monitored chosen) = RunsOn hart harts (machine_of chosen)
+RunsUnder hart harts (Monitored chosen) = RunsThrough hart harts (machine_of chosen)
 
 -- an enclave leaves by one of them from this state
 abbrev pub LeavesUnder : ℕ → List ℕ → Target → MonitoredState → Type 0
 LeavesUnder hart harts (Bare machine) exit = ⊥
 LeavesUnder hart harts (Monitored chosen) exit = LeavesWithin hart harts (machine_of chosen) exit
+
+-- it does both
+abbrev pub EntersAndLeavesUnder : ℕ → List ℕ → Target → MonitoredState → MonitoredState → Type 0
+EntersAndLeavesUnder hart harts (Bare machine) entry exit = ⊥
+EntersAndLeavesUnder hart harts (Monitored chosen) entry exit = EntersAndLeaves hart harts (machine_of chosen) entry exit
 
 -- what is kept of the host of each hart is as a hart stores it
 abbrev pub IsStoredIn : Target → Type 0
@@ -80,3 +94,9 @@ ReturnLaw =
     let end = after_commands between commands in
     IsStoredIn between.target → RunsUnderAll hart between commands → LeavesUnder hart (harts_stepped (deed end last)) end.target exit
     → HostComesBack entry exit (monitored_step exit))
+
+-- The same of a command that both enters and leaves it, as `sched` may, by steps of either hart in any order.
+abbrev pub ReturnWithinLaw : Type 0
+ReturnWithinLaw =
+    (hart : ℕ) (bench : BenchState) (command : Command) (entry exit : MonitoredState) → KeepsMonitor bench.target
+    → EntersAndLeavesUnder hart (harts_stepped (deed bench command)) bench.target entry exit → HostComesBack entry exit (monitored_step exit)

@@ -43,7 +43,7 @@ impl Bench {
     ghost use Rattle.rv_debug.specs.Isolation.{TellsReach, ChangesMemory, SparesResting, SparesOther};
     ghost use Rattle.rv_debug.specs.Returns.{IsStoredIn};
     ghost use Rattle.rv_debug.specs.Targets.{IsBare, KeepsMonitor};
-    ghost use Rattle.rv_debug.specs.BothBenches.{BenchesAgreeBut, can_scramble, is_blind, scrambled};
+    ghost use Rattle.rv_debug.specs.BothBenches.{BenchesAgreeBut, RestsIn, can_scramble, is_blind, scrambled};
 
     /// A bench over a machine as it is, with no break and no watch.
     pub fn bare(machine: Machine) -> Self
@@ -181,12 +181,13 @@ impl Bench {
     /// changes, only where the slot is free, its enclave runs, or the bench is bare.
     ///
     /// `asked`, `meaning` and `same` are all of it. Of what follows, `agrees` is that the two benches differ in nothing but what is private
-    /// to the slot's enclave, and `monitor` what holds in every state.
+    /// to the slot's enclave, `rests` that this runs on no hart, and `monitor` what holds in every state.
     pub fn scramble(&mut self, slot: Slot) -> bool
         ensures asked { result ≡ can_scramble slot self.old }
         ensures meaning { result ≡ true → self.new ≡ scrambled slot self.old }
         ensures same { result ≡ false → self.new ≡ self.old }
         ensures agrees { result ≡ true → BenchesAgreeBut slot self.old self.new }
+        ensures rests { result ≡ true → RestsIn slot self.old.target }
         ensures monitor { KeepsMonitor self.new.target }
     {
         self.invariant();

@@ -1,9 +1,9 @@
 //! One list of commands or of lines for two benches, which shows whether they can be told apart without entering an enclave.
 
 ghost use Rattle.std.specs.Prelude.{◌≡◌, ◌<◌, ◌^◌, ℕ, List, take};
-ghost use Rattle.rv_debug.specs.Confidentiality.{PassBy, StayAlike};
+ghost use Rattle.rv_debug.specs.Confidentiality.{AllPassBy, PassBy, StayAlike};
 ghost use Rattle.rv_debug.specs.Isolation.{IsSparedIn, RestsUnderAll, after_commands};
-ghost use Rattle.rv_debug.specs.BothBenches.{BenchesAgreeBut, both_answer, both_line_answer, both_run, is_entered as is_entered_in};
+ghost use Rattle.rv_debug.specs.BothBenches.{BenchesAgreeBut, RestsIn, both_answer, both_line_answer, both_run, is_entered as is_entered_in};
 
 use crate::bench::Bench;
 use crate::reply::push_fault;
@@ -56,9 +56,10 @@ fn is_entered(slots: u16, slot: Slot) -> bool
 /// with a byte of the slot's region in one of them or in both, is done by neither, and both replies are empty. A slot that is free
 /// has no region. It answers `Entered` exactly where the command entered the slot in one of them or in both; it was then done by both.
 ///
-/// `meaning` is all of it. `alike` is confidentiality: where the benches agreed in all but the region and the context of the slot, whose
-/// enclave runs in neither, the command is blind in both or in neither, and it enters the slot in both or in neither; and if in neither,
-/// the replies are equal and the benches agree again, and are equal once the enclave is gone.
+/// `meaning` is all of it. `alike` is confidentiality: where the benches agreed in all but the region, the context and the hart of the
+/// slot's enclave, and the command neither steps nor shows a hart on which that runs, the command is blind in both or in neither, and it
+/// enters the slot in both or in neither; and if in neither, the replies are equal and the benches agree again, and are equal once the
+/// enclave is gone.
 pub fn both_command(
     a: &mut Bench,
     b: &mut Bench,
@@ -137,14 +138,16 @@ pub fn both_line(
 /// slot, which is the last and counted. It takes no memory.
 ///
 /// `meaning` is all of it, and `first` and `second` say the same of each bench by itself. `alike` is confidentiality: where the benches
-/// agreed in all but the region and the context of the slot, whose enclave runs in neither, all replies are equal and the benches agree
-/// at the end, and are equal once the enclave is gone; where the last command entered the slot, this is so before it. `first_spares` and
+/// agreed in all but the region, the context and the hart of the slot's enclave, and each command that was done neither steps nor shows a
+/// hart on which that runs, all replies are equal and the benches agree at the end, and are equal once the enclave is gone; where the last
+/// command entered the slot, this is so before it. Of an enclave that runs on no hart at first, all commands are so. `first_spares` and
 /// `second_spares` are integrity: an enclave that rests through the commands keeps its record, its bytes and its context.
 pub fn run_both(a: &mut Bench, b: &mut Bench, slot: Slot, commands: &[Command]) -> Both
     ensures meaning { both_run slot a.old b.old commands.now ≡ record { first = a.new; second = b.new; ran = result.ran; why = result.why } }
     ensures first { a.new ≡ after_commands a.old (take result.ran commands.now) }
     ensures second { b.new ≡ after_commands b.old (take result.ran commands.now) }
-    ensures alike { BenchesAgreeBut slot a.old b.old → PassBy slot a.old b.old commands.now result.ran result.why }
+    ensures alike { BenchesAgreeBut slot a.old b.old → AllPassBy slot a.old (take result.ran commands.now) → PassBy slot a.old b.old commands.now result.ran result.why }
+    ensures at_rest { RestsIn slot a.old.target → AllPassBy slot a.old commands.now }
     ensures first_spares { (k : ℕ) → RestsUnderAll k a.old (take result.ran commands.now) → IsSparedIn k a.old.target a.new.target }
     ensures second_spares { (k : ℕ) → RestsUnderAll k b.old (take result.ran commands.now) → IsSparedIn k b.old.target b.new.target }
 {

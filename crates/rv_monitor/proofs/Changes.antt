@@ -1,5 +1,5 @@
 -- A step changes the bytes that its instruction stored, the region that a destroy clears, or those that a measure puts.
-use Rattle.std.proofs.Common.{◌≡◌, ◌≢◌, ℕ, zero, suc, ◌+◌, ◌<◌, ◌≤◌, ◌⊎◌, true, false, List, [], length, replicate, Option, Some, None, IfSome, refl, sym}
+use Rattle.std.proofs.Common.{◌≡◌, ◌≢◌, ℕ, ◌+◌, ◌<◌, ◌≤◌, ◌⊎◌, true, false, List, [], length, replicate, Option, Some, None, IfSome, refl, sym}
 use Rattle.std.proofs.Common.{◌∙◌, ap, subst, inl, inr, arith}
 use Rattle.std.specs.Prelude.{is_some}
 use Rattle.std.proofs.lemmas.Bool.{both_ways, cases_lt, cases_Bool, and_from, and_parts, le-leb, lt-ltb}
@@ -17,14 +17,13 @@ use Rattle.rv_enclaves.proofs.Sound.{live_in_range}
 use Rattle.rv_enclaves.proofs.Prelude.{IsLawfulSlot, IsValid, created, destroyed, first_refusal, has, is_live, layout, measured, region, slot_at, with_bytes}
 use Rattle.rv_enclaves.proofs.Prelude.{with_slot, zeroed}
 use Rattle.rv_monitor.specs.Asked.{is_call}
-use Rattle.rv_monitor.specs.Changes.{IsStoredInReach, IsMeasured, ByMonitor, IsChanged, IsChangedWithin, ChangeLaw, RunsChangeLaw}
+use Rattle.rv_monitor.specs.Changes.{IsStoredInReach, IsMeasured, ByMonitor, IsChanged, ChangeLaw}
 use Rattle.rv_monitor.proofs.Prelude.{AgreeOn, Entries, IsKept, MayTouch, MonitoredState, Stepped, Stores, a0, a1, asked_in, bare, byte_at, bytes_from}
-use Rattle.rv_monitor.proofs.Prelude.{bytes_in, confined, data_mode, entered_slot, handled, is_inside, left_slot, measured_slot, monitored_step, option_case}
+use Rattle.rv_monitor.proofs.Prelude.{bytes_in, confined, data_mode, entered_slot, handled, is_inside, left_slot, measured_slot, option_case}
 use Rattle.rv_monitor.proofs.Prelude.{permits, step, touches_permitted, verdict, worlds_beside, write}
 use Rattle.rv_monitor.proofs.Types.{Block, Call, Destroy, M, Measure, S, Seat, Shared, SlotInfo, Span, Trap, World, Write}
 use Rattle.rv_monitor.proofs.KeptReaches.{kept_reach, below_M, clear_mode}
 use Rattle.rv_monitor.proofs.Ready.{IsTrapped}
-use Rattle.rv_monitor.proofs.RunsAlike.{kept_law}
 use Rattle.rv_monitor.proofs.StepKept.{same_in, trapped_here}
 use Rattle.rv_monitor.proofs.TrapSteps.{by_step, seat_after}
 use Rattle.rv_monitor.proofs.Works.{AsksFor, by_work}
@@ -195,18 +194,3 @@ changes state kept byte = by_step state (λ after. byte_at after.state.shared.me
       | inl same ↦ inl same
       | inr changed ↦ inr (inr (record { trap = trap; trapped = is; is = changed.0; change = changed.1 }))
     ])
-
--- ---- so many steps
-
-later : (n : ℕ) (state : MonitoredState) (byte : ℕ) → IsChangedWithin n (monitored_step state).state byte → IsChangedWithin (suc n) state byte
-later n state byte changed = record { earlier = suc changed.earlier; early = omega (arith, changed.early); change = changed.change }
-
-pub runs_change : RunsChangeLaw
-runs_change zero state byte kept = inl refl
-runs_change (suc n) state byte kept = elim (changes state kept byte) [
-  | inl same ↦ elim (runs_change n (monitored_step state).state byte (kept_law state kept)) [
-    | inl again ↦ inl (again ∙ same)
-    | inr changed ↦ inr (later n state byte changed)
-  ]
-  | inr changed ↦ inr (record { earlier = 0; early = omega arith; change = changed })
-]

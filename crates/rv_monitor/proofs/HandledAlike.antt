@@ -1,19 +1,50 @@
--- The monitor's work after a trap, from two shared parts that agree but for what is private to an enclave.
-use Rattle.std.proofs.Common.{◌≡◌, ℕ, ◌==◌, false, List, length, Some, None, refl, sym, ◌∙◌, ap, subst, inl, inr}
-use Rattle.std.proofs.lemmas.Bool.{cases_eq, both_ways, ne_eqb, eq-eqb}
+-- The monitor's work after a trap of one hart, over two shared parts that agree but for what is private to an enclave: where it enters that
+-- enclave they agree too, but for the hart on which it runs then.
+use Rattle.std.proofs.Common.{◌≡◌, ℕ, ◌+◌, ◌==◌, false, List, length, Option, Some, None, refl, sym, ◌∙◌, ap, subst, inl, inr, arith}
+use Rattle.std.specs.Prelude.{is_some}
+use Rattle.std.proofs.lemmas.Bool.{cases_eq, both_ways, eq-eqb}
 use Rattle.rv_enclaves.specs.declared.slot_info.EnclaveState.TheVariants as states
+use Rattle.rv_enclaves.proofs.Refusals.{IsTaken}
+use Rattle.rv_enclaves.proofs.SavedLists.{same_after_set, length_after}
+use Rattle.rv_enclaves.proofs.Slots.{at_same}
+use Rattle.rv_enclaves.proofs.Sound.{live_in_range}
 use Rattle.rv_enclaves.proofs.WorksAlike.{WorksAlike, works_alike}
-use Rattle.rv_enclaves.proofs.Prelude.{Contexts, SharedButFor, Slots, is_world_of, new_slot}
-use Rattle.rv_monitor.specs.Confidentiality.{HandledAlike, HandlerLaw}
-use Rattle.rv_monitor.proofs.Prelude.{a0, a1, answered, entered_slot, handled, left_slot, measured_slot, proposed, seated, state_after, status_of}
-use Rattle.rv_monitor.proofs.Prelude.{with_layout}
-use Rattle.rv_monitor.proofs.Types.{Context, Enclave, EnclaveState, Seat, Shared, Trap}
+use Rattle.rv_enclaves.proofs.Prelude.{Contexts, SharedButFor, Slots, has, is_world_of, new_slot, region, region_of}
+use Rattle.rv_enclaves.proofs.Prelude.{slot_at, with_context, with_slot, with_state}
+use Rattle.rv_monitor.specs.Confidentiality.{HandledAlike, HandlerLaw, going_on_from}
+use Rattle.rv_monitor.proofs.Prelude.{a0, a1, answered, entered_slot, handled, left_slot, measured_slot, option_case, proposed, ram_base}
+use Rattle.rv_monitor.proofs.Prelude.{state_after, status_of, with_layout}
+use Rattle.rv_monitor.proofs.Types.{Block, Call, Context, Enclave, Running, Seat, Shared, SlotInfo, Trap}
 use Rattle.rv_monitor.proofs.Works.{by_work_of_both, entering, kept_by, leaving, over}
+
+-- ---- the slot's own switch
+
+module _ (e : ℕ) (table : Slots) (m n : List ℕ) (cs ds : Contexts) (agree : SharedButFor e (over table m cs) (over table n ds)) where
+  own_switch : (info : SlotInfo) → slot_at table e ≡ Some info → length table ≡ 13
+      → SharedButFor e (record (over table m cs) { table = with_state table e Running; contexts = with_context cs e None })
+      (record (over table n ds) { table = with_state table e Running; contexts = with_context ds e None })
+  own_switch info is count =
+      let runs : SlotInfo = record info { state = Running } in
+      let there : slot_at (with_state table e Running) e ≡ Some runs =
+      ap (λ (o : Option SlotInfo). slot_at (option_case o table (λ i. with_slot table e (Some (record i { state = Running })))) e) is
+      ∙ at_same table e (Some runs) (omega (arith, count, live_in_range table e info count is)) in
+      let same : region (with_state table e Running) e ≡ region table e = ap region_of there ∙ sym (ap region_of is) in
+      let size = agree.memory.size in
+      let contexts = agree.contexts in
+      record {
+        table = refl;
+        memory = record { size = size; bytes = λ i hidden. agree.memory.bytes i (ap (λ (b : Block). has b (ram_base + i)) (sym same) ∙ hidden) };
+        contexts = record {
+          size = length_after cs ds e None contexts.size;
+          others = λ j other. same_after_set cs ds e j None None contexts.size (contexts.others j other);
+        };
+        gone = λ dead. absurd (both_ways _ dead (ap (λ (o : Option SlotInfo). is_some o) there));
+      }
 
 -- ---- the work
 
 module _ (e : ℕ) (table : Slots) (m n : List ℕ) (cs ds : Contexts) (works : WorksAlike e (over table m cs) (over table n ds))
-    (seat : Seat) (trap : Trap) (rests : is_world_of e seat.world ≡ false) where
+    (count : length table ≡ 13) (seat : Seat) (trap : Trap) (rests : is_world_of e seat.world ≡ false) where
   abbrev here : Shared
   here = over table m cs
 
@@ -22,27 +53,37 @@ module _ (e : ℕ) (table : Slots) (m n : List ℕ) (cs ds : Contexts) (works : 
 
   answered_alike : (one other : Shared) (status result : ℕ) → SharedButFor e one other
       → HandledAlike e (with_layout (answered seat one status result)) (with_layout (answered seat other status result))
-  answered_alike one other status result agree =
-      inr (record {
-        seat =
-            ap (λ (slots : Slots). seated slots (answered seat one status result).seat) agree.table;
-        next = refl;
-        rests = rests;
-        shared = agree;
+  answered_alike one other status result agree = record {
+    entered = refl;
+    seat = record { world = refl; same = λ rests. ap (λ (slots : Slots). going_on_from (with_layout (answered seat (over slots one.memory one.contexts) status result))) agree.table };
+    shared = agree;
+  }
+
+  -- a slot other than e
+  enters_other : (a0 seat ≡ e → ⊥) → HandledAlike e (with_layout (entering seat here)) (with_layout (entering seat there))
+  unfolding entered_slot
+  enters_other other =
+      let same = works.contexts (a0 seat) other in
+      rw (← same) (record {
+        entered = refl;
+        seat = record { world = refl; same = λ rests. refl };
+        shared = works.switches (a0 seat) states.Running None (λ own. other (sym own));
       })
 
-  enters_alike : HandledAlike e (with_layout (entering seat here)) (with_layout (entering seat there))
+  -- slot e
+  enters_own : (k : ℕ) (info : SlotInfo) (one other : Context) (past : ℕ) → k ≡ e → slot_at table k ≡ Some info
+      → HandledAlike e (with_layout (entered_slot seat here k one past)) (with_layout (entered_slot seat there k other past))
   unfolding entered_slot
-  enters_alike = elim (cases_eq (a0 seat) e) [
-    | inl own ↦ inl (record { here = ap Some own; there = ap Some own })
-    | inr other ↦
-        let same = works.contexts (a0 seat) other in
-        rw (← same) (inr (record {
-          seat = refl;
-          next = refl;
-          rests = ne_eqb (a0 seat) e other;
-          shared = works.switches (a0 seat) states.Running None (λ own. other (sym own));
-        }))
+  enters_own k info one other past own is = record {
+    entered = refl;
+    seat = record { world = refl; same = λ rests. absurd (both_ways _ rests (eq-eqb k e own)) };
+    shared = rw own (own_switch e table m n cs ds works.before info (rw own at is) count);
+  }
+
+  enters_alike : (call : Call) → IsTaken table call (a0 seat) → HandledAlike e (with_layout (entering seat here)) (with_layout (entering seat there))
+  enters_alike call taken = elim (cases_eq (a0 seat) e) [
+    | inl own ↦ enters_own (a0 seat) taken.info _ _ _ own taken.is
+    | inr other ↦ enters_other other
   ]
 
   leaves_alike : (k : ℕ) (host : Context) → seat.world ≡ Enclave k
@@ -51,12 +92,11 @@ module _ (e : ℕ) (table : Slots) (m n : List ℕ) (cs ds : Contexts) (works : 
   unfolding left_slot
   leaves_alike k host runs =
       let other : (k == e) ≡ false = sym (ap (is_world_of e) runs) ∙ rests in
-      inr (record {
-        seat = refl;
-        next = refl;
-        rests = refl;
+      record {
+        entered = refl;
+        seat = record { world = refl; same = λ rests. refl };
         shared = works.switches k (state_after trap.cause seat.hart.regs) (Some (kept_by trap.cause seat)) (λ same. both_ways _ other (eq-eqb k e (sym same)));
-      })
+      }
 
   handled_alike : length m ≡ length n → HandledAlike e (handled seat here trap) (handled seat there trap)
   handled_alike = by_work_of_both seat trap table m n cs ds (HandledAlike e) (record {
@@ -64,10 +104,10 @@ module _ (e : ℕ) (table : Slots) (m n : List ℕ) (cs ds : Contexts) (works : 
     creates = λ asks may. answered_alike _ _ 0 (new_slot table) (works.creates (proposed seat.hart.regs) may);
     destroys = λ asks taken. answered_alike _ _ 0 0 (works.destroys (a0 seat) taken);
     measures = λ asks may. answered_alike _ _ 0 0 (works.measures (measured_slot seat.world (a0 seat)) (a1 seat));
-    enters = λ call asks enters host taken. enters_alike;
+    enters = λ call asks enters host taken. enters_alike call taken;
     leaves = λ k host runs kept. leaves_alike k host runs;
-    stays = inr (record { seat = refl; next = refl; rests = rests; shared = works.before });
-    forwards = inr (record { seat = refl; next = refl; rests = rests; shared = works.before });
+    stays = record { entered = refl; seat = record { world = refl; same = λ rests. refl }; shared = works.before };
+    forwards = record { entered = refl; seat = record { world = refl; same = λ rests. refl }; shared = works.before };
   })
 
 pub handler_law : HandlerLaw
@@ -76,4 +116,4 @@ handler_law e worlds seat one other trap here there rests agree =
     let works = works_alike e one other worlds here there agree in
     let works' = subst (λ (t : Slots). WorksAlike e one (over t other.memory other.contexts)) (sym tables) works in
     subst (λ (t : Slots). HandledAlike e (handled seat one trap) (handled seat (over t other.memory other.contexts) trap)) tables
-    (handled_alike e one.table one.memory other.memory one.contexts other.contexts works' seat trap rests agree.memory.size)
+    (handled_alike e one.table one.memory other.memory one.contexts other.contexts works' here.valid.count seat trap rests agree.memory.size)

@@ -1,117 +1,168 @@
--- An enclave that runs on the other hart, and one that is left alone in an order of steps.
-use Rattle.std.proofs.Common.{◌≡◌, ℕ, zero, suc, Bool, true, false, List, [], ◌∷◌, Option, Some, None, refl, sym, ◌∙◌, ap, subst, inl, inr}
-use Rattle.std.specs.Prelude.{◌||◌, is_some}
+-- An enclave that steps of the harts do not step: what it keeps of each, and of steps in any order.
+use Rattle.std.proofs.Common.{◌≡◌, ℕ, zero, suc, Bool, true, false, List, [], ◌∷◌, Option, Some, None, refl, sym, ◌∙◌, ap, ap₂, subst, inl, inr}
 use Rattle.std.specs.List.{list_any}
-use Rattle.std.proofs.lemmas.Bool.{cases_Bool, both_ways}
-use Rattle.rv_enclaves.proofs.Prelude.{is_live, is_running, is_world_of, runs, slot_at}
-use Rattle.rv_monitor.specs.HartLaws.{sched, BesideLaw, IsLeftAlone, SchedSparesLaw, SchedChangeLaw}
-use Rattle.rv_monitor.specs.Integrity.{enters}
-use Rattle.rv_monitor.proofs.Prelude.{IsKept, IsSpared, MonitoredState, MonitoredStepped, StaysOrSwitches, byte_at, handled, monitored_step, option_case}
-use Rattle.rv_monitor.proofs.Prelude.{seated_beside, seen_by, step_of, turned, worlds_beside}
-use Rattle.rv_monitor.proofs.Types.{Seat, Shared, SlotInfo}
+use Rattle.std.proofs.lemmas.Bool.{both_ways}
+use Rattle.rv_enclaves.proofs.Slots.{or-first}
+use Rattle.rv_enclaves.proofs.Prelude.{has, is_live, is_world_of, region_of}
+use Rattle.rv_monitor.specs.HartLaws.{sched, IsLeftAlone, RunningLaw, RunsOnNone, SchedSparesLaw, SchedChangeLaw}
+use Rattle.rv_monitor.specs.Integrity.{enters, GoesOn, GoOnLaw, IsUntouched}
+use Rattle.rv_monitor.proofs.Prelude.{IsKept, IsSpared, MonitoredState, byte_at, count_of, monitored_step, runs_on, seat_of, seated, seen_by, step_of}
+use Rattle.rv_monitor.proofs.Prelude.{worlds_beside}
+use Rattle.rv_monitor.proofs.Types.{Seat, Shared}
+use Rattle.rv_monitor.proofs.Beside.{beside_is_live, goes_on_beside, on, running_is_live, runs_at}
 use Rattle.rv_monitor.proofs.Changes.{changes}
-use Rattle.rv_monitor.proofs.HartsAlike.{step_kept}
+use Rattle.rv_monitor.proofs.HartsAlike.{entered_by, is_entered, step_kept}
 use Rattle.rv_monitor.proofs.Integrity.{integrity}
-use Rattle.rv_monitor.proofs.RunsAlike.{kept_law}
-use Rattle.rv_monitor.proofs.LastAct.{beside_as_is}
-use Rattle.rv_monitor.proofs.RunsSpare.{spared_twice}
-use Rattle.rv_monitor.proofs.StepKept.{worlds_stay}
-use Rattle.rv_monitor.proofs.TrapSteps.{by_step, seat_after}
-use Rattle.rv_monitor.proofs.Switched.{switch_law}
-use Rattle.rv_monitor.proofs.Turned.{seen_kept}
+use Rattle.rv_monitor.proofs.Kept.{kept_law}
+use Rattle.rv_monitor.proofs.LastAct.{laid_out_as_is}
+use Rattle.rv_monitor.proofs.Turned.{count_seen, count_step, seat_again, seen_as, seen_kept, seen_seat, seen_shared, seen_twice}
 
--- ---- who runs on the other hart goes on there
+-- ---- it is spared by a step
 
-pub goes_on_beside : (state : MonitoredState) → worlds_beside (monitored_step state).state.other ≡ worlds_beside state.other
-goes_on_beside state = by_step state (λ after. worlds_beside after.state.other ≡ worlds_beside state.other) (λ none. refl)
-    (λ trap is. worlds_stay (handled (seat_after state.seat trap) state.shared trap).shared.table state.other)
-
--- ---- and its hart is as it was, but for the entries and mie
-
-pub seated_after : (state : MonitoredState) → IsKept state
-    → (monitored_step state).state.other ≡ seated_beside (monitored_step state).state.shared.table state.other
-seated_after state kept = by_step state (λ after. after.state.other ≡ seated_beside after.state.shared.table state.other)
-    (λ none. sym (beside_as_is state.shared.table state.other kept.other)) (λ trap is. refl)
-
--- ---- it is live, is not this hart's world, and is not entered by it
-
-live_by : (o : Option SlotInfo) → option_case o false (λ info. is_running info.state) ≡ true → is_some o ≡ true
-live_by None runs = runs
-live_by (Some info) runs = refl
-
-or_second_true : (a b : Bool) → b ≡ true → (a || b) ≡ true
-or_second_true true b is = refl
-or_second_true false b is = is
-
-beside_is_live : (state : MonitoredState) (k : ℕ) → IsKept state → list_any (is_world_of k) (worlds_beside state.other) ≡ true
-    → is_live state.shared.table k ≡ true
-beside_is_live state k kept beside =
-    live_by (slot_at state.shared.table k) (kept.shared.running k ∙ or_second_true (is_world_of k state.seat.world) _ beside)
-
-beside_not_here : (state : MonitoredState) (k : ℕ) → IsKept state → list_any (is_world_of k) (worlds_beside state.other) ≡ true
-    → is_world_of k state.seat.world ≡ false
-beside_not_here state k kept beside = elim (cases_Bool (is_world_of k state.seat.world)) [
-  | inl here ↦ absurd (both_ways _ (kept.shared.apart.0 k here) beside)
-  | inr none ↦ none
-]
-
-not_entered : (k : ℕ) (state : MonitoredState) (after : MonitoredStepped) → StaysOrSwitches state after
-    → is_world_of k after.state.seat.world ≡ false → enters k after.outcome.entered ≡ false
-not_entered k state after (inl stays) rests = ap (enters k) stays.entered
-not_entered k state after (inr (inl enter)) rests = ap (enters k) enter.entered ∙ sym (ap (is_world_of k) enter.world) ∙ rests
-not_entered k state after (inr (inr leaves)) rests = ap (enters k) leaves.entered
-
-pub spares_beside : BesideLaw
-spares_beside state kept stored k beside =
-    let after = monitored_step state in
-    let again = kept_law state kept in
-    let still : list_any (is_world_of k) (worlds_beside after.state.other) ≡ true = ap (list_any (is_world_of k)) (goes_on_beside state) ∙ beside in
-    let live = beside_is_live after.state k again still in
-    let passes = not_entered k state after (switch_law state kept stored) (beside_not_here after.state k again still) in
+-- as another hart sees it
+seen_untouched : (k hart : ℕ) (before after : MonitoredState) → IsUntouched k before after → IsUntouched k (seen_by hart before) (seen_by hart after)
+seen_untouched k hart before after is =
+    let one = seen_shared hart before in
+    let last = seen_shared hart after in
     record {
-      spared = integrity state kept k (beside_not_here state k kept beside) (beside_is_live state k kept beside) passes live;
-      live = live;
-      runs = still;
-      hart = seated_after state kept;
+      spared = subst (λ (a : Shared). IsSpared k a (seen_by hart after).shared) (sym one) (subst (IsSpared k before.shared) (sym last) is.spared);
+      seat = λ j runs.
+          let at = seat_again hart j before in
+          seat_again hart j after ∙ is.seat (seen_as hart j) (ap (λ (s : Seat). is_world_of k s.world) (sym at) ∙ runs)
+          ∙ ap₂ (λ (shared : Shared) (s : Seat). seated shared.table s) (sym last) (sym at);
     }
 
+step_spares : (k hart : ℕ) (state : MonitoredState) → IsKept state → is_live state.shared.table k ≡ true → runs_on k hart state ≡ false
+    → enters k (step_of hart state).outcome.entered ≡ false → is_live (step_of hart state).state.shared.table k ≡ true
+    → IsUntouched k state (step_of hart state).state
+unfolding step_of
+step_spares k hart state kept live rests passes stays =
+    let seen = seen_by hart state in
+    let after = (monitored_step seen).state in
+    let one = seen_shared hart state in
+    let last = seen_shared hart after in
+    let seen_is = seen_kept hart state kept in
+    let live' : is_live seen.shared.table k ≡ true = ap (λ (s : Shared). is_live s.table k) one ∙ live in
+    let stays' : is_live after.shared.table k ≡ true = ap (λ (s : Shared). is_live s.table k) (sym last) ∙ stays in
+    let spared = integrity seen seen_is k rests live' passes stays' in
+    subst (λ (s : MonitoredState). IsUntouched k s (seen_by hart after)) (seen_twice hart state) (seen_untouched k hart seen after spared)
+
+pub spared_twice : (k : ℕ) (before between after : Shared) → IsSpared k before between → IsSpared k between after → IsSpared k before after
+spared_twice k before between after first last = record {
+  slot = last.slot ∙ first.slot;
+  bytes = λ byte own. last.bytes byte (ap (λ slot. has (region_of slot) byte) first.slot ∙ own) ∙ first.bytes byte own;
+  context = last.context ∙ first.context;
+}
+
+untouched_twice : (k : ℕ) (before between after : MonitoredState) → IsUntouched k before between → IsUntouched k between after
+    → IsUntouched k before after
+untouched_twice k before between after first last = record {
+  spared = spared_twice k before.shared between.shared after.shared first.spared last.spared;
+  seat = λ hart runs.
+      let one = first.seat hart runs in
+      last.seat hart (ap (λ (s : Seat). is_world_of k s.world) one ∙ runs) ∙ ap (seated after.shared.table) one;
+}
+
+-- no step changes nothing
+own_as_is : (state : MonitoredState) → IsKept state → seated state.shared.table state.seat ≡ state.seat
+own_as_is state kept =
+    let layout = kept.layout in
+    laid_out_as_is state.shared.table state.seat (record { entries = layout.entries; mie = layout.mie })
+
+seat_as_is : (hart : ℕ) (state : MonitoredState) → IsKept state → seat_of hart state ≡ seated state.shared.table (seat_of hart state)
+seat_as_is hart state kept =
+    let seen = seen_by hart state in
+    sym (own_as_is seen (seen_kept hart state kept)) ∙ ap (λ (s : Shared). seated s.table seen.seat) (seen_shared hart state)
+
+untouched_itself : (k : ℕ) (state : MonitoredState) → IsKept state → IsUntouched k state state
+untouched_itself k state kept =
+    record { spared = record { slot = refl; bytes = λ byte own. refl; context = refl }; seat = λ hart runs. seat_as_is hart state kept }
+
 -- ---- every order of steps
-
-turned_shared_by : (seat : Seat) (other : Option Seat) (shared : Shared)
-    → (let state : MonitoredState = record { seat = seat; other = other; shared = shared } in (turned state).shared ≡ shared)
-turned_shared_by seat None shared = refl
-turned_shared_by seat (Some other) shared = refl
-
-pub seen_shared : (hart : ℕ) (state : MonitoredState) → (seen_by hart state).shared ≡ state.shared
-seen_shared zero state = refl
-seen_shared (suc n) state = turned_shared_by state.seat state.other state.shared
 
 first_live : (k : ℕ) (harts : List ℕ) (state : MonitoredState) → IsLeftAlone k harts state → is_live state.shared.table k ≡ true
 first_live k [] state alone = alone
 first_live k (hart ∷ harts) state alone = alone.0
 
-step_spares : (k hart : ℕ) (state : MonitoredState) → IsKept state → is_live state.shared.table k ≡ true
-    → is_world_of k (seen_by hart state).seat.world ≡ false
-    → enters k (step_of hart state).outcome.entered ≡ false → is_live (step_of hart state).state.shared.table k ≡ true
-    → IsSpared k state.shared (step_of hart state).state.shared
-unfolding step_of
-step_spares k hart state kept live rests passes after =
-    let seen = seen_by hart state in
-    let one = seen_shared hart state in
-    let last = seen_shared hart (monitored_step seen).state in
-    let live' : is_live seen.shared.table k ≡ true = ap (λ (s : Shared). is_live s.table k) one ∙ live in
-    let after' : is_live (monitored_step seen).state.shared.table k ≡ true = ap (λ (s : Shared). is_live s.table k) (sym last) ∙ after in
-    let spared = integrity seen (seen_kept hart state kept) k rests live' passes after' in
-    subst (λ (s : Shared). IsSpared k s (seen_by hart (monitored_step seen).state).shared) one
-    (subst (λ (s : Shared). IsSpared k seen.shared s) (sym last) spared)
-
 pub sched_spares : SchedSparesLaw
-sched_spares k [] state kept alone = record { slot = refl; bytes = λ byte own. refl; context = refl }
+sched_spares k [] state kept alone = untouched_itself k state kept
 sched_spares k (hart ∷ harts) state kept alone =
-    let after = step_of hart state in
-    spared_twice k state.shared after.state.shared (sched harts after.state).state.shared
-    (step_spares k hart state kept alone.0 alone.1 alone.2 (first_live k harts after.state alone.3))
-    (sched_spares k harts after.state (step_kept hart state kept) alone.3)
+    let after = (step_of hart state).state in
+    untouched_twice k state after (sched harts after).state (step_spares k hart state kept alone.0 alone.1 alone.2 (first_live k harts after alone.3))
+    (sched_spares k harts after (step_kept hart state kept) alone.3)
+
+-- ---- one that runs is neither entered nor ended by another hart
+
+pub go_on_law : GoOnLaw
+go_on_law state kept k hart runs rests =
+    let after = monitored_step state in
+    let again = kept_law state kept in
+    let still : list_any (is_world_of k) (worlds_beside after.state.other) ≡ true =
+    ap (list_any (is_world_of k)) (goes_on_beside state) ∙ runs_at k hart state rests runs in
+    record {
+      passes = entered_by k after.outcome.entered (λ is. both_ways _ (again.shared.apart.0 k (is_entered k state is)) still);
+      live = beside_is_live after.state k again still;
+    }
+
+step_goes_on : (k own hart : ℕ) (state : MonitoredState) → IsKept state → runs_on k own state ≡ true → runs_on k hart state ≡ false
+    → GoesOn k (step_of hart state)
+unfolding step_of
+step_goes_on k own hart state kept runs rests =
+    let seen = seen_by hart state in
+    let at = seen_seat hart own state in
+    let goes = go_on_law seen (seen_kept hart state kept) k (seen_as hart own) (ap (λ (s : Seat). is_world_of k s.world) (sym at) ∙ runs) rests in
+    record { passes = goes.passes; live = ap (λ (s : Shared). is_live s.table k) (seen_shared hart (monitored_step seen).state) ∙ goes.live }
+
+-- nor does another hart come to run it
+apart_by : (k : ℕ) (s t : Seat) (a b : Option Seat) (x y : Shared) → IsKept (on t b y) → count_of (on t b y) ≡ count_of (on s a x)
+    → is_world_of k s.world ≡ true → is_world_of k t.world ≡ true → runs_on k 1 (on s a x) ≡ false → runs_on k 1 (on t b y) ≡ false
+apart_by k s t None b x y kept harts runs still none = absurd (both_ways _ none runs)
+apart_by k s t (Some a) None x y kept harts runs still none = cc
+apart_by k s t (Some a) (Some b) x y kept harts runs still none = or-first _ _ (kept.shared.apart.0 k still)
+
+apart_at : (k j : ℕ) (before after : MonitoredState) → IsKept after → count_of after ≡ count_of before → is_world_of k before.seat.world ≡ true
+    → is_world_of k after.seat.world ≡ true → runs_on k j before ≡ false → runs_on k j after ≡ false
+apart_at k zero before after kept harts runs still none = absurd (both_ways _ none runs)
+apart_at k (suc j) before after kept harts runs still none =
+    apart_by k before.seat after.seat before.other after.other before.shared after.shared kept harts runs still none
+
+count_named : (hart : ℕ) (state : MonitoredState) → count_of (step_of hart state).state ≡ count_of state
+unfolding step_of
+count_named hart state =
+    let seen = seen_by hart state in count_seen hart (monitored_step seen).state ∙ count_step seen ∙ count_seen hart state
+
+none_after : (k own hart : ℕ) (harts : List ℕ) (state : MonitoredState) → IsKept state → runs_on k own state ≡ true
+    → runs_on k own (step_of hart state).state ≡ true → RunsOnNone k harts state → RunsOnNone k harts (step_of hart state).state
+none_after k own hart [] state kept runs still none = tt
+none_after k own hart (next ∷ harts) state kept runs still none =
+    let after = (step_of hart state).state in
+    let here = seen_seat own next state in
+    let there = seen_seat own next after in
+    let harts_are = count_seen own after ∙ count_named hart state ∙ sym (count_seen own state) in
+    let own_world : Seat → Bool = λ seat. is_world_of k seat.world in (
+      ap own_world there ∙ apart_at k (seen_as own next) (seen_by own state) (seen_by own after) (seen_kept own after (step_kept hart state kept)) harts_are
+          runs still (ap own_world (sym here) ∙ none.0),
+      none_after k own hart harts state kept runs still none.1,
+    )
+
+runs_live : (k own : ℕ) (state : MonitoredState) → IsKept state → runs_on k own state ≡ true → is_live state.shared.table k ≡ true
+runs_live k own state kept runs =
+    ap (λ (s : Shared). is_live s.table k) (sym (seen_shared own state))
+    ∙ running_is_live k (seen_by own state) (seen_kept own state kept) (rw runs refl)
+
+pub running_law : RunningLaw
+running_law k own [] state kept runs none = runs_live k own state kept runs
+running_law k own (hart ∷ harts) state kept runs none =
+    let after = (step_of hart state).state in
+    let live = runs_live k own state kept runs in
+    let goes = step_goes_on k own hart state kept runs none.0 in
+    let spared = step_spares k hart state kept live none.0 goes.passes goes.live in
+    let still : runs_on k own after ≡ true = ap (λ (s : Seat). is_world_of k s.world) (spared.seat own runs) ∙ runs in (
+      live,
+      none.0,
+      goes.passes,
+      running_law k own harts after (step_kept hart state kept) still (none_after k own hart harts state kept runs still none.1),
+    )
 
 -- ---- which bytes they change
 

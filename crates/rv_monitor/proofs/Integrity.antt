@@ -1,4 +1,4 @@
--- A step leaves what is private to an enclave that does not run, where it neither enters nor ends it.
+-- A step leaves what is private to an enclave that is not the world of its hart, where it neither enters nor ends it.
 use Rattle.std.proofs.Common.{◌≡◌, ◌≢◌, ℕ, ◌==◌, true, false, List, Option, Some, None, refl, sym, ◌∙◌, ap, inl, inr, arith}
 use Rattle.std.specs.Prelude.{is_some}
 use Rattle.std.proofs.lemmas.Bool.{both_ways, cases_eq, eq-eqb}
@@ -13,6 +13,7 @@ use Rattle.rv_monitor.specs.Integrity.{enters, IntegrityLaw}
 use Rattle.rv_monitor.proofs.Prelude.{Handled, IsKept, MonitoredState, a0, byte_at, bytes_in, entered_slot, handled, left_slot, monitored_step, option_case}
 use Rattle.rv_monitor.proofs.Prelude.{proposed, register, state_after}
 use Rattle.rv_monitor.proofs.Types.{Context, Destroy, EnclaveState, Proposal, Running, Seat, Shared, SlotInfo, Trap, Write}
+use Rattle.rv_monitor.proofs.Beside.{seat_spared}
 use Rattle.rv_monitor.proofs.Changes.{changes}
 use Rattle.rv_monitor.proofs.TrapSteps.{by_step, seat_after}
 use Rattle.rv_monitor.proofs.Works.{by_work, kept_by}
@@ -115,4 +116,7 @@ integrity state kept k rests live passes stays =
     (λ none passes stays. record { slot = refl; context = refl })
     (λ trap is. handled_keeps k (seat_after state.seat trap) state.shared kept.shared.valid rests live trap) in
     let kept_slot = keeps passes stays in
-    record { slot = kept_slot.slot; bytes = λ byte own. not_changed state k byte kept rests stays own; context = kept_slot.context }
+    record {
+      spared = record { slot = kept_slot.slot; bytes = λ byte own. not_changed state k byte kept rests stays own; context = kept_slot.context };
+      seat = seat_spared k state kept rests;
+    }

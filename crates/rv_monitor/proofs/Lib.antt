@@ -7,11 +7,13 @@ pub mod StepKept
 pub mod LastAct
 pub mod Start
 pub mod HandledAlike
+pub mod Agreeing
 pub mod MonitoredAlike
 pub mod Places
 pub mod KeptReaches
 pub mod BlindSteps
-pub mod RunsAlike
+pub mod Kept
+pub mod Beside
 pub mod Turned
 pub mod HartsAlike
 pub mod HartsSpare
@@ -23,7 +25,6 @@ pub mod FastSteps
 pub mod Refused
 pub mod Leaving
 pub mod Integrity
-pub mod RunsSpare
 pub mod Changes
 pub mod Scrambled
 pub mod Touched

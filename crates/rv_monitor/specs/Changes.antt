@@ -20,7 +20,6 @@ use Rattle.rv_enclaves.specs.declared.call.Call.TheVariants.{Destroy, Measure}
 use Rattle.rv_enclaves.specs.declared.shared.Shared.{Shared}
 use Rattle.rv_enclaves.specs.declared.world.World.{World}
 use Rattle.rv_monitor.specs.Asked.{is_call}
-use Rattle.rv_monitor.specs.Runs.{after_steps}
 use Rattle.rv_monitor.specs.State.{MonitoredState, IsKept}
 use Rattle.rv_monitor.specs.Step.{MonitoredStepped, monitored_step}
 
@@ -70,14 +69,3 @@ ChangesInReach before after =
 
 abbrev pub ChangeLaw : Type 0
 ChangeLaw = (state : MonitoredState) → IsKept state → ChangesInReach state (monitored_step state)
-
--- one of so many steps changed the byte: the one behind so many others
-pub record IsChangedWithin (steps : ℕ) (state : MonitoredState) (byte : ℕ) : Type 0 where
-  pub earlier : ℕ
-  pub early : earlier < steps
-  pub change : IsChanged (after_steps earlier state).state (monitored_step (after_steps earlier state).state) byte
-
-abbrev pub RunsChangeLaw : Type 0
-RunsChangeLaw =
-    (n : ℕ) (state : MonitoredState) (byte : ℕ) → IsKept state
-    → byte_at (after_steps n state).state.shared.memory byte ≡ byte_at state.shared.memory byte ⊎ IsChangedWithin n state byte

@@ -1,6 +1,6 @@
--- The monitored machine depends on nothing that is private to an enclave, up to the step that enters it. (A law of the monitor's
--- definitions, no rule of a standard.)
-use Rattle.std.specs.Prelude.{◌≡◌, ℕ, ◌⊎◌, Bool, false, List, Some}
+-- A step of a hart depends on nothing that is private to an enclave that is not its world, wherever that enclave runs. (A law of the
+-- monitor's definitions, no rule of a standard.)
+use Rattle.std.specs.Prelude.{◌≡◌, ℕ, Bool, false, List}
 use Rattle.rv_hart.specs.State.{State, Stepped}
 use Rattle.rv_hart.specs.Step.{step}
 use Rattle.rv_hart.specs.declared.trap.Trap.{Trap}
@@ -9,28 +9,23 @@ use Rattle.rv_enclaves.specs.Sound.{IsSound}
 use Rattle.rv_enclaves.specs.Table.{is_world_of}
 use Rattle.rv_enclaves.specs.declared.shared.Shared.{Shared}
 use Rattle.rv_enclaves.specs.declared.world.World.{World}
-use Rattle.rv_monitor.specs.AgreeBut.{AgreeBut}
+use Rattle.rv_monitor.specs.AgreeBut.{AgreeBut, SeatsAgreeBut}
 use Rattle.rv_monitor.specs.State.{MonitoredState, IsKept}
-use Rattle.rv_monitor.specs.Step.{MonitoredStepped, handled, monitored_step}
+use Rattle.rv_monitor.specs.Step.{MonitoredStepped, handled, monitored_step, returned_to}
 use Rattle.rv_monitor.specs.Switches.{Handled}
 use Rattle.rv_monitor.specs.declared.seat.Seat.{Seat}
 
 -- ---- the monitor's work after a trap
 
--- both enter slot e
-pub record BothEnter (e : ℕ) (one other : Handled) : Type 0 where
-  pub here : one.next.entered ≡ Some e
-  pub there : other.next.entered ≡ Some e
+-- the seat as its hart goes on after the work
+abbrev pub going_on_from : Handled → Seat
+going_on_from h = record h.seat { hart = returned_to h.seat.hart h.next.pc h.next.mode }
 
--- the seats are the same, and they go on alike, without e, over what agrees but for e
-pub record BothPass (e : ℕ) (one other : Handled) : Type 0 where
-  pub seat : one.seat ≡ other.seat
-  pub next : one.next ≡ other.next
-  pub rests : is_world_of e one.seat.world ≡ false
+-- it enters the same slot, and leaves what agrees: a seat that slot e was entered on too, which need not be equal then
+pub record HandledAlike (e : ℕ) (one other : Handled) : Type 0 where
+  pub entered : one.next.entered ≡ other.next.entered
+  pub seat : SeatsAgreeBut e (going_on_from one) (going_on_from other)
   pub shared : SharedButFor e one.shared other.shared
-
-abbrev pub HandledAlike : ℕ → Handled → Handled → Type 0
-HandledAlike e one other = BothEnter e one other ⊎ BothPass e one other
 
 abbrev pub HandlerLaw : Type 0
 HandlerLaw =
@@ -58,23 +53,17 @@ BareLaw =
 
 -- ---- the monitored step
 
-pub record BothStepIn (e : ℕ) (one other : MonitoredStepped) : Type 0 where
-  pub here : one.outcome.entered ≡ Some e
-  pub there : other.outcome.entered ≡ Some e
-
--- they show the same, and the states agree again
-pub record BothStepPast (e : ℕ) (one other : MonitoredStepped) : Type 0 where
+-- they show the same, and agree again
+pub record SteppedAlike (e : ℕ) (one other : MonitoredStepped) : Type 0 where
   pub outcome : one.outcome ≡ other.outcome
   pub state : AgreeBut e one.state other.state
 
-abbrev pub SteppedAlike : ℕ → MonitoredStepped → MonitoredStepped → Type 0
-SteppedAlike e one other = BothStepIn e one other ⊎ BothStepPast e one other
-
--- what a step leaves and shows tells nothing of an enclave that did not run, but where it entered it: every state that agrees but
--- for that enclave steps alike
+-- What a step shows and leaves tells nothing of an enclave that is not the world of its hart: every state that agrees but for that enclave
+-- steps alike. It may be the step that enters it.
 abbrev pub ConcealsOthers : MonitoredState → MonitoredStepped → Type 0
 ConcealsOthers before after =
-    (e : ℕ) (other : MonitoredState) → IsKept other → AgreeBut e before other → SteppedAlike e after (monitored_step other)
+    (e : ℕ) (other : MonitoredState) → IsKept other → AgreeBut e before other → is_world_of e before.seat.world ≡ false
+    → SteppedAlike e after (monitored_step other)
 
 abbrev pub ConfidentialityLaw : Type 0
 ConfidentialityLaw = (state : MonitoredState) → IsKept state → ConcealsOthers state (monitored_step state)

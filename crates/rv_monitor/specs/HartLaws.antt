@@ -1,13 +1,12 @@
--- Two harts, whose steps take turns in any order: what is true of every order. (Laws of the monitor's definitions, no rule of a standard.)
-use Rattle.std.specs.Prelude.{◌≡◌, ◌⊎◌, ℕ, false, true, List, [], ◌∷◌, ◌++◌, Some}
-use Rattle.std.specs.List.{list_any}
+-- The harts, whose steps take turns in any order: what is true of every order. (Laws of the monitor's definitions, no rule of a standard.)
+use Rattle.std.specs.Prelude.{◌≡◌, ◌⊎◌, ℕ, false, true, List, [], ◌∷◌}
 use Rattle.rv_memory.specs.Memory.{byte_at}
-use Rattle.rv_enclaves.specs.Table.{is_live, is_world_of}
-use Rattle.rv_monitor.specs.AgreeBut.{AgreeBut}
+use Rattle.rv_enclaves.specs.Table.{is_live}
+use Rattle.rv_monitor.specs.AgreeBut.{AgreeBut, runs_on}
 use Rattle.rv_monitor.specs.Changes.{IsChanged}
-use Rattle.rv_monitor.specs.Integrity.{enters, IsSpared}
-use Rattle.rv_monitor.specs.State.{MonitoredState, IsKept, HostIsStored, seated_beside, seen_by, worlds_beside}
-use Rattle.rv_monitor.specs.Step.{MonitoredStepped, monitored_step, step_of}
+use Rattle.rv_monitor.specs.Integrity.{enters, IsUntouched}
+use Rattle.rv_monitor.specs.State.{MonitoredState, IsKept, seen_by}
+use Rattle.rv_monitor.specs.Step.{monitored_step, step_of}
 use Rattle.rv_monitor.specs.declared.outcome.Outcome.{Outcome}
 
 -- the state after one step of each of these harts in turn, and what each showed
@@ -22,62 +21,78 @@ abbrev pub sched : List ℕ → MonitoredState → Scheduled
 sched [] state = record { state = state; outcomes = [] }
 sched (hart ∷ harts) state = after_first (step_of hart state).outcome (sched harts (step_of hart state).state)
 
--- every order of steps keeps what is true in every state
+-- a step keeps what is true in every state
+abbrev pub KeptLaw : Type 0
+KeptLaw = (state : MonitoredState) → IsKept state → IsKept (monitored_step state).state
+
+-- so does every order of steps
 abbrev pub SchedKeptLaw : Type 0
 SchedKeptLaw = (harts : List ℕ) (state : MonitoredState) → IsKept state → IsKept (sched harts state).state
 
--- they show the same, up to a step that enters slot e in both
-pub record BothEnterIn (e : ℕ) (one other : Scheduled) : Type 0 where
-  pub before : List Outcome
-  pub entry_here : Outcome
-  pub entry_there : Outcome
-  pub rest_here : List Outcome
-  pub rest_there : List Outcome
-  pub here : one.outcomes ≡ before ++ entry_here ∷ rest_here
-  pub there : other.outcomes ≡ before ++ entry_there ∷ rest_there
-  pub enters_here : entry_here.entered ≡ Some e
-  pub enters_there : entry_there.entered ≡ Some e
+-- ---- whose steps they are
 
--- they show the same, and end in states that agree again
-pub record BothGoPast (e : ℕ) (one other : Scheduled) : Type 0 where
-  pub outcomes : one.outcomes ≡ other.outcomes
-  pub state : AgreeBut e one.state other.state
+-- no step is the enclave's own: before each it does not run on the hart that steps
+abbrev pub AreNotOwn : ℕ → List ℕ → MonitoredState → Type 0
+AreNotOwn e [] state = Unit {0}
+AreNotOwn e (hart ∷ harts) state = (runs_on e hart state ≡ false) × AreNotOwn e harts (step_of hart state).state
 
--- two machines that agree but for slot e, which runs on no hart, show and leave nothing of it in any order of their harts' steps, up to
--- one that enters it on either hart
+-- it runs on none of these harts
+abbrev pub RunsOnNone : ℕ → List ℕ → MonitoredState → Type 0
+RunsOnNone e [] state = Unit {0}
+RunsOnNone e (hart ∷ harts) state = (runs_on e hart state ≡ false) × RunsOnNone e harts state
+
+-- no step but the last enters it
+abbrev pub IsNotEnteredBefore : ℕ → List ℕ → MonitoredState → Type 0
+IsNotEnteredBefore e [] state = Unit {0}
+IsNotEnteredBefore e (hart ∷ []) state = Unit {0}
+IsNotEnteredBefore e (hart ∷ next ∷ harts) state =
+    (enters e (step_of hart state).outcome.entered ≡ false) × IsNotEnteredBefore e (next ∷ harts) (step_of hart state).state
+
+-- a hart runs the enclave behind a step only where it did before, or where the step entered it
+abbrev pub EntryLaw : Type 0
+EntryLaw =
+    (e hart own : ℕ) (state : MonitoredState) → runs_on e own state ≡ false → enters e (step_of hart state).outcome.entered ≡ false
+    → runs_on e own (step_of hart state).state ≡ false
+
+-- so steps of harts on which it did not run at first are not its own, up to and with the one that enters it
+abbrev pub NotOwnLaw : Type 0
+NotOwnLaw = (e : ℕ) (harts : List ℕ) (state : MonitoredState) → RunsOnNone e harts state → IsNotEnteredBefore e harts state → AreNotOwn e harts state
+
+-- ---- confidentiality
+
+-- they show the same, and end in states that agree again; nor are they its own in the other
+pub record SchedAlike (e : ℕ) (harts : List ℕ) (one other : MonitoredState) : Type 0 where
+  pub outcomes : (sched harts one).outcomes ≡ (sched harts other).outcomes
+  pub state : AgreeBut e (sched harts one).state (sched harts other).state
+  pub not_own : AreNotOwn e harts other
+
+-- two machines that agree but for slot e show and leave nothing of it in any order of steps that are not its own
 abbrev pub SchedLaw : Type 0
 SchedLaw =
-    (e : ℕ) (harts : List ℕ) (one other : MonitoredState) → IsKept one → IsKept other → AgreeBut e one other
-    → BothEnterIn e (sched harts one) (sched harts other) ⊎ BothGoPast e (sched harts one) (sched harts other)
+    (e : ℕ) (harts : List ℕ) (one other : MonitoredState) → IsKept one → IsKept other → AgreeBut e one other → AreNotOwn e harts one
+    → SchedAlike e harts one other
 
--- an enclave that runs on the other hart: no step of this one ends it, enters it, or changes its record, region or context; and its hart
--- keeps its registers, pc and mode, and all but the entries and mie, which are those of the table and its own world
-pub record IsSparedBeside (k : ℕ) (before : MonitoredState) (after : MonitoredStepped) : Type 0 where
-  pub spared : IsSpared k before.shared after.state.shared
-  pub live : is_live after.state.shared.table k ≡ true
-  pub runs : list_any (is_world_of k) (worlds_beside after.state.other) ≡ true
-  pub hart : after.state.other ≡ seated_beside after.state.shared.table before.other
+-- ---- integrity
 
--- for each enclave that runs there
-abbrev pub SparesBeside : MonitoredState → MonitoredStepped → Type 0
-SparesBeside before after = (k : ℕ) → list_any (is_world_of k) (worlds_beside before.other) ≡ true → IsSparedBeside k before after
-
-abbrev pub BesideLaw : Type 0
-BesideLaw = (state : MonitoredState) → IsKept state → HostIsStored state.seat → SparesBeside state (monitored_step state)
-
--- an enclave is left alone in an order of steps: before each it is live, and is not the world of the hart that steps, which does not
--- enter it. It may run on the other hart meanwhile.
+-- an enclave is left alone in an order of steps: it is live before, between and after them, and none is its own or enters it
 abbrev pub IsLeftAlone : ℕ → List ℕ → MonitoredState → Type 0
 IsLeftAlone k [] state = is_live state.shared.table k ≡ true
 IsLeftAlone k (hart ∷ harts) state =
-    (is_live state.shared.table k ≡ true) × (is_world_of k (seen_by hart state).seat.world ≡ false)
-    × (enters k (step_of hart state).outcome.entered ≡ false) × IsLeftAlone k harts (step_of hart state).state
+    (is_live state.shared.table k ≡ true) × (runs_on k hart state ≡ false) × (enters k (step_of hart state).outcome.entered ≡ false)
+    × IsLeftAlone k harts (step_of hart state).state
 
 -- every order of steps spares what it leaves alone
 abbrev pub SchedSparesLaw : Type 0
 SchedSparesLaw =
-    (k : ℕ) (harts : List ℕ) (state : MonitoredState) → IsKept state → IsLeftAlone k harts state
-    → IsSpared k state.shared (sched harts state).state.shared
+    (k : ℕ) (harts : List ℕ) (state : MonitoredState) → IsKept state → IsLeftAlone k harts state → IsUntouched k state (sched harts state).state
+
+-- and one that runs on a hart is left alone by every order of steps of the others
+abbrev pub RunningLaw : Type 0
+RunningLaw =
+    (k own : ℕ) (harts : List ℕ) (state : MonitoredState) → IsKept state → runs_on k own state ≡ true → RunsOnNone k harts state
+    → IsLeftAlone k harts state
+
+-- ---- which bytes change
 
 -- one of so many steps changed the byte, as a step of its hart may
 abbrev pub IsChangedInOrder : List ℕ → MonitoredState → ℕ → Type 0

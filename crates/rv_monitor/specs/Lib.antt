@@ -14,7 +14,6 @@ pub mod Debugger
 pub mod AgreeBut
 pub mod Asked
 pub mod Confidentiality
-pub mod Runs
 pub mod Access
 pub mod Integrity
 pub mod Changes

@@ -1,21 +1,23 @@
--- From the step with which the host enters an enclave to the one with which the enclave leaves: the host goes on as it was before the
--- first, past its ecall, but for a0 and a1. (A law of the monitor's definitions; Keystone, EuroSys 2020, in this project's profile.)
-use Rattle.std.specs.Prelude.{◌≡◌, ℕ, zero, suc, true, false, Some}
+-- From the step with which the host of a hart enters an enclave to the one with which the enclave leaves, whatever steps of the harts lie
+-- between: the host goes on as it was before the first, past its ecall, but for a0 and a1. (A law of the monitor's definitions; Keystone,
+-- EuroSys 2020, in this project's profile.)
+use Rattle.std.specs.Prelude.{◌≡◌, ℕ, true, false, List, [], ◌∷◌, Some}
 use Rattle.rv_pmp.specs.declared.mode.Mode.TheVariants.{S}
 use Rattle.rv_hart.specs.declared.trap.Trap.{Trap}
 use Rattle.rv_enclaves.specs.Contexts.{with_answer}
 use Rattle.rv_enclaves.specs.Table.{is_host}
+use Rattle.rv_monitor.specs.AgreeBut.{seat_of}
+use Rattle.rv_monitor.specs.HartLaws.{sched}
 use Rattle.rv_monitor.specs.Switches.{saved}
 use Rattle.rv_monitor.specs.Refused.{past_ecall}
-use Rattle.rv_monitor.specs.Runs.{after_steps}
-use Rattle.rv_monitor.specs.State.{MonitoredState, IsKept, HostIsStored}
-use Rattle.rv_monitor.specs.Step.{MonitoredStepped, monitored_step}
+use Rattle.rv_monitor.specs.State.{MonitoredState, IsKept, HostIsStored, seen_by}
+use Rattle.rv_monitor.specs.Step.{MonitoredStepped, monitored_step, step_of}
 use Rattle.rv_monitor.specs.SwitchLaws.{going_on, reason, value}
 
--- an enclave runs through so many steps: before, between and after them
-abbrev pub RunsThrough : ℕ → MonitoredState → Type 0
-RunsThrough zero state = is_host state.seat.world ≡ false
-RunsThrough (suc n) state = (is_host state.seat.world ≡ false) × RunsThrough n (monitored_step state).state
+-- on a hart an enclave runs, before, between and after these steps
+abbrev pub RunsThrough : ℕ → List ℕ → MonitoredState → Type 0
+RunsThrough hart [] state = is_host (seat_of hart state).world ≡ false
+RunsThrough hart (named ∷ harts) state = (is_host (seat_of hart state).world ≡ false) × RunsThrough hart harts (step_of named state).state
 
 -- the last step ends in a trap, and the host goes on as it was before the first, past its ecall, but for a0 and a1
 pub record HostComesBack (before last : MonitoredState) (after : MonitoredStepped) : Type 0 where
@@ -25,11 +27,11 @@ pub record HostComesBack (before last : MonitoredState) (after : MonitoredSteppe
     regs = with_answer before.seat.hart.regs (reason trap.cause last.seat.hart.regs) (value trap.cause last.seat.hart.regs);
   }
 
--- the host runs, a step enters an enclave, which runs through n more, and the next one leaves it; what the first kept of the host is as a
--- hart stores it
+-- The host runs on a hart, whose step enters an enclave, which runs there through steps of the harts in any order, and the next step of
+-- the hart leaves it. What the first kept of the host is as a hart stores it.
 abbrev pub ReturnLaw : Type 0
 ReturnLaw =
-    (n : ℕ) (state : MonitoredState) → IsKept state → HostIsStored (monitored_step state).state.seat → is_host state.seat.world ≡ true
-    → RunsThrough n (monitored_step state).state
-    → (let last = (after_steps n (monitored_step state).state).state in
-    is_host (monitored_step last).state.seat.world ≡ true → HostComesBack state last (monitored_step last))
+    (hart : ℕ) (harts : List ℕ) (state : MonitoredState) → IsKept state → HostIsStored (seat_of hart (step_of hart state).state)
+    → is_host (seat_of hart state).world ≡ true → RunsThrough hart harts (step_of hart state).state
+    → (let last = seen_by hart (sched harts (step_of hart state).state).state in
+    is_host (monitored_step last).state.seat.world ≡ true → HostComesBack (seen_by hart state) last (monitored_step last))

@@ -3,14 +3,13 @@
 
 ghost use Rattle.rv_monitor.specs.Access.{KeptReachLaw};
 ghost use Rattle.rv_monitor.specs.Asked.{AskedLaw, AskedStepLaw};
-ghost use Rattle.rv_monitor.specs.Changes.{ChangeLaw, RunsChangeLaw};
+ghost use Rattle.rv_monitor.specs.Changes.{ChangeLaw};
 ghost use Rattle.rv_monitor.specs.Confidentiality.{BareLaw, ConfidentialityLaw, HandlerLaw};
-ghost use Rattle.rv_monitor.specs.HartLaws.{BesideLaw, SchedChangeLaw, SchedKeptLaw, SchedLaw, SchedSparesLaw};
-ghost use Rattle.rv_monitor.specs.Integrity.{IntegrityLaw, RunsSpareLaw};
+ghost use Rattle.rv_monitor.specs.HartLaws.{EntryLaw, KeptLaw, NotOwnLaw, RunningLaw, SchedChangeLaw, SchedKeptLaw, SchedLaw, SchedSparesLaw};
+ghost use Rattle.rv_monitor.specs.Integrity.{GoOnLaw, IntegrityLaw};
 ghost use Rattle.rv_monitor.specs.Leaving.{LeaveLaw};
 ghost use Rattle.rv_monitor.specs.Refused.{RefusalLaw};
 ghost use Rattle.rv_monitor.specs.Returns.{ReturnLaw};
-ghost use Rattle.rv_monitor.specs.Runs.{KeptLaw, RunLaw};
 ghost use Rattle.rv_monitor.specs.Scrambled.{ScrambleLaw};
 ghost use Rattle.rv_monitor.specs.SwitchLaws.{SwitchLaw};
 ghost use Rattle.rv_monitor.specs.Touches.{TouchLaw};
@@ -30,15 +29,15 @@ pub const fn kept()
     ensures { KeptLaw }
 {}
 
-/// Integrity: a step leaves the record, the region and the context of each live enclave that does not run, and that it neither
-/// enters nor ends.
+/// Integrity: a step leaves the record, the region and the context of each live enclave that is not the world of its hart, and that it
+/// neither enters nor ends; and the hart on which that enclave runs, if it runs, but for the entries and mie.
 pub const fn integrity()
     ensures { IntegrityLaw }
 {}
 
-/// So do so many steps of each enclave that rests through them.
-pub const fn runs_spare()
-    ensures { RunsSpareLaw }
+/// An enclave that runs on one hart is neither entered nor ended by a step of another.
+pub const fn goes_on()
+    ensures { GoOnLaw }
 {}
 
 /// A step changes no byte of memory but those that its instruction stored, in its world's reach, the region of the enclave that a destroy
@@ -47,29 +46,19 @@ pub const fn changes()
     ensures { ChangeLaw }
 {}
 
-/// Nor do so many steps but those that one of them changes so.
-pub const fn runs_change()
-    ensures { RunsChangeLaw }
-{}
-
-/// A step of the hart depends on no byte of the region of an enclave that does not run.
+/// The hart's own step depends on no byte of the region of an enclave that is not its world.
 pub const fn bare_step_is_blind()
     ensures { BareLaw }
 {}
 
-/// The monitor's work after a trap depends on nothing that is private to an enclave that does not run and that it does not enter.
+/// Nor does the monitor's work after a trap depend on anything that is private to it, also where it enters it.
 pub const fn handler_is_blind()
     ensures { HandlerLaw }
 {}
 
-/// Confidentiality: nor does a step of the monitored machine.
+/// Confidentiality: nor does a step of the monitored machine, wherever the enclave runs, also the one that enters it.
 pub const fn confidentiality()
     ensures { ConfidentialityLaw }
-{}
-
-/// Nor do so many steps, up to the one that enters it.
-pub const fn runs_are_blind()
-    ensures { RunLaw }
 {}
 
 /// A call that is refused changes nothing but a0, a1, pc, and what every trap and return change.
@@ -89,8 +78,8 @@ pub const fn leaves()
     ensures { LeaveLaw }
 {}
 
-/// From the step with which the host enters an enclave to the one with which the enclave leaves: the host goes on as it was before the
-/// first, past its ecall, but for a0 and a1.
+/// From the step with which the host of a hart enters an enclave to the one with which the enclave leaves, whatever steps of the harts lie
+/// between: the host goes on as it was before the first, past its ecall, but for a0 and a1.
 pub const fn host_comes_back()
     ensures { ReturnLaw }
 {}
@@ -116,22 +105,30 @@ pub const fn any_order_keeps()
     ensures { SchedKeptLaw }
 {}
 
-/// Integrity of an enclave that runs on one hart: no step of the other hart changes its record, its region or its context, enters it or
-/// ends it.
-pub const fn runs_beside()
-    ensures { BesideLaw }
-{}
-
 /// Integrity in any order: steps of two harts spare each enclave that they leave alone, also while it runs on the hart that does not
 /// step.
 pub const fn any_order_spares()
     ensures { SchedSparesLaw }
 {}
 
-/// Confidentiality in any order: two machines that agree but for an enclave that runs on no hart show and leave the same, up to the
-/// step of either hart that enters it.
+/// An enclave that runs on one hart is left alone by steps of the others in any order.
+pub const fn runs_beside()
+    ensures { RunningLaw }
+{}
+
+/// Confidentiality in any order: two machines that agree but for an enclave show and leave the same in steps of which none is its own.
 pub const fn any_order_is_blind()
     ensures { SchedLaw }
+{}
+
+/// A hart runs an enclave behind a step only where it did before, or where the step entered it.
+pub const fn only_entry_runs()
+    ensures { EntryLaw }
+{}
+
+/// So steps of harts on which an enclave does not run are not its own, up to and with the one that enters it.
+pub const fn not_own_up_to_entry()
+    ensures { NotOwnLaw }
 {}
 
 /// Steps of two harts in any order change no byte but those that one of them changes, as a step of its hart may.

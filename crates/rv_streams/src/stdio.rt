@@ -9,6 +9,7 @@ use std::io::{Read, Write};
 const READ_LEN: usize = 4096;
 
 /// Copies as many bytes as there are, and as have room, and answers how many.
+#[inline(always)]
 fn give(bytes: &[u8], buffer: &mut [u8]) -> usize
     ensures count { result ≡ min (length bytes.now) (length buffer.old) }
     ensures copied { take result buffer.new ≡ take result bytes.now }
@@ -56,22 +57,22 @@ impl<R: Read> StandardSource<R> {
         }
     }
 
-    /// Reads ahead where all that was read ahead is given: then nothing is ahead only at the end.
+    /// Reads ahead. Nothing is ahead then only at the end.
     ///
     /// # Errors
     ///
     /// Where the reader failed. Nothing is lost then.
-    fn read_ahead(&mut self) -> Result<(), DeviceFault>
-        requires { self.old.failed_calls < 2 ^ 64 - 1 }
+    #[cold]
+    #[inline(never)]
+    fn fill(&mut self) -> Result<(), DeviceFault>
+        requires nothing { self.old.start ≡ self.old.end }
+        requires working { self.old.failed_calls < 2 ^ 64 - 1 }
         ensures bytes { TellsAll R.remaining → rest_of self.new ≡ rest_of self.old }
         ensures end { OnOk result (TellsAll R.remaining → self.new.start ≡ self.new.end → rest_of self.new ≡ []) }
         ensures calls { self.new.calls_left ≡ self.old.calls_left }
         ensures ends { self.new.end_count ≡ self.old.end_count }
         ensures failures { self.new.failed_calls ≡ counted (is_err result) self.old.failed_calls }
     {
-        if self.start < self.end {
-            return Ok(());
-        }
         match self.reader.read(&mut self.buffer) {
             Ok(count) => {
                 self.start = 0;
@@ -83,6 +84,26 @@ impl<R: Read> StandardSource<R> {
                 Err(DeviceFault)
             }
         }
+    }
+
+    /// Reads ahead where all that was read ahead is given: then nothing is ahead only at the end.
+    ///
+    /// # Errors
+    ///
+    /// Where the reader failed. Nothing is lost then.
+    #[inline(always)]
+    fn read_ahead(&mut self) -> Result<(), DeviceFault>
+        requires { self.old.failed_calls < 2 ^ 64 - 1 }
+        ensures bytes { TellsAll R.remaining → rest_of self.new ≡ rest_of self.old }
+        ensures end { OnOk result (TellsAll R.remaining → self.new.start ≡ self.new.end → rest_of self.new ≡ []) }
+        ensures calls { self.new.calls_left ≡ self.old.calls_left }
+        ensures ends { self.new.end_count ≡ self.old.end_count }
+        ensures failures { self.new.failed_calls ≡ counted (is_err result) self.old.failed_calls }
+    {
+        if self.start < self.end {
+            return Ok(());
+        }
+        self.fill()
     }
 }
 

@@ -1,9 +1,8 @@
 use Rattle.std.proofs.Common.{sym, subst}
 use Rattle.rv_debug.specs.BenchState.{BenchState}
-use Rattle.rv_debug.specs.Confidentiality.{PassBy}
 use Rattle.rv_debug.specs.Isolation.{IsSparedIn}
-use Rattle.rv_debug.specs.BothBenches.{BothRan}
-use Rattle.rv_debug.proofs.BothAlike.{Folded, folded, run_alike}
+use Rattle.rv_debug.proofs.AtRest.{rest_all}
+use Rattle.rv_debug.proofs.BothAlike.{Folded, PassEnd, folded, run_alike}
 use Rattle.rv_debug.proofs.Isolation.{integrity}
 use Rattle.rv_debug.proofs.both.run_both.Goals as goal
 
@@ -19,8 +18,11 @@ returns-clause-second c =
 
 pub returns-clause-alike : goal.returns-clause-alike
 returns-clause-alike c agree =
-    subst (λ (end : BothRan). PassBy c.args.slot c.args.a.now c.args.b.now c.args.commands.now end.ran end.why) c.run_commands.ensures
+    subst (PassEnd c.args.slot c.args.a.now c.args.b.now c.args.commands.now) c.run_commands.ensures
     (run_alike c.args.slot c.args.a.now c.args.b.now c.args.commands.now c.invariant.ensures c.invariant-2.ensures agree)
+
+pub returns-clause-at_rest : goal.returns-clause-at_rest
+returns-clause-at_rest c = rest_all c.args.slot c.args.a.now c.args.commands.now c.invariant.ensures
 
 pub returns-clause-first_spares : goal.returns-clause-first_spares
 returns-clause-first_spares c k rests =
