@@ -84,11 +84,12 @@ abbrev pub IsSparedIn : ℕ → Target → Target → Type 0
 IsSparedIn k (Monitored before) (Monitored after) = IsSpared k before.state.shared after.state.shared
 IsSparedIn k _ _ = ⊥
 
--- one that runs on a hart rests under every command that does not step that hart, and pokes no byte of its region
+-- no byte of its region is poked
 abbrev pub PokesNone : ℕ → Target → Deed → Type 0
 PokesNone k target (OneByte address byte) = IsApart k address target
 PokesNone k target _ = Unit {0}
 
+-- one that runs on a hart rests under every command that does not step that hart, and pokes no byte of its region
 abbrev pub RunningLaw : Type 0
 RunningLaw =
     (k own : ℕ) (chosen : OnTurn) (breaks watches : List ℕ) (command : Command) → IsKept chosen.state → runs_on k own (machine_of chosen) ≡ true
