@@ -266,10 +266,15 @@ class Replay:
 
 
 def run_of(setup):
-    """The run of a setup; where the bench refuses the image, that is told, and what it means."""
+    """The run of a setup."""
     try:
         return Run(setup)
     except BenchEnded as error:
-        told = str(error)
-        meant = ": " + whole_fault(told).meant if told in WHOLE_FAULTS else ""
-        raise Fault("%s: %s%s" % (setup.image.name, told, meant)) from None
+        raise told_fault(setup, error) from None
+
+
+def told_fault(setup, error):
+    """The fault of a bench that ended: where it refuses the image, that is told, and what it means."""
+    told = str(error)
+    meant = ": " + whole_fault(told).meant if told in WHOLE_FAULTS else ""
+    return Fault("%s: %s%s" % (setup.image.name, told, meant))

@@ -1,0 +1,136 @@
+"""How harts go back under a debugger: to the step before, or to the last stop before, which is looked for on other benches that play parts of
+the past again."""
+import contextlib
+
+from .gdb_ahead import BLOCK, asked
+from .gdb_stops import INTERRUPTED, Halt
+from .run import MOST_STEPS
+from .timeline import Told, part, turned
+
+FIRST_PART, MORE_BACK = 4096, 8  # steps of the first part that is looked through, and times as many in the next
+MOST_BY_TURNS = 1 << 18  # of a part of two harts, or of single steps
+FAR, AHEAD = 200000, 3  # so many steps from reset, so many steps back are played again before they are asked for
+AT_RESET = "replaylog:begin;"
+
+
+class Back:
+    """The way back of the moves of a debugger. The stops of the part that was looked through last are kept."""
+
+    def __init__(self, moves):
+        self.moves, self.key, self.first, self.end, self.found = moves, None, 0, 0, []
+
+    def step(self, hart):
+        """Goes before the last step of a hart."""
+        moves = self.moves
+        position = moves.timeline.step_before(hart)
+        if position is None:
+            return Halt(hart, AT_RESET)
+        moves.go(position)
+        self.prepare(range(position - 1, position - 1 - AHEAD, -1))
+        return Halt(hart)
+
+    def prepare(self, positions):
+        """Sends benches to steps that may be asked for next, where that takes time."""
+        for position in positions:
+            if position > FAR and position not in self.moves.ready:
+                self.moves.ready[position] = self.moves.timeline.again(position)
+
+    def go(self, hart, harts):
+        """Goes to the last stop of these harts before here; or a watch here, whose access the debugger undoes itself."""
+        moves, here = self.moves, self.moves.timeline.position
+        key = (moves.stops.key(moves.timeline), tuple(harts))
+        if key != self.key or not self.first <= here <= self.end:
+            self.key, self.first, self.end, self.found = key, here, here, []
+        size = FIRST_PART
+        while not self.before(here) and self.first > 0:
+            first = max(0, self.first - size)
+            self.found = self.stops_between(first, self.first, harts) + self.found
+            self.first, size = first, min(size * MORE_BACK, MOST_BY_TURNS if moves.stops.caught or len(harts) > 1 else size * MORE_BACK)
+            if moves.link.interrupted():
+                return Halt(hart, signal=INTERRUPTED)
+        halts = self.before(here)
+        if halts:
+            position, halt = halts[-1]
+            moves.go(position)
+            self.prepare(it for it, _ in halts[-2:-2 - AHEAD:-1])
+            if halt.told:
+                moves.link.tell(halt.told)
+            return halt
+        moves.go(0)
+        at_break = here and moves.stops.is_break(moves.timeline, moves.view.registers(hart)[32])
+        return Halt(hart, "" if at_break else AT_RESET)
+
+    def before(self, here):
+        """The stops before a step, and a watch there."""
+        return [(position, halt) for position, halt in self.found if position < here + bool(halt.reason)]
+
+    def stops_between(self, first, end, harts):
+        """The stops behind step `first`, up to step `end`."""
+        moves, found = self.moves, {}
+        pieces = list(part(moves.timeline.past, first, end))
+        if not moves.stops.is_single and not self.may_stop(first, pieces):
+            return []
+        with contextlib.closing(moves.timeline.again(first)) as ahead:
+            ahead.set_stops(moves.timeline.stops)
+            for it in pieces:
+                if isinstance(it, Told):
+                    ahead.choose(it.hart)
+                    ahead.do(it.line)
+                elif moves.stops.is_single:
+                    found.update(self.single_stops(ahead, it))
+                else:
+                    found.update(self.stops_by_turns(ahead, it))
+        return sorted(((position, halt) for position, halt in found.items() if halt.hart in harts), key=lambda it: it[0])
+
+    def may_stop(self, first, pieces):
+        """Whether there may be a stop in steps of two harts; of one hart it is as soon looked at."""
+        if all(isinstance(it, Told) or it.chosen for it in pieces):
+            return True
+        with contextlib.closing(self.moves.timeline.again(first)) as ahead:
+            ahead.set_stops(self.moves.timeline.stops)
+            for it in pieces:
+                if isinstance(it, Told):
+                    ahead.choose(it.hart)
+                    ahead.do(it.line)
+                elif any(ran.steps < count or self.moves.stops.may_meet(ahead, ran, "")
+                         for _, count, ran in asked(ahead, it.turns, it.count, False)):
+                    return True
+        return False
+
+    def stops_by_turns(self, ahead, steps):
+        """The stops in steps of the past; each run of a hart is an exchange, so that the bench is at the stop."""
+        stops, turns, end = self.moves.stops, steps.turns, ahead.position + steps.count
+        while ahead.position < end:
+            hart, left = int(turns[0]), min(end - ahead.position, MOST_STEPS)
+            if len(set(turns)) > 1:
+                left = min(left, len(turns) - len(turns.lstrip(turns[0])))
+            before = ahead.worlds[hart]
+            ran = ahead.run(hart, left, turns)
+            turns = turned(turns, ran.steps)
+            halt = stops.met(ahead, hart, ran, before) if stops.may_meet(ahead, ran, before) else None
+            if halt:
+                yield ahead.position, halt
+
+    def single_stops(self, ahead, steps):
+        """The stops in steps of the past that are asked one by one, many in one exchange."""
+        stops, left = self.moves.stops, steps
+        while left:
+            now = next(part([left], 0, BLOCK))
+            position, worlds = ahead.position, list(ahead.worlds)
+            for hart, _, ran in asked(ahead, now.turns, now.count, True):
+                position += 1
+                if stops.may_meet(ahead, ran, worlds[hart]):
+                    halt = self.halt_there(ahead, position, hart, ran, worlds[hart])
+                    if halt:
+                        yield position, halt
+                worlds[hart] = ran.world
+            left = next(part([left], BLOCK, left.count), None)
+
+    def halt_there(self, ahead, position, hart, ran, before):
+        """The halt behind a step, for which the bench that is ahead of it is not asked where it would have to be there."""
+        stops = self.moves.stops
+        if not stops.asks(ran):
+            return stops.met(ahead, hart, ran, before)
+        with contextlib.closing(ahead.again(position)) as there:
+            there.set_stops(self.moves.timeline.stops)
+            return stops.met(there, hart, ran, before)
