@@ -1,5 +1,6 @@
 """Many steps of a timeline in one exchange, and where its harts do nothing any more."""
 import contextlib
+import functools
 import re
 
 from .replies import RAN, Ran, trap_of
@@ -8,26 +9,72 @@ from .timeline import Steps, part
 
 RANS = re.compile(RAN.pattern)
 BLOCK = 4096  # steps that are looked through at once
+LONGEST, NO_TRAP = 100, b"trap=-"  # bytes of a reply to `run`, at most; and the end of one that tells of no trap
+RUNS, MOST_QUESTIONS = 256, 16  # runs in one exchange, and what is asked behind each
 
 
-def asked(timeline, turns, count, is_single):
-    """So many steps by the turns, one by one or each hart's at once: for each run its hart, how many steps it was asked for, and its reply.
-    Where one of more steps met a stop, those behind it are not by the turns any more."""
-    timeline.settle()
-    digits = (turns * (count // len(turns) + 1))[:count]
-    runs = [(int(it), 1) for it in digits] if is_single else [(int(it[0][0]), len(it[0])) for it in re.finditer("0+|1+", digits)]
-    lines, chosen = [], timeline.hart
+def runs_of(turns, count, is_single):
+    """Steps as runs: their harts, and how many steps each."""
+    if len(set(turns)) == 1 and not is_single:
+        return [(int(turns[0]), count)]
+    rounds, rest = divmod(count, len(turns))
+    pieces = [[(int(it), 1) for it in digits] if is_single else [(int(it[0][0]), len(it[0])) for it in re.finditer("0+|1+", digits)]
+              for digits in (turns, turns[:rest])]
+    return pieces[0] * rounds + pieces[1]
+
+
+def commands_of_runs(runs, chosen):
+    """The commands that do runs, where hart `chosen` is the chosen one."""
     for hart, length in runs:
         if hart != chosen:
-            lines.append("hart %d" % hart)
+            yield "hart %d" % hart
             chosen = hart
-        lines.append("run %d" % length)
-    block = timeline.bench.block(("\n".join(lines) + "\n").encode(), len(lines)).decode()
-    timeline.hart = chosen
+        yield "run %d" % length
+
+
+@functools.lru_cache(maxsize=8)
+def planned(turns, count, is_single, chosen):
+    """The runs of steps by the turns, the text that asks for them, and the number of lines of its replies."""
+    runs = runs_of(turns, count, is_single)
+    lines = list(commands_of_runs(runs, chosen))
+    return runs, ("\n".join(lines) + "\n").encode(), len(lines)
+
+
+def asked(timeline, turns, count, is_single, is_quiet=None):
+    """So many steps by the turns, one by one or each hart's at once: for each run its hart, how many steps it was asked for, and its reply.
+    Where one of more steps met a stop, those behind it are not by the turns any more. Where `is_quiet` tells of the replies that they need
+    not be looked at, only the last ones are given."""
+    timeline.settle()
+    runs, text, lines = planned(turns, count, is_single, timeline.hart)
+    block = timeline.bench.block(text, lines)
+    timeline.hart = runs[-1][0]
     timeline.add(Steps(turns, count))
-    found = [(hart, length, ran_of_match(it)) for (hart, length), it in zip(runs, RANS.finditer(block))]
-    for hart, _, ran in found:
+    if is_quiet and is_quiet(block, len(runs)):
+        for hart in range(timeline.setup.harts) if block.count(NO_TRAP) < len(runs) else ():
+            timeline.moved[hart] += 1
+        runs = runs[-len(turns):]
+        block = block[-LONGEST * 2 * len(runs):]
+    rans = [ran_of_match(it) for it in RANS.finditer(block.decode())][-len(runs):]
+    for (hart, _), ran in zip(runs, rans):
         timeline.reach(hart, ran.mode, ran.world, ran.trap and ran.steps > 1)
+    return [(hart, length, ran) for (hart, length), ran in zip(runs, rans)]
+
+
+def judged(timeline, stops, hart, count):
+    """Runs of a hart alone, of so many steps in all at most, in one exchange, each with what decides whether it halts: the steps up to it,
+    its reply, and whether it does, or None where that is to be asked there."""
+    timeline.choose(hart)
+    questions = list(stops.questions)[-MOST_QUESTIONS:]
+    runs = min(RUNS, count)
+    lines = ["run %d" % max(1, count // RUNS), *questions]
+    replies = timeline.bench.block(("\n".join(lines * runs) + "\n").encode(), len(lines) * runs).decode().splitlines()
+    found, done = [], 0
+    for first in range(0, len(replies), len(lines)):
+        ran = ran_of_match(RANS.fullmatch(replies[first]))
+        done += ran.steps
+        timeline.reach(hart, ran.mode, ran.world, ran.trap and ran.steps > 1)
+        found.append((done, ran, stops.verdict(timeline, ran, dict(zip(questions, replies[first + 1:first + len(lines)])))))
+    timeline.add(Steps(str(hart), done))
     return found
 
 

@@ -2,7 +2,7 @@
 the past again."""
 import contextlib
 
-from .gdb_ahead import BLOCK, asked
+from .gdb_ahead import BLOCK, asked, judged
 from .gdb_stops import INTERRUPTED, Halt
 from .run import MOST_STEPS
 from .timeline import Told, part, turned
@@ -78,6 +78,8 @@ class Back:
                     ahead.do(it.line)
                 elif moves.stops.is_single:
                     found.update(self.single_stops(ahead, it))
+                elif moves.stops.has_conditions and it.chosen:
+                    found.update(self.judged_stops(ahead, it))
                 else:
                     found.update(self.stops_by_turns(ahead, it))
         return sorted(((position, halt) for position, halt in found.items() if halt.hart in harts), key=lambda it: it[0])
@@ -93,7 +95,7 @@ class Back:
                     ahead.choose(it.hart)
                     ahead.do(it.line)
                 elif any(ran.steps < count or self.moves.stops.may_meet(ahead, ran, "")
-                         for _, count, ran in asked(ahead, it.turns, it.count, False)):
+                         for _, count, ran in asked(ahead, it.turns, it.count, False, self.moves.stops.is_quiet(ahead))):
                     return True
         return False
 
@@ -110,6 +112,16 @@ class Back:
             halt = stops.met(ahead, hart, ran, before) if stops.may_meet(ahead, ran, before) else None
             if halt:
                 yield ahead.position, halt
+
+    def judged_stops(self, ahead, steps):
+        """The stops in steps of one hart, where conditions decide, many in one exchange."""
+        hart, end = int(steps.turns), ahead.position + steps.count
+        while ahead.position < end:
+            position = ahead.position
+            for done, ran, verdict in judged(ahead, self.moves.stops, hart, min(end - position, MOST_STEPS)):
+                halt = Halt(hart) if verdict else None if verdict is False else self.halt_there(ahead, position + done, hart, ran, "")
+                if halt:
+                    yield position + done, halt
 
     def single_stops(self, ahead, steps):
         """The stops in steps of the past that are asked one by one, many in one exchange."""

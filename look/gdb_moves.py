@@ -3,7 +3,7 @@ stop, another one is brought to the stop itself, by the timeline."""
 import time
 
 from . import names
-from .gdb_ahead import asked, ends_of, first_alike
+from .gdb_ahead import asked, ends_of, first_alike, judged
 from .gdb_stops import INTERRUPTED, Halt, Stops, signal_of
 from .gdb_view import View
 from .run import ALIKE, MOST_STEPS
@@ -12,7 +12,7 @@ from .timeline import Steps, part, turned
 SCHEDULE = "0" * 32 + "1" * 32  # of two harts, where no other is asked for
 FIRST_RUN, MORE = 1024, 4  # steps of the first part of a continue, and times as many in the next
 SHORT, LONG = 0.005, 0.02  # seconds: a part that took less is followed by a longer one, one that took more by a shorter one
-MOST_BY_TURNS = 1 << 16  # steps of a part of which each is asked alone, or by turns
+MOST_BY_TURNS = 1 << 17  # steps of a part of which each is asked alone, or by turns
 CAREFUL = 4096  # steps that are done one exchange a turn, behind a stop that was none
 
 
@@ -123,7 +123,7 @@ class Moves:
         size, by_turns, self.careful = FIRST_RUN, len(harts) > 1 or self.stops.is_single, 0
         while True:
             self.timeline.redo()
-            if by_turns or self.stops.watches:
+            if by_turns or self.stops.watches or self.stops.has_conditions:
                 self.follow()
             first, began, room = self.timeline.position, time.monotonic(), self.timeline.room()
             halt = self.advance(self.turns_of(harts), min(size, room or size))
@@ -141,11 +141,16 @@ class Moves:
 
     def advance(self, turns, count):
         """So many steps; the halt where there is one before."""
-        if len(set(turns)) == 1 and not self.stops.is_single or self.careful > 0:
+        if len(set(turns)) == 1 and not self.stops.is_single and not self.stops.has_conditions or self.careful > 0:
             self.careful -= count
             return self.exactly(turns, count)
         first, future, worlds, done = self.timeline.position, list(self.timeline.future), list(self.timeline.worlds), 0
-        for hart, wanted, ran in asked(self.timeline, turns, count, self.stops.is_single):
+        if len(set(turns)) == 1 and not self.stops.is_single:
+            for done, ran, verdict in judged(self.timeline, self.stops, int(turns[0]), count):
+                if verdict is not False:
+                    return self.met_at(first, Steps(turns, done), future, int(turns[0]), ran, worlds[int(turns[0])])
+            return None
+        for hart, wanted, ran in asked(self.timeline, turns, count, self.stops.is_single, self.stops.is_quiet(self.timeline)):
             done += ran.steps
             if ran.steps < wanted or self.stops.may_meet(self.timeline, ran, worlds[hart]):
                 return self.met_at(first, Steps(turns, done), future, hart, ran, worlds[hart])

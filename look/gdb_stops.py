@@ -9,7 +9,7 @@ from .trace import MEMORY, WIDTHS
 
 STEPPED, INTERRUPTED, STOPPED = 5, 2, 0  # signals, as the protocol numbers them
 SIGNALS = {"00000000": 10, "00000001": 11, "00000002": 4, "00000003": 5, "00000005": 11, "00000007": 11}  # of traps, by their cause
-SP, PC = 2, 32
+PC, NO_TRAP = 32, b"trap=-"
 
 
 @dataclass(frozen=True)
@@ -49,11 +49,16 @@ class Stops:
 
     def __init__(self):
         self.breaks, self.beyond, self.watches, self.caught = {}, set(), [], set()
+        self.questions = {}  # the commands whose replies decided conditions
 
     @property
     def is_single(self):
         """Whether it is asked behind each step, and not by the bench alone."""
         return bool(self.beyond or self.caught)
+
+    @property
+    def has_conditions(self):
+        return any(code for it in self.breaks.values() for code in it.values())
 
     def key(self, timeline):
         """What decides where the harts halt."""
@@ -66,6 +71,8 @@ class Stops:
         self.breaks.setdefault(at, {})[kind] = conditions
         if timeline.do("break %x" % at)[0] != "ok":
             self.beyond.add(at)
+        if conditions:
+            self.holds(timeline, timeline.hart, at)  # what it asks is asked behind each run from then on
 
     def clear_break(self, timeline, kind, at):
         self.breaks.get(at, {}).pop(kind, None)
@@ -92,6 +99,17 @@ class Stops:
     def is_break(self, timeline, pc):
         return timeline.is_break(pc) or int(pc, 16) in self.beyond
 
+    def is_quiet(self, timeline):
+        """What tells of the replies to so many runs, as bytes, that no halt is behind any of them."""
+        places = [b"pc=%s " % it.split()[1].rjust(8, "0").encode() for it in timeline.stops if it.startswith("break")]
+        places += [b"pc=%08x " % at for at in self.beyond]
+
+        def is_quiet(block, runs):
+            return block.count(b"why=done") == runs and not (self.caught and block.count(NO_TRAP) < runs) \
+                and not any(it in block for it in places)
+
+        return is_quiet
+
     def may_meet(self, timeline, ran, before):
         """Whether a halt may be behind a run, by its reply alone. `before` is the world before it."""
         return ran.why != "done" or self.is_break(timeline, ran.pc) or bool(self.caught and self.catch(0, ran, before))
@@ -112,17 +130,37 @@ class Stops:
 
     def holds(self, timeline, hart, pc):
         """Whether one of the breakpoints at pc has no condition, or one that holds."""
+        timeline.choose(hart)
+
+        def reply_to(line):
+            self.questions[line] = None
+            return timeline.ask(line)[0][0]
+
+        return self.decided(pc, reply_to)
+
+    def decided(self, pc, reply_to):
+        """Whether one of the breakpoints at pc has no condition, or one that holds by the replies to commands."""
         conditions = [code for it in self.breaks.get(pc, {"": []}).values() for code in (it or [None])]
         if None in conditions:
             return True
-        timeline.choose(hart)
-        values = [line.split("=")[1] for line in timeline.ask("regs")[0]]
+
+        def register(number):
+            return pc if number == PC else int(reply_to("reg %d" % number).split("=")[1], 16)
 
         def memory(at, count):
-            reply = timeline.ask("mem %x %d" % (at, count))[0][0]
+            reply = reply_to("mem %x %d" % (at, count))
             return b"" if reply.startswith("error ") else bytes.fromhex(reply.split(":")[1])
 
-        return any(holds(code, lambda number: int(values[number], 16), memory) for code in conditions)
+        return any(holds(code, register, memory) for code in conditions)
+
+    def verdict(self, timeline, ran, replies):
+        """Whether there is a halt behind a run of one hart, by the replies to `questions` there; None where they do not tell."""
+        if ran.why.startswith("watch"):
+            return None
+        try:
+            return self.is_break(timeline, ran.pc) and self.decided(int(ran.pc, 16), replies.__getitem__)
+        except KeyError:
+            return None
 
     def watched(self, timeline, hart, ran):
         """Why the harts halt behind an access; None where they go on, for it was of a kind that is not watched there. A watch that was
