@@ -262,9 +262,11 @@ class Server:
         return self.detach("")
 
     def end(self, _):
-        """k: without an answer."""
+        """k: gdb wants no answer, and lldb one."""
+        answers_it = self.running and self.running.behind_watches
         self.close()
         self.over = not self.extended
+        return GONE if answers_it else None
 
     def extend(self, _):
         self.extended = True

@@ -1,6 +1,6 @@
 #!/usr/bin/env python3
 """rvlook gdb, asked in its protocol, without a debugger: each step on and back beside `regs`, each halt beside the steps that trace tells,
-two harts beside `sched`, what is written and refused. With names of checks, only those are done."""
+two harts beside `sched`, what is written and refused. With names of checks those are done."""
 import re
 import sys
 import tempfile
@@ -14,6 +14,10 @@ KINDS = {"2": "w", "3": "r", "4": "rw"}
 TURNS = "0" * 32 + "1" * 32
 SHOP, COUNT = 0x800201A0, 0x800201B0  # of examples/enclave_bug: a table in the enclave, and the number behind it
 INSIDE = "800200f8"  # the loop of its application
+STOPS = (  # an image, its words, the breaks, and the watches, each with its kind, place and length
+    (*TIMER, ["80010000"], [("4", 0x80030003, 1)]), (*BUG, ["80020000", "800100f4"], []), (*BUG, [INSIDE], [("2", COUNT, 4)]),
+    (*BUG, [], [("3", COUNT, 4), ("2", SHOP, 16)]), (*BUG, [], [("4", 0x80030006, 2)]),
+    (*BUG, [], [("3", COUNT + 3, 1), ("2", 0x80020FE0, 6)]), (*BUG, ["80020124"], [("3", COUNT + 2, 1), ("2", COUNT, 1)]))
 
 
 def check_steps():
@@ -41,12 +45,9 @@ def stops_of(steps, breaks, watches):
             yield step["step"], bool(hit)
 
 
-def check_stops():
+def check_stops(rows=slice(None)):
     """Each halt of a continue, and each of one back. For a watch it is before the access on the way on, and behind it on the way back."""
-    for image, words, breaks, watches in (
-            (*TIMER, ["80010000"], [("4", 0x80030003, 1)]), (*BUG, ["80020000", "800100f4"], []), (*BUG, [INSIDE], [("2", COUNT, 4)]),
-            (*BUG, [], [("3", COUNT, 4), ("2", SHOP, 16)]), (*BUG, [], [("4", 0x80030006, 2)]),
-            (*BUG, [], [("3", COUNT + 3, 1), ("2", 0x80020FE0, 6)]), (*BUG, ["80020124"], [("3", COUNT + 2, 1), ("2", COUNT, 1)])):
+    for image, words, breaks, watches in STOPS[rows]:
         steps = [it for it in objects("trace", image, *words) if it["object"] == "step"]
         states, client = registers(image, words, ["step 1"] * len(steps)), Client(image, words)
         packets = ["0,%s,4" % at for at in breaks] + ["%s,%x,%x" % it for it in watches]
@@ -58,6 +59,11 @@ def check_stops():
         halts_on(client, name, stops, states, packets)
         halts_back(client, name, stops, states, "80010000" in breaks)
         client.end()
+
+
+def check_watches():
+    """Of check_stops two set-ups alone: a watch of writes, and one of reads beside one of writes."""
+    check_stops(slice(2, 4))
 
 
 def halts_on(client, name, stops, states, packets):
@@ -297,7 +303,7 @@ CHECKS = {name[6:]: check for name, check in globals().items() if name.startswit
 
 
 def main(names):
-    for name in names or CHECKS:
+    for name in names or [it for it in CHECKS if it != "watches"]:
         CHECKS[name]()
     report()
 

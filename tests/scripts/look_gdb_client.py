@@ -15,7 +15,7 @@ def packet_of(text):
 
 def started(words, image, **more):
     """A bridge over the standard streams."""
-    return subprocess.Popen([LOOK, "gdb", *words, image], cwd=ROOT, stdin=subprocess.PIPE, stdout=subprocess.PIPE, **more)
+    return subprocess.Popen([LOOK, "gdb", *words, image], cwd=os.path.dirname(LOOK), stdin=subprocess.PIPE, stdout=subprocess.PIPE, **more)
 
 
 class Client:
