@@ -143,11 +143,17 @@ class Server:
         return {PRIV: little("%08x" % MODES[self.timeline.modes[self.shown]]),
                 WORLD: little("%08x" % WORLDS[self.timeline.worlds[self.shown]])}
 
+    def changing(self):
+        """Something is done, perhaps something else than what had been done behind this step."""
+        self.back.forget()
+        self.commands.entry.limit(self.timeline.position)
+
     def write_register(self, rest):
         """x1 to x31: no command of the bench writes another."""
         number, value = rest.split("=")
         if not 0 < int(number, 16) < PC:
             raise Refused("no command of the bench writes %s" % REGISTERS[int(number, 16)])
+        self.changing()
         self.timeline.choose(self.shown)
         self.moves.tell(["setreg %d %s" % (int(number, 16), little(value))])
         return "OK"
@@ -175,6 +181,7 @@ class Server:
             raise Refused("%d bytes in place of %d" % (len(data), count))
         if count and len(self.moves.view.bytes(first, count)) < count:
             raise Refused("a byte of it is outside RAM")
+        self.changing()
         self.moves.tell(["poke %x %02x" % (first + n, byte) for n, byte in enumerate(data)])
         return "OK"
 
@@ -213,6 +220,7 @@ class Server:
     def resume(self, rest):
         """vCont: each hart does what the first action that names it tells."""
         self.moves.tell_notes()
+        self.changing()
         actions = {}
         for it in rest[1:].split(";"):
             action, _, thread = it.partition(":")
@@ -226,12 +234,14 @@ class Server:
             halt = self.moves.step(stepping[0], running, inside)
         else:
             halt = self.moves.go_on(sorted(running))
-        self.timeline.redo()
+        self.moves.redo()
         return self.halted(halt)
 
-    def go_on(self, rest):
+    def go_on(self, action, place):
         """c and s of a debugger without vCont."""
-        return self.resume(";%s:%s" % (rest, "-1" if self.moved is None else "%x" % (self.moved + 1)))
+        if place:
+            raise Refused("no command of the bench writes pc")
+        return self.resume(";%s:%s" % (action, "-1" if self.moved is None else "%x" % (self.moved + 1)))
 
     def step_back(self, _):
         """Where no thread is named, it is the one that is looked at."""
@@ -245,6 +255,7 @@ class Server:
 
     def monitor(self, rest):
         """A line of the bench or of the prompt, or a word over what was done up to now."""
+        self.changing()
         self.timeline.choose(self.shown)
         text = self.commands.line(bytes.fromhex(rest[1:]).decode("latin-1"))
         self.shown = self.timeline.hart
@@ -299,7 +310,7 @@ ACTS = {
     "!": Server.extend, "?": Server.where, "D": Server.detach, "H": Server.choose, "M": Server.write_memory, "P": Server.write_register,
     "R": Server.restart, "T": lambda server, rest: server.hart_of(rest) >= 0 and "OK", "X": Server.write_binary, "Z": Server.set_stop,
     "k": Server.end, "m": Server.read_memory, "p": Server.read_register, "z": Server.clear_stop, "g": Server.registers,
-    "c": lambda server, rest: server.go_on("c"), "s": lambda server, rest: server.go_on("s"),
+    "c": lambda server, rest: server.go_on("c", rest), "s": lambda server, rest: server.go_on("s", rest),
     "bc": Server.go_back, "bs": Server.step_back, "QRvlookFresh": Server.fresh,
     "QStartNoAckMode": Server.no_acknowledgements, "qAttached": answers("0"), "qC": lambda server, rest: "QC%x" % (server.last + 1),
     "qHostInfo": Server.host, "qProcessInfo": lambda server, rest: "pid:1;" + server.host(rest), "qRcmd": Server.monitor,

@@ -63,6 +63,7 @@ def asked(timeline, turns, count, is_single, is_quiet=None):
 def judged(timeline, stops, hart, count):
     """Runs of a hart alone, of so many steps in all at most, in one exchange, each with what decides whether it halts: the steps up to it,
     its reply, and whether it does, or None where that is to be asked there."""
+    timeline.settle()
     timeline.choose(hart)
     questions = list(stops.questions)[-MOST_QUESTIONS:]
     runs = min(RUNS, count)

@@ -19,6 +19,10 @@ class Back:
     def __init__(self, moves):
         self.moves, self.key, self.first, self.end, self.found = moves, None, 0, 0, []
 
+    def forget(self):
+        """Forgets what was found: what is done from here on may be something else than what had been done."""
+        self.key, self.found = None, []
+
     def step(self, hart):
         """Goes before the last step of a hart."""
         moves = self.moves

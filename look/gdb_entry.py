@@ -32,6 +32,10 @@ class Entry:
     def __init__(self):
         self.known = {}
 
+    def limit(self, position):
+        """Behind this step it is sure no more: something else may be done than what had been done."""
+        self.known = {hart: (entry, min(sure, position), witness) for hart, (entry, sure, witness) in self.known.items()}
+
     def registers(self, timeline, hart):
         """The registers of the host that entered the enclave in which a hart is; None where it is in none."""
         found = self.find(timeline, hart)
@@ -49,7 +53,7 @@ class Entry:
         if not entry or witness != now and timeline.position > sure:
             step = last_switch(timeline, hart, sure if entry else 0)
             entry = self.at(timeline, hart, step) if step else entry
-        self.known[hart] = entry, max(sure, timeline.position), now
+        self.known[hart] = entry, max(sure, timeline.position) if entry else 0, now
         return entry
 
     @staticmethod

@@ -7,6 +7,7 @@ from dataclasses import replace
 from .commands import COMMANDS, Form, is_form, written
 from .faults import Fault
 from .gdb_entry import Entry
+from .gdb_moves import FORGOTTEN
 from .names import Call
 from .run import run_of
 from .session import Session
@@ -33,7 +34,7 @@ class Monitor:
     def line(self, text):
         """What a line tells."""
         out, words, moves = io.StringIO(), text.split(), self.moves
-        before = moves.timeline, moves.timeline.changes
+        before, told = (moves.timeline, moves.timeline.changes), moves.timeline.was_told
         with contextlib.redirect_stdout(out), contextlib.redirect_stderr(out):
             try:
                 self.do(words, out)
@@ -43,6 +44,8 @@ class Monitor:
                 pass  # the help of a word was told
         if before != (moves.timeline, moves.timeline.changes):
             moves.forget(moves.timeline.position)
+            if told and moves.timeline is before[0] and not moves.timeline.was_told:
+                out.write(FORGOTTEN % moves.timeline.position + "\n")
             out.write("" if self.is_fresh else STALE)
         return out.getvalue()
 

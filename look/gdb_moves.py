@@ -13,6 +13,7 @@ SCHEDULE = "0" * 32 + "1" * 32  # of two harts, where no other is asked for
 FIRST_RUN, MORE = 1024, 4  # steps of the first part of a continue, and times as many in the next
 SHORT, LONG = 0.005, 0.02  # seconds: a part that took less is followed by a longer one, one that took more by a shorter one
 MOST_BY_TURNS = 1 << 17  # steps of a part of which each is asked alone, or by turns
+FORGOTTEN = "[what had been done behind step %d is forgotten]"
 CAREFUL = 4096  # steps that are done one exchange a turn, behind a stop that was none
 
 
@@ -51,17 +52,22 @@ class Moves:
     def tell(self, lines):
         """Does commands of the person that change registers or bytes: they are part of what was done, and what had been done behind here
         is no longer what would come."""
-        if self.timeline.future:
-            self.notes.append("[what had been done behind step %d is forgotten]" % self.timeline.position)
-            self.timeline.future = []
         self.forget(self.timeline.position)
+        had = self.timeline.was_told
         self.timeline.do_all(lines)
+        if had and not self.timeline.was_told:
+            self.notes.append(FORGOTTEN % self.timeline.position)
 
     def tell_notes(self):
         """Has the debugger show what could not be told before."""
         for note in self.notes:
             self.link.tell(note)
         self.notes = []
+
+    def redo(self):
+        """Tells again what was told at this step before one came back."""
+        if self.timeline.redo():
+            self.forget(self.timeline.position)
 
     def followed(self, position):
         """The bench that follows, at a step, or None where it is further."""
@@ -91,7 +97,7 @@ class Moves:
         """A step of a hart, or so many as end inside a range; the others go on by their turns up to it."""
         last, alike = None, 0
         while True:
-            self.timeline.redo()
+            self.redo()
             turns = self.turns_of(sorted({hart, *others}))
             halt = self.exactly(turns, turns.index(str(hart))) if str(hart) in turns and turns[0] != str(hart) else None
             if halt:
@@ -104,8 +110,10 @@ class Moves:
                 return self.halt_at(halt)
             self.tell_step(ran, before)
             alike, last = alike + 1 if ran == last else 0, ran
-            if halt or ran.trap or int(ran.pc, 16) not in inside or alike >= ALIKE or self.stops.is_break(self.timeline, ran.pc):
+            if halt or ran.trap or int(ran.pc, 16) not in inside or self.stops.is_break(self.timeline, ran.pc):
                 return Halt(hart)
+            if alike >= ALIKE:
+                return self.halt_at(self.stays([hart], hart, ran))
             if self.link.interrupted():
                 return Halt(hart, signal=INTERRUPTED)
 
@@ -122,7 +130,7 @@ class Moves:
         """Steps of these harts by their turns, up to a stop, to Ctrl-C, or to where they all stay."""
         size, by_turns, self.careful = FIRST_RUN, len(harts) > 1 or self.stops.is_single, 0
         while True:
-            self.timeline.redo()
+            self.redo()
             if by_turns or self.stops.watches or self.stops.has_conditions:
                 self.follow()
             first, began, room = self.timeline.position, time.monotonic(), self.timeline.room()

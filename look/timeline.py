@@ -233,6 +233,11 @@ class Timeline:
         if isinstance(it, Told):
             self.future = self.future[1:] if self.future[:1] == [it] else []
 
+    @property
+    def was_told(self):
+        """Whether something was told in the future."""
+        return any(isinstance(it, Told) for it in self.future)
+
     def room(self):
         """How many steps of the future come before something that was told, or None."""
         count = 0
@@ -243,11 +248,12 @@ class Timeline:
         return None
 
     def redo(self):
-        """Tells again what was told at this step before one came back."""
+        """Tells again what was told at this step before one came back; whether there was such."""
+        found = self.future and isinstance(self.future[0], Told)
         while self.future and isinstance(self.future[0], Told):
-            told = self.future[0]
-            self.choose(told.hart)
-            self.do(told.line)
+            self.choose(self.future[0].hart)
+            self.do(self.future[0].line)
+        return bool(found)
 
     # the way back
 

@@ -1,6 +1,7 @@
 #!/usr/bin/env python3
 """rvlook gdb, asked in its protocol, without a debugger: each step on and back beside `regs`, each halt beside the steps that trace tells,
 two harts beside `sched`, what is written and refused. With names of checks those are done."""
+import random
 import re
 import sys
 import tempfile
@@ -231,6 +232,89 @@ def check_written():
     expect("that it is forgotten is told", "[what had been done behind step 0 is forgotten]\n", client.told)
     client.ask("vCont;c")
     expect("it is forgotten", "00cd", client.ask("m80040000,2"))
+    client.end()
+
+
+class History:
+    """What was typed, as the lines of a script: `done` up to where it is, `future` behind that."""
+
+    def __init__(self, image, words):
+        self.image, self.words, self.done, self.future, self.known = image, words, [], [], {}
+
+    def state(self):
+        """What `regs` tells behind `done`."""
+        return bench(self.words, self.image, [*self.done, "regs"])[-33:]
+
+    def places(self):
+        """The pc behind each step of `done`."""
+        return re.findall(r"^ran 1 pc=(\w+)", "\n".join(bench(self.words, self.image, self.done)), re.M)
+
+    def go_to(self, place):
+        """Steps on to an address, or to where so many steps have brought it."""
+        first = self.done.count("step 1")
+        for _ in range(200):
+            self.step()
+        found = [n for n, it in enumerate(self.places()[first:]) if it == place]
+        for _ in range(199 - found[0] if found else 0):
+            self.back()
+        return bool(found)
+
+    def back_to(self, place):
+        """Steps back to an address, or to reset."""
+        found = [n for n, it in enumerate(self.places()[:-1], 1) if it == place]
+        for _ in range(self.done.count("step 1") - (found[-1] if found else 0)):
+            self.back()
+
+    def step(self):
+        """One step on, with what was written behind it."""
+        following = self.future[1:] if self.future else []
+        self.done.append("step 1")
+        count = next((n for n, line in enumerate(following) if line == "step 1"), len(following))
+        self.done, self.future = self.done + following[:count], following[count:]
+
+    def back(self):
+        """One step back, to behind what was written there; False at reset."""
+        if "step 1" not in self.done:
+            return False
+        last = len(self.done) - 1 - self.done[::-1].index("step 1")
+        self.done, self.future = self.done[:last], self.done[last:] + self.future
+        return True
+
+    def write(self, line):
+        self.done, self.future = [*self.done, line], []
+
+
+def check_random():
+    """Steps, continues to a break, both on and back, and writes between them, in an order by chance: the state is that of a script of what was
+    typed, each time."""
+    chance, (image, words) = random.Random(1), BUG
+    client, history = Client(image, words), History(image, words)
+    expect("Z0", "OK", client.ask("Z0,%s,4" % INSIDE))
+    for number in range(120):
+        what = chance.choice(("s", "s", "s", "bs", "bs", "c", "c", "bc", "w", "r"))
+        if what == "s":
+            history.step()
+        elif what == "bs":
+            history.back()
+        elif what == "w":
+            place, value = 0x80030000 + chance.randrange(8), chance.randrange(256)
+            client.ask("M%x,1:%02x" % (place, value))
+            history.write("poke %x %02x" % (place, value))
+        elif what == "r":
+            register, value = chance.choice((28, 29, 30)), chance.randrange(1 << 32)
+            client.ask("P%x=%s" % (register, value.to_bytes(4, "little").hex()))
+            history.write("setreg %d %x" % (register, value))
+        elif what == "c":
+            if not history.go_to(INSIDE):
+                for _ in range(200):
+                    history.back()
+                continue
+        else:
+            history.back_to(INSIDE)
+        packet = {"s": "vCont;s:1", "c": "vCont;c"}.get(what, what)
+        found = client.halt(packet)[1] if what not in "wr" else ["x%d=%s" % it for it in enumerate(
+            bytes.fromhex(client.ask("g"))[4 * n:4 * n + 4][::-1].hex() for n in range(32))]
+        expect("by chance, %d: %s behind %d lines" % (number, what, len(history.done)), history.state()[:len(found)], found)
     client.end()
 
 

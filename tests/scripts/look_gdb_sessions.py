@@ -15,8 +15,8 @@ GDB, LLDB, ADAPTER = "gdb-multiarch", "lldb-14", "lldb-vscode-14"
 PLAIN = [it for words in ("style enabled off", "width 0", "height 0", "confirm off", "filename-display basename")
          for it in ("-iex", "set " + words)]
 BUILT = {"hmac.elf": "enclave_hmac", "two_harts.elf": "two_harts"}
-HEAD = re.compile(r"    \$ .*\./rvlook gdb (?:--port \d+ )?((?:--\S+ (?:\d+ )?)*)(\S+\.elf).*\n")
-STEP = re.compile(r"    \((gdb|lldb)\) (.*)\n((?:    (?!\((?:gdb|lldb)\) |\$ ).*\n|\n(?=    (?!\((?:gdb|lldb)\) |\$ )))*)")
+HEAD = re.compile(r"^    (?!\().*\./rvlook gdb (?:--port \d+ )?((?:--\S+ (?:\d+ )?)*)(\S+\.elf).*\n", re.M)
+STEP = re.compile(r"    \((gdb|lldb)\) (.*)\n((?:    (?!\((?:gdb|lldb)\) ).*\n|\n(?=    (?!\((?:gdb|lldb)\) )))*)")
 LIMIT = 60  # seconds of a session
 
 
