@@ -128,10 +128,19 @@ class Timeline:
             self.bench.begin(*lines)
 
     def settle(self):
-        """Reads the replies to what was given."""
+        """Reads the replies to what was given. Of each hart the last one tells where it is, and all whether one trapped."""
         given, self.given = self.given, []
-        for (line, hart), replies in zip(given, self.bench.told(*(line for line, _ in given))):
-            self.take(line, hart, replies)
+        counts = [self.setup.harts if line.startswith("sched") else 1 for line, _ in given]
+        block = self.bench.block(b"", sum(counts)).decode("latin-1") if given else ""
+        if block.count("trap=") > block.count("trap=-"):
+            self.moved = [it + 1 for it in self.moved]
+        replies, left = block.splitlines(), set(range(self.setup.harts))
+        while given and left:
+            (line, hart), count = given.pop(), counts.pop()
+            told, replies = replies[-count:], replies[:-count]
+            if line.startswith(("step", "sched")):
+                self.take(line, hart, told)
+                left -= {hart} if line.startswith("step") else left
 
     # what is asked
 
