@@ -12,7 +12,7 @@ from .gdb_link import Gone, Link, escaped, hex_of, little, unescaped
 from .gdb_monitor import Monitor
 from .gdb_moves import Moves
 from .gdb_stops import Halt, Watch
-from .gdb_target import CORE, ENTERED, MODES, NUMBERS, PC, PRIV, REGISTERS, TRIPLE, WORLD, WORLDS, memory_text, target_text, threads_text
+from .gdb_target import CORE, ENTERED, MODES, PC, PRIV, REGISTERS, TRIPLE, WORLD, WORLDS, memory_text, target_text, threads_text
 from .run import told_fault
 from .timeline import Timeline
 
@@ -31,8 +31,8 @@ class Refused(Exception):
 
 
 class Server:
-    """Answers packets. `shown` is the hart that is looked at, `moved` the one that goes on or back (None where any may), `last` the one that
-    halted."""
+    """Answers packets. `shown` is the hart that is looked at, `moved` the one that goes on or back (None where any may), `last` the one
+    that halted."""
 
     def __init__(self, link, setup, symbols):
         self.link, self.setup, self.symbols = link, setup, symbols

@@ -1,5 +1,5 @@
-"""How harts go back under a debugger: to the step before, or to the last stop before, which is looked for on other benches that play parts of
-the past again."""
+"""How harts go back under a debugger: to the step before, or to the last stop before, which is looked for on other benches that play parts
+of the past again."""
 import contextlib
 
 from .gdb_ahead import BLOCK, asked, judged

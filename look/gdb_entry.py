@@ -6,7 +6,7 @@ from dataclasses import dataclass
 from .gdb_ahead import BLOCK, asked
 from .gdb_target import SAVED
 from .names import NUMBER_OF
-from .timeline import Steps, Told, part
+from .timeline import Told, part
 
 FIRST_PART, MORE = 4096, 8  # steps of the first part that is looked through, and times as many in the next
 PC, CALL = 32, 4  # the register pc, and the bytes of an ecall

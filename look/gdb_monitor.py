@@ -1,5 +1,5 @@
-"""What `monitor` takes: the lines of the bench and of the prompt, the words of rvlook over what was done up to now, and what is asked of the
-bridge itself."""
+"""What `monitor` takes: the lines of the bench and of the prompt, the words of rvlook over what was done up to now, and what is asked of
+the bridge itself."""
 import contextlib
 import io
 from dataclasses import replace
@@ -99,7 +99,8 @@ class Monitor:
         if what == "none":
             stops.caught.clear()
         elif what in CAUGHT and what != "trap" and not has_worlds:
-            print("without the monitor there is one world, and no call: write ./rvlook gdb --monitor %s" % self.moves.timeline.setup.image.name)
+            print("without the monitor there is one world, and no call: write ./rvlook gdb --monitor %s"
+                  % self.moves.timeline.setup.image.name)
         elif what in CAUGHT:
             stops.caught.add(what)
         elif what:

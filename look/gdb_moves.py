@@ -134,6 +134,7 @@ class Moves:
             if by_turns or self.stops.watches or self.stops.has_conditions:
                 self.follow()
             first, began, room = self.timeline.position, time.monotonic(), self.timeline.room()
+            size = size if by_turns or not self.stops.has_conditions else MOST_STEPS  # of which each break met ends a part
             halt = self.advance(self.turns_of(harts), min(size, room or size))
             if not halt and room is None:
                 halt = self.end_of(harts, first)

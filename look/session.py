@@ -1,5 +1,5 @@
-"""What the prompt does with a line: the bench's commands, in which symbols and ABI names may stand, and a few of its own, for what a debugger
-has not."""
+"""What the prompt does with a line: the bench's commands, in which symbols and ABI names may stand, and a few of its own, for what a
+debugger has not."""
 import inspect
 from difflib import get_close_matches
 

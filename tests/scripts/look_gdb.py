@@ -28,8 +28,8 @@ def check_steps():
         expect("%s at reset" % image, ("", states[0]), client.halt("?"))
         for step in range(1, count + 1):
             expect("%s, on to step %d" % (image, step), ("", states[step]), client.halt("vCont;s:1"))
-            expect("the same by p and g", (states[step][32][3:], "".join(bytes.fromhex(it.split("=")[1])[::-1].hex() for it in states[step])),
-                   (bytes.fromhex(client.ask("p20"))[::-1].hex(), client.ask("g")))
+            values = [bytes.fromhex(it.split("=")[1])[::-1].hex() for it in states[step]]
+            expect("the same by p and g", (values[32], "".join(values)), (client.ask("p20"), client.ask("g")))
         for step in range(count - 1, -1, -1):
             expect("%s, back to step %d" % (image, step), ("", states[step]), client.halt("bs"))
         expect("%s before reset" % image, ("replaylog:begin", states[0]), client.halt("bs"))
@@ -177,8 +177,8 @@ def check_turns():
     client, done = Client(image, words), ""
     expect("two threads", "m1,2", client.ask("qfThreadInfo"))
     for packet, hart, digits in (
-            *[("vCont;s:1;c", 0, "0")] * 5, *[("vCont;s:2", 1, "1")] * 7, *[("vCont;s:1;c", 0, "0")] * 3, ("vCont;s:2;c", 1, "0" * 29 + "1"),
-            *[("vCont;s:2;c", 1, "1")] * 4, *[("vCont;s:1", 0, "0")] * 9, ("vCont;s:1;c:2", 0, "1" * 32 + "0")):
+            *[("vCont;s:1;c", 0, "0")] * 5, *[("vCont;s:2", 1, "1")] * 7, *[("vCont;s:1;c", 0, "0")] * 3,
+            ("vCont;s:2;c", 1, "0" * 29 + "1"), *[("vCont;s:2;c", 1, "1")] * 4, *[("vCont;s:1", 0, "0")] * 9, ("vCont;s:1;c:2", 0, "1" * 32 + "0")):
         found, done = client.halt(packet), done + digits
         expect("%s behind %s" % (packet, done), state_behind(image, words, done, hart), found[1])
     client.ask("Hc0")
@@ -285,8 +285,8 @@ class History:
 
 
 def check_random():
-    """Steps, continues to a break, both on and back, and writes between them, in an order by chance: the state is that of a script of what was
-    typed, each time."""
+    """Steps, continues to a break, both on and back, and writes between them, in an order by chance: the state is that of a script of what
+    was typed, each time."""
     chance, (image, words) = random.Random(1), BUG
     client, history = Client(image, words), History(image, words)
     expect("Z0", "OK", client.ask("Z0,%s,4" % INSIDE))
@@ -322,8 +322,8 @@ def check_refused():
     """What the bench has no command for is told, and nothing is written for a break."""
     client = Client(*TIMER)
     before = client.ask("m80010000,100")
-    for packet in ("P20=00000180", "P0=01000000", "P59=03000000", "m7ffffffc,4", "M80100000,1:00", "X800fffff,2:ab", "M80010000,2:ab", "Hg3",
-                   "p99", "T3", "Z2,80010000,33"):
+    for packet in ("P20=00000180", "P0=01000000", "P59=03000000", "m7ffffffc,4", "M80100000,1:00", "X800fffff,2:ab", "M80010000,2:ab",
+                   "Hg3", "p99", "T3", "Z2,80010000,33"):
         expect(packet, "E", client.ask(packet)[:1])
     expect("it is told in words", "E.no command of the bench writes pc", client.ask("P20=00000180"))
     expect("no such packet", "", client.ask("vNothing"))
@@ -365,7 +365,8 @@ def check_monitor():
     """`monitor` takes a line of the bench, of the prompt, and a word over what was done; what steps is seen behind it."""
     image, words = TIMER
     states, client = registers(image, words, ["step 1"] * 40), Client(image, words)
-    expect("a line of the bench", "ran 29 pc=80020000 mode=S world=e0 why=done trap=00000009:00000000", client.monitor("step 29").split("\n")[0])
+    expect("a line of the bench", "ran 29 pc=80020000 mode=S world=e0 why=done trap=00000009:00000000",
+           client.monitor("step 29").split("\n")[0])
     expect("it is told to read anew", True, "maintenance flush register-cache" in client.told)
     expect("the registers behind it", states[29][32][3:], bytes.fromhex(client.ask("p20"))[::-1].hex())
     expect("QRvlookFresh", "OK", client.ask("QRvlookFresh"))

@@ -97,7 +97,8 @@ def check_program():
     for words, environment, told in (
             ([TIMER[0]], {"RVBENCH": "/none"}, "there is no program at /none; ./prove builds it, or RVBENCH names another"),
             (["README.md", "--kind", "elf"], {}, None), (["--harts", "2", TIMER[0]], {}, "--harts 2 needs --monitor")):
-        done = subprocess.run([LOOK, "gdb", *words], cwd=ROOT, input=b"", capture_output=True, env={**os.environ, **environment}, check=False)
+        done = subprocess.run([LOOK, "gdb", *words], cwd=ROOT, input=b"", capture_output=True, check=False,
+                              env={**os.environ, **environment})
         expect("%s: the status" % words, 1, done.returncode)
         expect("%s: the line" % words, True, done.stderr.decode() == "rvlook: %s\n" % told or not told
                and bool(re.fullmatch(r"rvlook: [^\n]*\n", done.stderr.decode())))

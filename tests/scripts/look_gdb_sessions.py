@@ -1,6 +1,6 @@
 #!/usr/bin/env python3
-"""Whole sessions with the debuggers that are installed. Those of docs/DEBUGGER.md are typed again, and each command gives what stands behind
-it, where `...` stands for any lines; with --write the page is given what they tell. One by MI and one by DAP do what an editor does."""
+"""Whole sessions with the debuggers that are installed. Those of docs/DEBUGGER.md are typed again, and each command gives what stands
+behind it, where `...` stands for any lines. One by MI and one by DAP do what an editor does."""
 import json
 import os
 import re
@@ -40,12 +40,17 @@ def sessions_of(text):
         yield head[2], head[1].strip(), STEP.findall(text[head.end():end])
 
 
+def told_by(words, folder, lines):
+    """What a program tells of these lines."""
+    return subprocess.run(words, cwd=folder, text=True, input="".join(it + "\n" for it in lines), stdout=subprocess.PIPE,
+                          stderr=subprocess.STDOUT, timeout=LIMIT, check=False).stdout
+
+
 def told_by_gdb(folder, file, words, commands):
     """What each command tells."""
     target = "target remote | ./rvlook gdb %s %s" % (words, file)
-    done = subprocess.run([GDB, "-q", "-nx", *PLAIN, "-x", "look/gdb_client.py", file, "-ex", target], cwd=folder, text=True,
-                          input="".join(it + "\n" for it in commands), stdout=subprocess.PIPE, stderr=subprocess.STDOUT, timeout=LIMIT, check=False)
-    return done.stdout.split("(gdb) ")[1:len(commands) + 1]
+    told = told_by([GDB, "-q", "-nx", *PLAIN, "-x", "look/gdb_client.py", file, "-ex", target], folder, commands)
+    return told.split("(gdb) ")[1:len(commands) + 1]
 
 
 def bridge_of(folder, file, words):
@@ -163,8 +168,7 @@ def check_machine_interface(folder):
     bridge, port = bridge_of(folder, "hmac.elf", "--monitor")
     asked = ["-target-select remote localhost:" + port, "-break-insert authenticate", "-exec-continue", "-stack-list-frames",
              "-data-evaluate-expression length", "-exec-next", "-exec-step-instruction --reverse", "-gdb-exit"]
-    done = subprocess.run([GDB, "-q", "-nx", "-i=mi", "-x", "look/gdb_client.py", "hmac.elf"], cwd=folder, text=True,
-                          input="".join(it + "\n" for it in asked), stdout=subprocess.PIPE, stderr=subprocess.STDOUT, timeout=LIMIT, check=False).stdout
+    done = told_by([GDB, "-q", "-nx", "-i=mi", "-x", "look/gdb_client.py", "hmac.elf"], folder, asked)
     for text in ('reason="breakpoint-hit"', 'func="authenticate"', 'func="main"', 'value="14"', 'reason="end-stepping-range"', "^exit"):
         expect("MI: " + text, True, text in done)
     expect("MI: the bridge ends", 0, bridge.wait(10))
