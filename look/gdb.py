@@ -6,7 +6,7 @@ import sys
 import threading
 
 from . import names
-from .faults import BenchEnded
+from .faults import BenchEnded, Fault
 from .gdb_back import Back
 from .gdb_link import Gone, Link, escaped, hex_of, little, unescaped
 from .gdb_monitor import Monitor
@@ -319,12 +319,19 @@ ACTS = {
     "vCont?": answers("vCont;c;C;s;S;r"), "vKill": Server.kill, "vRun": Server.run_again}
 
 
-def link_of(port):
+def link_of(setup, port):
     """The connection with the debugger: over the standard streams, or over a port of this machine, to the first that comes. Whoever comes
     to the port after that one is turned away, in a thread of its own."""
+    if port is None and sys.stdin.isatty():
+        words = " ".join([*(["--monitor"] if setup.monitor else []), setup.image.name])
+        raise Fault("a debugger speaks here, and no person: gdb-multiarch %s -ex 'target remote | ./rvlook gdb %s'; or --port N" % (
+            setup.image.name, words))
     if port is None:
         return Link(sys.stdin.fileno(), sys.stdout.fileno())
-    listening = socket.create_server(("localhost", port))
+    try:
+        listening = socket.create_server(("localhost", port))
+    except (OSError, OverflowError) as error:
+        raise Fault("port %d: %s" % (port, getattr(error, "strerror", None) or error)) from None
     print("rvlook: localhost:%d" % listening.getsockname()[1], file=sys.stderr, flush=True)
     connection = listening.accept()[0]
     connection.setsockopt(socket.IPPROTO_TCP, socket.TCP_NODELAY, 1)
@@ -347,7 +354,7 @@ def serve_gdb(setup, symbols, port):
         signal.signal(signal.SIGINT, signal.SIG_IGN)  # of the terminal that the debugger shares; its own Ctrl-C comes as a byte
     server = None
     try:
-        server = Server(link_of(port), setup, symbols)
+        server = Server(link_of(setup, port), setup, symbols)
         server.serve()
     except Gone:
         print("rvlook: the debugger has gone", file=sys.stderr)

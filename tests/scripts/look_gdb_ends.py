@@ -1,6 +1,7 @@
 #!/usr/bin/env python3
 """How rvlook gdb ends: one line on standard error, and no process is left. And how fast Ctrl-C halts a run."""
 import os
+import pty
 import re
 import signal
 import socket
@@ -127,6 +128,10 @@ def check_port():
     expect("it is told", "rvlook: a second debugger came to the port, and was turned away\n", process.stderr.readline().decode())
     expect("the first one goes on", "T05", asked_at(first, "vCont;s:1")[:3])
     numbers = children_of(process)
+    for words, told in ((["--port", str(port)], "port %d: Address already in use" % port),
+                        (["--port", "99999"], "port 99999: ")):
+        done = subprocess.run([LOOK, "gdb", *words, TIMER[0]], cwd=ROOT, capture_output=True, text=True, check=False)
+        expect("%s: refused" % words, (1, True, 1), (done.returncode, told in done.stderr, done.stderr.count("\n")))
     first.close()
     ended("the first one goes", process, numbers, 0, GONE)
     try:
@@ -139,6 +144,16 @@ def check_port():
     process.stderr.readline()
     process.send_signal(signal.SIGINT)
     expect("Ctrl-C where nobody came", (130, "rvlook: stopped\n"), (process.wait(10), process.stderr.read().decode()))
+
+
+def check_person():
+    """Typed at a terminal it tells how a debugger is started."""
+    master, slave = pty.openpty()
+    done = subprocess.run([LOOK, "gdb", *TIMER[1], TIMER[0]], cwd=ROOT, stdin=slave, capture_output=True, text=True, check=False)
+    expect("at a terminal", (1, "rvlook: a debugger speaks here, and no person: gdb-multiarch %s -ex 'target remote | ./rvlook gdb --monitor "
+                             "%s'; or --port N\n" % (TIMER[0], TIMER[0])), (done.returncode, done.stderr))
+    os.close(master)
+    os.close(slave)
 
 
 def check_interrupt():
@@ -165,7 +180,7 @@ def check_interrupt():
 
 def main():
     signal.alarm(200)
-    for check in (check_detach, check_killed, check_program, check_port, check_interrupt):
+    for check in (check_detach, check_killed, check_program, check_port, check_person, check_interrupt):
         check()
     report()
 
