@@ -91,6 +91,11 @@ class Moves:
             return str(harts[0])
         return self.timeline.turns_of(self.schedule)
 
+    def turn_of(self, hart):
+        """The turns, where the next one is this hart's; else the hart alone."""
+        turns = self.timeline.turns_of(self.schedule) if self.timeline.setup.harts > 1 else ""
+        return turns if turns.startswith(str(hart)) else str(hart)
+
     # one step
 
     def step(self, hart, others, inside=()):
@@ -98,13 +103,12 @@ class Moves:
         last, alike = None, 0
         while True:
             self.redo()
-            turns = self.turns_of(sorted({hart, *others}))
-            halt = self.exactly(turns, turns.index(str(hart))) if str(hart) in turns and turns[0] != str(hart) else None
+            turns = self.turns_of([hart, *others])
+            halt = self.exactly(turns, turns.index(str(hart))) if str(hart) in turns else None
             if halt:
                 return self.halt_at(halt)
-            turns = self.turns_of(sorted({hart, *others})) if str(hart) in turns else str(hart)
             before = self.timeline.worlds[hart]
-            ran = self.view.step(hart, turns)
+            ran = self.view.step(hart, self.turn_of(hart))
             halt = self.stops.met(self.timeline, hart, ran, before) if ran.why != "done" else None
             if halt and halt.reason:
                 return self.halt_at(halt)

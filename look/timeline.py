@@ -285,15 +285,11 @@ class Timeline:
     # whose turn it is
 
     def turns_of(self, schedule):
-        """The schedule from the turn on that comes next: it goes on where it was, or else begins behind the hart that stepped last."""
-        last = next((it for it in reversed(self.past) if isinstance(it, Steps)), None)
-        if last is None:
-            return schedule
-        now = turned(last.turns, last.count)
-        if len(now) == len(schedule) and now in schedule * 2:
-            return now
-        behind = [n for n in range(len(schedule)) if schedule[n - 1] == str(last.last) != schedule[n]]
-        return turned(schedule, behind[0]) if behind else schedule
+        """The schedule from the turn on that comes next: it goes on where it was, whatever a hart did alone meanwhile."""
+        for it in reversed(self.past):
+            if isinstance(it, Steps) and len(it.turns) == len(schedule) and it.turns in schedule * 2:
+                return turned(it.turns, it.count)
+        return schedule
 
     def step_before(self, hart):
         """The step before the last one of a hart, or None where it did none."""

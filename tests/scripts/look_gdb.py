@@ -178,7 +178,7 @@ def check_turns():
     expect("two threads", "m1,2", client.ask("qfThreadInfo"))
     for packet, hart, digits in (
             *[("vCont;s:1;c", 0, "0")] * 5, *[("vCont;s:2", 1, "1")] * 7, *[("vCont;s:1;c", 0, "0")] * 3,
-            ("vCont;s:2;c", 1, "0" * 29 + "1"), *[("vCont;s:2;c", 1, "1")] * 4, *[("vCont;s:1", 0, "0")] * 9, ("vCont;s:1;c:2", 0, "1" * 32 + "0")):
+            ("vCont;s:2;c", 1, "0" * 24 + "1"), *[("vCont;s:2;c", 1, "1")] * 4, *[("vCont;s:1", 0, "0")] * 9, ("vCont;s:1;c:2", 0, "1" * 27 + "0")):
         found, done = client.halt(packet), done + digits
         expect("%s behind %s" % (packet, done), state_behind(image, words, done, hart), found[1])
     client.ask("Hc0")
@@ -209,6 +209,52 @@ def check_schedule(image, words, schedule):
                client.halt("bc")[1])
     expect("by %s back to reset" % schedule, ("replaylog:begin", True), (client.halt("bc")[0], len(stops) > 1))
     client.end()
+
+
+def check_harts():
+    """Each halt of two harts at breaks and watches, on and back, beside the trace of their schedule."""
+    image, words = HARTS
+    breaks, watches = ["80020000", "80010028"], [("4", 0x80030000, 4), ("2", 0x80030004, 8)]
+    packets = ["0,%s,4" % at for at in breaks] + ["%s,%x,%x" % it for it in watches]
+    for schedule in (TURNS, "01"):
+        digits = (schedule * 400)[:448]
+        with tempfile.NamedTemporaryFile("w") as script:
+            script.write("".join("sched %s\n" % digits[n:n + 64] for n in range(0, len(digits), 64)))
+            script.flush()
+            steps = [it for it in objects("trace", image, *words, "--script", script.name, "--steps", "0") if it["object"] == "step"]
+        stops, client = list(stops_of(steps, breaks, watches))[:12], Client(image, words)
+        client.monitor("schedule " + schedule)
+        for packet in packets:
+            client.ask("Z" + packet)
+        for step, is_watch in stops:
+            hart_on(client, schedule, digits[:step], is_watch, packets)
+        for step, is_watch in stops[-2::-1]:
+            hart_back(client, schedule, digits[:step], is_watch)
+        client.end()
+
+
+def hart_on(client, schedule, digits, is_watch, packets):
+    """A halt on the way on; for a watch the hart that met it does the access alone, as gdb has it do."""
+    hart, name = int(digits[-1]), "by %s on to step %d" % (schedule, len(digits))
+    reason, state = client.halt("vCont;c")
+    expect(name, (is_watch, state_behind(*HARTS, digits[:-1] if is_watch else digits, hart)), (bool(reason), state))
+    if is_watch:
+        for packet in packets:
+            client.ask("z" + packet)
+        expect(name + ", done", state_behind(*HARTS, digits, hart), client.halt("vCont;s:%d" % (hart + 1))[1])
+        for packet in packets:
+            client.ask("Z" + packet)
+
+
+def hart_back(client, schedule, digits, is_watch):
+    """A halt on the way back; of a watch the access is undone by the hart that met it."""
+    hart, name = int(digits[-1]), "by %s back to step %d" % (schedule, len(digits))
+    reason, state = client.halt("bc")
+    expect(name, (is_watch, state_behind(*HARTS, digits, hart)), (bool(reason), state))
+    if is_watch:
+        client.ask("Hc%d" % (hart + 1))
+        expect(name + ", undone", state_behind(*HARTS, digits[:-1], hart), client.halt("bs")[1])
+        client.ask("Hc0")
 
 
 def check_written():
