@@ -10,6 +10,7 @@ from .timeline import Told, part, turned
 FIRST_PART, MORE_BACK = 4096, 8  # steps of the first part that is looked through, and times as many in the next
 MOST_BY_TURNS = 1 << 18  # of a part of two harts, or of single steps
 FAR, AHEAD = 200000, 3  # so many steps from reset, so many steps back are played again before they are asked for
+MOST_READY = 6  # benches that wait at earlier steps
 AT_RESET = "replaylog:begin;"
 
 
@@ -35,9 +36,12 @@ class Back:
 
     def prepare(self, positions):
         """Sends benches to steps that may be asked for next, where that takes time."""
+        ready = self.moves.ready
         for position in positions:
-            if position > FAR and position not in self.moves.ready:
-                self.moves.ready[position] = self.moves.timeline.again(position)
+            if position > FAR and position not in ready:
+                ready[position] = self.moves.timeline.again(position)
+        while len(ready) > MOST_READY:
+            ready.pop(min(ready)).close()
 
     def go(self, hart, harts):
         """Goes to the last stop of these harts before here; or a watch here, whose access the debugger undoes itself."""

@@ -67,9 +67,10 @@ def name_of(place):
 
 def before_monitor():
     """Tells the bridge that all is read anew behind a line of `monitor`."""
-    connection = gdb.selected_inferior().connection
-    if isinstance(connection, gdb.RemoteTargetConnection):
-        connection.send_packet("QRvlookFresh")
+    try:
+        gdb.execute("maintenance packet QRvlookFresh", to_string=True)
+    except gdb.error:
+        pass  # there is no bridge yet, and gdb tells so of the line itself
 
 
 register_unwinder(None, Entered(), replace=True)

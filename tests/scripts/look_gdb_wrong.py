@@ -38,7 +38,7 @@ ALL = (
           "        timeline.do_all(['poke %x %s' % (at + n, it) for n, it in enumerate(('73', '00', '10', '00'))])\n        if conditions:\n",
           "refused", "no byte is written"),
     Wrong("the other hart does not go on", "gdb_moves.py",
-          "turns = self.turns_of(sorted({hart, *others}))\n            halt", "turns = str(hart)\n            halt", "turns", "behind"),
+          "turns = self.turns_of([hart, *others])", "turns = str(hart)", "turns", "behind"),
     Wrong("what gdb shows is of the step before", "gdb_view.py",
           "self.values[hart] = [line.partition(\"=\")[2] for line in seen[:REGISTERS]]", "self.values[hart] = before",
           "steps", "on to step"),
