@@ -4,8 +4,8 @@ import functools
 import re
 
 from .replies import RAN, Ran, trap_of
-from .run import ALIKE
-from .timeline import Steps, part
+from .run import ALIKE, MOST_STEPS
+from .timeline import Steps, part, turned
 
 RANS = re.compile(RAN.pattern)
 BLOCK = 4096  # steps that are looked through at once
@@ -58,6 +58,20 @@ def asked(timeline, turns, count, is_single, is_quiet=None):
     for (hart, _), ran in zip(runs, rans):
         timeline.reach(hart, ran.mode, ran.world, ran.trap and ran.steps > 1)
     return [(hart, length, ran) for (hart, length), ran in zip(runs, rans)]
+
+
+def by_turns(timeline, stops, turns, count):
+    """So many steps by the turns, each run of a hart in an exchange of its own, so that the bench is never further than a stop: behind each
+    run the halt there, or None."""
+    end = timeline.position + count
+    while timeline.position < end:
+        hart, left = int(turns[0]), min(end - timeline.position, MOST_STEPS)
+        if len(set(turns)) > 1:
+            left = min(left, len(turns) - len(turns.lstrip(turns[0])))
+        before = timeline.worlds[hart]
+        ran = timeline.run(hart, 1 if stops.is_single else left, turns)
+        turns = turned(turns, ran.steps)
+        yield stops.met(timeline, hart, ran, before) if stops.may_meet(timeline, ran, before) else None
 
 
 def judged(timeline, stops, hart, count):

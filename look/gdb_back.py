@@ -2,16 +2,20 @@
 of the past again."""
 import contextlib
 
-from .gdb_ahead import BLOCK, asked, judged
+from .gdb_ahead import BLOCK, asked, by_turns, judged
 from .gdb_stops import INTERRUPTED, Halt
 from .run import MOST_STEPS
-from .timeline import Told, part, turned
+from .timeline import Told, part
 
 FIRST_PART, MORE_BACK = 4096, 8  # steps of the first part that is looked through, and times as many in the next
 MOST_BY_TURNS = 1 << 18  # of a part of two harts, or of single steps
 FAR, AHEAD = 200000, 3  # so many steps from reset, so many steps back are played again before they are asked for
 MOST_READY = 6  # benches that wait at earlier steps
 AT_RESET = "replaylog:begin;"
+
+
+class Interrupted(Exception):
+    """Ctrl-C came while a stop was looked for."""
 
 
 class Back:
@@ -43,9 +47,23 @@ class Back:
         while len(ready) > MOST_READY:
             ready.pop(min(ready)).close()
 
+    def ask_person(self):
+        """Whether Ctrl-C came, which ends a search."""
+        if self.moves.link.interrupted():
+            raise Interrupted
+
     def go(self, hart, harts):
+        """Goes to the last stop of these harts before here, or stays here where Ctrl-C comes before it is found."""
+        try:
+            return self.go_to_stop(hart, harts)
+        except Interrupted:
+            self.forget()
+            return Halt(hart, signal=INTERRUPTED)
+
+    def go_to_stop(self, hart, harts):
         """Goes to the last stop of these harts before here; or a watch here, whose access the debugger undoes itself."""
         moves, here = self.moves, self.moves.timeline.position
+        by_turns_alone = moves.stops.is_single or moves.timeline.setup.harts > 1
         key = (moves.stops.key(moves.timeline), tuple(harts))
         if key != self.key or not self.first <= here <= self.end:
             self.key, self.first, self.end, self.found = key, here, here, []
@@ -53,9 +71,8 @@ class Back:
         while not self.before(here) and self.first > 0:
             first = max(0, self.first - size)
             self.found = self.stops_between(first, self.first, harts) + self.found
-            self.first, size = first, min(size * MORE_BACK, MOST_BY_TURNS if moves.stops.caught or len(harts) > 1 else size * MORE_BACK)
-            if moves.link.interrupted():
-                return Halt(hart, signal=INTERRUPTED)
+            self.first, size = first, size * MORE_BACK if not by_turns_alone else min(size * MORE_BACK, MOST_BY_TURNS)
+            self.ask_person()
         halts = self.before(here)
         if halts:
             position, halt = halts[-1]
@@ -108,16 +125,9 @@ class Back:
         return False
 
     def stops_by_turns(self, ahead, steps):
-        """The stops in steps of the past; each run of a hart is an exchange, so that the bench is at the stop."""
-        stops, turns, end = self.moves.stops, steps.turns, ahead.position + steps.count
-        while ahead.position < end:
-            hart, left = int(turns[0]), min(end - ahead.position, MOST_STEPS)
-            if len(set(turns)) > 1:
-                left = min(left, len(turns) - len(turns.lstrip(turns[0])))
-            before = ahead.worlds[hart]
-            ran = ahead.run(hart, left, turns)
-            turns = turned(turns, ran.steps)
-            halt = stops.met(ahead, hart, ran, before) if stops.may_meet(ahead, ran, before) else None
+        """The stops in steps of the past, each run of a hart an exchange."""
+        for halt in by_turns(ahead, self.moves.stops, steps.turns, steps.count):
+            self.ask_person()
             if halt:
                 yield ahead.position, halt
 
@@ -125,6 +135,7 @@ class Back:
         """The stops in steps of one hart, where conditions decide, many in one exchange."""
         hart, end = int(steps.turns), ahead.position + steps.count
         while ahead.position < end:
+            self.ask_person()
             position = ahead.position
             for done, ran, verdict in judged(ahead, self.moves.stops, hart, min(end - position, MOST_STEPS)):
                 halt = Halt(hart) if verdict else None if verdict is False else self.halt_there(ahead, position + done, hart, ran, "")
@@ -135,6 +146,7 @@ class Back:
         """The stops in steps of the past that are asked one by one, many in one exchange."""
         stops, left = self.moves.stops, steps
         while left:
+            self.ask_person()
             now = next(part([left], 0, BLOCK))
             position, worlds = ahead.position, list(ahead.worlds)
             for hart, _, ran in asked(ahead, now.turns, now.count, True):

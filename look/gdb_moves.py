@@ -3,11 +3,11 @@ stop, another one is brought to the stop itself, by the timeline."""
 import time
 
 from . import names
-from .gdb_ahead import asked, ends_of, first_alike, judged
+from .gdb_ahead import asked, by_turns, ends_of, first_alike, judged
 from .gdb_stops import INTERRUPTED, Halt, Stops, signal_of
 from .gdb_view import View
 from .run import ALIKE, MOST_STEPS
-from .timeline import Steps, part, turned
+from .timeline import Steps, part
 
 SCHEDULE = "0" * 32 + "1" * 32  # of two harts, where no other is asked for
 FIRST_RUN, MORE = 1024, 4  # steps of the first part of a continue, and times as many in the next
@@ -140,7 +140,7 @@ class Moves:
             first, began, room = self.timeline.position, time.monotonic(), self.timeline.room()
             size = size if by_turns or not self.stops.has_conditions else MOST_STEPS  # of which each break met ends a part
             halt = self.advance(self.turns_of(harts), min(size, room or size))
-            if not halt and room is None:
+            if not halt and room is None and not self.careful > 0:
                 halt = self.end_of(harts, first)
             if halt:
                 return self.halt_at(halt)
@@ -153,10 +153,10 @@ class Moves:
                 size = max(FIRST_RUN, size // 2)
 
     def advance(self, turns, count):
-        """So many steps; the halt where there is one before."""
+        """So many steps, or fewer; the halt where there is one before."""
         if len(set(turns)) == 1 and not self.stops.is_single and not self.stops.has_conditions or self.careful > 0:
             self.careful -= count
-            return self.exactly(turns, count)
+            return self.exactly(turns, count, LONG)
         first, future, worlds, done = self.timeline.position, list(self.timeline.future), list(self.timeline.worlds), 0
         if len(set(turns)) == 1 and not self.stops.is_single:
             for done, ran, verdict in judged(self.timeline, self.stops, int(turns[0]), count):
@@ -179,18 +179,11 @@ class Moves:
         self.careful = CAREFUL
         return self.stops.met(self.timeline, hart, ran, before)
 
-    def exactly(self, turns, count):
-        """Steps of which each run is an exchange, so that the bench is never further than a stop; the halt where there is one."""
-        end = self.timeline.position + count
-        while self.timeline.position < end:
-            hart, left = int(turns[0]), end - self.timeline.position
-            if len(set(turns)) > 1:
-                left = min(left, len(turns) - len(turns.lstrip(turns[0])))
-            before = self.timeline.worlds[hart]
-            ran = self.timeline.run(hart, 1 if self.stops.is_single else left, turns)
-            turns = turned(turns, ran.steps)
-            halt = self.stops.met(self.timeline, hart, ran, before) if self.stops.may_meet(self.timeline, ran, before) else None
-            if halt:
+    def exactly(self, turns, count, seconds=None):
+        """Steps of which each run is an exchange, or as many as are done in some seconds; the halt where there is one."""
+        began = time.monotonic()
+        for halt in by_turns(self.timeline, self.stops, turns, count):
+            if halt or seconds and time.monotonic() > began + seconds:
                 return halt
         return None
 
