@@ -2,7 +2,6 @@
 the bridge itself."""
 import contextlib
 import io
-from dataclasses import replace
 
 from .commands import COMMANDS, Form, is_form, written
 from .faults import Fault
@@ -67,7 +66,7 @@ class Monitor:
     def opened(self, out=None):
         """What the prompt does with a line, over the bench of the debugger."""
         if not self.session:
-            self.session = Session(self.moves, run_of(replace(self.moves.timeline.setup, script=())), self.symbols(), Printer())
+            self.session = Session(self.moves, run_of(self.moves.timeline.setup.with_script((), 0)), self.symbols(), Printer())
         self.session.printer = Printer(stream=out)
         return self.session
 
@@ -87,8 +86,8 @@ class Monitor:
             timeline = self.moves.timeline
             arguments = read([*words[:1], timeline.setup.image.name, *words[1:]])
             limit = arguments.steps if words[0] in FROM_HERE or "--steps" in words else 0
-            script = tuple(commands_of(timeline.past, 0, timeline.hart))
-            arguments.opened = run_of(replace(timeline.setup, script=script, limit=limit)), self.opened().symbols
+            setup = timeline.setup.with_script(commands_of(timeline.past, 0, timeline.hart), limit)
+            arguments.opened = run_of(setup), self.opened().symbols
         arguments.do(arguments)
 
     # of the bridge

@@ -38,6 +38,10 @@ class Setup:
             words.append("--monitor")
         return words + (["--harts", str(self.harts)] if self.harts > 1 else [])
 
+    def with_script(self, lines, limit):
+        """The same with other lines of the script, and so many steps behind it at most."""
+        return replace(self, script=tuple(lines), limit=limit)
+
     def bench(self):
         """A bench at reset."""
         return Bench(self.words(), self.image.text, self.harts)
