@@ -17,10 +17,11 @@ WORDS = """words:
   measure      the digest that create records
   explain      an input of the bench, read beside its faults
   page         the run as one page for a browser
+  gdb          the run under gdb: target remote | ./rvlook gdb IMAGE
   IMAGE alone  a prompt over the pipe
 `./rvlook WORD --help` tells more, and docs/LOOK.md all."""
 
-NAMES = ("map", "trace", "touch", "leak", "timer", "measure", "explain", "page")
+NAMES = ("map", "trace", "touch", "leak", "timer", "measure", "explain", "page", "gdb")
 
 
 class Parser(argparse.ArgumentParser):
@@ -44,6 +45,7 @@ def image_options(parser):
     parser.add_argument("--symbols", metavar="FILE", help="an ELF file, or what nm prints; else the image's own")
     parser.add_argument("--steps", metavar="N", type=int, default=1000000, help="steps behind the script, at most (1000000)")
     parser.add_argument("--json", action="store_true", help="one object a line (docs/LOOK.md)")
+    parser.set_defaults(opened=None)
 
 
 def setup_of(arguments):
@@ -57,6 +59,8 @@ def setup_of(arguments):
 
 def opened(arguments):
     """The run, its symbols and the printer, for a word over an image."""
+    if arguments.opened:
+        return (*arguments.opened, Printer(arguments.json))
     run = run_of(setup_of(arguments))
     return run, symbols_from(arguments.symbols, run.setup.image), Printer(arguments.json)
 
@@ -104,6 +108,12 @@ def do_prompt(arguments):
     show_prompt(*opened(arguments))
 
 
+def do_gdb(arguments):
+    from .gdb import serve_gdb
+    setup = setup_of(arguments)
+    serve_gdb(setup, lambda: symbols_from(arguments.symbols, setup.image), arguments.port)
+
+
 def do_explain(arguments):
     from .explain import show_explain
     show_explain(arguments.input, arguments.words, Printer(arguments.json))
@@ -149,6 +159,10 @@ def timer_options(parser):
     parser.add_argument("--every", metavar="N", type=int, default=1, help="before every Nth step (1)")
 
 
+def gdb_options(parser):
+    parser.add_argument("--port", metavar="N", type=int, help="a port of this machine, 0 for any, in place of the standard streams")
+
+
 def measure_word(words):
     parser = words.add_parser("measure", help="the digest that create records", description="The digest that create records.")
     parser.add_argument("file", metavar="FILE", help="an ELF file, or the raw bytes of the region")
@@ -182,6 +196,7 @@ def parser_of():
     measure_word(words)
     explain_word(words)
     add_word(words, "page", do_page, "The run as one page for a browser")
+    add_word(words, "gdb", do_gdb, "The run under a debugger that speaks the GDB remote serial protocol", gdb_options)
     return parser
 
 

@@ -139,8 +139,24 @@ class Bench:
 
     def ask(self, *commands):
         """The replies to commands that each have one: for each the list of its lines."""
+        self.give(*commands)
+        return self.told(*commands)
+
+    def give(self, *commands):
+        """Gives commands whose replies `told` will read."""
         text = "".join("%s\n%s\n" % (it, MARK) if it == "enclaves" else it + "\n" for it in commands)
         self.send(text.encode("latin-1", "replace"))
+
+    def begin(self, *commands):
+        """Gives commands that it is to do now, whose replies `told` will read."""
+        self.give(*commands)
+        try:
+            self.pending = self.pending[os.write(self.process.stdin.fileno(), self.pending[:PIPE]):]
+        except (BlockingIOError, BrokenPipeError):
+            pass
+
+    def told(self, *commands):
+        """The replies to commands that were given."""
         return [[line.decode("latin-1") for line in self.reply(it.split()[0].encode("latin-1", "replace"))] for it in commands]
 
     def one(self, command):

@@ -38,6 +38,10 @@ class Setup:
             words.append("--monitor")
         return words + (["--harts", str(self.harts)] if self.harts > 1 else [])
 
+    def with_script(self, lines, limit):
+        """The same with other lines of the script, and so many steps behind it at most."""
+        return replace(self, script=tuple(lines), limit=limit)
+
     def bench(self):
         """A bench at reset."""
         return Bench(self.words(), self.image.text, self.harts)
@@ -266,10 +270,15 @@ class Replay:
 
 
 def run_of(setup):
-    """The run of a setup; where the bench refuses the image, that is told, and what it means."""
+    """The run of a setup."""
     try:
         return Run(setup)
     except BenchEnded as error:
-        told = str(error)
-        meant = ": " + whole_fault(told).meant if told in WHOLE_FAULTS else ""
-        raise Fault("%s: %s%s" % (setup.image.name, told, meant)) from None
+        raise told_fault(setup, error) from None
+
+
+def told_fault(setup, error):
+    """The fault of a bench that ended: where it refuses the image, that is told, and what it means."""
+    told = str(error)
+    meant = ": " + whole_fault(told).meant if told in WHOLE_FAULTS else ""
+    return Fault("%s: %s%s" % (setup.image.name, told, meant))

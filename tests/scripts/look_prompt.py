@@ -10,7 +10,7 @@ import tempfile
 import termios
 import time
 
-from look_checks import PROGRAM, ROOT, expect, has_package, report
+from look_checks import PROGRAM, ROOT, expect, report
 
 LOOK = os.path.join(ROOT, "rvlook")
 # an input without an ELF file, which wants no package
@@ -25,7 +25,7 @@ class Terminal:
     def __init__(self, words, kind, **more):
         self.master, self.slave = pty.openpty()
         self.before = termios.tcgetattr(self.slave)
-        environment = {**os.environ, "TERM": kind, "PROMPT_TOOLKIT_NO_CPR": "1", **more}
+        environment = {**os.environ, "TERM": kind, **more}
         self.process = subprocess.Popen([LOOK, *words], cwd=ROOT, stdin=self.slave, stdout=self.slave, stderr=self.slave,
                                         env=environment, preexec_fn=self.control)
         self.seen = ""
@@ -148,9 +148,8 @@ def check_ends():
 def check_packages():
     """Packages that are missing: what needs none of them works."""
     with tempfile.TemporaryDirectory() as folder:
-        for module in ("elftools", "prompt_toolkit"):
-            with open(os.path.join(folder, module + ".py"), "w") as file:
-                file.write("raise ImportError\n")
+        with open(os.path.join(folder, "elftools.py"), "w") as file:
+            file.write("raise ImportError\n")
         with open(os.path.join(folder, "cut.elf"), "wb") as file:
             file.write(b"\x7fELF")
         expect("no pyelftools, measure", (1, "rvlook: pyelftools is not there, so no ELF file can be measured; raw bytes can; apt-get "
@@ -160,14 +159,6 @@ def check_packages():
         expect("no pyelftools, map", (0, "rvlook: pyelftools is not there, so there are addresses in place of symbols; apt-get install "
                                       "python3-pyelftools brings it\n"),
                failure(["map", "--monitor", "examples/enclave_adds/image"], PYTHONPATH=folder))
-        terminal = Terminal(TIMER, "xterm", PYTHONPATH=folder)
-        for sent, wanted in ((None, "apt-get install python3-prompt-toolkit brings it"), (None, "host S _start>"), ("reg sp\n", "x2=")):
-            if sent:
-                terminal.send(sent)
-            expect("no prompt_toolkit, %r" % sent, True, terminal.until(wanted))
-        terminal.until("> ")
-        terminal.send("\x04")
-        expect("no prompt_toolkit, the end", (0, True), terminal.end())
 
 
 def check_closed():
@@ -179,12 +170,9 @@ def check_closed():
 
 def main():
     signal.alarm(300)
-    if has_package("prompt_toolkit"):
-        check_terminal("xterm")
-        check_terminal("dumb")
-        check_completion()
-    else:
-        print("look_prompt: the prompt on a terminal was not run, for there is no prompt_toolkit")
+    check_terminal("xterm")
+    check_terminal("dumb")
+    check_completion()
     check_interrupt()
     check_ends()
     check_packages()

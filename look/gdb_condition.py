@@ -1,0 +1,116 @@
+"""Conditions of breakpoints: agent expressions of the GDB manual (appendix F), asked where the bench halts, so that a debugger is not
+told of halts at which they do not hold."""
+import operator
+
+FIRST_OF_64 = 1 << 64
+READS = {0x17: 1, 0x18: 2, 0x19: 4, 0x1A: 8}
+CONSTANTS = {0x22: 1, 0x23: 2, 0x24: 4, 0x25: 8}
+MOST = 10000  # operations
+
+
+class Refused(Exception):
+    """An expression that is not understood, or not answered."""
+
+
+def signed(value):
+    return value - FIRST_OF_64 if value >> 63 else value
+
+
+def divided(one, other):
+    """The quotient, towards zero."""
+    if other == 0:
+        raise Refused("a division by zero")
+    return abs(one) // abs(other) * (1 if (one < 0) == (other < 0) else -1)
+
+
+def on_signed(operation):
+    return lambda one, other: operation(signed(one), signed(other))
+
+
+TWO = {
+    0x02: operator.add, 0x03: operator.sub, 0x04: operator.mul, 0x05: on_signed(divided), 0x06: divided,
+    0x07: on_signed(lambda one, other: one - other * divided(one, other)), 0x08: lambda one, other: one - other * divided(one, other),
+    0x09: lambda one, other: one << (other & 63), 0x0A: lambda one, other: signed(one) >> (other & 63),
+    0x0B: lambda one, other: one >> (other & 63), 0x0F: operator.and_, 0x10: operator.or_, 0x11: operator.xor,
+    0x13: operator.eq, 0x14: on_signed(operator.lt), 0x15: operator.lt}
+
+
+def extended(value, bits):
+    """The low bits, with the highest of them as their sign."""
+    value &= (1 << bits) - 1
+    return value - (1 << bits) if value >> (bits - 1) else value
+
+
+class Machine:
+    """The stack of an expression. `register` and `memory` answer a register by its number and bytes by their place."""
+
+    def __init__(self, code, register, memory):
+        self.code, self.register, self.memory, self.stack, self.at = code, register, memory, [], 0
+
+    def number(self, size):
+        """The next bytes of the code, the highest first."""
+        self.at += size
+        return int.from_bytes(self.code[self.at - size:self.at], "big")
+
+    def push(self, value):
+        self.stack.append(int(value) % FIRST_OF_64)
+
+    def read(self, size):
+        found = self.memory(self.stack.pop() & 0xFFFFFFFF, size)
+        if len(found) < size:
+            raise Refused("it reads outside RAM")
+        self.push(int.from_bytes(found, "little"))
+
+    def run(self):
+        """What stands on the stack at the end."""
+        for _ in range(MOST):
+            code = self.number(1)
+            if code == 0x27:
+                return self.stack.pop()
+            self.do(code)
+        raise Refused("it comes to no end")
+
+    def do(self, code):
+        """One operation."""
+        stack = self.stack
+        if code in TWO:
+            other = stack.pop()
+            self.push(TWO[code](stack.pop(), other))
+        elif code in READS:
+            self.read(READS[code])
+        elif code in CONSTANTS:
+            self.push(self.number(CONSTANTS[code]))
+        elif code in MOVES:
+            MOVES[code](self)
+        else:
+            raise Refused("the operation %02x" % code)
+
+    def jump_if(self):
+        target = self.number(2)
+        if self.stack.pop():
+            self.at = target
+
+    def jump(self):
+        self.at = self.number(2)
+
+    def swap(self):
+        self.stack[-2:] = self.stack[:-3:-1]
+
+    def rotate(self):
+        self.stack[-3:] = [self.stack[-1], *self.stack[-3:-1]]
+
+
+MOVES = {
+    0x0E: lambda it: it.push(it.stack.pop() == 0), 0x12: lambda it: it.push(~it.stack.pop()),
+    0x16: lambda it: it.push(extended(it.stack.pop(), it.number(1))), 0x20: Machine.jump_if, 0x21: Machine.jump,
+    0x26: lambda it: it.push(it.register(it.number(2))), 0x28: lambda it: it.push(it.stack[-1]), 0x29: lambda it: it.stack.pop(),
+    0x2A: lambda it: it.push(it.stack.pop() & ((1 << it.number(1)) - 1)), 0x2B: Machine.swap,
+    0x32: lambda it: it.push(it.stack[-1 - it.number(1)]), 0x33: Machine.rotate}
+
+
+def holds(code, register, memory):
+    """Whether a condition holds; where it cannot be told it does, and the debugger asks it itself."""
+    try:
+        return bool(Machine(code, register, memory).run())
+    except (Refused, IndexError):
+        return True
