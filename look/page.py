@@ -8,9 +8,8 @@ from .map import moments
 from .page_axis import segments_of
 from .page_data import Collector
 from .page_sources import source_texts
-from .run import End, run_of
+from .run import End
 from .show import end_object, run_object
-from .symbols import symbols_from
 from .trace import Step, Tracer
 from .trace_text import Objects
 
@@ -20,12 +19,12 @@ SCRIPTS = ("page_data.js", "page_chart.js", "page_marks.js", "page_panel.js", "p
 
 def main(arguments):
     """Writes the page of a run to standard output."""
-    from .arguments import setup_of
+    from .arguments import run_from
     if arguments.json:
         raise Fault("page has no --json: it shows what map --json and trace --json write")
     environment = templates()
-    run = run_of(setup_of(arguments))
-    symbols = symbols_from(arguments.symbols, run.setup.image)
+    run = run_from(arguments)
+    symbols = run.setup.symbols
     found = collected(run, symbols)
     paths = [it for it in (arguments.symbols, arguments.image) if it]
     data = {**found.data(), "segments": segments_of(found), "sources": source_texts(paths, found.source_names())}
