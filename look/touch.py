@@ -55,6 +55,7 @@ class Touches:
 
     def __init__(self, run):
         self.counts, self.permitted, self.end = defaultdict(Counter), defaultdict(list), None
+        self.fetched, self.touched = defaultdict(int), defaultdict(int)  # of steps that did not trap
         for item in itertools.chain(Tracer(run).events(), moments(run)):
             if isinstance(item, Step):
                 self.take(item)
@@ -62,15 +63,29 @@ class Touches:
                 self.allow(item)
             elif isinstance(item, End):
                 self.end = item
+        self.count()
 
     def take(self, step):
-        """The accesses of a step."""
+        """The accesses of a step. Those that did not trap, which are most, are only counted by where they are."""
+        if step.trap is None:
+            self.fetched[step.at] += 1
+            touch = step.touch
+            if touch:
+                self.touched[step.at.world, touch.kind, touch.address, touch.width] += 1
+            return
         if step.is_executed:
-            self.counts[Kind(step.at.world, "x", True)][int(step.at.pc, 16), 4] += 1
+            self.fetched[step.at] += 1
         elif step.trap.cause in names.FETCH_FAULTS:
             self.counts[Kind(step.at.world, "x", False)][int(step.at.pc, 16), 4] += 1
         if step.touch:
-            self.counts[Kind(step.at.world, step.touch.kind, step.touch.done)][step.touch.address, step.touch.width] += 1
+            self.counts[Kind(step.at.world, step.touch.kind, False)][step.touch.address, step.touch.width] += 1
+
+    def count(self):
+        """The accesses by their kind."""
+        for place, count in self.fetched.items():
+            self.counts[Kind(place.world, "x", True)][int(place.pc, 16), 4] += count
+        for (world, kind, address, width), count in self.touched.items():
+            self.counts[Kind(world, kind, True)][address, width] += count
 
     def allow(self, moment):
         """What the map permits each world that runs."""

@@ -194,8 +194,8 @@ class Tracer:
 
     def step(self, number, hart_number, hart, ran, instruction, replies):
         """A step, of its replies and of what was before it; `hart` goes on to what is after it."""
-        at, next_place = hart.place, self.place_of(ran)
-        hart.place = next_place
+        at = hart.place
+        next_place = hart.place = self.places.get(ran[:3]) or self.place_of(ran)
         next(replies)
         if ran[3] == NO_TRAP:
             touch, changed, value = None, {}, None
@@ -233,11 +233,7 @@ class Tracer:
 
     def place_of(self, ran):
         """Where the hart is behind a step."""
-        key = ran[:3]
-        found = self.places.get(key)
-        if found is None:
-            found = self.places[key] = Place(*(it.decode() for it in key))
-        return found
+        return self.places.setdefault(ran[:3], Place(*(it.decode() for it in ran[:3])))
 
     def trap_of(self, text):
         if text not in self.traps:
