@@ -2,7 +2,7 @@
 from bisect import bisect_right
 
 from . import names
-from .map import Row, moments
+from .map import moments
 from .ranges import NOTHING, Range
 from .run import End
 from .show import Style, enclave_object, end_object, end_text, hex8, place_text, run_object
@@ -76,33 +76,40 @@ def brief_text(printer, moment, before, symbols):
         if not before or enclave not in before.enclaves:
             was = next((it.state for it in before.enclaves if it.slot == enclave.slot), None) if before else None
             printer.line("  %s %s -> %s" % (enclave.world, was, enclave.state) if was else enclave_text(enclave))
-    for row, changed in changed_rows(moment, before):
-        ends = "%08x-%08x %7s" % (row.range.first, row.range.end - 1, names.size_text(row.range.end - row.range.first))
-        printer.line("  %s  %s%s" % (ends, "  ".join(changed), "  " + row.what if row.what else ""))
+    for found, what, changed in changed_rows(moment, before):
+        ends = "%08x-%08x %7s" % (found.first, found.end - 1, names.size_text(found.end - found.first))
+        printer.line("  %s  %s%s" % (ends, "  ".join(changed), "  " + what if what else ""))
 
 
 def changed_rows(moment, before):
-    """Each row in which a world may do otherwise than before, with what that is; at first all rows. Neighbours that change alike are one."""
+    """Each range in which a world may do otherwise than before, what it is, and what that is; at first all ranges. Neighbours that change
+    alike are one."""
     found = []
-    for row in moment.rows:
-        old = rights_of(before, row.range.first) if before else {}
-        changed = [change_text(key, old.get(key), rights) for key, rights in rights_of(moment, row.range.first).items()
-                   if rights != old.get(key, NOTHING)]
-        if changed and found and found[-1][1] == changed and found[-1][0].what == row.what and found[-1][0].range.end == row.range.first:
-            row = Row(Range(found.pop()[0].range.first, row.range.end), row.what, row.may)
-        if changed:
-            found.append((row, changed))
+    starts = sorted({row.range.first for it in (moment, before) if it for row in it.rows})
+    for first, end in zip(starts, [*starts[1:], moment.rows[-1].range.end]):
+        old, new = rights_of(before, first) if before else {}, rights_of(moment, first)
+        changed = [change_text(key, old.get(key), new.get(key, NOTHING)) for key in {**old, **new}
+                   if old.get(key, NOTHING) != new.get(key, NOTHING)]
+        what = row_at(moment, first).what
+        if changed and found and found[-1][1:] == (what, changed) and found[-1][0].end == first:
+            found[-1] = (Range(found[-1][0].first, end), what, changed)
+        elif changed:
+            found.append((Range(first, end), what, changed))
     return found
+
+
+def row_at(moment, address):
+    return moment.rows[bisect_right([it.range.first for it in moment.rows], address) - 1]
 
 
 def rights_of(moment, address):
     """What each world may do at an address, in each mode; in both at once under the monitor, where they are alike. A world that is no more,
     or not yet, may do nothing."""
-    row = moment.rows[bisect_right([it.range.first for it in moment.rows], address) - 1]
-    found = {}
+    row, found = row_at(moment, address), {}
     for column in moment.columns:
         for mode, rights in row.may[column.name].items():
-            found[mode if column.world == "bare" else "%s %s" % (column.world, mode) if is_split(column, moment) else column.world] = rights
+            split = "%s %s" % (column.world, mode) if is_split(column, moment) else column.world
+            found[mode if column.world == "bare" else split] = rights
     return found
 
 
