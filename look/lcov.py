@@ -1,10 +1,13 @@
 """The lines and functions that each world executed, as the file of lcov that genhtml takes: a test for each world."""
+from .faults import Fault
 from .page_sources import files_of
 from .touch import Touches, covered_functions, covered_lines
 
 
 def show_lcov(run, symbols, printer, paths):
     """All worlds, each with its files."""
+    if not symbols.lines:
+        raise Fault("there are no source lines: an ELF file that is built with -g has them")
     touches = Touches(run)
     places = {}
     for path in paths:

@@ -27,10 +27,13 @@ def check_steps(image, words):
 
 
 def check_touches(image, words):
-    """A watch on the first and the last byte that a step touched stops a run there, and one on the byte before does not."""
+    """A watch on the first and the last byte that a step touched stops a run there, and one on the byte before does not. Behind the step
+    the memory has the value that was loaded or stored."""
     shown = [it for it in objects("trace", image, *words) if it["object"] == "step" and it["touch"] and it["touch"]["done"]]
     for step in shown[:40]:
         first = int(step["touch"]["address"], 16)
+        lines = bench(words, image, ["step %d" % step["step"], "mem %x %d" % (first, step["touch"]["width"])])
+        expect("%s, step %d, its value" % (image, step["step"]), step["touch"]["value"], "".join(lines[-1].split(":")[1].split()[::-1]))
         for at in (first - 1, first, first + step["touch"]["width"] - 1, first + step["touch"]["width"]):
             inside = 0 <= at - first < step["touch"]["width"]
             lines = bench(words, image, ["step %d" % (step["step"] - 1), "watch %x" % at, "run 1"])
