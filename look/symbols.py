@@ -83,6 +83,11 @@ class Symbols:
         _, last, source = self.inlined[place] if place >= 0 else (0, -1, None)
         return source if address <= last else None
 
+    def line(self, address):
+        """The source line of an instruction, behind that of the call that it was inlined for, or None."""
+        source, caller = self.source(address), self.caller(address)
+        return "%s, in %s" % (caller, source) if caller and source else source
+
     def address(self, text):
         """The address that a name, a name+offset or hexadecimal digits say, or None. Of a name at more places, name@place is the first from
         that place on."""

@@ -150,9 +150,7 @@ class Lines:
         text = it.abi if it else "(not fetched)"
         if it and it.offset is not None:
             text = text[:text.rindex(" ") + 1] + self.place(step.target if step.target is not None else pc + it.offset)
-        source, caller = self.symbols.source(pc), self.symbols.caller(pc)
-        return Site(short_form(text) if self.is_short else text, self.symbols.function(pc),
-                    "%s, in %s" % (caller, source) if caller and source else source)
+        return Site(short_form(text) if self.is_short else text, self.symbols.function(pc), self.symbols.line(pc))
 
     def place(self, address):
         """An address as objdump writes it."""
