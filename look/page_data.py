@@ -4,6 +4,7 @@ columns, at the places that it tells."""
 import base64
 import json
 import os
+import re
 import struct
 import sys
 import zlib
@@ -18,6 +19,7 @@ COMMON = ("stdin", "image", "program.elf")  # names that tell nothing
 MAP = ("enclaves", "columns", "rows")
 REFUSED, NO_VALUE = 2, 4  # added to the kind of a touch that trapped, and of one whose value is not told
 LEVEL = 6  # of zlib
+BRANCH = re.compile(r"b|jal ")
 
 
 class Table:
@@ -64,6 +66,14 @@ def refusal(step):
     return STATUSES.get(int(status, 16)) if step["next"]["world"] == step["world"] else None
 
 
+def shown_text(step):
+    """The text of an instruction, with what a branch or jump goes to in place of how far that is."""
+    text, target = step["abi"], step["target"]
+    if not target or not BRANCH.match(text):
+        return text
+    return "%s%s%s" % (text[:text.rindex(" ") + 1], target["address"], " <%s>" % target["symbol"] if target["symbol"] else "")
+
+
 class Collector:
     """Takes objects as a printer does, and keeps what the page shows of them."""
 
@@ -107,7 +117,8 @@ class Collector:
         self.moments.append({**rest, "map": self.maps.number(shown)})
 
     def take_step(self, it):
-        self.site.append(self.sites.number((it["pc"], it["word"], it["abi"], it["symbol"], it["function"], it["source"], it["caller"])))
+        self.site.append(self.sites.number((it["pc"], it["word"], it["abi"], it["symbol"], it["function"], it["source"], it["caller"],
+                                            shown_text(it))))
         self.place.append(self.places.number((it["hart"], it["world"], it["mode"])))
         trap = it["trap"]
         self.trap.append(self.traps.number((trap["cause"], trap["value"], trap["name"])) + 1 if trap else 0)
@@ -141,7 +152,7 @@ class Collector:
 
     def source_names(self):
         """The files of which a line was executed."""
-        sources = [source for site in self.sites.numbers for source in site[5:] if source]
+        sources = [source for site in self.sites.numbers for source in site[5:7] if source]
         return {source.rsplit(":", 1)[0] for source in sources}
 
     def data(self, columns):
@@ -149,7 +160,7 @@ class Collector:
         return {
             "title": self.title, "run": self.run, "end": self.end, "steps": len(self.site), "points": self.points,
             "rows": self.rows, "maps": [json.loads(it) for it in self.maps.numbers],
-            "sites": self.sites.rows("pc", "word", "abi", "symbol", "function", "source", "caller"),
+            "sites": self.sites.rows("pc", "word", "abi", "symbol", "function", "source", "caller", "shown"),
             "places": self.places.rows("hart", "world", "mode"), "traps": self.traps.rows("cause", "value", "name"),
             "names": list(self.names.numbers), "site": columns.add(self.site), "place": columns.add(self.place),
             "trap": columns.add(self.trap), "changes": columns.add(self.changes), "registers": columns.add(self.registers),

@@ -26,7 +26,7 @@ function hoverLines(x, y) {
   const near = nearest(x, y), address = addressAt(y);
   if (near) {
     const site = siteOf(near.step), place = placeOf(near.step);
-    const lines = [`step ${near.step.toLocaleString("en")}, ${placeName(place)}`, `${site.pc} ${site.symbol || ""}  ${site.abi || ""}`];
+    const lines = [`step ${near.step.toLocaleString("en")}, ${placeName(place)}`, `${site.pc} ${site.symbol || ""}  ${site.shown || ""}`];
     return near.isTouch ? [...lines, touchText(touchOf(near.step))] : lines;
   }
   if (address === null || x < box.left) return address === null ? [] : [hex8(address), nameAt(address)];

@@ -53,7 +53,7 @@ function showWhere(step) {
   put("where", `Step ${step.toLocaleString("en")}: ${placeName(place)}`);
   const lines = [element("p", "mono", site.pc, site.symbol ? "  " + site.symbol : "", sourceText(site))];
   if (isInterrupt(trap)) lines.push(element("p", "refused", "the " + trap.name + ": no instruction is done"));
-  else lines.push(element("p", "mono here", site.abi || "no instruction"));
+  else lines.push(element("p", "mono here", site.shown || "no instruction"));
   if (touch) lines.push(element("p", isRefused(touch.kind) ? "refused" : "", touchText(touch)));
   if (call) lines.push(element("p", call.refused ? "refused" : "", callText(call)));
   else if (trap && !isInterrupt(trap)) lines.push(element("p", "refused", `trap: ${trap.name}, value ${trap.value}`));
@@ -87,7 +87,7 @@ function showSteps(step) {
       head.colSpan = STEP_COLUMNS - 1;
       rows.push(element("tr", "aside", element("td", ""), head));
     }
-    const text = isInterrupt(trapOf(at)) ? "(interrupt)" : site.abi || "";
+    const text = isInterrupt(trapOf(at)) ? "(interrupt)" : site.shown || "";
     const cells = [at, ...(hartCount > 1 ? [`${place.hart}: ${place.world}`] : []), site.pc, text, effectOf(at)];
     const row = element("tr", at === step ? "here" : "", ...cells.map(it => element("td", "", String(it))));
     row.addEventListener("click", () => show(at));

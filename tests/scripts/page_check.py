@@ -81,7 +81,8 @@ class Packed:
         changed = {"x%d" % self.registers[at]: "%08x" % self.values[at] for at in range(self.at, end)}
         self.at = end
         trap = data["traps"][self.trap[place] - 1] if self.trap[place] else None
-        return {**data["sites"][self.site[place]], **data["places"][self.place[place]], "registers": changed, "trap": trap,
+        site = {name: value for name, value in data["sites"][self.site[place]].items() if name != "shown"}
+        return {**site, **data["places"][self.place[place]], "registers": changed, "trap": trap,
                 "touch": self.touched(number)}
 
     def touched(self, number):
