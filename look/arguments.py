@@ -108,6 +108,12 @@ def run_from(arguments):
     return run
 
 
+def refuse_json(arguments, option):
+    """An output that is a form of its own has no objects."""
+    if arguments.json:
+        raise WordsRefused("%s has no --json" % option)
+
+
 def opened(arguments):
     """The run, its symbols and the printer, for a word over an image."""
     run = run_from(arguments)
@@ -116,6 +122,8 @@ def opened(arguments):
 
 def do_map(arguments):
     from .map_text import show_map
+    if arguments.brief:
+        refuse_json(arguments, "--brief")
     show_map(*opened(arguments), arguments.brief)
 
 
@@ -128,6 +136,7 @@ def do_trace(arguments):
         raise WordsRefused("--to %d is before --from %d" % (arguments.last, arguments.first))
     wanted = Filter(arguments.first, arguments.last, arguments.world, arguments.function, arguments.traps)
     if arguments.format == "spike":
+        refuse_json(arguments, "--format spike")
         from .spike import show_spike
         show_spike(run, wanted, printer)
     else:
@@ -136,6 +145,7 @@ def do_trace(arguments):
 
 def do_touch(arguments):
     if arguments.lcov:
+        refuse_json(arguments, "--lcov")
         from .lcov import show_lcov
         show_lcov(*opened(arguments), [it for it in (arguments.symbols, arguments.image) if it])
     else:

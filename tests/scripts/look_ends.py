@@ -109,6 +109,7 @@ def cases(files):
         "argument --every": lambda: ran(["timer", SUM, "--every", "0"]),
         "--to NUMBER": lambda: ran(["trace", SUM, "--from", "9", "--to", "3"]),
         "--harts 2": lambda: ran(["map", SUM, "--harts", "2"]),
+        "OPTION has no": lambda: ran(["touch", SUM, "--lcov", "--json"]),
         "stopped": lambda: stopped(["trace", files.loop]),
         "who reads": lambda: ran(["trace", files.loop], '"$0" "$@" | head -n 1')}
 
