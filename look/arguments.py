@@ -128,16 +128,17 @@ def do_map(arguments):
 
 
 def do_trace(arguments):
+    from .spike import show_spike
     from .trace_text import Filter, show_trace
+    if arguments.last is not None and arguments.last < arguments.first:
+        raise WordsRefused("--to %d is before --from %d" % (arguments.last, arguments.first))
+    if arguments.format == "spike":
+        refuse_json(arguments, "--format spike")
     run, symbols, printer = opened(arguments)
     if arguments.function and arguments.function not in symbols.by_name:
         raise Fault(no_symbol(arguments.function, symbols))
-    if arguments.last is not None and arguments.last < arguments.first:
-        raise WordsRefused("--to %d is before --from %d" % (arguments.last, arguments.first))
     wanted = Filter(arguments.first, arguments.last, arguments.world, arguments.function, arguments.traps)
     if arguments.format == "spike":
-        refuse_json(arguments, "--format spike")
-        from .spike import show_spike
         show_spike(run, wanted, printer)
     else:
         show_trace(run, symbols, printer, wanted, arguments.short)
