@@ -1,5 +1,5 @@
-"""What the text of an instruction says: the register that it writes, the memory that it loads or stores, where it goes, and the short form that
-the manual has for it. All of it is derived of the text that the bench's `dis` replies."""
+"""What the text of an instruction says: the register that it writes, the memory that it loads or stores, where it goes, and the short
+form that the manual has for it. All of it is derived of the text that the bench's `dis` replies."""
 import re
 from dataclasses import dataclass
 from functools import lru_cache

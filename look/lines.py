@@ -1,5 +1,5 @@
-"""A line of a script or of the prompt, as the bench takes it: symbols, and the names of registers, become numbers. What was made of a line is
-derived; what the bench replies to it is not."""
+"""A line of a script or of the prompt, as the bench takes it: symbols, and the names of registers, become numbers. What was made of a
+line is derived; what the bench replies to it is not."""
 from difflib import get_close_matches
 
 from .commands import COMMANDS, Form, is_form, written

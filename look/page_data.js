@@ -20,7 +20,8 @@ function columnOf({ width, at, count }) {
   return new { 1: Uint8Array, 2: Uint16Array, 4: Uint32Array }[width](packedBytes, firstColumn + at, count);
 }
 
-const COLUMNS = ["site", "place", "trap", "changes", "registers", "values"], TOUCH_COLUMNS = ["step", "address", "width", "kind", "name", "value"];
+const COLUMNS = ["site", "place", "trap", "changes", "registers", "values"];
+const TOUCH_COLUMNS = ["step", "address", "width", "kind", "name", "value"];
 const columnsOf = (of, names) => Object.fromEntries(names.map(name => [name, columnOf(of[name])]));
 const run = { steps: data.steps, ...columnsOf(data, COLUMNS), touch: columnsOf(data.touch, TOUCH_COLUMNS) };
 const ABI = "zero ra sp gp tp t0 t1 t2 s0 s1 a0 a1 a2 a3 a4 a5 a6 a7 s2 s3 s4 s5 s6 s7 s8 s9 s10 s11 t3 t4 t5 t6".split(" ");

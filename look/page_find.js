@@ -31,7 +31,8 @@ function hoverLines(x, y) {
   }
   if (address === null || x < box.left) return address === null ? [] : [hex8(address), nameAt(address)];
   const step = stepAt(x), row = rowAt(data.moments[momentAt(step)], address);
-  return [`${hex8(address)} ${nameAt(address)}`, `${row ? row.what || "" : ""} ${row ? rightsText(data.moments[momentAt(step)], row) : ""}`];
+  const may = row ? `${row.what} ${rightsText(data.moments[momentAt(step)], row)}` : "";
+  return [`${hex8(address)} ${nameAt(address)}`, may];
 }
 
 function showHover(x, y) {

@@ -1,9 +1,9 @@
 #!/usr/bin/env python3
-"""tests/documents/walk.py [PROGRAM]: walks README.md and docs/TUTORIAL.md from a fresh clone, by their own lines, each with the program that the
-clone has: PROGRAM, which stands there as the proved one; without a word none, so that the first line builds an unproved one.
+"""tests/documents/walk.py [PROGRAM]: walks README.md and docs/TUTORIAL.md from a fresh clone, by their own lines. PROGRAM stands there as
+the proved one; without it there is none, so that the first line builds an unproved one.
 
-A block of indented lines is run by bash in the clone, and ends with status 0; what stands below a line with `$` is what it writes, with a line
-`...` for what is left out. Left out are ./check and ./prove, which take long, and what is installed.
+A block of indented lines is run by bash in the clone, and ends with status 0; what stands below a line with `$` is what it writes, with a
+line `...` for what is left out. Left out are ./check and ./prove, which take long, and what is installed.
 """
 import os
 import re
@@ -49,7 +49,8 @@ def is_told(lines, wanted):
 def cloned(folder, program):
     """A fresh clone, as it is committed or changed here, with a program that stands there as the proved one."""
     clone = os.path.join(folder, "rvbench")
-    named = subprocess.run(["git", "ls-files", "-z", "--cached", "--others", "--exclude-standard"], cwd=ROOT, capture_output=True, check=True)
+    command = ["git", "ls-files", "-z", "--cached", "--others", "--exclude-standard"]
+    named = subprocess.run(command, cwd=ROOT, capture_output=True, check=True)
     for name in filter(None, named.stdout.decode().split("\0")):
         if os.path.exists(os.path.join(ROOT, name)):
             os.makedirs(os.path.dirname(os.path.join(clone, name)), exist_ok=True)

@@ -1,5 +1,5 @@
-# README.md and docs/TUTORIAL.md from a fresh clone, by their own lines: with the proved program there, and with none, so that their first line
-# builds an unproved one. What they want that is not installed is told.
+# README.md and docs/TUTORIAL.md from a fresh clone, by their own lines: with the proved program there, and with none, so that their first
+# line builds an unproved one. What they want that is not installed is told.
 wants=
 command -v clang > "$scratch/out" || command -v riscv64-unknown-elf-gcc > "$scratch/out" || wants="a compiler"
 /usr/bin/python3 -c 'import elftools, jinja2' 2> "$scratch/out" || wants="python3-pyelftools and python3-jinja2"

@@ -1,6 +1,6 @@
 # examples/monitor/build: by clang 14 it gives the images and listings that stand there; by GNU's compiler and by clang it takes a folder
-# anywhere, all its sources and its own link.ld, gives memcpy and its like, and refuses an enclave that uses what only the host has, a region
-# that is too small, and a function that is nowhere; and a word of the window is stored as one. What is not installed is told.
+# anywhere, all its sources and its own link.ld, gives memcpy and its like, and refuses an enclave that uses what only the host has, a
+# region that is too small, and a function that is nowhere; and a word of the window is stored as one. What is not installed is told.
 examples=$scratch/examples
 cp -r "$here/../examples" "$examples"
 
@@ -93,10 +93,10 @@ for compiler in clang gcc; do
   fi
   wanted="build: the enclave uses what only the host has, and may not reach: copied"
   is_refused "an enclave with a function of the host" "$wanted" --$compiler "$copies"
-  is_refused "an enclave that is too large" "$(over=$("$examples/monitor/build" --$compiler "$large" 2>&1 | sed -n 's/.*by \([0-9]*\) bytes.*/\1/p')
-    echo "build: REGION of $examples/monitor/link.ld is too small by ${over:-no} bytes"
-    echo "  a region or window has a power of two of bytes, 4096 at least, and begins at a multiple of its size"
-    echo "  cp $examples/monitor/link.ld $large, and there give REGION a larger LENGTH")" --$compiler "$large"
+  over=$("$examples/monitor/build" --$compiler "$large" 2>&1 | sed -n 's/.*by \([0-9]*\) bytes.*/\1/p')
+  is_refused "an enclave that is too large" "build: REGION of $examples/monitor/link.ld is too small by ${over:-no} bytes
+  a region or window has a power of two of bytes, 4096 at least, and begins at a multiple of its size
+  cp $examples/monitor/link.ld $large, and there give REGION a larger LENGTH" --$compiler "$large"
   is_refused "an enclave without a function" "build: no source has what is used: __udivdi3
   memcpy, memmove, memset and memcmp are given; every other function a file of the folder must have
   a name with two underscores before it is the compiler's own, as __udivdi3 for a division of 64 bits" --$compiler "$missing"
@@ -106,7 +106,8 @@ for compiler in clang gcc; do
   expect "build of more files, with CFLAGS, --$compiler" 0 $? /dev/null "$scratch/out"
   for folder in "$given" "$more"; do
     halt=$(sed -n 's/^\([0-9a-f]*\)  halt$/\1/p' "$folder/listing")
-    { cat "$folder/image"; printf -- '--\nbreak %s\nrun 10000\nmem 80030008 4\n' "$halt"; } | "$program" run --monitor | tail -1 > "$scratch/out"
+    { cat "$folder/image"; printf -- '--\nbreak %s\nrun 10000\nmem 80030008 4\n' "$halt"; } |
+      "$program" run --monitor | tail -1 > "$scratch/out"
     if [ "$folder" = "$given" ]; then echo "80030008: b3 15 00 00"; else echo "80030008: 74 2b 00 00"; fi > "$scratch/wanted"
     expect "the run of $(basename "$folder"), --$compiler" 0 $? "$scratch/wanted" "$scratch/out"
   done

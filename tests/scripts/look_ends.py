@@ -117,7 +117,7 @@ def cases(files):
 def unproved():
     """A clone whose program is an unproved one: the built program stands for it."""
     with tempfile.TemporaryDirectory() as clone:
-        subprocess.run(["cp", "-r", os.path.join(ROOT, "look"), os.path.join(ROOT, "tools"), os.path.join(ROOT, "rvlook"), clone], check=True)
+        subprocess.run(["cp", "-r", *(os.path.join(ROOT, it) for it in ("look", "tools", "rvlook")), clone], check=True)
         out = os.path.join(clone, "crates", "rvbench", "out")
         os.makedirs(out)
         open(os.path.join(clone, "crates.txt"), "w", encoding="ascii").close()
@@ -188,7 +188,8 @@ def gone(words):
     """A word whose output nobody reads: the reading end of the pipe is closed before it writes."""
     reading, writing = os.pipe()
     os.close(reading)
-    done = subprocess.run([LOOK, *words], cwd=ROOT, stdin=subprocess.DEVNULL, stdout=writing, stderr=subprocess.PIPE, text=True, check=False)
+    done = subprocess.run([LOOK, *words], cwd=ROOT, stdin=subprocess.DEVNULL, stdout=writing, stderr=subprocess.PIPE, text=True,
+                          check=False)
     os.close(writing)
     return done.returncode, done.stderr.splitlines()
 

@@ -1,5 +1,5 @@
 #!/usr/bin/env python3
-"""The short forms of rvlook's trace, and the targets of its branches, against objdump; the log of Spike's form against the steps of --json; and
+"""The short forms of rvlook's trace against objdump; the targets of its branches, and the log of Spike's form, against its steps; and
 what map --brief tells against the rows of the map."""
 import os
 import re
@@ -123,7 +123,8 @@ def check_brief(*words):
     for line in lines_of("map", "--brief", *words):
         match = re.match(r"  ([0-9a-f]{8})-([0-9a-f]{8}) +\w+  (.*)", line)
         if match:
-            told[-1].append((int(match[1], 16), int(match[2], 16), dict(re.findall(r"(\w+) (?:[rwx-]{3} -> )?([rwx-]{3})(?=  |$)", match[3]))))
+            rights = re.findall(r"(\w+) (?:[rwx-]{3} -> )?([rwx-]{3})(?=  |$)", match[3])
+            told[-1].append((int(match[1], 16), int(match[2], 16), dict(rights)))
         elif not line.startswith(" "):
             told.append([])
     starts = sorted({int(row["first"], 16) for it in moments for row in it["rows"]})

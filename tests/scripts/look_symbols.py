@@ -1,6 +1,7 @@
 #!/usr/bin/env python3
-"""Symbols, source lines and inlined calls of rvlook against nm and addr2line, on an example built anew with symbols and debugging information:
-by clang and lld, and by GNU's compiler; and the file for genhtml against the steps, and by genhtml. Where one is not there that is told."""
+"""Symbols, source lines and inlined calls of rvlook against nm and addr2line, on an example built anew with symbols and debugging
+information: by clang and lld, and by GNU's compiler; and the file for genhtml against the steps, and by genhtml. Where one is not there
+that is told."""
 import os
 import shutil
 import subprocess
@@ -80,7 +81,8 @@ def callers_of(tools, program, pcs):
 
 def check_lcov(tools, program, folder, steps):
     """The lines with a count are those of the steps, and genhtml takes the file."""
-    told = subprocess.run([os.path.join(ROOT, "rvlook"), "touch", "--lcov", "--monitor", program], capture_output=True, text=True, check=True)
+    command = [os.path.join(ROOT, "rvlook"), "touch", "--lcov", "--monitor", program]
+    told = subprocess.run(command, capture_output=True, text=True, check=True)
     executed, name = set(), None
     for line in told.stdout.splitlines():
         kind, _, rest = line.partition(":")
