@@ -38,7 +38,8 @@ class Symbols:
         self.places = defaultdict(set)  # of each name
         for it in symbols:
             self.places[it.name].add(it.address)
-        self.lines = sorted(lines, key=lambda it: (it[0], it[1] is not None))
+        # What the linker has dropped has lines too, at addresses where there is no memory.
+        self.lines = sorted((it for it in lines if it[0] >= RAM_BASE), key=lambda it: (it[0], it[1] is not None))
         self.line_starts = [address for address, _ in self.lines]
         self.read_inlined, self.inlined = inlined, None
 
