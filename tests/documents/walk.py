@@ -67,6 +67,7 @@ def main(words):
     with tempfile.TemporaryDirectory() as folder:
         clone = cloned(folder, os.path.abspath(words[0]) if words else None)
         for page in PAGES:
+            shutil.rmtree(os.path.join(folder, "my_enclave"), ignore_errors=True)  # which each page makes
             with open(os.path.join(clone, page), encoding="utf-8") as file:
                 text = file.read()
             for script, wanted in blocks(text):
