@@ -63,12 +63,15 @@ def ran(words, shell=None, **environment):
 
 
 def stopped(words):
-    """The same of a word that Ctrl-C stops in its midst."""
-    process = subprocess.Popen([LOOK, *words], cwd=ROOT, stdin=subprocess.PIPE, stdout=subprocess.DEVNULL, stderr=subprocess.PIPE,
-                               text=True, preexec_fn=lambda: signal.signal(signal.SIGINT, signal.default_int_handler))
-    time.sleep(1.2)
-    process.send_signal(signal.SIGINT)
-    _, told = process.communicate(timeout=30)
+    """The same of a word that Ctrl-C stops in its midst; where it had not yet begun, it is given longer."""
+    for pause in (1, 2, 4):
+        process = subprocess.Popen([LOOK, *words], cwd=ROOT, stdin=subprocess.PIPE, stdout=subprocess.DEVNULL, stderr=subprocess.PIPE,
+                                   text=True, preexec_fn=lambda: signal.signal(signal.SIGINT, signal.default_int_handler))
+        time.sleep(pause)
+        process.send_signal(signal.SIGINT)
+        _, told = process.communicate(timeout=60)
+        if process.returncode != -signal.SIGINT:
+            break
     return process.returncode, told.splitlines()
 
 
