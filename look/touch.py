@@ -1,15 +1,13 @@
 """The word touch: what each world read, wrote and executed, beside what it might have."""
-import itertools
 from bisect import bisect_right
 from collections import Counter, defaultdict
 from dataclasses import dataclass
 
 from . import names
+from .accesses import accesses
 from .map import Moment, moments
 from .ranges import NOTHING, Range
-from .run import End
 from .show import Style, end_object, end_text, hex8, run_object
-from .trace import Step, Tracer
 
 KINDS = {"r": "read", "w": "wrote", "x": "executed"}
 LEAST_SIZE = 4096
@@ -54,38 +52,13 @@ class Touches:
     """What a run touched: counts of accesses by their first byte and width."""
 
     def __init__(self, run):
-        self.counts, self.permitted, self.end = defaultdict(Counter), defaultdict(list), None
-        self.fetched, self.touched = defaultdict(int), defaultdict(int)  # of steps that did not trap
-        for item in itertools.chain(Tracer(run).events(), moments(run)):
-            if isinstance(item, Step):
-                self.take(item)
-            elif isinstance(item, Moment):
-                self.allow(item)
-            elif isinstance(item, End):
-                self.end = item
-        self.count()
-
-    def take(self, step):
-        """The accesses of a step. Those that did not trap, which are most, are only counted by where they are."""
-        if step.trap is None:
-            self.fetched[step.at] += 1
-            touch = step.touch
-            if touch:
-                self.touched[step.at.world, touch.kind, touch.address, touch.width] += 1
-            return
-        if step.is_executed:
-            self.fetched[step.at] += 1
-        elif step.trap.cause in names.FETCH_FAULTS:
-            self.counts[Kind(step.at.world, "x", False)][int(step.at.pc, 16), 4] += 1
-        if step.touch:
-            self.counts[Kind(step.at.world, step.touch.kind, False)][step.touch.address, step.touch.width] += 1
-
-    def count(self):
-        """The accesses by their kind."""
-        for place, count in self.fetched.items():
-            self.counts[Kind(place.world, "x", True)][int(place.pc, 16), 4] += count
-        for (world, kind, address, width), count in self.touched.items():
-            self.counts[Kind(world, kind, True)][address, width] += count
+        self.counts, self.permitted = defaultdict(Counter), defaultdict(list)
+        found, self.end = accesses(run)
+        for it, count in found.items():
+            self.counts[Kind(it.world, it.kind, it.done)][it.address, it.width] += count
+        for moment in moments(run):
+            if isinstance(moment, Moment):
+                self.allow(moment)
 
     def allow(self, moment):
         """What the map permits each world that runs."""
