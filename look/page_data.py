@@ -94,7 +94,7 @@ class Collector:
         """The image's name: that of its folder, where the file has a common one."""
         path = os.path.abspath(self.run["image"])
         name = os.path.basename(path)
-        return os.path.basename(os.path.dirname(path)) if name in COMMON else name.removesuffix(".elf")
+        return os.path.basename(os.path.dirname(path)) if name in COMMON else os.path.splitext(name)[0] if name.endswith(".elf") else name
 
     def object(self, name, **members):
         getattr(self, "take_" + name)(members)
