@@ -1,6 +1,6 @@
 """The objects of a run, packed for the page: what comes again and again is a number in a table, and numbers are columns of bytes. All
-of it is compressed by zlib, and stands as digits of base 64: the length of an object in JSON, in four bytes, the lowest first; the object; and the
-columns, at the places that it tells."""
+of it is compressed by zlib, and stands as digits of base 64: the length of an object in JSON, in four bytes, the lowest first; the object;
+and the columns, at the places that it tells."""
 import base64
 import json
 import os
