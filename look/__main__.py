@@ -2,9 +2,6 @@
 import os
 import sys
 
-from .arguments import read
-from .faults import Fault, WordsRefused
-
 REFUSED = 2  # as argparse and the bench have it
 INTERRUPTED, CLOSED = 130, 141  # as a shell tells the signals SIGINT and SIGPIPE
 
@@ -18,28 +15,41 @@ def told(line, status):
 def main(words):
     """Does what the words ask for; the status of the program."""
     try:
-        arguments = read(words)
-        arguments.do(arguments)
-        sys.stdout.flush()
-        return 0
-    except WordsRefused as fault:
-        return told(str(fault), REFUSED)
-    except Fault as fault:
-        flushed()
-        return told(str(fault), 1)
+        return ended(words)
     except KeyboardInterrupt:
         return told("stopped", INTERRUPTED)
     except BrokenPipeError:
-        os.dup2(os.open(os.devnull, os.O_WRONLY), sys.stdout.fileno())
+        drop_output()
         return told("who reads the output has gone", CLOSED)
+    except OSError as error:
+        drop_output()
+        return told("the output fails: %s" % error.strerror, 1)
 
 
-def flushed():
-    """What was found before a fault goes out before it is told."""
+def ended(words):
+    """The same, where the output takes what it is given."""
+    from .arguments import read
+    from .faults import Fault, WordsRefused
+    if sys.stdout is None:
+        return told("there is no standard output", 1)
     try:
+        arguments = read(words)
+        arguments.do(arguments)
         sys.stdout.flush()
-    except BrokenPipeError:
-        os.dup2(os.open(os.devnull, os.O_WRONLY), sys.stdout.fileno())
+        return 1 if arguments.has_faults else 0
+    except WordsRefused as fault:
+        return told(str(fault), REFUSED)
+    except Fault as fault:
+        sys.stdout.flush()  # what was found before it
+        return told(str(fault), 1)
+    except SystemExit as end:  # behind a help text
+        sys.stdout.flush()
+        return end.code
+
+
+def drop_output():
+    """What is left of the output goes nowhere, so that the end of Python does not try again."""
+    os.dup2(os.open(os.devnull, os.O_WRONLY), sys.stdout.fileno())
 
 
 if __name__ == "__main__":

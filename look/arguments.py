@@ -1,9 +1,14 @@
 """The words of the command line, and which of them does what."""
 import argparse
+import os
+import re
 import sys
+from difflib import get_close_matches
 
-from .faults import Fault, WordsRefused
+from .faults import Fault, WordsRefused, tell
+from .guess import asks_for_monitor, has_compressed
 from .image import image_of, script_of
+from .lines import fault_text, no_symbol, resolved_script
 from .run import Setup, run_of
 from .show import Printer
 from .symbols import symbols_from
@@ -21,6 +26,7 @@ WORDS = """words:
   IMAGE alone  a prompt over the pipe
 `./rvlook WORD --help` tells more, and docs/LOOK.md all."""
 
+WORLD = re.compile(r"host\Z|bare\Z|e([0-9]|1[0-2])\Z")
 NAMES = ("map", "trace", "touch", "leak", "timer", "measure", "explain", "page", "gdb")
 
 
@@ -34,53 +40,122 @@ class Parser(argparse.ArgumentParser):
         raise WordsRefused("%s; %s --help tells the words" % (message, self.prog))
 
 
+def count(text):
+    """A number of steps."""
+    if int(text) < 0:
+        raise ValueError
+    return int(text)
+
+
+def positive(text):
+    """A number from 1 on."""
+    if int(text) < 1:
+        raise ValueError
+    return int(text)
+
+
+count.__name__, positive.__name__ = "number from 0 on", "number from 1 on"  # as argparse tells of a value that is none
+
+
+def world(text):
+    """The name of a world."""
+    if not WORLD.match(text):
+        raise argparse.ArgumentTypeError("%s is no world: host, e0 to e12, bare" % text)
+    return text
+
+
 def image_options(parser):
     """The image and how it is run."""
     parser.add_argument("image", metavar="IMAGE", help="an ELF file, raw bytes, or the text of an image; a script may stand behind its --")
     parser.add_argument("--script", metavar="FILE", help="commands that come before; their steps are shown too")
-    parser.add_argument("--monitor", action="store_true", help="run the image under the monitor")
+    parser.add_argument("--monitor", action="store_true", default=None, help="run the image under the monitor")
+    parser.add_argument("--no-monitor", dest="monitor", action="store_false", help="run it bare, also where it asks for the monitor")
     parser.add_argument("--ram", metavar="BYTES", type=int, default=1 << 20, help="bytes of RAM (1048576)")
     parser.add_argument("--kind", choices=("auto", "raw", "elf"), default="auto", help="what the image is (auto)")
     parser.add_argument("--harts", type=int, choices=(1, 2), default=1, help="harts; 2 needs --monitor")
     parser.add_argument("--symbols", metavar="FILE", help="an ELF file, or what nm prints; else the image's own")
-    parser.add_argument("--steps", metavar="N", type=int, default=1000000, help="steps behind the script, at most (1000000)")
+    parser.add_argument("--steps", metavar="N", type=count, default=1000000, help="steps behind the script, at most (1000000)")
     parser.add_argument("--json", action="store_true", help="one object a line (docs/LOOK.md)")
     parser.set_defaults(opened=None)
 
 
 def setup_of(arguments):
-    """What is run."""
-    if arguments.harts > 1 and not arguments.monitor:
-        raise Fault("--harts 2 needs --monitor")
+    """What is run: the image, and the script with its symbols as numbers."""
     image = image_of(arguments.image, arguments.kind)
-    return Setup(image, image.script + script_of(arguments.script), arguments.monitor, arguments.ram, arguments.kind, arguments.harts,
-                 max(0, arguments.steps))
+    script = image.script + script_of(arguments.script)
+    monitor = has_monitor(arguments, image, script)
+    if has_compressed(image):
+        tell("%s has compressed instructions, by its flags, and the bench has none: -march=rv32im builds it without" % image.name)
+    symbols = symbols_from(arguments.symbols, image)
+    return Setup(image, resolved_script(script, symbols), monitor, arguments.ram, arguments.kind, arguments.harts, arguments.steps, symbols)
+
+
+def has_monitor(arguments, image, script):
+    """Whether the image is run under the monitor: as it is said, and else as the image asks for it, which is told."""
+    monitor = arguments.monitor
+    reason = asks_for_monitor(image, script) if monitor is None else None
+    if reason:
+        tell("%s is run with --monitor, for %s; --no-monitor runs it bare" % (image.name, reason))
+    if arguments.harts > 1 and not (monitor or reason):
+        raise WordsRefused("--harts 2 needs --monitor")
+    return bool(monitor or reason)
+
+
+def run_from(arguments):
+    """The run; what the bench refuses of its script is told, and the status will be 1."""
+    run = run_of(setup_of(arguments))
+    for line, reply in run.faults:
+        tell(fault_text(line, reply, run.setup.symbols))
+        arguments.has_faults = True
+    return run
+
+
+def refuse_json(arguments, option):
+    """An output that is a form of its own has no objects."""
+    if arguments.json:
+        raise WordsRefused("%s has no --json" % option)
 
 
 def opened(arguments):
     """The run, its symbols and the printer, for a word over an image."""
     if arguments.opened:
         return (*arguments.opened, Printer(arguments.json))
-    run = run_of(setup_of(arguments))
-    return run, symbols_from(arguments.symbols, run.setup.image), Printer(arguments.json)
+    run = run_from(arguments)
+    return run, run.setup.symbols, Printer(arguments.json)
 
 
 def do_map(arguments):
     from .map_text import show_map
-    show_map(*opened(arguments))
+    if arguments.brief:
+        refuse_json(arguments, "--brief")
+    show_map(*opened(arguments), arguments.brief)
 
 
 def do_trace(arguments):
+    from .spike import show_spike
     from .trace_text import Filter, show_trace
+    if arguments.last is not None and arguments.last < arguments.first:
+        raise WordsRefused("--to %d is before --from %d" % (arguments.last, arguments.first))
+    if arguments.format == "spike":
+        refuse_json(arguments, "--format spike")
     run, symbols, printer = opened(arguments)
-    if arguments.function and not symbols:
-        raise Fault("--function needs symbols: an ELF file with them, or --symbols FILE")
-    show_trace(run, symbols, printer, Filter(arguments.first, arguments.last, arguments.world, arguments.function, arguments.traps))
+    if arguments.function and arguments.function not in symbols.by_name:
+        raise Fault(no_symbol(arguments.function, symbols))
+    wanted = Filter(arguments.first, arguments.last, arguments.world, arguments.function, arguments.traps)
+    if arguments.format == "spike":
+        show_spike(run, wanted, printer)
+    else:
+        show_trace(run, symbols, printer, wanted, arguments.short)
 
 
 def do_touch(arguments):
-    from .touch import show_touch
-    show_touch(*opened(arguments))
+    if arguments.lcov:
+        refuse_json(arguments, "--lcov")
+        from .lcov import show_lcov
+        show_lcov(*opened(arguments), [it for it in (arguments.symbols, arguments.image) if it])
+    else:
+        from .touch import show_touch
+        show_touch(*opened(arguments))
 
 
 def do_leak(arguments):
@@ -94,7 +169,7 @@ def do_leak(arguments):
 
 def do_timer(arguments):
     from .timer import show_timer
-    show_timer(*opened(arguments), arguments.slot, max(1, arguments.every))
+    show_timer(*opened(arguments), arguments.slot, arguments.every)
 
 
 def do_measure(arguments):
@@ -138,11 +213,21 @@ def add_word(words, name, do, about, *more):
 
 
 def trace_options(parser):
-    parser.add_argument("--from", dest="first", metavar="N", type=int, default=1, help="the first step that is shown")
-    parser.add_argument("--to", dest="last", metavar="N", type=int, help="the last one")
-    parser.add_argument("--world", metavar="W", help="of this world alone: host, e0 to e12, bare")
+    parser.add_argument("--from", dest="first", metavar="N", type=positive, default=1, help="the first step that is shown")
+    parser.add_argument("--to", dest="last", metavar="N", type=positive, help="the last one")
+    parser.add_argument("--world", metavar="W", type=world, help="of this world alone: host, e0 to e12, bare")
     parser.add_argument("--function", metavar="F", help="of this function alone")
     parser.add_argument("--traps", action="store_true", help="those alone that trap")
+    parser.add_argument("--short", action="store_true", help="the manual's short forms: mv, li, ret, csrw")
+    parser.add_argument("--format", choices=("rows", "spike"), default="rows", help="spike: the log of commits that Spike writes")
+
+
+def map_options(parser):
+    parser.add_argument("--brief", action="store_true", help="of each moment what it changes alone")
+
+
+def touch_options(parser):
+    parser.add_argument("--lcov", action="store_true", help="the lines and functions that were executed, as genhtml takes them")
 
 
 def slot_option(parser):
@@ -156,7 +241,7 @@ def leak_options(parser):
 
 
 def timer_options(parser):
-    parser.add_argument("--every", metavar="N", type=int, default=1, help="before every Nth step (1)")
+    parser.add_argument("--every", metavar="N", type=positive, default=1, help="before every Nth step (1)")
 
 
 def gdb_options(parser):
@@ -187,10 +272,11 @@ def parser_of():
     parser = Parser(prog="rvlook", usage="rvlook [WORD] IMAGE [OPTIONS]", epilog=WORDS,
                                      formatter_class=argparse.RawDescriptionHelpFormatter,
                                      description="See what host and enclave can touch, and when: beside the bench, over a pipe.")
+    parser.set_defaults(has_faults=False)
     words = parser.add_subparsers(prog="rvlook", metavar="WORD", help=argparse.SUPPRESS)
-    add_word(words, "map", do_map, "Who may touch what, at each moment at which it changes")
+    add_word(words, "map", do_map, "Who may touch what, at each moment at which it changes", map_options)
     add_word(words, "trace", do_trace, "Each step of a run", trace_options)
-    add_word(words, "touch", do_touch, "What each world read, wrote and executed, beside what it may")
+    add_word(words, "touch", do_touch, "What each world read, wrote and executed, beside what it may", touch_options)
     add_word(words, "leak", do_leak, "Two runs with two secrets in an enclave: where they part", slot_option, leak_options)
     add_word(words, "timer", do_timer, "The timer before each step of an enclave: does it come to its end", slot_option, timer_options)
     measure_word(words)
@@ -198,6 +284,12 @@ def parser_of():
     add_word(words, "page", do_page, "The run as one page for a browser")
     add_word(words, "gdb", do_gdb, "The run under a debugger that speaks the GDB remote serial protocol", gdb_options)
     return parser
+
+
+def unknown_word(word):
+    """What is told of a first word that is neither a word nor a file."""
+    near = get_close_matches(word, NAMES, 1)
+    return "%s is no word of rvlook, and no file%s; rvlook --help tells the words" % (word, "; near it is %s" % near[0] if near else "")
 
 
 def read(words):
@@ -208,7 +300,9 @@ def read(words):
         sys.exit(2)
     if words[0] in NAMES or words[0] in ("-h", "--help"):
         return parser.parse_args(words)
+    if not words[0].startswith("-") and not os.path.exists(words[0]):
+        raise WordsRefused(unknown_word(words[0]))
     alone = Parser(prog="rvlook", usage="rvlook [WORD] IMAGE [OPTIONS]")
     image_options(alone)
-    alone.set_defaults(do=do_prompt)
+    alone.set_defaults(do=do_prompt, has_faults=False)
     return alone.parse_args(words)

@@ -8,6 +8,7 @@ import os
 import select
 import subprocess
 import time
+from functools import lru_cache
 
 from .faults import BenchEnded, Fault
 
@@ -20,13 +21,22 @@ MARK = "reg 0"  # stands behind `enclaves`, whose reply may have no line
 MARKED = b"x0=00000000"
 
 
+@lru_cache(maxsize=None)
 def program_path():
-    """The program: the one that RVBENCH names, or the one that ./prove has built."""
-    root = os.path.dirname(os.path.dirname(os.path.abspath(__file__)))
-    path = os.environ.get("RVBENCH") or os.path.join(root, "crates", "rvbench", "out", "rvbench")
-    if not os.path.exists(path):
-        raise Fault("there is no program at %s; ./prove builds it, or RVBENCH names another" % path)
-    return path
+    """The program: the one that RVBENCH names, or the one that ./rvbench runs, which is found once."""
+    path = os.environ.get("RVBENCH")
+    if path and not os.path.exists(path):
+        raise Fault("there is no program at %s, which RVBENCH names" % path)
+    return path or built_program()
+
+
+def built_program():
+    """The program that ./prove has built, or an unproved one; which is told on standard error."""
+    finder = os.path.join(os.path.dirname(os.path.dirname(os.path.abspath(__file__))), "tools", "program")
+    done = subprocess.run([finder, "rvlook"], stdin=subprocess.DEVNULL, stdout=subprocess.PIPE, text=True, check=False)
+    if done.returncode:
+        raise Fault("there is no program; ./prove builds it, or RVBENCH names another")
+    return done.stdout.rstrip("\n")
 
 
 def widen(*pipes):

@@ -60,13 +60,15 @@ def is_form(word, form):
 def rewritten(word, form, symbols=None):
     """The word as the form has it, where what is meant is plain: an ABI name, the name of a control and status register, a symbol, a
     number in the other base. None where it is not."""
+    if form is Form.address and symbols and word.split("+")[0].split("@")[0] in symbols.places:
+        return "%x" % symbols.address(word)
     if is_form(word, form):
         return word
     if form is Form.register and word.lower() in names.NUMBER_OF:
         return str(names.NUMBER_OF[word.lower()])
     if form is Form.csr and (word.lower() in names.CSRS or re.match(r"0x[0-9a-fA-F]{1,3}\Z", word)):
         return "%x" % names.CSRS.get(word.lower(), int(word, 16) if word.startswith("0x") else 0)
-    if form in (Form.address, Form.value) and symbols and symbols.address(word) is not None:
+    if form is Form.value and symbols and symbols.address(word) is not None:
         return "%x" % symbols.address(word)
     return rewritten_number(word, form)
 

@@ -1,4 +1,5 @@
 """What can come wrong, told in one line."""
+import sys
 
 
 class Fault(Exception):
@@ -9,8 +10,17 @@ class WordsRefused(Fault):
     """The words of the command line are not those of rvlook."""
 
 
+class NameRefused(Fault):
+    """A name that stands for no address, or for more than one."""
+
+
 class BenchEnded(Fault):
     """The bench ended before it had answered."""
+
+
+def tell(line):
+    """A line on standard error."""
+    print("rvlook: " + line, file=sys.stderr, flush=True)
 
 
 def package_missing(module, package, what):

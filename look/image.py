@@ -12,6 +12,15 @@ PRINTABLE = re.compile(rb"[\t\r\n\x20-\x7e]*\Z")
 
 
 @dataclass(frozen=True)
+class ScriptLine:
+    """A line of a script: as it stands, where it stands, and what the bench is given for it."""
+    given: str
+    place: str
+    text: str
+    refused: str = ""  # why a name in it says no address, if one does not
+
+
+@dataclass(frozen=True)
 class Image:
     """`text` is what the bench reads up to the line `--`, `data` the bytes that it says (None where it says none rightly), `script` the
     lines behind that line, where the file had them."""
@@ -41,9 +50,11 @@ def digits_of(data):
     return "".join(line + "\n" for line in lines).encode("ascii")
 
 
-def script_lines(data):
-    """The lines of a script."""
-    return tuple(line.rstrip("\r") for line in data.decode("latin-1").split("\n") if line.strip())
+def script_lines(data, path, before=0):
+    """The lines of a script that stands in a file behind so many lines. A line -- in it is for two benches, and left out."""
+    lines = enumerate(data.decode("latin-1").split("\n"), before + 1)
+    return tuple(ScriptLine(line.rstrip("\r"), "%s:%d" % (path, number), line.rstrip("\r")) for number, line in lines
+                 if line.strip() not in ("", "--"))
 
 
 def decoded(text):
@@ -62,7 +73,8 @@ def image_of(path, kind="auto"):
     printable = PRINTABLE.match(data) is not None
     if TEXT.match(head) or printable and rest:
         text = head if head.endswith(b"\n") or not head else head + b"\n"
-        return Image(path, text, decoded(head), script_lines(rest[0]) if rest else ())
+        before = data[:len(data) - len(rest[0])].count(b"\n") if rest else 0
+        return Image(path, text, decoded(head), script_lines(rest[0], path, before) if rest else ())
     if printable and kind != "raw":
         raise Fault("%s: it is a text, and not that of an image; --kind raw takes its bytes" % path)
     return Image(path, digits_of(data), data)
@@ -70,4 +82,4 @@ def image_of(path, kind="auto"):
 
 def script_of(path):
     """The lines of a file of commands."""
-    return script_lines(read_file(path)) if path else ()
+    return script_lines(read_file(path), path) if path else ()

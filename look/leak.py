@@ -184,6 +184,6 @@ def apart_text(it, secret, symbols):
     """In what two runs part, and where."""
     if it.what == "steps":
         return "apart: %d and %d" % tuple(step - secret.step for step in it.steps)
-    where = "  ".join(part for part in (it.pc, it.pc and symbols.name(int(it.pc, 16)), it.pc and symbols.source(int(it.pc, 16))) if part)
+    where = "  ".join(part for part in (it.pc, it.pc and symbols.name(int(it.pc, 16)), it.pc and symbols.line(int(it.pc, 16))) if part)
     step = "step %d" % it.steps[0] if it.steps[0] == it.steps[1] else "steps %d and %d" % it.steps
     return "apart at %s, %s\n          %s\n          %s" % (step, where, *it.values)

@@ -1,24 +1,31 @@
 """The word map: the moments of a run, for a person and as objects."""
+from bisect import bisect_right
+
 from . import names
 from .map import moments
+from .ranges import NOTHING, Range
 from .run import End
 from .show import Style, enclave_object, end_object, end_text, hex8, place_text, run_object
 
 CELL = 6
 
 
-def show_map(run, symbols, printer):
+def show_map(run, symbols, printer, is_brief=False):
     """All moments of a run."""
     if printer.as_json:
         run_object(printer, run, symbols)
+    before = None
     for item in moments(run):
         if isinstance(item, End):
             (end_object(printer, item) if printer.as_json else end_text(printer, item, symbols))
         elif printer.as_json:
             moment_object(printer, item, symbols)
+        elif is_brief:
+            brief_text(printer, item, before, symbols)
+            before = item
         else:
             moment_text(printer, item, symbols)
-    if not printer.as_json and run.setup.monitor:
+    if not printer.as_json and not is_brief and run.setup.monitor:
         printer.line("(in brackets: worlds that do not run, by the law of reach over the table)")
 
 
@@ -56,6 +63,59 @@ def moment_text(printer, moment, symbols):
     lines += [row_text(row, cells_of(row, moment), widths) for row in moment.rows]
     for line in lines + [""]:
         printer.line(line)
+
+
+def brief_text(printer, moment, before, symbols):
+    """What a moment changes: who runs, the enclaves, and the ranges that a world may touch otherwise than before."""
+    hart = "hart %d  " % moment.hart if sum(not it.derived for it in moment.columns) > 1 else ""
+    parts = [printer.styled(hart + event_text(moment), Style.heading), "at " + place_text(moment.pc, symbols)]
+    if before and moment.world != before.world:
+        parts.append("%s goes on" % moment.world)
+    printer.line("  ".join(parts))
+    for enclave in moment.enclaves:
+        if not before or enclave not in before.enclaves:
+            was = next((it.state for it in before.enclaves if it.slot == enclave.slot), None) if before else None
+            printer.line("  %s %s -> %s" % (enclave.world, was, enclave.state) if was else enclave_text(enclave))
+    for found, what, changed in changed_rows(moment, before):
+        ends = "%08x-%08x %7s" % (found.first, found.end - 1, names.size_text(found.end - found.first))
+        printer.line("  %s  %s%s" % (ends, "  ".join(changed), "  " + what if what else ""))
+
+
+def changed_rows(moment, before):
+    """Each range in which a world may do otherwise than before, what it is, and what that is; at first all ranges. Neighbours that change
+    alike are one."""
+    found = []
+    starts = sorted({row.range.first for it in (moment, before) if it for row in it.rows})
+    for first, end in zip(starts, [*starts[1:], moment.rows[-1].range.end]):
+        old, new = rights_of(before, first) if before else {}, rights_of(moment, first)
+        changed = [change_text(key, old.get(key), new.get(key, NOTHING)) for key in {**old, **new}
+                   if old.get(key, NOTHING) != new.get(key, NOTHING)]
+        what = row_at(moment, first).what
+        if changed and found and found[-1][1:] == (what, changed) and found[-1][0].end == first:
+            found[-1] = (Range(found[-1][0].first, end), what, changed)
+        elif changed:
+            found.append((Range(first, end), what, changed))
+    return found
+
+
+def row_at(moment, address):
+    return moment.rows[bisect_right([it.range.first for it in moment.rows], address) - 1]
+
+
+def rights_of(moment, address):
+    """What each world may do at an address, in each mode; in both at once under the monitor, where they are alike. A world that is no more,
+    or not yet, may do nothing."""
+    row, found = row_at(moment, address), {}
+    for column in moment.columns:
+        for mode, rights in row.may[column.name].items():
+            split = "%s %s" % (column.world, mode) if is_split(column, moment) else column.world
+            found[mode if column.world == "bare" else split] = rights
+    return found
+
+
+def change_text(name, old, new):
+    """What a world may do from now on, and what it might."""
+    return "%s %s" % (name, new) if old is None else "%s %s -> %s" % (name, old, new)
 
 
 def enclave_text(enclave):

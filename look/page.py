@@ -1,37 +1,34 @@
 """The word page: a run as one page for a browser, which needs nothing else. It is made of the objects that --json writes."""
-import json
 import os
 
 from .faults import Fault, package_missing
 from .map_text import moment_object
 from .map import moments
 from .page_axis import segments_of
-from .page_data import Collector
+from .page_data import Collector, Columns, compressed
 from .page_sources import source_texts
-from .run import End, run_of
+from .run import End
 from .show import end_object, run_object
-from .symbols import symbols_from
 from .trace import Step, Tracer
 from .trace_text import Objects
 
 FOLDER = os.path.dirname(os.path.abspath(__file__))
-SCRIPTS = ("page_data.js", "page_chart.js", "page_marks.js", "page_panel.js", "page_keys.js")
+SCRIPTS = ("page_data.js", "page_chart.js", "page_marks.js", "page_panel.js", "page_find.js", "page_keys.js")
 
 
 def main(arguments):
     """Writes the page of a run to standard output."""
-    from .arguments import setup_of
+    from .arguments import run_from
     if arguments.json:
         raise Fault("page has no --json: it shows what map --json and trace --json write")
     environment = templates()
-    run = run_of(setup_of(arguments))
-    symbols = symbols_from(arguments.symbols, run.setup.image)
+    run = run_from(arguments)
+    symbols = run.setup.symbols
     found = collected(run, symbols)
     paths = [it for it in (arguments.symbols, arguments.image) if it]
-    data = {**found.data(), "segments": segments_of(found), "sources": source_texts(paths, found.source_names())}
-    text = environment.get_template("page.html").render(
-        title=found.title, data=embedded(data), scripts=SCRIPTS)
-    print(text)
+    columns = Columns()
+    data = {**found.data(columns), "segments": segments_of(found), "sources": source_texts(paths, found.source_names())}
+    print(environment.get_template("page.html").render(title=found.title, data=compressed(data, columns), scripts=SCRIPTS))
 
 
 def templates():
@@ -41,11 +38,6 @@ def templates():
     except ImportError:
         raise Fault(package_missing("jinja2", "python3-jinja2", "the page cannot be made")) from None
     return Environment(loader=FileSystemLoader(FOLDER), autoescape=True, undefined=StrictUndefined, keep_trailing_newline=False)
-
-
-def embedded(data):
-    """An object as text that may stand within an element `script`."""
-    return json.dumps(data, separators=(",", ":")).replace("<", "\\u003c")
 
 
 def collected(run, symbols):

@@ -1,7 +1,8 @@
 // The picture: where steps and addresses lie, the bands of memory, and the axes.
 const chart = document.getElementById("chart"), drawing = document.getElementById("drawing"), cursor = document.getElementById("cursor");
 const SHUT = 5, LEAST = 15, OUTSIDE = 28, AXIS = 20, EDGE = 10, NARROW = 600;
-const view = { from: 0, to: Math.max(1, run.steps) };
+// What of the run is seen: steps, and of the memory the part from its top to its bottom.
+const view = { from: 0, to: Math.max(1, run.steps), top: 0, bottom: 1 };
 const lanes = [
   ...[[data.commands, "script"], [data.calls, "calls"], [faults, "traps"]].filter(([signs]) => signs.length)
     .map(([, name]) => ({ name, height: 28 })),
@@ -46,7 +47,7 @@ wholes.filter(it => !it.isHost && !it.own.some(segment => segment.open)).forEach
 function measure() {
   const width = chart.clientWidth, isNarrow = width < NARROW, gutter = isNarrow ? 66 : 200;
   const top = lanes.reduce((sum, lane) => { lane.top = sum; return sum + lane.height; }, 0) + 4;
-  const room = isNarrow ? 400 : Math.max(440, Math.min(760, window.innerHeight - top - 210));
+  const room = isNarrow ? 400 : Math.max(360, Math.min(760, window.innerHeight - top - 470));
   const weight = it => it.open && !it.outside ? 14 + 11 * Math.log2(1 + (it.high - it.low + 1) / 32) : 0;
   const fixedOf = it => it.outside ? OUTSIDE : it.named ? LEAST : SHUT;
   const fixed = segments.reduce((sum, it) => sum + (weight(it) ? 0 : fixedOf(it)), 0);
@@ -56,7 +57,25 @@ function measure() {
     it.top = bottom;
     it.bottom = bottom += weight(it) ? Math.max(LEAST, weight(it) * scale) : fixedOf(it);
   });
+  const height = bottom - top, seen = y => top + ((y - top) / height - view.top) / (view.bottom - view.top) * height;
+  segments.forEach(it => { it.top = seen(it.top); it.bottom = seen(it.bottom); });
   box = { left: gutter, width: width - gutter - EDGE, top, bottom, height: bottom + AXIS, full: width, isNarrow };
+}
+
+// Draws within the memory alone, of which a part may be seen.
+function within(pen, draw) {
+  pen.save();
+  pen.beginPath();
+  pen.rect(0, box.top - 1, box.full, box.bottom - box.top + 2);
+  pen.clip();
+  draw();
+  pen.restore();
+}
+
+// The address at a place of the picture, or null where there is no memory.
+function addressAt(y) {
+  const it = segments.find(segment => y >= segment.top && y < segment.bottom);
+  return it ? it.low + Math.floor((it.bottom - y) / (it.bottom - it.top) * (it.high - it.low + 1)) : null;
 }
 
 function sized(canvas) {

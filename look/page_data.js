@@ -1,16 +1,27 @@
 // The data of the page: the packed columns as arrays, and what is asked of them.
-const data = JSON.parse(document.getElementById("data").textContent);
 const LAST_REGISTER = 31;
+
+// The data as look/page_data.py packs them: an object, and the columns behind it.
+async function unpacked() {
+  const told = document.getElementById("data"), text = told.textContent;
+  told.remove();
+  const packed = (await fetch("data:application/octet-stream;base64," + text)).body;
+  const bytes = await new Response(packed.pipeThrough(new DecompressionStream("deflate"))).arrayBuffer();
+  const length = new DataView(bytes).getUint32(0, true);
+  return [JSON.parse(new TextDecoder().decode(new Uint8Array(bytes, 4, length))), bytes, 4 + length];
+}
+
+const [data, packedBytes, firstColumn] = await unpacked();
 
 data.moments.forEach(moment => Object.assign(moment, data.maps[moment.map]));
 
-// A packed column as an array of numbers of its width.
-function columnOf({ width, data: text }) {
-  const bytes = Uint8Array.from(atob(text), letter => letter.charCodeAt(0));
-  return width === 1 ? bytes : width === 2 ? new Uint16Array(bytes.buffer) : new Uint32Array(bytes.buffer);
+// A column as an array of numbers of its width.
+function columnOf({ width, at, count }) {
+  return new { 1: Uint8Array, 2: Uint16Array, 4: Uint32Array }[width](packedBytes, firstColumn + at, count);
 }
 
-const COLUMNS = ["site", "place", "trap", "changes", "registers", "values"], TOUCH_COLUMNS = ["step", "address", "width", "kind", "name"];
+const COLUMNS = ["site", "place", "trap", "changes", "registers", "values"];
+const TOUCH_COLUMNS = ["step", "address", "width", "kind", "name", "value"];
 const columnsOf = (of, names) => Object.fromEntries(names.map(name => [name, columnOf(of[name])]));
 const run = { steps: data.steps, ...columnsOf(data, COLUMNS), touch: columnsOf(data.touch, TOUCH_COLUMNS) };
 const ABI = "zero ra sp gp tp t0 t1 t2 s0 s1 a0 a1 a2 a3 a4 a5 a6 a7 s2 s3 s4 s5 s6 s7 s8 s9 s10 s11 t3 t4 t5 t6".split(" ");
@@ -24,7 +35,7 @@ function changesOf(step) {
   return Array.from(run.registers.subarray(from, to), (number, at) => [number, run.values[from + at]]);
 }
 
-const isWritten = kind => (kind & 1) === 1, isRefused = kind => kind >= 2;
+const isWritten = kind => (kind & 1) === 1, isRefused = kind => (kind & 2) === 2, hasValue = kind => (kind & 4) === 0;
 const hex8 = number => (number >>> 0).toString(16).padStart(8, "0");
 const pcs = Uint32Array.from(data.sites, site => parseInt(site.pc, 16));
 
@@ -48,11 +59,14 @@ const callAt = new Map(data.calls.map(call => [call.step, call]));
 function touchOf(step) {
   const at = lastAtMost(run.touch.step, step);
   if (at < 0 || run.touch.step[at] !== step) return null;
-  return { address: run.touch.address[at], width: run.touch.width[at], kind: run.touch.kind[at], symbol: data.names[run.touch.name[at]] };
+  const kind = run.touch.kind[at], width = run.touch.width[at];
+  const value = hasValue(kind) ? run.touch.value[at].toString(16).padStart(2 * width, "0") : null;
+  return { address: run.touch.address[at], width, kind, value, symbol: data.names[run.touch.name[at]] };
 }
 
 // The steps with a trap that is no call, in their order.
-const faults = [...run.trap.keys()].map(at => at + 1).filter(step => run.trap[step - 1] && !callAt.has(step));
+const faults = [];
+run.trap.forEach((trap, at) => { if (trap && !callAt.has(at + 1)) faults.push(at + 1); });
 
 // What setreg lines of the script put into registers, by the step behind which they stand.
 const puts = data.commands.filter(it => it.line.startsWith("setreg") && it.replies[0] === "ok").map(it => {
@@ -60,21 +74,41 @@ const puts = data.commands.filter(it => it.line.startsWith("setreg") && it.repli
   return { step: it.step, hart: it.hart, number: Number(number), value: parseInt(value, 16) };
 });
 
-// The registers of a hart behind a step.
-function registersAfter(step, hart) {
-  const values = new Uint32Array(LAST_REGISTER + 1);
+// The registers of a hart behind every so many steps, and how many of the lines that put one were done by then.
+const APART = 4096, kept = new Map();
+
+function registersFrom(hart) {
+  const values = new Uint32Array(LAST_REGISTER + 1), all = [];
   values[10] = hart;
   let next = 0;
-  const takePuts = behind => {
-    for (; next < puts.length && puts[next].step <= behind; next++)
-      if (puts[next].hart === hart && puts[next].number) values[puts[next].number] = puts[next].value;
-  };
-  for (let number = 1; number <= step; number++) {
-    if (next < puts.length) takePuts(number - 1);
-    if (data.places[run.place[number - 1]].hart !== hart) continue;
-    for (let at = run.start[number - 1]; at < run.start[number]; at++) values[run.registers[at]] = run.values[at];
+  for (let step = 0; step <= run.steps; step++) {
+    if (step % APART === 0) all.push({ values: values.slice(), next });
+    if (step < run.steps) next = goOn(values, next, step + 1, hart);
   }
-  takePuts(step);
+  return all;
+}
+
+// What the lines before a step put, and what the step changed.
+function goOn(values, next, step, hart) {
+  next = putLines(values, next, step - 1, hart);
+  if (data.places[run.place[step - 1]].hart === hart)
+    for (let at = run.start[step - 1]; at < run.start[step]; at++) values[run.registers[at]] = run.values[at];
+  return next;
+}
+
+function putLines(values, next, behind, hart) {
+  for (; next < puts.length && puts[next].step <= behind; next++)
+    if (puts[next].hart === hart && puts[next].number) values[puts[next].number] = puts[next].value;
+  return next;
+}
+
+// The registers of a hart behind a step.
+function registersAfter(step, hart) {
+  if (!kept.has(hart)) kept.set(hart, registersFrom(hart));
+  const start = Math.floor(step / APART), from = kept.get(hart)[start], values = from.values.slice();
+  let next = from.next;
+  for (let at = start * APART + 1; at <= step; at++) next = goOn(values, next, at, hart);
+  putLines(values, next, step, hart);
   return values;
 }
 

@@ -1,8 +1,13 @@
-"""The objects of a run, packed for the page: what comes again and again is a number in a table, and numbers are bytes in base 64."""
+"""The objects of a run, packed for the page: what comes again and again is a number in a table, and numbers are columns of bytes. All
+of it is compressed by zlib, and stands as digits of base 64: the length of an object in JSON, in four bytes, the lowest first; the object;
+and the columns, at the places that it tells."""
 import base64
 import json
 import os
+import re
+import struct
 import sys
+import zlib
 from array import array
 
 from .names import STATUSES
@@ -12,7 +17,9 @@ KINDS = {"r": 0, "w": 1}
 KINDS_OF_ARRAYS = "BHI"
 COMMON = ("stdin", "image", "program.elf")  # names that tell nothing
 MAP = ("enclaves", "columns", "rows")
-REFUSED = 2  # added to the kind of a touch that trapped
+REFUSED, NO_VALUE = 2, 4  # added to the kind of a touch that trapped, and of one whose value is not told
+LEVEL = 6  # of zlib
+BRANCH = re.compile(r"b|jal ")
 
 
 class Table:
@@ -29,19 +36,42 @@ class Table:
         return [dict(zip(names, value)) for value in self.numbers]
 
 
-def packed(numbers):
-    """An array as text, in numbers of as few bytes as hold the largest, the lowest byte first."""
-    largest = max(numbers, default=0)
-    narrow = array(next(kind for kind in KINDS_OF_ARRAYS if largest < 256 ** array(kind).itemsize), numbers)
-    if sys.byteorder == "big":
-        narrow.byteswap()
-    return {"width": narrow.itemsize, "data": base64.b64encode(narrow.tobytes()).decode("ascii")}
+class Columns:
+    """Arrays of numbers as bytes behind one another, each from a multiple of four on."""
+
+    def __init__(self):
+        self.bytes = bytearray()
+
+    def add(self, numbers):
+        """An array, in numbers of as few bytes as hold the largest, the lowest byte first: where it stands."""
+        largest = max(numbers, default=0)
+        narrow = array(next(kind for kind in KINDS_OF_ARRAYS if largest < 256 ** array(kind).itemsize), numbers)
+        if sys.byteorder == "big":
+            narrow.byteswap()
+        place = {"width": narrow.itemsize, "at": len(self.bytes), "count": len(narrow)}
+        self.bytes += narrow.tobytes() + bytes(-len(narrow) * narrow.itemsize % 4)
+        return place
+
+
+def compressed(data, columns):
+    """The data of a page and its columns, as text."""
+    told = json.dumps(data, separators=(",", ":")).encode("utf-8")
+    told += b" " * (-len(told) % 4)
+    return base64.b64encode(zlib.compress(struct.pack("<I", len(told)) + told + bytes(columns.bytes), LEVEL)).decode("ascii")
 
 
 def refusal(step):
     """The name of the status by which the monitor has refused a call, or None: a0, where no other world goes on."""
     status = step["registers"].get("x10", next(iter(step["call"]["arguments"].values())))
     return STATUSES.get(int(status, 16)) if step["next"]["world"] == step["world"] else None
+
+
+def shown_text(step):
+    """The text of an instruction, with what a branch or jump goes to in place of how far that is."""
+    text, target = step["abi"], step["target"]
+    if not target or not BRANCH.match(text):
+        return text
+    return "%s%s%s" % (text[:text.rindex(" ") + 1], target["address"], " <%s>" % target["symbol"] if target["symbol"] else "")
 
 
 class Collector:
@@ -52,7 +82,8 @@ class Collector:
         self.sites, self.places, self.traps, self.names = Table(), Table(), Table(), Table()
         self.site, self.place, self.trap = array("I"), array("B"), array("I")
         self.changes, self.registers, self.values = array("B"), array("B"), array("I")
-        self.touch = {"step": array("I"), "address": array("I"), "width": array("B"), "kind": array("B"), "name": array("I")}
+        self.touch = {"step": array("I"), "address": array("I"), "width": array("B"), "kind": array("B"), "name": array("I"),
+                      "value": array("I")}
         self.calls, self.commands, self.moments = [], [], []
         self.granules, self.labels = set(), {}
         self.maps, self.borders = Table(), set()
@@ -63,7 +94,7 @@ class Collector:
         """The image's name: that of its folder, where the file has a common one."""
         path = os.path.abspath(self.run["image"])
         name = os.path.basename(path)
-        return os.path.basename(os.path.dirname(path)) if name in COMMON else name.removesuffix(".elf")
+        return os.path.basename(os.path.dirname(path)) if name in COMMON else os.path.splitext(name)[0] if name.endswith(".elf") else name
 
     def object(self, name, **members):
         getattr(self, "take_" + name)(members)
@@ -86,7 +117,8 @@ class Collector:
         self.moments.append({**rest, "map": self.maps.number(shown)})
 
     def take_step(self, it):
-        self.site.append(self.sites.number((it["pc"], it["word"], it["abi"], it["symbol"], it["function"], it["source"])))
+        self.site.append(self.sites.number((it["pc"], it["word"], it["abi"], it["symbol"], it["function"], it["source"], it["caller"],
+                                            shown_text(it))))
         self.place.append(self.places.number((it["hart"], it["world"], it["mode"])))
         trap = it["trap"]
         self.trap.append(self.traps.number((trap["cause"], trap["value"], trap["name"])) + 1 if trap else 0)
@@ -106,8 +138,8 @@ class Collector:
         if touch:
             address = int(touch["address"], 16)
             self.add_point(address, touch["width"], touch["symbol"])
-            kind = KINDS[touch["kind"]] + (0 if touch["done"] else REFUSED)
-            values = (it["step"], address, touch["width"], kind, self.names.number(touch["symbol"]))
+            kind = KINDS[touch["kind"]] + (0 if touch["done"] else REFUSED) + (NO_VALUE if touch["value"] is None else 0)
+            values = (it["step"], address, touch["width"], kind, self.names.number(touch["symbol"]), int(touch["value"] or "0", 16))
             for column, value in zip(self.touch.values(), values):
                 column.append(value)
 
@@ -120,17 +152,17 @@ class Collector:
 
     def source_names(self):
         """The files of which a line was executed."""
-        sources = [site[5] for site in self.sites.numbers if site[5]]
+        sources = [source for site in self.sites.numbers for source in site[5:7] if source]
         return {source.rsplit(":", 1)[0] for source in sources}
 
-    def data(self):
-        """All of it, as one object."""
+    def data(self, columns):
+        """All of it, as one object, and the columns behind it."""
         return {
             "title": self.title, "run": self.run, "end": self.end, "steps": len(self.site), "points": self.points,
             "rows": self.rows, "maps": [json.loads(it) for it in self.maps.numbers],
-            "sites": self.sites.rows("pc", "word", "abi", "symbol", "function", "source"),
+            "sites": self.sites.rows("pc", "word", "abi", "symbol", "function", "source", "caller", "shown"),
             "places": self.places.rows("hart", "world", "mode"), "traps": self.traps.rows("cause", "value", "name"),
-            "names": list(self.names.numbers), "site": packed(self.site), "place": packed(self.place), "trap": packed(self.trap),
-            "changes": packed(self.changes), "registers": packed(self.registers), "values": packed(self.values),
-            "touch": {name: packed(column) for name, column in self.touch.items()}, "calls": self.calls,
-            "commands": self.commands, "moments": self.moments}
+            "names": list(self.names.numbers), "site": columns.add(self.site), "place": columns.add(self.place),
+            "trap": columns.add(self.trap), "changes": columns.add(self.changes), "registers": columns.add(self.registers),
+            "values": columns.add(self.values), "touch": {name: columns.add(column) for name, column in self.touch.items()},
+            "calls": self.calls, "commands": self.commands, "moments": self.moments}

@@ -1,16 +1,14 @@
 // Where the reader goes: by keys, buttons and the picture.
 let current = 0;
-const LEAST_SPAN = 8, ZOOM = 2;
+const LEAST_SPAN = 8, LEAST_PART = 1 / 64, ZOOM = 2, MOVED = 0.2, DRAGGED = 4;
 const number = document.getElementById("number");
 
 function draw() {
   palette = {};
   measure();
   const pen = sized(drawing);
-  drawBands(pen);
-  drawGutter(pen);
+  within(pen, () => { drawBands(pen); drawGutter(pen); drawPoints(pen); });
   drawStepAxis(pen);
-  drawPoints(pen);
   drawLanes(pen);
   drawLegend();
   drawCursor();
@@ -27,7 +25,14 @@ function drawCursor() {
   pen.globalAlpha = 0.8;
   pen.fillRect(x - 0.5, 0, 1, box.bottom + 4);
   pen.lineWidth = 2;
-  touchedAt(current).forEach(address => { pen.beginPath(); pen.arc(x, yOf(address), 7, 0, 7); pen.stroke(); });
+  within(pen, () => touchedAt(current).forEach(address => { pen.beginPath(); pen.arc(x, yOf(address), 7, 0, 7); pen.stroke(); }));
+}
+
+// The step stands in the page's address, a moment after the reader has come to it.
+let keeping = 0;
+function keepStep() {
+  clearTimeout(keeping);
+  keeping = setTimeout(() => history.replaceState(null, "", "#" + current), 150);
 }
 
 function show(step) {
@@ -43,6 +48,7 @@ function show(step) {
   showMap(current);
   showRegisters(current);
   showSource(current);
+  keepStep();
 }
 
 // Shows so many steps from one on.
@@ -54,13 +60,36 @@ function look(from, span) {
   show(current);
 }
 
-function zoom(factor) {
+function zoom(factor, around = current) {
   const span = (view.to - view.from) / factor;
-  look(current - (current - view.from) / factor, span);
+  look(around - (around - view.from) / factor, span);
 }
 
-const nextOf = (steps, fallback) => steps.find(it => it > current) ?? fallback;
-const previousOf = (steps, fallback) => steps.filter(it => it < current).pop() ?? fallback;
+// Shows a part of the memory, by its top and its height as parts of the whole.
+function lookAlong(top, height) {
+  const part = Math.min(1, Math.max(LEAST_PART, height));
+  view.top = Math.min(Math.max(0, top), 1 - part);
+  view.bottom = view.top + part;
+  draw();
+}
+
+// Comes closer to the memory around a height of the picture, by default that of what the step touched last.
+function zoomAlong(factor, y = heightOf(current)) {
+  const part = (y - box.top) / (box.bottom - box.top), height = (view.bottom - view.top) / factor;
+  lookAlong(view.top + part * (view.bottom - view.top) - part * height, height);
+}
+
+const heightOf = step => Math.min(box.bottom, Math.max(box.top, step ? yOf(touchedAt(step).pop()) : (box.top + box.bottom) / 2));
+const moveAlong = part => lookAlong(view.top + part * (view.bottom - view.top), view.bottom - view.top);
+
+function whole() {
+  view.top = 0;
+  view.bottom = 1;
+  look(0, run.steps);
+}
+
+const nextOf = (steps, fallback) => steps[lastAtMost(steps, current) + 1] ?? fallback;
+const previousOf = (steps, fallback) => steps[lastAtMost(steps, current - 1)] ?? fallback;
 const changes = data.moments.map(it => it.step), called = data.calls.map(it => it.step);
 
 const actions = {
@@ -69,41 +98,82 @@ const actions = {
   previousMoment: () => show(previousOf(changes, 0)), nextMoment: () => show(nextOf(changes, current)),
   previousTrap: () => show(previousOf(faults, current)), nextTrap: () => show(nextOf(faults, current)),
   previousCall: () => show(previousOf(called, current)), nextCall: () => show(nextOf(called, current)),
-  closer: () => zoom(ZOOM), farther: () => zoom(1 / ZOOM), whole: () => look(0, run.steps),
+  closer: () => zoom(ZOOM), farther: () => zoom(1 / ZOOM), taller: () => zoomAlong(ZOOM), flatter: () => zoomAlong(1 / ZOOM),
+  up: () => moveAlong(-MOVED), down: () => moveAlong(MOVED), whole, find: () => document.getElementById("find").focus(),
   help: () => { const help = document.getElementById("help"); help.hidden = !help.hidden; },
 };
 const keys = {
   ArrowLeft: "previousStep", ArrowRight: "nextStep", Home: "first", End: "last", n: "nextMoment", p: "previousMoment", t: "nextTrap",
   T: "previousTrap", c: "nextCall", C: "previousCall", "+": "closer", "=": "closer", "-": "farther", 0: "whole", "?": "help",
+  v: "taller", V: "flatter", ArrowUp: "up", ArrowDown: "down", "/": "find",
 };
 
 document.addEventListener("keydown", event => {
-  if (event.target === number || event.ctrlKey || event.metaKey || event.altKey) return;
+  if (event.target.tagName === "INPUT" || event.ctrlKey || event.metaKey || event.altKey) return;
   const name = keys[event.key];
   if (!name) return;
   event.preventDefault();
-  const isTen = event.shiftKey && event.key.startsWith("Arrow");
+  const isTen = event.shiftKey && name.endsWith("Step");
   actions[isTen ? name.replace("Step", "Ten") : name]();
 });
 document.querySelectorAll("[data-do]").forEach(it => it.addEventListener("click", () => actions[it.dataset.do]()));
 number.addEventListener("change", () => show(Number(number.value)));
 
-const goTo = event => show(stepAt(event.clientX - chart.getBoundingClientRect().left));
-chart.addEventListener("pointerdown", event => { chart.setPointerCapture(event.pointerId); goTo(event); });
-chart.addEventListener("pointermove", event => { if (event.buttons) goTo(event); });
+const inChart = event => ({ x: event.clientX - chart.getBoundingClientRect().left, y: event.clientY - chart.getBoundingClientRect().top });
+let held = null;
+
+// A drag moves the picture; a click, or a touch, goes to the step there.
+chart.addEventListener("pointerdown", event => {
+  chart.setPointerCapture(event.pointerId);
+  held = { ...inChart(event), view: { ...view }, isDragged: false };
+});
+chart.addEventListener("pointermove", event => {
+  const { x, y } = inChart(event);
+  if (!held) { showHover(x, y); return; }
+  held.isDragged ||= Math.abs(x - held.x) > DRAGGED || Math.abs(y - held.y) > DRAGGED;
+  if (held.isDragged) soon(() => drag(x - held.x, y - held.y));
+});
+chart.addEventListener("pointerup", event => {
+  if (held && !held.isDragged) show(stepAt(inChart(event).x));
+  held = null;
+});
+chart.addEventListener("pointercancel", () => { held = null; });
+chart.addEventListener("pointerleave", hideHover);
+
+function drag(right, down) {
+  if (!held) return;
+  const was = held.view, span = was.to - was.from, part = was.bottom - was.top;
+  hideHover();
+  view.from = Math.min(Math.max(0, was.from - right / box.width * span), Math.max(1, run.steps) - span);
+  view.to = view.from + span;
+  lookAlong(was.top - down / (box.bottom - box.top) * part, part);
+}
+
 chart.addEventListener("wheel", event => {
   if (!event.ctrlKey) return;
   event.preventDefault();
-  zoom(event.deltaY < 0 ? ZOOM : 1 / ZOOM);
+  const factor = (event.deltaY || event.deltaX) < 0 ? ZOOM : 1 / ZOOM, { x, y } = inChart(event);
+  if (event.shiftKey) zoomAlong(factor, Math.min(box.bottom, Math.max(box.top, y)));
+  else zoom(factor, stepAt(x));
 }, { passive: false });
 
+// Draws once a frame.
+function soon(act) {
+  cancelAnimationFrame(pending);
+  pending = requestAnimationFrame(act);
+}
+
 let pending = 0;
-window.addEventListener("resize", () => { cancelAnimationFrame(pending); pending = requestAnimationFrame(draw); });
+window.addEventListener("resize", () => soon(draw));
 window.matchMedia("(prefers-color-scheme: dark)").addEventListener("change", draw);
 window.addEventListener("hashchange", () => show(Number(location.hash.slice(1)) || 0));
+
+// What a reader of the page may ask of it by a script.
+Object.assign(window, { show, run, view, look, zoomAlong });
 
 chart.setAttribute("aria-valuemax", run.steps);
 number.max = run.steps;
 showAbout();
+showFilters();
 draw();
 show(Number(location.hash.slice(1)) || data.moments[1]?.step || 0);

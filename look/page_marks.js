@@ -1,5 +1,6 @@
 // What is drawn on the bands: points of what was read, written and executed, and the lanes above; the legend.
 const KINDS = ["read", "write", "refused", "execute"];
+const hidden = new Set(); // kinds and worlds that are not drawn
 let marks = 0;
 
 // A sign of a kind, hollow where it is the host's or the bare bench's, and filled where it is an enclave's.
@@ -10,9 +11,17 @@ function drawSign(pen, kind, isFilled, x, y) {
     return;
   }
   if (kind === "read") pen.arc(x, y, 3, 0, 7);
+  if (kind === "read" && isFilled) { drawRing(pen, x, y); return; }
   if (kind === "write") pen.rect(x - 3, y - 3, 6, 6);
   if (kind === "refused") { pen.moveTo(x - 4, y - 4); pen.lineTo(x + 4, y + 4); pen.moveTo(x + 4, y - 4); pen.lineTo(x - 4, y + 4); }
   if (kind === "refused") pen.lineWidth = 2.2; else if (isFilled) pen.fill(); else { fillPaper(pen); pen.lineWidth = 1.4; }
+  pen.stroke();
+}
+
+// A load of an enclave: a thick ring, which its stores, as full squares, are not.
+function drawRing(pen, x, y) {
+  fillPaper(pen);
+  pen.lineWidth = 2.6;
   pen.stroke();
 }
 
@@ -40,6 +49,7 @@ class Signs {
   }
 
   add(kind, world, position, address) {
+    if (hidden.has(kind) || hidden.has(world)) return;
     const x = xOf(position), y = yOf(address);
     const key = ((x >> 1) * 8192 + (y >> 1)) * 64 + KINDS.indexOf(kind) * 16 + slotOf(world) + 1;
     if (this.taken.has(key)) return;
@@ -51,9 +61,14 @@ class Signs {
 
 function drawPoints(pen) {
   const signs = new Signs(pen), first = Math.floor(view.from) + 1, last = Math.min(run.steps, Math.ceil(view.to));
+  const lastAt = new Int32Array(data.sites.length).fill(-1), perStep = box.width / (view.to - view.from) / 2;
   for (let step = first; step <= last; step++) {
-    const trap = trapOf(step), isRefused = trap && trap.cause === "00000001" && trap.value === siteOf(step).pc;
-    if (!isInterrupt(trap)) signs.add(isRefused ? "refused" : "execute", placeOf(step).world, step - 0.5, pcs[run.site[step - 1]]);
+    const site = run.site[step - 1], at = Math.floor((step - view.from) * perStep) * 16 + run.place[step - 1] % 16;
+    // Most steps lie on the mark of one before.
+    if (!run.trap[step - 1] && lastAt[site] === at) continue;
+    lastAt[site] = at;
+    const trap = trapOf(step), isRefused = trap && trap.cause === "00000001" && trap.value === data.sites[site].pc;
+    if (!isInterrupt(trap)) signs.add(isRefused ? "refused" : "execute", placeOf(step).world, step - 0.5, pcs[site]);
   }
   drawTouches(signs, first, last);
   marks = signs.taken.size;

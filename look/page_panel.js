@@ -25,7 +25,9 @@ const placeName = place => (hartCount > 1 ? "hart " + place.hart + ", " : "") + 
 function touchText(touch) {
   const what = isWritten(touch.kind) ? "writes" : "reads";
   const bytes = touch.width === 1 ? "1 byte" : touch.width + " bytes";
-  return `${what} ${bytes} at ${hex8(touch.address)}${touch.symbol ? " " + touch.symbol : ""}${isRefused(touch.kind) ? ": refused" : ""}`;
+  const value = touch.value === null ? "" : (isWritten(touch.kind) ? ": " : " = ") + touch.value;
+  return `${what} ${bytes} at ${hex8(touch.address)}${touch.symbol ? " " + touch.symbol : ""}` +
+    (isRefused(touch.kind) ? ": refused" : value);
 }
 
 // What a step did, in a few words.
@@ -35,7 +37,8 @@ function effectOf(step) {
   const parts = [];
   if (call) parts.push(callName(call));
   else if (trap) parts.push(trap.name);
-  if (touch && !isRefused(touch.kind)) parts.push((isWritten(touch.kind) ? "w " : "r ") + hex8(touch.address));
+  if (touch && !isRefused(touch.kind)) parts.push((isWritten(touch.kind) ? "w " : "r ") + hex8(touch.address) +
+    (touch.value === null ? "" : "=" + touch.value));
   if (!call && changes.length) parts.push(changes.length > 3 ? changes.length + " registers" : changes.join(" "));
   return parts.join(", ");
 }
@@ -48,14 +51,17 @@ function showWhere(step) {
   }
   const site = siteOf(step), place = placeOf(step), trap = trapOf(step), touch = touchOf(step), call = callAt.get(step);
   put("where", `Step ${step.toLocaleString("en")}: ${placeName(place)}`);
-  const lines = [element("p", "mono", site.pc, site.symbol ? "  " + site.symbol : "", site.source ? "  " + site.source : "")];
+  const lines = [element("p", "mono", site.pc, site.symbol ? "  " + site.symbol : "", sourceText(site))];
   if (isInterrupt(trap)) lines.push(element("p", "refused", "the " + trap.name + ": no instruction is done"));
-  else lines.push(element("p", "mono here", site.abi || "no instruction"));
+  else lines.push(element("p", "mono here", site.shown || "no instruction"));
   if (touch) lines.push(element("p", isRefused(touch.kind) ? "refused" : "", touchText(touch)));
   if (call) lines.push(element("p", call.refused ? "refused" : "", callText(call)));
   else if (trap && !isInterrupt(trap)) lines.push(element("p", "refused", `trap: ${trap.name}, value ${trap.value}`));
   put("did", ...lines, ...commandsBehind(step));
 }
+
+// The source line; of what was inlined, that of the call too.
+const sourceText = site => site.source ? "  " + (site.caller ? site.caller + ", in " : "") + site.source : "";
 
 function callText(call) {
   const words = Object.entries(call.arguments).map(([name, value]) => name.replace("_", " ") + " " + value).join(", ");
@@ -81,7 +87,7 @@ function showSteps(step) {
       head.colSpan = STEP_COLUMNS - 1;
       rows.push(element("tr", "aside", element("td", ""), head));
     }
-    const text = isInterrupt(trapOf(at)) ? "(interrupt)" : site.abi || "";
+    const text = isInterrupt(trapOf(at)) ? "(interrupt)" : site.shown || "";
     const cells = [at, ...(hartCount > 1 ? [`${place.hart}: ${place.world}`] : []), site.pc, text, effectOf(at)];
     const row = element("tr", at === step ? "here" : "", ...cells.map(it => element("td", "", String(it))));
     row.addEventListener("click", () => show(at));
@@ -130,13 +136,15 @@ function showRegisters(step) {
 }
 
 function showSource(step) {
-  const source = step && siteOf(step).source, [name, line] = source ? source.split(":") : [null, 0], text = name && data.sources[name];
+  const site = step ? siteOf(step) : {}, source = site.caller || site.source;
+  const [name, line] = source ? source.split(":") : [null, 0], text = name && data.sources[name];
+  document.getElementById("below").classList.toggle("paired", Boolean(text));
   if (!text) return put("source");
   const lines = text.split("\n"), first = Math.max(1, line - SOURCE_BEFORE), last = Math.min(lines.length, Number(line) + SOURCE_BEHIND);
   const pre = element("pre", "");
   for (let at = first; at <= last; at++)
     pre.append(element("div", at === Number(line) ? "here" : "", String(at).padStart(4) + "  " + lines[at - 1]));
-  put("source", element("h3", "", name), pre);
+  put("source", element("h3", "", name + (site.caller ? ", in " + site.source : "")), pre);
 }
 
 function showAbout() {

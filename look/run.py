@@ -10,8 +10,9 @@ from dataclasses import dataclass, field, replace
 from .bench import Bench
 from .explain import WHOLE_FAULTS, whole_fault
 from .faults import BenchEnded, Fault
-from .image import Image
+from .image import Image, ScriptLine
 from .replies import ran_of
+from .symbols import Symbols
 
 CHUNK = 16384  # single steps in one exchange
 MOST_STEPS = 1000000  # of one command
@@ -24,12 +25,18 @@ SINGLE = b"step 1\n"
 class Setup:
     """What is run: the image, the lines of the script, and the words of the command line."""
     image: Image
-    script: tuple = ()
+    lines: tuple = ()  # of the script
     monitor: bool = False
     ram: int = 1 << 20
     kind: str = "auto"
     harts: int = 1
     limit: int = 1000000  # steps behind the script, at most
+    symbols: Symbols = field(default_factory=Symbols, compare=False)
+
+    @property
+    def script(self):
+        """The lines of the script as the bench takes them."""
+        return tuple(it.text for it in self.lines)
 
     def words(self):
         """The words for the program."""
@@ -40,7 +47,7 @@ class Setup:
 
     def with_script(self, lines, limit):
         """The same with other lines of the script, and so many steps behind it at most."""
-        return replace(self, script=tuple(lines), limit=limit)
+        return replace(self, lines=tuple(ScriptLine(it, "line %d" % at, it) for at, it in enumerate(lines, 1)), limit=limit)
 
     def bench(self):
         """A bench at reset."""
@@ -54,10 +61,11 @@ class Setup:
 
 @dataclass(frozen=True)
 class Line:
-    """A line of the script that does no step; a hidden one stands for a part of another."""
+    """A line of the script that does no step, as the bench takes it and as it stands; a hidden one stands for a part of another."""
     text: str
     replies: tuple = ()
     hidden: bool = False
+    given: str = ""
 
     @property
     def changes_state(self):
@@ -90,29 +98,32 @@ class Stretch:
 
 
 class Run:
-    """A setup, with the plan of its script. `hart` is the hart that the script has left chosen."""
+    """A setup, with the plan of its script. `hart` is the hart that the script has left chosen, `faults` the lines that the bench has
+    refused, each with its reply."""
 
     def __init__(self, setup):
-        self.setup, self.plan, self.hart, self.length = setup, [], 0, 0
+        self.setup, self.plan, self.hart, self.length, self.faults = setup, [], 0, 0, []
         self.mode, self.world = ("S", "host") if setup.monitor else ("M", "bare")
         with setup.bench() as bench:
             self.pc = bench.ask("regs")[0][32][3:]
-            for line in setup.script:
-                self.play(bench, line)
+            for line in setup.lines:
+                self.play(bench, line.text, line)
 
-    def play(self, bench, line):
+    def play(self, bench, line, script_line):
         """One line of the script, as a part of the plan."""
         word = line.split()[0]
         if word.startswith("#"):
             return
         replies = bench.ask(line)[0]
         ran = ran_of(replies[0]) if replies else None
+        if replies and replies[0].startswith("error "):
+            self.faults.append((script_line, replies[0]))
         if ran:
             self.add_steps(ran.steps)
         elif word == "sched" and replies[0].startswith("hart "):
             self.add_schedule(line.split()[1])
         else:
-            self.plan.append(Line(line, tuple(replies)))
+            self.plan.append(Line(line, tuple(replies), given=script_line.given))
             if word == "hart" and replies == ["ok"]:
                 self.hart = int(line.split()[1])
 

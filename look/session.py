@@ -4,8 +4,10 @@ import inspect
 from difflib import get_close_matches
 
 from . import names
-from .commands import COMMANDS, Form, is_form, written
+from .commands import COMMANDS, Form, is_form
 from .explain import line_fault
+from .faults import NameRefused
+from .lines import resolved
 from .map import Event, Finder
 from .map_text import moment_text
 from .replies import ran_of
@@ -63,6 +65,14 @@ class Session:
 
     def line(self, text):
         """Does a line; False where the session ends."""
+        try:
+            return self.done(text)
+        except NameRefused as fault:
+            self.tell(str(fault), Style.bad)
+            return True
+
+    def done(self, text):
+        """The same; a name that stands for no one address is a fault."""
         words = text.split()
         if not words or words[0].startswith("#"):
             return True
@@ -70,10 +80,8 @@ class Session:
             return False
         if words[0] in OWN:
             self.own(words[0], words[1:])
-        elif words[0] in COMMANDS:
-            self.command(written(words[0], words[1:], self.symbols) or text)
         else:
-            self.command(text)
+            self.command(resolved(text, self.symbols))
         return True
 
     def own(self, name, operands):

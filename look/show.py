@@ -54,7 +54,7 @@ def end_text(printer, end, symbols):
 def place_text(pc, symbols):
     """An address, with its symbol and source line where there are such."""
     number = int(pc, 16)
-    return "  ".join(it for it in (pc, symbols.name(number), symbols.source(number)) if it)
+    return "  ".join(it for it in (pc, symbols.name(number), symbols.line(number)) if it)
 
 
 def run_object(printer, run, symbols):

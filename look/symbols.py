@@ -2,11 +2,12 @@
 the bench knows no symbols."""
 import io
 import re
-import sys
 from bisect import bisect_right
+from collections import defaultdict
 from dataclasses import dataclass
+from functools import lru_cache
 
-from .faults import Fault, package_missing
+from .faults import Fault, NameRefused, package_missing, tell
 from .image import ELF_MAGIC, read_file
 
 NM_LINE = re.compile(r"([0-9a-fA-F]{8})\s+(?:[A-Za-z]\s+)?([A-Za-z_.$][\w.$]*)\s*\Z")
@@ -26,15 +27,21 @@ class Symbol:
 
 
 class Symbols:
-    """`symbols` in any order; `lines` are pairs of an address and the source line from there on, None where one ends."""
+    """`symbols` in any order; `lines` are pairs of an address and the source line from there on, None where one ends; `inlined` gives, as
+    it is asked for, the first and the last address of what stands for a call, and the line of the call."""
 
-    def __init__(self, symbols=(), lines=()):
+    def __init__(self, symbols=(), lines=(), inlined=tuple):
         best = {it.address: it for it in sorted(symbols, key=lambda it: (it.rank, it.name), reverse=True)}
         self.ordered = [best[address] for address in sorted(best) if address >= RAM_BASE]
         self.addresses = [symbol.address for symbol in self.ordered]
         self.by_name = {it.name: it for it in reversed(symbols)}
-        self.lines = sorted(lines, key=lambda it: (it[0], it[1] is not None))
+        self.places = defaultdict(set)  # of each name
+        for it in symbols:
+            self.places[it.name].add(it.address)
+        # What the linker has dropped has lines too, at addresses where there is no memory.
+        self.lines = sorted((it for it in lines if it[0] >= RAM_BASE), key=lambda it: (it[0], it[1] is not None))
         self.line_starts = [address for address, _ in self.lines]
+        self.read_inlined, self.inlined = inlined, None
 
     def __bool__(self):
         return bool(self.ordered)
@@ -69,15 +76,42 @@ class Symbols:
         place = bisect_right(self.line_starts, address) - 1
         return self.lines[place][1] if place >= 0 else None
 
+    def caller(self, address):
+        """The file and line of the call that an instruction was inlined for, or None."""
+        if self.inlined is None:
+            self.inlined = sorted(self.read_inlined())
+        place = bisect_right(self.inlined, (address, 1 << 32)) - 1
+        _, last, source = self.inlined[place] if place >= 0 else (0, -1, None)
+        return source if address <= last else None
+
+    def line(self, address):
+        """The source line of an instruction, behind that of the call that it was inlined for, or None."""
+        source, caller = self.source(address), self.caller(address)
+        return "%s, in %s" % (caller, source) if caller and source else source
+
     def address(self, text):
-        """The address that a name, a name+offset or hexadecimal digits say, or None."""
-        name, plus, offset = text.partition("+")
+        """The address that a name, a name+offset or hexadecimal digits say, or None. Of a name at more places, name@place is the first from
+        that place on."""
+        named, plus, offset = text.partition("+")
+        name, at, place = named.partition("@")
         try:
-            if name in self.by_name:
-                return self.by_name[name].address + (int(offset, 16) if plus else 0)
+            if name in self.places:
+                return self.place_of(name, self.address(place) if at else None) + (int(offset, 16) if plus else 0)
             return int(text, 16) & 0xFFFFFFFF
         except ValueError:
             return None
+
+    def place_of(self, name, first):
+        """Where a name is: the only place, or the first from an address on."""
+        places = sorted(self.places[name])
+        if first is not None:
+            places = [it for it in places if it >= first][:1]
+        if len(places) == 1:
+            return places[0]
+        if not places:
+            raise NameRefused("there is no %s from %08x on" % (name, first))
+        shown = " and ".join("%08x" % it for it in places)
+        raise NameRefused("%s is at %s; %s@PLACE is the first from a place on" % (name, shown, name))
 
 
 def symbols_of(path, data):
@@ -112,7 +146,8 @@ def elf_symbols(path, data):
         return Symbols()
     knows_all_forms()
     return Symbols(readable(path, "no symbols", lambda: list(named(file))) or (),
-                   readable(path, "no source lines", lambda: list(source_lines(file))) or ())
+                   readable(path, "no source lines", lambda: list(source_lines(file))) or (),
+                   lambda: readable(path, "no inlined calls", lambda: list(inlined_calls(file))) or ())
 
 
 def readable(path, without, read):
@@ -125,8 +160,10 @@ def readable(path, without, read):
         return None
 
 
+@lru_cache(maxsize=None)
 def told(line):
-    print("rvlook: " + line, file=sys.stderr)
+    """Tells a line, once."""
+    tell(line)
 
 
 def knows_all_forms():
@@ -174,3 +211,45 @@ def file_names(program):
     first = 0 if program["version"] >= 5 else 1
     return {first + place: entry.name.decode("utf-8", "replace").split("/")[-1]
             for place, entry in enumerate(program["file_entry"])}
+
+
+def inlined_calls(file):
+    """For each call that the compiler has inlined and that is in no other, the first and the last address of what stands for it, and the
+    file and line of the call."""
+    if not file.has_dwarf_info():
+        return
+    dwarf = file.get_dwarf_info()
+    for unit in dwarf.iter_CUs():
+        program = dwarf.line_program_for_CU(unit)
+        names = file_names(program) if program else {}
+        for entry in outermost(unit.get_top_DIE()):
+            call = entry.attributes
+            if "DW_AT_call_file" in call and "DW_AT_call_line" in call:
+                source = "%s:%d" % (names.get(call["DW_AT_call_file"].value, "?"), call["DW_AT_call_line"].value)
+                yield from ((first, end - 1, source) for first, end in ranges_of(dwarf, unit, entry) if first < end)
+
+
+def outermost(entry):
+    """The inlined calls below an entry, and none that is within another."""
+    for child in entry.iter_children():
+        if child.tag == "DW_TAG_inlined_subroutine":
+            yield child
+        elif child.tag in ("DW_TAG_subprogram", "DW_TAG_lexical_block"):
+            yield from outermost(child)
+
+
+def ranges_of(dwarf, unit, entry):
+    """The ranges of addresses of an entry, each up to, and not with, its end."""
+    told = entry.attributes
+    if "DW_AT_low_pc" in told and "DW_AT_high_pc" in told:
+        first, end = told["DW_AT_low_pc"].value, told["DW_AT_high_pc"]
+        yield first, end.value if end.form == "DW_FORM_addr" else first + end.value
+    elif "DW_AT_ranges" in told and dwarf.range_lists():
+        base = unit.get_top_DIE().attributes.get("DW_AT_low_pc")
+        base = base.value if base else 0
+        for it in dwarf.range_lists().get_range_list_at_offset(told["DW_AT_ranges"].value, unit):
+            if hasattr(it, "base_address"):
+                base = it.base_address
+            else:
+                at = 0 if getattr(it, "is_absolute", False) else base
+                yield at + it.begin_offset, at + it.end_offset

@@ -1,15 +1,13 @@
 """The word touch: what each world read, wrote and executed, beside what it might have."""
-import itertools
 from bisect import bisect_right
 from collections import Counter, defaultdict
 from dataclasses import dataclass
 
 from . import names
+from .accesses import accesses
 from .map import Moment, moments
 from .ranges import NOTHING, Range
-from .run import End
 from .show import Style, end_object, end_text, hex8, run_object
-from .trace import Step, Tracer
 
 KINDS = {"r": "read", "w": "wrote", "x": "executed"}
 LEAST_SIZE = 4096
@@ -54,23 +52,13 @@ class Touches:
     """What a run touched: counts of accesses by their first byte and width."""
 
     def __init__(self, run):
-        self.counts, self.permitted, self.end = defaultdict(Counter), defaultdict(list), None
-        for item in itertools.chain(Tracer(run).events(), moments(run)):
-            if isinstance(item, Step):
-                self.take(item)
-            elif isinstance(item, Moment):
-                self.allow(item)
-            elif isinstance(item, End):
-                self.end = item
-
-    def take(self, step):
-        """The accesses of a step."""
-        if step.is_executed:
-            self.counts[Kind(step.at.world, "x", True)][int(step.at.pc, 16), 4] += 1
-        elif step.trap.cause in names.FETCH_FAULTS:
-            self.counts[Kind(step.at.world, "x", False)][int(step.at.pc, 16), 4] += 1
-        if step.touch:
-            self.counts[Kind(step.at.world, step.touch.kind, step.touch.done)][step.touch.address, step.touch.width] += 1
+        self.counts, self.permitted = defaultdict(Counter), defaultdict(list)
+        found, self.end = accesses(run)
+        for it, count in found.items():
+            self.counts[Kind(it.world, it.kind, it.done)][it.address, it.width] += count
+        for moment in moments(run):
+            if isinstance(moment, Moment):
+                self.allow(moment)
 
     def allow(self, moment):
         """What the map permits each world that runs."""

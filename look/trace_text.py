@@ -1,8 +1,9 @@
 """The word trace: the steps of a run, for a person and as objects."""
-from dataclasses import dataclass
+from dataclasses import dataclass, field
 from typing import Optional
 
 from . import names
+from .instructions import short_form
 from .run import End
 from .show import Style, end_object, end_text, hex8, run_object
 from .trace import Step, Tracer
@@ -32,16 +33,20 @@ class Filter:
         return not (self.world or self.function or self.traps)
 
 
-def show_trace(run, symbols, printer, wanted):
+def show_trace(run, symbols, printer, wanted, is_short=False):
     """The steps that are wanted, with the script's lines between them where all are."""
     if printer.as_json:
         run_object(printer, run, symbols)
-    writer = (Objects if printer.as_json else Lines)(run, symbols, printer)
+    writer = Objects(run, symbols, printer) if printer.as_json else Lines(run, symbols, printer, is_short)
+    shown = 0
     for item in Tracer(run, wanted.first, wanted.last).events():
         if isinstance(item, Step):
             if wanted.takes(item, symbols):
                 writer.step(item)
+                shown += 1
         elif isinstance(item, End):
+            if not shown and item.steps >= wanted.first:
+                writer.none()
             writer.end(item)
         elif wanted.is_whole:
             writer.command(item)
@@ -53,19 +58,30 @@ class Objects:
     run: object
     symbols: object
     printer: object
+    sites: dict = field(default_factory=dict)
 
     def step(self, step):
-        pc = int(step.at.pc, 16)
+        target = step.target
         self.printer.object(
-            "step", step=step.number, hart=step.hart, world=step.at.world, mode=step.at.mode, pc=step.at.pc,
-            symbol=self.symbols.name(pc), function=self.symbols.function(pc), source=self.symbols.source(pc), word=step.word,
-            text=step.text, abi=step.text and names.with_abi_names(step.text),
+            "step", step=step.number, hart=step.hart, world=step.at.world, mode=step.at.mode, pc=step.at.pc, **self.site(step),
             registers={"x%d" % number: value for number, value in step.changed.items()}, touch=self.touch(step.touch),
+            target=None if target is None else {"address": hex8(target), "symbol": self.symbols.name(target)},
             call=self.call(step.call), trap=self.trap(step.trap),
             next={"pc": step.next.pc, "mode": step.next.mode, "world": step.next.world})
 
+    def site(self, step):
+        """What stands at a pc, which is the same at many steps."""
+        key = step.at.pc, step.instruction
+        if key not in self.sites:
+            pc, it = int(step.at.pc, 16), step.instruction
+            self.sites[key] = {
+                "symbol": self.symbols.name(pc), "function": self.symbols.function(pc), "source": self.symbols.source(pc),
+                "caller": self.symbols.caller(pc), "word": it and it.word, "text": it and it.text, "abi": it and it.abi,
+                "short": it and it.short}
+        return self.sites[key]
+
     def touch(self, touch):
-        return touch and {"kind": touch.kind, "address": hex8(touch.address), "width": touch.width,
+        return touch and {"kind": touch.kind, "address": hex8(touch.address), "width": touch.width, "value": touch.value,
                           "symbol": self.symbols.name(touch.address), "done": touch.done}
 
     @staticmethod
@@ -78,10 +94,22 @@ class Objects:
         return trap and {"cause": trap.cause, "value": trap.value, "name": names.cause_name(trap.cause)}
 
     def command(self, command):
-        self.printer.object("command", step=command.step, hart=command.hart, line=command.line, replies=list(command.replies))
+        self.printer.object("command", step=command.step, hart=command.hart, line=command.line, given=command.given,
+                            replies=list(command.replies))
+
+    def none(self):
+        """No step is one of those: so it is seen."""
 
     def end(self, end):
         end_object(self.printer, end)
+
+
+@dataclass(frozen=True)
+class Site:
+    """What is shown of an instruction at a place: its text, its function and its source line."""
+    text: str
+    function: Optional[str]
+    source: Optional[str]
 
 
 @dataclass
@@ -90,15 +118,25 @@ class Lines:
     run: object
     symbols: object
     printer: object
-    heading: str = ""
+    is_short: bool = False
+    heading: tuple = ()
     source: Optional[str] = None
+    sites: dict = field(default_factory=dict)
 
     def step(self, step):
-        self.head(step)
-        text = names.with_abi_names(step.text) if step.is_executed and step.text else \
-            "(an interrupt)" if step.is_interrupt else "(not fetched)"
-        parts = [*self.effects(step), *self.other_source(step)]
-        self.printer.line("%6d  %s  %-24s %s" % (step.number, step.at.pc, text, "  ".join(parts)))
+        key = step.at.pc, step.instruction
+        site = self.sites.get(key)
+        if site is None:
+            site = self.sites[key] = self.site(step)
+        heading = step.hart, step.at.world, step.at.mode, site.function
+        if heading != self.heading:
+            self.head(heading)
+        text = site.text if step.is_executed else "(an interrupt)" if step.is_interrupt else "(not fetched)"
+        parts = self.effects(step)
+        if site.source != self.source:
+            self.source = site.source
+            parts += [self.printer.styled(site.source, Style.aside)] if site.source else []
+        self.printer.line("%6d  %s  %-32s %s" % (step.number, step.at.pc, text, "  ".join(parts)))
         if step.call:
             self.aside(call_text(step))
         elif step.trap:
@@ -106,28 +144,37 @@ class Lines:
         if step.next.world != step.at.world:
             self.aside("%s goes on in %s" % (step.next.world, step.next.mode))
 
-    def head(self, step):
+    def site(self, step):
+        """The text of an instruction, with what a branch or jump goes to in place of how far that is."""
+        pc, it = int(step.at.pc, 16), step.instruction
+        text = it.abi if it else "(not fetched)"
+        if it and it.offset is not None:
+            text = text[:text.rindex(" ") + 1] + self.place(step.target if step.target is not None else pc + it.offset)
+        return Site(short_form(text) if self.is_short else text, self.symbols.function(pc), self.symbols.line(pc))
+
+    def place(self, address):
+        """An address as objdump writes it."""
+        name = self.symbols.name(address)
+        return "%08x <%s>" % (address, name) if name else "%08x" % address
+
+    def head(self, heading):
         """The world, mode and function, where they are others than above."""
-        pc = int(step.at.pc, 16)
-        hart = "hart %d" % step.hart if self.run.setup.harts > 1 else None
-        parts = (hart, step.at.world, step.at.mode, self.symbols.function(pc))
-        heading = "  ".join(it for it in parts if it)
-        if heading != self.heading:
-            self.heading, self.source = heading, None
-            self.printer.line(self.printer.styled(heading, Style.heading))
+        self.heading, self.source = heading, None
+        number, world, mode, function = heading
+        parts = ("hart %d" % number if self.run.setup.harts > 1 else None, world, mode, function)
+        self.printer.line(self.printer.styled("  ".join(it for it in parts if it), Style.heading))
 
     def effects(self, step):
-        """The registers that changed, and what was touched."""
-        changed = ["%s=%s" % (names.abi_name(number), value) for number, value in step.changed.items()]
+        """The registers that changed, what was touched, and where a jump to a register goes."""
+        changed = ["%s=%s" % (names.ABI[number], value) for number, value in step.changed.items()]
         if len(changed) > SHOWN_REGISTERS:
             value = "a0=%s" % step.changed[A0] if A0 in step.changed else changed[0]
             changed = [value, "and %d more" % (len(changed) - 1)]
-        return changed + ([touch_text(step.touch, self.symbols)] if step.touch else [])
-
-    def other_source(self, step):
-        """The source line, where it is another than above."""
-        source, self.source = self.source, self.symbols.source(int(step.at.pc, 16))
-        return [self.printer.styled(self.source, Style.aside)] if self.source and self.source != source else []
+        if step.touch:
+            changed.append(touch_text(step.touch, self.symbols))
+        elif step.instruction and step.instruction.is_jalr and step.target is not None:
+            changed.append("to " + self.place(step.target))
+        return changed
 
     def aside(self, text, style=Style.aside):
         self.printer.line(" " * 8 + self.printer.styled(text, style))
@@ -137,8 +184,13 @@ class Lines:
         first = command.replies[0] if command.replies else "(nothing)"
         shown = first if len(first) <= SHOWN_REPLY else first[:SHOWN_REPLY] + " .."
         more = len(command.replies) - 1
-        self.printer.line("%s  %s%s" % (self.printer.styled("> " + command.line, Style.aside), shown,
-                                        "  and %d more lines" % more if more > 0 else ""))
+        made = "" if command.line == command.given else "  (%s)" % command.line
+        self.printer.line("%s%s  %s%s" % (self.printer.styled("> " + command.given, Style.aside), made, shown,
+                                          "  and %d more lines" % more if more > 0 else ""))
+
+    def none(self):
+        """No step is one of those that are wanted."""
+        self.printer.line("no step is one of these")
 
     def end(self, end):
         end_text(self.printer, end, self.symbols)
@@ -156,6 +208,7 @@ def call_text(step):
 
 
 def touch_text(touch, symbols):
-    """A load or store: its kind, address, width and symbol."""
+    """A load or store: its kind, its address, the value that was loaded or stored, or how many bytes, and the symbol."""
     name = symbols.name(touch.address)
-    return "%s %08x %d%s%s" % (touch.kind, touch.address, touch.width, "  " + name if name else "", "" if touch.done else "  refused")
+    value = "=" + touch.value if touch.value else " %d" % touch.width
+    return "%s %08x%s%s%s" % (touch.kind, touch.address, value, "  " + name if name else "", "" if touch.done else "  refused")

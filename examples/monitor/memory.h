@@ -1,8 +1,15 @@
-/* The enclave and its window, as link.ld has placed them. */
+/* The enclave and its window, as link.ld has placed them: each begins at a multiple of its size, which is 4096 bytes at least. */
 #ifndef MONITOR_MEMORY_H
 #define MONITOR_MEMORY_H
 
-extern char region_base[], region_size[], window_base[], window_size[], enclave_entry[];
+/* GCC stores a word byte by byte where it knows no better of the address; the other hart may then see a part of it. */
+#if defined(__GNUC__) && !defined(__clang__)
+#define AT_A_PAGE __attribute__((aligned(4096)))
+#else
+#define AT_A_PAGE
+#endif
+
+extern char region_base[] AT_A_PAGE, region_size[], window_base[] AT_A_PAGE, window_size[], enclave_entry[];
 
 #define REGION ((unsigned)region_base)
 #define REGION_SIZE ((unsigned)region_size)

@@ -1,9 +1,9 @@
 #!/usr/bin/env python3
-"""tests/documents/monitor_docs.py --check: tells whether the lines of commands and replies in docs/MONITOR.md, docs/AUTHORS.md and
-docs/COMMANDS.md are those of the examples that they name. A part of them begins with the name of its example, as
-`# examples/enclave_adds`; its lines stand in that order in the example's script, each with the reply of the model of monitor_bench.py, and
-perhaps a comment. Of a reply of more lines the first stands there, of `sched` all, with ` / ` between them. Where the example is one of two
-benches, a reply that both give stands without its mark.
+"""tests/documents/monitor_docs.py --check: tells whether the lines of commands and replies in docs/MONITOR.md, docs/AUTHORS.md,
+docs/COMMANDS.md and examples/attacks/README.md are those of the examples that they name. A part of them begins with the name of its
+example, as `# examples/enclave_adds`; its lines stand in that order in the example's script, each with the reply of the model of
+monitor_bench.py, and perhaps a comment. Of a reply of more lines the first stands there, of `sched` all, with ` / ` between them. Where the
+example is one of two benches, a reply that both give stands without its mark.
 """
 import os
 import re
@@ -14,7 +14,7 @@ sys.path.append(sys.path[0] + "/../models")
 from monitor_bench import FORMS, Bench, Twins, cut_at, image_of, lines_of, setup_of
 
 ROOT = os.path.dirname(os.path.dirname(os.path.dirname(os.path.abspath(__file__))))
-PAGES = ("MONITOR.md", "AUTHORS.md", "COMMANDS.md")
+PAGES = ("docs/MONITOR.md", "docs/AUTHORS.md", "docs/COMMANDS.md", "examples/attacks/README.md")
 
 
 def text_of(*names):
@@ -75,7 +75,7 @@ def main(arguments):
     if arguments != ["--check"]:
         print(__doc__)
         return 2
-    wrong, count = missing("\n".join(text_of("docs", name) for name in PAGES))
+    wrong, count = missing("\n".join(text_of(*name.split("/")) for name in PAGES))
     print("\n".join(["differs: " + it for it in wrong] + ["%d compared, %d differ" % (count, len(wrong))]))
     return 1 if wrong or not count else 0
 

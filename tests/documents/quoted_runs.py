@@ -1,7 +1,7 @@
 #!/usr/bin/env python3
 """tests/documents/quoted_runs.py PAGE..: tells whether what stands on these pages below each line that begins with `$` is what that
 line writes in a shell: all of it, or of ./rvlook parts of it in their order, with a line `...` for what is left out. RVBENCH names the
-program, which stands for ./rvbench."""
+program, which stands for ./rvbench. What is about an enclave that a page has made before, ../my_enclave, is left to walk.py."""
 import os
 import re
 import subprocess
@@ -47,6 +47,8 @@ def main(pages):
     for page in pages:
         with open(os.path.join(ROOT, page), encoding="utf-8") as file:
             for command, wanted in runs_of(file.read()):
+                if "../my_enclave" in command:
+                    continue
                 count += 1
                 wrong += [] if is_quoted(command, wanted) else ["%s: %s" % (page, command)]
     print("\n".join(wrong + ["%d compared, %d differ" % (count, len(wrong))]))

@@ -1,9 +1,10 @@
 # examples/monitor/build: by clang 14 it gives the images and listings that stand there; by GNU's compiler and by clang it takes a folder
-# anywhere and its own link.ld, and refuses an enclave that uses what only the host has. What is not installed is told.
+# anywhere, all its sources and its own link.ld, gives memcpy and its like, and refuses an enclave that uses what only the host has, a
+# region that is too small, and a function that is nowhere; and a word of the window is stored as one. What is not installed is told.
 examples=$scratch/examples
 cp -r "$here/../examples" "$examples"
 
-# is_refused NAME WANTED COMPILER DIR: build ends with status 1 and this line on standard error.
+# is_refused NAME WANTED COMPILER DIR: build ends with status 1 and these lines on standard error.
 is_refused() {
   local status
   "$examples/monitor/build" "$3" "$4" > "$scratch/out" 2>&1
@@ -31,7 +32,7 @@ else
   echo "built_examples: the stored images: not run, for clang 14, lld and llvm are not installed"
 fi
 
-# An enclave that has its memcpy from the host, and one with its own beside the host's, in a region of its own size.
+# An enclave that has a function from the host, and one with its own memcpy beside the host's, in a region of its own size.
 copies=$scratch/copies
 cp -r "$examples/enclave_adds" "$copies"
 sed 's/80020000, LENGTH = 4K/80020000, LENGTH = 8K/' "$examples/monitor/link.ld" > "$copies/link.ld"
@@ -56,6 +57,32 @@ END
 own=$scratch/own
 cp -r "$copies" "$own"
 { echo "$memcpy"; sed 1d "$copies/application.c"; } > "$own/application.c"
+# one whose copy is given: neither it nor the host has one
+given=$scratch/given
+cp -r "$copies" "$given"
+cp "$examples/enclave_adds/host.c" "$given/host.c"
+# one that uses what only the host has
+for name in host application; do sed -i 's/memcpy/copied/g' "$copies/$name.c"; done
+# one of more files: the sum is of a file that is neither side's, and of an assembly file; CFLAGS say what is added
+more=$scratch/more
+cp -r "$given" "$more"
+cat > "$more/application.c" <<'END'
+unsigned sum_of(unsigned, unsigned);
+unsigned application_twice(unsigned);
+unsigned application(volatile unsigned *window)
+{
+    return window[2] = application_twice(sum_of(window[0], window[1]));
+}
+END
+echo 'unsigned sum_of(unsigned a, unsigned b) { return a + b + ADDED; }' > "$more/sums.c"
+printf '.globl application_twice\napplication_twice: slli a0, a0, 1\n ret\n' > "$more/application_twice.s"
+# one that does not fit, and one that calls what is nowhere
+large=$scratch/large missing=$scratch/missing
+cp -r "$examples/enclave_adds" "$large"
+sed -i '1a unsigned char table[5000] = {1};' "$large/application.c"
+cp -r "$examples/enclave_adds" "$missing"
+sed -i '1a unsigned long long __udivdi3(unsigned long long, unsigned long long);' "$missing/application.c"
+sed -i 's/return window\[2\];/return __udivdi3(window[2], window[1]);/' "$missing/application.c"
 printf -- '--\nbreak 8001001c\nrun 10000\nreg 10\nmem 80030000 12\n' > "$own/stdin"
 for compiler in clang gcc; do
   tool=clang
@@ -64,8 +91,32 @@ for compiler in clang gcc; do
     echo "built_examples: --$compiler: not run, for $tool is not installed"
     continue
   fi
-  wanted="build: the enclave uses what only the host has, and may not reach: memcpy"
-  is_refused "an enclave with the host's memcpy" "$wanted" --$compiler "$copies"
+  wanted="build: the enclave uses what only the host has, and may not reach: copied"
+  is_refused "an enclave with a function of the host" "$wanted" --$compiler "$copies"
+  over=$("$examples/monitor/build" --$compiler "$large" 2>&1 | sed -n 's/.*by \([0-9]*\) bytes.*/\1/p')
+  is_refused "an enclave that is too large" "build: REGION of $examples/monitor/link.ld is too small by ${over:-no} bytes
+  a region or window has a power of two of bytes, 4096 at least, and begins at a multiple of its size
+  cp $examples/monitor/link.ld $large, and there give REGION a larger LENGTH" --$compiler "$large"
+  is_refused "an enclave without a function" "build: no source has what is used: __udivdi3
+  memcpy, memmove, memset and memcmp are given; every other function a file of the folder must have
+  a name with two underscores before it is the compiler's own, as __udivdi3 for a division of 64 bits" --$compiler "$missing"
+  "$examples/monitor/build" --$compiler "$given" > "$scratch/out" 2>&1
+  expect "build of an enclave that has no memcpy, --$compiler" 0 $? /dev/null "$scratch/out"
+  CFLAGS=-DADDED=7 "$examples/monitor/build" --$compiler "$more" > "$scratch/out" 2>&1
+  expect "build of more files, with CFLAGS, --$compiler" 0 $? /dev/null "$scratch/out"
+  for folder in "$given" "$more"; do
+    halt=$(sed -n 's/^\([0-9a-f]*\)  halt$/\1/p' "$folder/listing")
+    { cat "$folder/image"; printf -- '--\nbreak %s\nrun 10000\nmem 80030008 4\n' "$halt"; } |
+      "$program" run --monitor | tail -1 > "$scratch/out"
+    if [ "$folder" = "$given" ]; then echo "80030008: b3 15 00 00"; else echo "80030008: 74 2b 00 00"; fi > "$scratch/wanted"
+    expect "the run of $(basename "$folder"), --$compiler" 0 $? "$scratch/wanted" "$scratch/out"
+  done
+  # the two words that the host puts into the window, each by one store
+  "$examples/monitor/build" --$compiler enclave_adds > "$scratch/out" 2>&1
+  grep -c '  sb ' "$examples/enclave_adds/listing" > "$scratch/out"
+  echo 0 > "$scratch/wanted"
+  cmp "$scratch/wanted" "$scratch/out" > "$scratch/compared"
+  expect "stores of bytes, --$compiler" 0 $? "$scratch/wanted" "$scratch/out"
   "$examples/monitor/build" --$compiler "$own" "$scratch/own.elf" > "$scratch/out" 2>&1
   expect "build of an enclave with a memcpy of its own, --$compiler" 0 $? /dev/null "$scratch/out"
   grep -c '^00002000  region_size$' "$own/listing" > "$scratch/out"

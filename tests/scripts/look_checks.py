@@ -28,9 +28,10 @@ def report():
     print("%d passed, %d failed" % (passed, failed))
 
 
-def objects(*words):
-    """The objects that a word writes."""
-    done = subprocess.run([os.path.join(ROOT, "rvlook"), *words, "--json"], cwd=ROOT, capture_output=True, text=True, check=True)
+def objects(*words, status=0):
+    """The objects that a word writes, which ends so."""
+    done = subprocess.run([os.path.join(ROOT, "rvlook"), *words, "--json"], cwd=ROOT, capture_output=True, text=True, check=False)
+    expect("%s: its status" % " ".join(words), status, done.returncode)
     return [json.loads(line) for line in done.stdout.splitlines()]
 
 

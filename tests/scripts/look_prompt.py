@@ -131,11 +131,12 @@ def failure(words, **environment):
 def check_ends():
     """A program that is not there, is none, ends at once, or in the midst; a package that is missing; who reads goes away."""
     image = "examples/enclave_timer/image"
-    expect("no program", (1, "rvlook: there is no program at /none; ./prove builds it, or RVBENCH names another\n"),
-           failure(["map", image], RVBENCH="/none"))
-    expect("a program that ends", (1, "rvlook: %s: the bench ended with status 0\n" % image), failure(["map", image], RVBENCH="/bin/true"))
+    expect("no program", (1, "rvlook: there is no program at /none, which RVBENCH names\n"),
+           failure(["map", image, "--monitor"], RVBENCH="/none"))
+    expect("a program that ends", (1, "rvlook: %s: the bench ended with status 0\n" % image),
+           failure(["map", image, "--monitor"], RVBENCH="/bin/true"))
     expect("a program that is none", (1, "rvlook: %s: Permission denied\n" % os.path.join(ROOT, "README.md")),
-           failure(["map", image], RVBENCH=os.path.join(ROOT, "README.md")))
+           failure(["map", image, "--monitor"], RVBENCH=os.path.join(ROOT, "README.md")))
     with tempfile.TemporaryDirectory() as folder:
         short = os.path.join(folder, "short")
         with open(short, "w") as file:

@@ -1,6 +1,7 @@
 #!/usr/bin/env python3
-"""Symbols and source lines of rvlook against nm and addr2line, on an example built anew with symbols and debugging information: by clang and
-lld, and by GNU's compiler. Where one is not there that is told."""
+"""Symbols, source lines and inlined calls of rvlook against nm and addr2line, on an example built anew with symbols and debugging
+information: by clang and lld, and by GNU's compiler; and the file for genhtml against the steps, and by genhtml. Where one is not there
+that is told."""
 import os
 import shutil
 import subprocess
@@ -66,6 +67,41 @@ def sources_of(tools, program, pcs):
     return [None if line.endswith((":?", ":0")) else line.split("/")[-1] for line in lines]
 
 
+def callers_of(tools, program, pcs):
+    """Of each address the line of the outermost call that it was inlined for, as addr2line tells it, or None."""
+    found, at = {}, None
+    for line in tools.output("addr2line", "-a", "-i", "-e", program, *pcs):
+        if line.startswith("0x"):
+            at = "%08x" % int(line, 16)
+            found[at] = []
+        else:
+            found[at].append(line.split(" (disc")[0].split("/")[-1])
+    return {pc: lines[-1] if len(lines) > 1 else None for pc, lines in found.items()}
+
+
+def check_lcov(tools, program, folder, steps):
+    """The lines with a count are those of the steps, and genhtml takes the file."""
+    command = [os.path.join(ROOT, "rvlook"), "touch", "--lcov", "--monitor", program]
+    told = subprocess.run(command, capture_output=True, text=True, check=True)
+    executed, name = set(), None
+    for line in told.stdout.splitlines():
+        kind, _, rest = line.partition(":")
+        name = os.path.basename(rest) if kind == "SF" else name
+        if kind == "SF":
+            expect("%s: the source %s is there" % (tools.compiler, rest), True, os.path.exists(rest))
+        if kind == "DA" and not rest.endswith(",0"):
+            executed.add("%s:%s" % (name, rest.split(",")[0]))
+    expect("%s: the lines for genhtml" % tools.compiler, {it["source"] for it in steps if it["source"]}, executed)
+    if shutil.which("genhtml"):
+        path = os.path.join(folder, "run.info")
+        with open(path, "w", encoding="utf-8") as file:
+            file.write(told.stdout)
+        done = subprocess.run(["genhtml", "-q", "-o", os.path.join(folder, "html"), path], capture_output=True, check=False)
+        expect("%s: genhtml" % tools.compiler, 0, done.returncode)
+    else:
+        print("look_symbols: genhtml was not run, for it is not installed")
+
+
 def check(tools):
     with tempfile.TemporaryDirectory() as folder:
         program = built(tools, folder)
@@ -77,8 +113,12 @@ def check(tools):
                    (name, int(step["pc"], 16) - int(offset or "0", 16)) in named)
         pcs = sorted({step["pc"] for step in steps})
         sources = dict(zip(pcs, sources_of(tools, program, pcs)))
+        callers = callers_of(tools, program, pcs)
         for step in steps:
             expect("%s: source of %s" % (tools.compiler, step["pc"]), sources[step["pc"]], step["source"])
+            expect("%s: caller of %s" % (tools.compiler, step["pc"]), callers[step["pc"]], step["caller"])
+        expect("%s: there are inlined calls" % tools.compiler, True, any(callers.values()))
+        check_lcov(tools, program, folder, steps)
 
 
 def main():

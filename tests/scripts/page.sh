@@ -27,7 +27,7 @@ install_browser() {
 }
 
 if "$python" -c 'import jinja2' 2> "$scratch/out"; then
-  page_of enclave_timer --monitor
+  page_of enclave_timer --monitor --symbols "$here/../examples/enclave_timer/listing"
   page_of two_harts --monitor --harts 2
   page_of pmp
   "$look" page "$here/../examples/pmp/stdin" --json > "$scratch/page" 2> "$scratch/out"
@@ -45,6 +45,12 @@ if "$python" -c 'import jinja2' 2> "$scratch/out"; then
     "$python" "$here/scripts/page_check.py" browser "$scratch/enclave_timer.html" "$program" "$here/../examples/enclave_timer/stdin" \
       "$scratch/page.png" > "$scratch/out" 2>&1
     if [ $? = 0 ]; then pass; else fail "the page in a browser" "$(head -1 "$scratch/out")"; fi
+    # a loop that stores and loads, a million steps of it
+    printf '%s\n' 37110080 23201100 93801000 83210100 13f2f00f b3024100 23801210 e39400fe > "$scratch/loop"
+    "$look" page "$scratch/loop" --kind raw > "$scratch/million.html" 2> "$scratch/out"
+    expect "the page of a million steps" 0 $? /dev/null "$scratch/out"
+    "$python" "$here/scripts/page_check.py" million "$scratch/million.html" > "$scratch/out" 2>&1
+    if [ $? = 0 ]; then pass; else fail "the page of a million steps in a browser" "$(head -1 "$scratch/out")"; fi
     for name in two_harts pmp outside none; do
       "$python" "$here/scripts/page_check.py" errors "$scratch/$name.html" > "$scratch/out" 2>&1
       if [ $? = 0 ]; then pass; else fail "the page of $name in a browser" "$(head -1 "$scratch/out")"; fi

@@ -1,0 +1,208 @@
+#!/usr/bin/env python3
+"""The table of ends in docs/LOOK.md: each row has a case here, which ends with the row's status and tells its line, in which the words in
+capitals stand for anything. And each word of rvlook with an output that takes nothing, with one whose reader has gone, with Ctrl-C, with
+no file, and with a file that is no ELF file."""
+import os
+import re
+import signal
+import subprocess
+import tempfile
+import time
+
+from look_checks import PROGRAM, ROOT, expect, report
+
+LOOK = os.path.join(ROOT, "rvlook")
+ADDS, LISTING = "examples/enclave_adds/image", "examples/enclave_adds/listing"
+SUM = "examples/sum/stdin"
+SYMBOLS = ["--symbols", LISTING]
+LEAKS = "tests/look/leak/image"
+FULL = 'exec "$0" "$@" > /dev/full'
+ROW = re.compile(r"^\| (\d+) \| `(.*)` \| .*\|$", re.M)
+
+
+class Files:
+    """What the cases need: files of a folder of their own."""
+
+    def __init__(self, folder):
+        self.folder = folder
+        self.script = self.write("script", "break man\n")
+        self.loop = self.write("loop", "1303130013031300\n6ff09fff\n")
+        self.lines = {name: self.write(name, text + "\n") for name, text in (
+            ("unknown", "stepp 4"), ("twice", "break trapped"), ("man", "break man"))}
+        self.key = self.write("key", "b758450a938838e473000000\n6f000000\n")
+        self.text = self.write("text", "no image\n")
+        self.cut = self.write("cut.elf", "\x7fELF")
+        with open(os.path.join(ROOT, ADDS), encoding="ascii") as file:
+            data = bytes.fromhex(file.read().split("--")[0])
+        self.compressed = os.path.join(folder, "compressed.elf")
+        with open(self.compressed, "wb") as file:
+            file.write(data[:36] + bytes([data[36] | 1]) + data[37:])
+        self.region = "tests/look/measure/region"
+
+    def write(self, name, text):
+        path = os.path.join(self.folder, name)
+        with open(path, "w", encoding="latin-1") as file:
+            file.write(text)
+        return path
+
+    def without(self, module):
+        """A folder in which a module is one that cannot be imported."""
+        folder = os.path.join(self.folder, "without_" + module)
+        os.makedirs(folder, exist_ok=True)
+        with open(os.path.join(folder, module + ".py"), "w", encoding="ascii") as file:
+            file.write("raise ImportError\n")
+        return folder
+
+
+def ran(words, shell=None, **environment):
+    """The status, and the lines on standard error."""
+    command = [LOOK, *words] if shell is None else ["bash", "-o", "pipefail", "-c", shell, LOOK, *words]
+    done = subprocess.run(command, cwd=ROOT, stdin=subprocess.DEVNULL, stdout=subprocess.PIPE, stderr=subprocess.PIPE, text=True,
+                          errors="replace", env={**os.environ, "TERM": "dumb", **environment}, check=False)
+    return done.returncode, done.stderr.splitlines()
+
+
+def stopped(words):
+    """The same of a word that Ctrl-C stops in its midst; where it had not yet begun, it is given longer."""
+    for pause in (1, 2, 4):
+        process = subprocess.Popen([LOOK, *words], cwd=ROOT, stdin=subprocess.PIPE, stdout=subprocess.DEVNULL, stderr=subprocess.PIPE,
+                                   text=True, preexec_fn=lambda: signal.signal(signal.SIGINT, signal.default_int_handler))
+        time.sleep(pause)
+        process.send_signal(signal.SIGINT)
+        _, told = process.communicate(timeout=60)
+        if process.returncode != -signal.SIGINT:
+            break
+    return process.returncode, told.splitlines()
+
+
+def cases(files):
+    """For each row of the table, by how its line begins, what gives it."""
+    scripted = lambda name: lambda: ran(["map", *SYMBOLS, "--script", files.lines[name], ADDS, "--monitor"])
+    leak = lambda *words: lambda: ran(["leak", "--monitor", "tests/look/leak/image", "--at", *words])
+    return {
+        "FILE is run with --monitor, for its": lambda: ran(["map", ADDS]),
+        "FILE is run with --monitor, for it has": lambda: ran(["map", files.key]),
+        "FILE has compressed": lambda: ran(["map", "--monitor", files.compressed]),
+        "the unproved program": unproved,
+        "MODULE is not there": lambda: ran(["map", "--monitor", ADDS], PYTHONPATH=files.without("elftools")),
+        "FILE:LINE: COMMAND: error command": scripted("unknown"),
+        "FILE:LINE: COMMAND: error operand: there": scripted("man"),
+        "FILE:LINE: COMMAND: error operand: NAME": scripted("twice"),
+        "FILE: No such": lambda: ran(["map", SUM, "--script", "/none"]),
+        "FILE: it is a text": lambda: ran(["map", files.text]),
+        "FILE: rvbench": lambda: ran(["map", "--kind", "elf", SUM]),
+        "FILE: no symbols": lambda: ran(["map", "--symbols", files.cut, SUM]),
+        "FILE: there are": lambda: ran(["map", "--symbols", files.text, SUM]),
+        "there is no symbol": lambda: ran(["trace", "--monitor", ADDS, *SYMBOLS, "--function", "man"]),
+        "PLACE is no": leak("nowhere", "00", "01"),
+        "BYTES are": leak("80020800", "0", "01"),
+        "no enclave is created": leak("80020800", "00", "01", "--slot", "4"),
+        "the bytes from": leak("80010000", "00", "01"),
+        "there is no enclave": lambda: ran(["timer", SUM, "--monitor", "--steps", "9"]),
+        "the enclave of slot": lambda: ran(["timer", "--monitor", "examples/monitor_at_rest/image"]),
+        "create refuses": lambda: ran(["measure", files.region, "80020000", "1001", "0", "0", "80020000"]),
+        "there are no source": lambda: ran(["touch", SUM, "--lcov"]),
+        "page has no": lambda: ran(["page", SUM, "--json"]),
+        "there is no program": lambda: ran(["map", SUM], RVBENCH="/none"),
+        "FILE: the bench ended": lambda: ran(["map", SUM], RVBENCH="/bin/true"),
+        "the output fails": lambda: ran(["map", SUM], FULL),
+        "WORD is no word": lambda: ran(["mpa", SUM]),
+        "unrecognized": lambda: ran(["map", SUM, "--fly"]),
+        "argument --world": lambda: ran(["trace", SUM, "--world", "foo"]),
+        "argument --every": lambda: ran(["timer", SUM, "--every", "0"]),
+        "--to NUMBER": lambda: ran(["trace", SUM, "--from", "9", "--to", "3"]),
+        "--harts 2": lambda: ran(["map", SUM, "--harts", "2"]),
+        "OPTION has no": lambda: ran(["touch", SUM, "--lcov", "--json"]),
+        "stopped": lambda: stopped(["trace", files.loop]),
+        "who reads": lambda: ran(["trace", files.loop], '"$0" "$@" | head -n 1')}
+
+
+def unproved():
+    """A clone whose program is an unproved one: the built program stands for it."""
+    with tempfile.TemporaryDirectory() as clone:
+        subprocess.run(["cp", "-r", *(os.path.join(ROOT, it) for it in ("look", "tools", "rvlook")), clone], check=True)
+        out = os.path.join(clone, "crates", "rvbench", "out")
+        os.makedirs(out)
+        open(os.path.join(clone, "crates.txt"), "w", encoding="ascii").close()
+        subprocess.run(["cp", PROGRAM, os.path.join(out, "unproved")], check=True)
+        done = subprocess.run([os.path.join(clone, "rvlook"), "map", os.path.join(ROOT, SUM)], stdout=subprocess.DEVNULL,
+                              stderr=subprocess.PIPE, text=True, check=False,
+                              env={name: value for name, value in os.environ.items() if name != "RVBENCH"})
+        return done.returncode, done.stderr.splitlines()
+
+
+def pattern_of(line):
+    """A line of the table, in which words in capitals stand for anything."""
+    kept = ("RVBENCH",)
+    return "".join(".+" if re.fullmatch("[A-Z]{3,}", it) and it not in kept else re.escape(it) for it in re.split(r"(\b[A-Z]{3,}\b)", line))
+
+
+def check_table(files):
+    with open(os.path.join(ROOT, "docs", "LOOK.md"), encoding="utf-8") as file:
+        rows = ROW.findall(file.read().split("## How it ends")[1])
+    every = cases(files)
+    expect("the table has rows", True, len(rows) > 30)
+    for status, line in rows:
+        name = next((it for it in every if line.startswith(it)), None)
+        expect("a case for: " + line, True, name is not None)
+        if name is None:
+            continue
+        found, told = every.pop(name)()
+        expect("%s: its status" % line, int(status), found)
+        expect("%s: its line in %r" % (line, told), True, any(re.fullmatch("rvlook: " + pattern_of(line), it) for it in told))
+        expect("%s: no traceback" % line, [], [it for it in told if not it.startswith(("rvlook: ", "prompt"))])
+    expect("each case has its row", [], list(every))
+
+
+def words_over(files):
+    """Each word over an image that takes a while, if it can take one, and over a short one."""
+    leak = ["--at", "80020800", "00", "01"]
+    return {
+        "map": (["map", files.loop], ["map", SUM]), "trace": (["trace", files.loop], ["trace", SUM]),
+        "touch": (["touch", files.loop], ["touch", SUM]), "page": (["page", files.loop], ["page", SUM]),
+        "map --json": (["map", files.loop, "--json"], ["map", SUM, "--json"]),
+        "trace --format spike": (["trace", files.loop, "--format", "spike"], ["trace", SUM, "--format", "spike"]),
+        "leak": (None, ["leak", "--monitor", LEAKS, *leak]),
+        "timer": (["timer", "--monitor", "examples/enclave_hmac/image"], ["timer", "--monitor", ADDS]),
+        "measure": (None, ["measure", files.region, "80020000", "1000", "0", "0", "80020000"]),
+        "explain": (None, ["explain", SUM]), "the prompt": (None, [SUM])}
+
+
+def check_words(files):
+    for name, (long, short) in words_over(files).items():
+        expect("%s, a full output" % name, (1, ["rvlook: the output fails: No space left on device"]), ran(short, FULL))
+        expect("%s, a closed pipe" % name, (141, ["rvlook: who reads the output has gone"]), gone(short))
+        if long:
+            expect("%s, Ctrl-C" % name, (130, ["rvlook: stopped"]), stopped(long))
+        images = (SUM, ADDS, files.region, LEAKS)
+        wanted = (2, ["rvlook: /none is no word of rvlook, and no file; rvlook --help tells the words"]) if name == "the prompt" else \
+            (1, ["rvlook: /none: No such file or directory"])
+        expect("%s, no file" % name, wanted, ran(["/none" if it in images else it for it in short]))
+        status, told = ran([files.cut if it in images else it for it in short])
+        expect("%s, no ELF" % name, (0, []) if name == "explain" else (1, True), (status, told if name == "explain" else is_told(told)))
+
+
+def is_told(told):
+    """Whether what stands on standard error is lines of rvlook."""
+    return bool(told) and all(it.startswith("rvlook: ") for it in told)
+
+
+def gone(words):
+    """A word whose output nobody reads: the reading end of the pipe is closed before it writes."""
+    reading, writing = os.pipe()
+    os.close(reading)
+    done = subprocess.run([LOOK, *words], cwd=ROOT, stdin=subprocess.DEVNULL, stdout=writing, stderr=subprocess.PIPE, text=True,
+                          check=False)
+    os.close(writing)
+    return done.returncode, done.stderr.splitlines()
+
+
+def main():
+    with tempfile.TemporaryDirectory() as folder:
+        files = Files(folder)
+        check_table(files)
+        check_words(files)
+    report()
+
+
+main()
