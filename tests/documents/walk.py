@@ -3,7 +3,8 @@
 the proved one; without it there is none, so that the first line builds an unproved one.
 
 A block of indented lines is run by bash in the clone, and ends with status 0; what stands below a line with `$` is what it writes, with a
-line `...` for what is left out. Left out are ./check and ./prove, which take long, and what is installed.
+line `...` for what is left out. Left out are ./check and ./prove, which take long, what is installed, and the sessions of a debugger,
+which scripts/look_gdb_sessions.py types.
 """
 import os
 import re
@@ -16,6 +17,7 @@ ROOT = os.path.dirname(os.path.dirname(os.path.dirname(os.path.abspath(__file__)
 PAGES = ("README.md", "docs/TUTORIAL.md")
 LEFT_OUT = ("./check", "./prove", "apt-get")
 BLOCK = re.compile(r"(?:^    .*\n|^\n(?=    ))+", re.M)
+SESSION = "(gdb) "
 SECONDS = 300
 
 
@@ -36,7 +38,7 @@ def blocks(text):
                 told.append(lines.pop(0))
             yield line[2:], "\n".join(told).rstrip("\n").split("\n")
         script = "\n".join(it for it in plain if not it.startswith(LEFT_OUT))
-        if script.strip():
+        if script.strip() and SESSION not in script:
             yield script, None
 
 
