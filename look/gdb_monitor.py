@@ -88,7 +88,8 @@ class Monitor:
             limit = arguments.steps if words[0] in FROM_HERE or "--steps" in words else 0
             setup = timeline.setup.with_script(commands_of(timeline.past, 0, timeline.hart), limit)
             arguments.opened = run_of(setup), self.opened().symbols
-        arguments.do(arguments)
+        with self.moves.link.watched():
+            arguments.do(arguments)
 
     # of the bridge
 

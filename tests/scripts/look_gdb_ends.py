@@ -62,13 +62,19 @@ def check_detach():
 
 
 def check_killed():
-    """A debugger that is killed while the harts go on."""
+    """A debugger that is killed while the harts go on, and while a word looks through many steps."""
+    for packets in (["vCont;c"], ["qRcmd," + b"step 1000000".hex(), "qRcmd," + b"touch".hex()]):
+        killed(packet_of("QStartNoAckMode") + b"".join(map(packet_of, packets)))
+
+
+def killed(packets):
+    """A debugger that gives packets, and is killed."""
     with tempfile.NamedTemporaryFile("w") as image:
         image.write(ENDLESS)
         image.flush()
         code = "import subprocess, sys, time\nit = subprocess.Popen(%r, stdin=subprocess.PIPE)\nprint(it.pid, flush=True)\n" \
             "it.stdin.write(%r)\nit.stdin.flush()\ntime.sleep(60)" % (
-                [LOOK, "gdb", image.name], packet_of("QStartNoAckMode") + packet_of("vCont;c"))
+                [LOOK, "gdb", image.name], packets)
         debugger = subprocess.Popen([sys.executable, "-c", code], cwd=ROOT, stdout=subprocess.PIPE, stderr=subprocess.PIPE)
         bridge = int(debugger.stdout.readline())
         time.sleep(0.7)
