@@ -1,11 +1,16 @@
 """Packets of the GDB remote serial protocol, over two file descriptors. Their bytes stand in texts, as latin-1."""
+import contextlib
 import os
 import re
 import select
+import signal
+import threading
 
 PACKET = re.compile(rb"\$([^#]*)#([0-9a-fA-F]{2})", re.S)
 ESCAPED = re.compile(r"[#$}*]")
 INTERRUPT = b"\x03"
+HUNG_UP = select.POLLHUP | select.POLLERR | getattr(select, "POLLRDHUP", 0)
+OFTEN = 200  # milliseconds after which it is asked whether it is still to be watched
 
 
 class Gone(Exception):
@@ -50,6 +55,31 @@ class Link:
         found = self.buffer.startswith(INTERRUPT)
         self.buffer = self.buffer.lstrip(INTERRUPT)
         return found
+
+    @contextlib.contextmanager
+    def watched(self):
+        """While something is done that asks nothing of the connection: where that ends, it ends too."""
+        def end(*_):
+            raise Gone
+
+        before, done = signal.signal(signal.SIGUSR1, end), threading.Event()
+        watcher = threading.Thread(target=self.watch, args=(done,), daemon=True)
+        watcher.start()
+        try:
+            yield
+        finally:
+            done.set()
+            watcher.join()
+            signal.signal(signal.SIGUSR1, before)
+
+    def watch(self, done):
+        """Wakes the main thread once the debugger has gone."""
+        poll = select.poll()
+        poll.register(self.reading, HUNG_UP)
+        while not done.is_set():
+            if any(event & HUNG_UP for _, event in poll.poll(OFTEN)):
+                signal.pthread_kill(threading.main_thread().ident, signal.SIGUSR1)
+                return
 
     def send(self, text):
         data = text.encode("latin-1", "replace")

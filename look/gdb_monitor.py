@@ -3,6 +3,7 @@ the bridge itself."""
 import contextlib
 import io
 
+from .arguments import NAMES, read
 from .commands import COMMANDS, Form, is_form, written
 from .faults import Fault
 from .gdb_entry import Entry
@@ -13,9 +14,9 @@ from .session import Session
 from .show import Printer, place_text
 from .timeline import commands_of
 
-WORDS = ("map", "trace", "touch", "leak", "timer", "page")  # over an image
+OTHERS = ("measure", "explain")  # words over a file of their own
+WORDS = tuple(it for it in NAMES if it not in (*OTHERS, "gdb"))  # over an image
 FROM_HERE = ("leak", "timer")  # which look at what comes behind what was done
-OTHERS = ("measure", "explain")
 CAUGHT = ("switch", "trap", "call")
 OWN = {
     "catch": "catch [switch | trap | call | none]: a continue stops behind each switch of world, each trap, each call of the monitor",
@@ -79,7 +80,6 @@ class Monitor:
 
     def word(self, words):
         """A word of rvlook, over a run of what was done up to now."""
-        from .arguments import read
         if words[:1] and words[0] in OTHERS:
             arguments = read(words)
         else:
@@ -88,7 +88,8 @@ class Monitor:
             limit = arguments.steps if words[0] in FROM_HERE or "--steps" in words else 0
             setup = timeline.setup.with_script(commands_of(timeline.past, 0, timeline.hart), limit)
             arguments.opened = run_of(setup), self.opened().symbols
-        arguments.do(arguments)
+        with self.moves.link.watched():
+            arguments.do(arguments)
 
     # of the bridge
 

@@ -5,9 +5,10 @@ import random
 import re
 import sys
 import tempfile
+from xml.etree import ElementTree
 
 from look_checks import bench, expect, objects, report
-from look_gdb_client import Client, registers
+from look_gdb_client import Client, packet_of, registers
 
 TIMER, HARTS = ("examples/enclave_timer/image", ["--monitor"]), ("examples/two_harts/image", ["--monitor", "--harts", "2"])
 BUG, ADDS = ("examples/enclave_bug/image", ["--monitor"]), ("examples/enclave_adds/image", ["--monitor"])
@@ -160,6 +161,13 @@ def check_catches():
         expect("nothing is caught", "caught: none\n", client.monitor("catch none"))
         expect("back to reset", "replaylog:begin", client.halt("bc")[0])
         client.end()
+    client = Client(*TIMER)
+    for line in ("catch switch", "timer on"):
+        client.monitor(line)
+    for wanted in ("[hart 0: from host to e0, by a call]\n", "[hart 0: from e0 to host, by the timer]\n"):
+        client.halt("vCont;c")
+        expect("the timer's stop", wanted, client.told)
+    client.end()
     client = Client("examples/primes/stdin", [])
     expect("a switch without the monitor", True, "write ./rvlook gdb --monitor" in client.monitor("catch switch"))
     client.end()
@@ -364,6 +372,38 @@ def check_random():
     client.end()
 
 
+def whole(client, document):
+    """A document of the bridge, in parts."""
+    text = ""
+    while True:
+        answer = client.ask("qXfer:%s:%x,400" % (document, len(text)))
+        text += re.sub(r"\}(.)", lambda match: chr(ord(match[1]) ^ 0x20), answer[1:])
+        if answer[0] == "l":
+            return ElementTree.fromstring(text)
+
+
+def check_target():
+    """What is told of registers, memory and harts: each register may be read, and control and status registers are what `csr` tells."""
+    client = Client(*HARTS)
+    found = whole(client, "features:read:target.xml").findall("feature/reg")
+    expect("the registers are numbered", list(range(len(found))), [int(it.get("regnum")) for it in found])
+    for it in found:
+        value = client.ask("p%x" % int(it.get("regnum")))
+        expect("register %s" % it.get("name"), True, bool(re.fullmatch("[0-9a-f]{8}|x{8}", value)))
+        if it.get("group") == "csr" and it.get("name") in ("misa", "pmpcfg0", "pmpaddr0"):
+            number = {"misa": "301", "pmpcfg0": "3a0", "pmpaddr0": "3b0"}[it.get("name")]
+            expect(it.get("name"), bench(HARTS[1], HARTS[0], ["csr " + number])[0].split("=")[1], bytes.fromhex(value)[::-1].hex())
+    memory = whole(client, "memory-map:read:").find("memory")
+    expect("the memory", ("0x80000000", "0x100000"), (memory.get("start"), memory.get("length")))
+    client.monitor("step 60")
+    names = [it.get("name") for it in whole(client, "threads:read:").findall("thread")]
+    replies = bench(HARTS[1], HARTS[0], ["step 60", "sched 0"])
+    told = ["hart %d: %s in %s" % (hart, re.search(r"world=(\w+)", it)[1], re.search(r"mode=(\w)", it)[1])
+            for hart, it in enumerate([replies[0], replies[2]])]
+    expect("the harts", told, names)
+    client.end()
+
+
 def check_refused():
     """What the bench has no command for is told, and nothing is written for a break."""
     client = Client(*TIMER)
@@ -385,6 +425,9 @@ def check_refused():
     expect("it may be ended", ["OK", "OK", "W00"], [client.ask(packet) for packet in ("!", "vKill;1", "?")])
     expect("and run again", "T05", client.ask("vRun;")[:3])
     expect("and is as it was", before, client.ask("m80010000,100"))
+    client.ask("vCont;s:1")
+    client.give(packet_of("R00"))
+    expect("and begin again", "pc=80010000", client.halt("?")[1][32])
     client.give(b"$k#6b")
     client.process.stdin.close()
     expect("it ends where the debugger has gone", 0, client.process.wait(10))
@@ -426,7 +469,7 @@ def check_monitor():
     expect("where the host entered e0", "e0 was entered at step 29, by run at 800100ac\n", client.monitor("entered"))
     expect("the host's pc", "b0000180", client.ask("p%x" % 91))
     expect("a line that is none", True, "write: mem A N" in client.monitor("mem 80010000"))
-    expect("a symbol that is none", True, "no symbols are known" in client.monitor("break nosuch"))
+    expect("a symbol that is none", True, "no symbols" in client.monitor("break nosuch"))
     client.end()
 
 

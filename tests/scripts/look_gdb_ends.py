@@ -10,12 +10,13 @@ import sys
 import tempfile
 import time
 
-from look_checks import ROOT, expect, report
+from look_checks import expect, report
 from look_gdb_client import LOOK, Client, packet_of, started
 
 TIMER = ("examples/enclave_timer/image", ["--monitor"])
 ENDLESS = "1303130013031300\n6ff09fff\n"  # a loop that never stays
 SOON = 0.05  # seconds in which Ctrl-C halts
+HOME = os.path.dirname(LOOK)
 GONE = "rvlook: the debugger has gone\n"
 
 
@@ -62,14 +63,20 @@ def check_detach():
 
 
 def check_killed():
-    """A debugger that is killed while the harts go on."""
+    """A debugger that is killed while the harts go on, and while a word looks through many steps."""
+    for packets in (["vCont;c"], ["qRcmd," + b"step 1000000".hex(), "qRcmd," + b"touch".hex()]):
+        killed(packet_of("QStartNoAckMode") + b"".join(map(packet_of, packets)))
+
+
+def killed(packets):
+    """A debugger that gives packets, and is killed."""
     with tempfile.NamedTemporaryFile("w") as image:
         image.write(ENDLESS)
         image.flush()
         code = "import subprocess, sys, time\nit = subprocess.Popen(%r, stdin=subprocess.PIPE)\nprint(it.pid, flush=True)\n" \
             "it.stdin.write(%r)\nit.stdin.flush()\ntime.sleep(60)" % (
-                [LOOK, "gdb", image.name], packet_of("QStartNoAckMode") + packet_of("vCont;c"))
-        debugger = subprocess.Popen([sys.executable, "-c", code], cwd=ROOT, stdout=subprocess.PIPE, stderr=subprocess.PIPE)
+                [LOOK, "gdb", image.name], packets)
+        debugger = subprocess.Popen([sys.executable, "-c", code], cwd=HOME, stdout=subprocess.PIPE, stderr=subprocess.PIPE)
         bridge = int(debugger.stdout.readline())
         time.sleep(0.7)
         told = subprocess.run(["ps", "-o", "pid=", "--ppid", str(bridge)], capture_output=True, text=True, check=False).stdout
@@ -96,13 +103,12 @@ def check_program():
     expect("a program that is gone, on the way on", "X09", client.ask("vCont;c"))
     ended("a program that is gone, on the way on", process, numbers, 1, "rvlook: %s: the bench ended with status -9\n" % TIMER[0])
     for words, environment, told in (
-            ([TIMER[0]], {"RVBENCH": "/none"}, "there is no program at /none; ./prove builds it, or RVBENCH names another"),
-            (["README.md", "--kind", "elf"], {}, None), (["--harts", "2", TIMER[0]], {}, "--harts 2 needs --monitor")):
-        done = subprocess.run([LOOK, "gdb", *words], cwd=ROOT, input=b"", capture_output=True, check=False,
+            ([*TIMER[1], TIMER[0]], {"RVBENCH": "/none"}, "there is no program at /none"),
+            (["README.md", "--kind", "elf"], {}, "README.md: ")):
+        done = subprocess.run([LOOK, "gdb", *words], cwd=HOME, input=b"", capture_output=True, check=False,
                               env={**os.environ, **environment})
         expect("%s: the status" % words, 1, done.returncode)
-        expect("%s: the line" % words, True, done.stderr.decode() == "rvlook: %s\n" % told or not told
-               and bool(re.fullmatch(r"rvlook: [^\n]*\n", done.stderr.decode())))
+        expect("%s: the line" % words, True, bool(re.fullmatch("rvlook: %s[^\n]*\n" % re.escape(told), done.stderr.decode())))
 
 
 def asked_at(connection, packet):
@@ -119,7 +125,7 @@ def asked_at(connection, packet):
 
 def check_port():
     """A port serves one debugger, turns a second one away, is of this machine alone, and is closed behind."""
-    process = subprocess.Popen([LOOK, "gdb", "--port", "0", *TIMER[1], TIMER[0]], cwd=ROOT, stderr=subprocess.PIPE)
+    process = subprocess.Popen([LOOK, "gdb", "--port", "0", *TIMER[1], TIMER[0]], cwd=HOME, stderr=subprocess.PIPE)
     port = int(process.stderr.readline().decode().split("localhost:")[1])
     first = socket.create_connection(("localhost", port))
     expect("the first one", "OK", asked_at(first, "QStartNoAckMode"))
@@ -130,7 +136,7 @@ def check_port():
     numbers = children_of(process)
     for words, told in ((["--port", str(port)], "port %d: Address already in use" % port),
                         (["--port", "99999"], "port 99999: ")):
-        done = subprocess.run([LOOK, "gdb", *words, TIMER[0]], cwd=ROOT, capture_output=True, text=True, check=False)
+        done = subprocess.run([LOOK, "gdb", *words, *TIMER[1], TIMER[0]], cwd=HOME, capture_output=True, text=True, check=False)
         expect("%s: refused" % words, (1, True, 1), (done.returncode, told in done.stderr, done.stderr.count("\n")))
     first.close()
     ended("the first one goes", process, numbers, 0, GONE)
@@ -139,7 +145,7 @@ def check_port():
         expect("the port is closed", True, False)
     except ConnectionRefusedError:
         expect("the port is closed", True, True)
-    process = subprocess.Popen([LOOK, "gdb", "--port", "0", *TIMER[1], TIMER[0]], cwd=ROOT, stderr=subprocess.PIPE,
+    process = subprocess.Popen([LOOK, "gdb", "--port", "0", *TIMER[1], TIMER[0]], cwd=HOME, stderr=subprocess.PIPE,
                                preexec_fn=lambda: signal.signal(signal.SIGINT, signal.default_int_handler))
     process.stderr.readline()
     process.send_signal(signal.SIGINT)
@@ -149,7 +155,7 @@ def check_port():
 def check_person():
     """Typed at a terminal it tells how a debugger is started."""
     master, slave = pty.openpty()
-    done = subprocess.run([LOOK, "gdb", *TIMER[1], TIMER[0]], cwd=ROOT, stdin=slave, capture_output=True, text=True, check=False)
+    done = subprocess.run([LOOK, "gdb", *TIMER[1], TIMER[0]], cwd=HOME, stdin=slave, capture_output=True, text=True, check=False)
     expect("at a terminal", (1, "rvlook: a debugger speaks here, and no person: gdb-multiarch %s -ex 'target remote | ./rvlook gdb --monitor "
                              "%s'; or --port N\n" % (TIMER[0], TIMER[0])), (done.returncode, done.stderr))
     os.close(master)
