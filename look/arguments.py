@@ -186,7 +186,7 @@ def do_prompt(arguments):
 def do_gdb(arguments):
     from .gdb import serve_gdb
     setup = setup_of(arguments)
-    serve_gdb(setup, lambda: symbols_from(arguments.symbols, setup.image), arguments.port)
+    serve_gdb(setup, lambda: setup.symbols, arguments.port)
 
 
 def do_explain(arguments):

@@ -5,7 +5,7 @@ from dataclasses import dataclass
 
 from . import names
 from .gdb_condition import holds
-from .trace import MEMORY, WIDTHS
+from .instructions import instruction_of
 
 STEPPED, INTERRUPTED, STOPPED = 5, 2, 0  # signals, as the protocol numbers them
 SIGNALS = {"00000000": 10, "00000001": 11, "00000002": 4, "00000003": 5, "00000005": 11, "00000007": 11}  # of traps, by their cause
@@ -189,15 +189,14 @@ def access_before(timeline, hart, ran):
     Where it loaded its own base, the registers are asked on another bench, before the step."""
     timeline.choose(hart)
     (line,), registers = timeline.ask("dis %x" % ((int(ran.pc, 16) - 4) & 0xFFFFFFFF), "regs")
-    text = line.split(" ", 2)[-1]
-    match = MEMORY.fullmatch(text)
-    if not match:  # a store over itself
+    instruction = instruction_of(line.encode())
+    memory = instruction and instruction.memory
+    if not memory:  # a store over itself
         return "w", int(ran.why[6:], 16), 1
-    base = int(match[3])
-    if text[0] == "l" and text.split()[1] == "x%d," % base:
+    if memory.kind == "r" and memory.register == memory.base:
         with contextlib.closing(timeline.again(timeline.position - 1)) as earlier:
             earlier.settle()
             earlier.choose(hart)
             registers = earlier.ask("regs")[0]
-    first = (int(registers[base].split("=")[1], 16) + int(match[2])) & 0xFFFFFFFF
-    return "r" if text[0] == "l" else "w", first, WIDTHS[match[1][1]]
+    first = (int(registers[memory.base].split("=")[1], 16) + memory.offset) & 0xFFFFFFFF
+    return memory.kind, first, memory.width
