@@ -1,6 +1,8 @@
 #!/usr/bin/env python3
 """The parts of docs/LOOK.md and README.md that begin with `$` and have ./rvlook in it: each command is run, and gives the lines that stand
-behind it; `...` stands for any lines. And each member of an object of --json stands in docs/LOOK.md, in the part of its object."""
+behind it; `...` stands for any lines. And each object of --json is as look/objects.schema.json has it, by python3-jsonschema if that is there,
+in the names of its members in any case."""
+import json
 import os
 import re
 import subprocess
@@ -9,10 +11,16 @@ import sys
 sys.path.append(sys.path[0] + "/../scripts")
 from look_checks import ROOT, expect, objects, report
 
+try:
+    from jsonschema import Draft202012Validator as Validator
+except ImportError:
+    Validator = None
+
 PAGES = ("docs/LOOK.md", "README.md")
+SCHEMA = "look/objects.schema.json"
 WORDS = (
-    ("map", "--monitor", "examples/enclave_adds/image"), ("touch", "--monitor", "examples/enclave_refused/stdin"),
-    ("trace", "--monitor", "examples/enclave_timer/stdin"), ("timer", "--monitor", "examples/enclave_adds/image"),
+    ("map", "--monitor", "examples/enclave_adds/image"), ("touch", "--monitor", "examples/enclave_refused/stdin", "--symbols", "examples/enclave_refused/listing"),
+    ("trace", "--monitor", "examples/enclave_timer/stdin"), ("map", "examples/pmp/stdin"), ("timer", "--monitor", "examples/enclave_adds/image"),
     ("leak", "--monitor", "tests/look/leak/image", "--at", "80020800", "00", "05"), ("explain", "tests/look/explain/input"),
     ("measure", "tests/look/measure/region", "80020000", "1000", "0", "0", "80020000"))
 
@@ -43,37 +51,47 @@ def check_page(page):
     return len(parts)
 
 
-def sections():
-    """The part of docs/LOOK.md for each object, by its name."""
-    with open(os.path.join(ROOT, "docs", "LOOK.md")) as file:
-        text = file.read().split("## The objects of --json")[1]
-    found = {}
-    for part in text.split("### ")[1:]:
-        for name in re.findall(r'"object":"(\w+)"', part):
-            found[name] = part
-    return found
-
-
-def members_of(value):
-    """The names of all members, but those that are names of registers, arguments and columns."""
+def members_of(value, schema, path):
+    """The members of an object and of those in it that a schema names, as `step.touch.kind`; one that it does not name, as `step.touch.?name`."""
     if isinstance(value, list):
-        return set().union(*map(members_of, value))
-    if not isinstance(value, dict):
+        return set().union(*(members_of(it, schema.get("items", {}), path) for it in value))
+    if not isinstance(value, dict) or "properties" not in schema:
         return set()
-    return set(value) | set().union(*(members_of(it) for name, it in value.items() if name not in ("registers", "arguments", "may")))
+    known = schema["properties"]
+    names = {"%s.%s" % (path, name if name in known else "?" + name) for name in value}
+    return names | set().union(*(members_of(it, known.get(name, {}), path + "." + name) for name, it in value.items()))
 
 
-def check_members():
-    told = sections()
-    found = {(it["object"], name) for words in WORDS for it in objects(*words) for name in members_of(it)}
-    for kind, name in sorted(found):
-        expect("docs/LOOK.md: %s of %s" % (name, kind), True, '"%s"' % name in told[kind])
+def named_by(schema, path):
+    """All members that a schema names, by the same paths."""
+    inner = schema.get("properties", {}).items()
+    names = {path + "." + name for name, _ in inner} | set().union(*(named_by(it, path + "." + name) for name, it in inner))
+    return names | (named_by(schema["items"], path) if "items" in schema else set())
+
+
+def check_objects():
+    """Each object is as the schema has it, and each member that the schema names is written, but for those of source lines."""
+    with open(os.path.join(ROOT, SCHEMA)) as file:
+        shapes = json.load(file)["$defs"]
+    found = set()
+    for words in WORDS:
+        written = objects(*words)
+        for it in written:
+            found |= members_of(it, shapes[it["object"]], it["object"])
+        if Validator:
+            faults = [fault.message for it in written for fault in Validator({**shapes[it["object"]], "$defs": shapes}).iter_errors(it)]
+            expect("%s of %s" % (SCHEMA, " ".join(words)), [], faults)
+    named = set().union(*(named_by(it, name) for name, it in shapes.items()))
+    expect("members that %s does not name" % SCHEMA, [], sorted(found - named))
+    expect("members of %s that are not written" % SCHEMA, [], sorted(it for it in named - found if not it.startswith("line.")))
+    if not Validator:
+        print("not run: the types of the objects, for want of python3-jsonschema")
 
 
 def main():
-    expect("docs/LOOK.md has examples", True, check_page(PAGES[0]) > 8)
+    expect("docs/LOOK.md has examples", True, check_page(PAGES[0]) > 6)
     check_page(PAGES[1])
-    check_members()
+    check_objects()
     report()
 
 
