@@ -1,9 +1,9 @@
 #!/usr/bin/env python3
-"""Writes the cases of tests/cases/debugger: where runs end by watches and breaks at each border of an access, what is asked
+"""Makes the cases of debugger: where runs end by watches and breaks at each border of an access, what is asked
 first, sets of 32 addresses and one more, poke, hart and sched of the one hart, every malformed line of these commands, and long
 scripts of them.
 
-    tests/generators/debugger.py                      writes the file anew
+    tests/generators/debugger.py                      writes its digest and sample anew
     tests/generators/debugger.py --check              tells whether they are what this script writes
     tests/generators/debugger.py --check-with-llvm    tells whether llvm-mc gives the same word for each assembly text
 
