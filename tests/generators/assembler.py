@@ -1,8 +1,8 @@
 #!/usr/bin/env python3
-"""Writes the cases of tests/cases/asm and dis: every statement, operand and border, labels and lines, and the text of every
+"""Makes the cases of asm and dis: every statement, operand and border, labels and lines, and the text of every
 kind of word.
 
-    tests/generators/assembler.py                      writes the files anew
+    tests/generators/assembler.py                      writes their digests and samples anew
     tests/generators/assembler.py --check              tells whether they are what this script writes, and refused_texts as it says
     tests/generators/assembler.py --check-with-llvm    tells whether llvm-mc gives the same word for each statement
 

@@ -1,7 +1,9 @@
-"""Writes the files of command-line cases that a script computes, or tells whether they are there as it computes them. A case
-has a topic, a name, and texts under the keys stdin, stdout and perhaps args (one word a line) and status, a character a byte;
-all cases of its topic are the script's.
+"""The cases that a script computes. A case has a topic, a name, and texts under the keys stdin, stdout and perhaps args (one word a
+line) and status, a character a byte; all cases of its topic are the script's. What is kept of a topic is a line of cases/digests (its
+name, how many cases, the SHA-256 of the text of all, the script) and a sample in cases/samples that a reader can look through:
+cases come back in a second, and tests/run_cases has the script write them.
 """
+import hashlib
 import os
 import sys
 
@@ -9,6 +11,8 @@ import case_format
 from instruction_words import differing_from_llvm
 
 CASES = os.path.join(os.path.dirname(os.path.dirname(os.path.abspath(__file__))), "cases")
+DIGESTS = os.path.join(CASES, "digests")
+SAMPLED, SHOWN = 3, 16  # cases of a topic, and lines of each part
 
 
 def stdin(image, script):
@@ -25,17 +29,65 @@ def computed(case):
 
 
 def files_of(cases):
-    """The texts of the files of the cases' topics, by their names."""
+    """The cases of each topic, in the form of the files."""
     topics = {}
     for case in cases:
         topics.setdefault(case.topic, []).append(computed(case))
-    comment = "Written by tests/generators/%s; case_format.py says how it is read." % os.path.basename(sys.argv[0])
-    return {topic + ".cases": case_format.written(part, comment) for topic, part in topics.items()}
+    return topics
+
+
+def script():
+    return os.path.basename(sys.argv[0])
+
+
+def text_of_all(part):
+    return case_format.written(part, "Written by tests/generators/%s; case_format.py says how it is read." % script())
+
+
+def digest_of(topic, part):
+    """The topic's line in cases/digests."""
+    return "%s %d %s %s\n" % (topic, len(part), hashlib.sha256(text_of_all(part).encode("ascii")).hexdigest(), script())
+
+
+def sample_of(part):
+    """Cases that lie evenly in the topic, the first lines of each part of them."""
+    step = max(1, len(part) // SAMPLED)
+    comment = "A sample of what tests/generators/%s writes: %d of %d cases, at most %d lines of input and of output of each."
+    chosen = part[::step][:SAMPLED]
+    text = case_format.written(chosen, comment % (script(), len(chosen), len(part), SHOWN))
+    lines, shown, left_out = [], 0, 0
+    for line in text.splitlines() + [""]:
+        if line[:1] == (lines and lines[-1][:1]) and line[:1] in "<>" and line:
+            shown += 1
+            if shown > SHOWN:
+                left_out += 1
+                continue
+        else:
+            if left_out:
+                lines.append("# and %d more" % left_out)
+            shown, left_out = 1, 0
+        lines.append(line)
+    return "\n".join(lines[:-1]) + "\n"
+
+
+def kept_of(topics):
+    """The files that are kept, by their paths below cases, with their texts; the digests of other scripts' topics stay."""
+    lines = {line.split()[0]: line for line in (text_of(DIGESTS) or "").splitlines(True)}
+    lines = {topic: line for topic, line in lines.items() if line.split()[3] != script()}
+    lines.update({topic: digest_of(topic, part) for topic, part in topics.items()})
+    kept = {os.path.join("samples", topic): sample_of(part) for topic, part in topics.items()}
+    return {**kept, "digests": "".join(lines[topic] for topic in sorted(lines))}
 
 
 def differing(files):
     """The files that are missing or of other bytes."""
     return [name for name, text in files.items() if text_of(os.path.join(CASES, name)) != text]
+
+
+def write(folder, files):
+    for name, text in files.items():
+        with open(os.path.join(folder, name), "w", encoding="ascii", newline="") as file:
+            file.write(text)
 
 
 def text_of(path):
@@ -48,17 +100,19 @@ def text_of(path):
 
 def main(arguments, cases, words, usage):
     """What the script was asked for, and its status. Words of instructions stand by their texts, for --check-with-llvm."""
-    files = files_of(cases)
-    assert sum(len(case_format.read(text)) for text in files.values()) == len(cases)
+    topics = files_of(cases)
+    if arguments[:1] == ["--into"] and len(arguments) == 2:
+        write(arguments[1], {topic + ".cases": text_of_all(part) for topic, part in topics.items()})
+        return 0
     if arguments in (["--check"], ["--check-with-llvm"]):
-        wrong, count = (differing(files), len(files)) if arguments == ["--check"] else differing_from_llvm(words)
+        kept = kept_of(topics)
+        wrong, count = (differing(kept), len(kept)) if arguments == ["--check"] else differing_from_llvm(words)
         print("\n".join(["differs: " + name for name in wrong] + ["%d compared, %d differ" % (count, len(wrong))]))
         return 1 if wrong else 0
     if arguments:
         print(usage)
         return 2
-    for name, text in files.items():
-        with open(os.path.join(CASES, name), "w", encoding="ascii", newline="") as file:
-            file.write(text)
-    print("%d cases written" % len(cases))
+    os.makedirs(os.path.join(CASES, "samples"), exist_ok=True)
+    write(CASES, kept_of(topics))
+    print("%d cases, of which a sample is kept" % len(cases))
     return 0

@@ -1,9 +1,9 @@
 #!/usr/bin/env python3
-"""Writes the cases of tests/cases/corner_values.cases: a case for each instruction of RV32IM, with all pairs of corner values, and
+"""Makes the cases of corner_values: a case for each instruction of RV32IM, with all pairs of corner values, and
 one for each trap that it takes in mode M, since nothing goes on after a trap: there is no memory at 0. The instructions of
 Zicsr and the other privileged ones are in csr_table.py and traps.py.
 
-    tests/generators/corner_values.py                      writes the file anew
+    tests/generators/corner_values.py                      writes its digest and sample anew
     tests/generators/corner_values.py --check              tells whether they are what this script writes
     tests/generators/corner_values.py --check-with-llvm    tells whether llvm-mc gives the same word for each assembly text
 

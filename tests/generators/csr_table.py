@@ -1,8 +1,8 @@
 #!/usr/bin/env python3
-"""Writes the cases of tests/cases/csr_table: what each number of a control and status register reads, what a write leaves, and
+"""Makes the cases of csr_table: what each number of a control and status register reads, what a write leaves, and
 which accesses are illegal, from each mode.
 
-    tests/generators/csr_table.py                      writes the file anew
+    tests/generators/csr_table.py                      writes its digest and sample anew
     tests/generators/csr_table.py --check              tells whether they are what this script writes
     tests/generators/csr_table.py --check-with-llvm    tells whether llvm-mc gives the same word for each assembly text
 

@@ -1,13 +1,14 @@
 #!/usr/bin/env python3
-"""Writes the cases of tests/cases/debugger: where runs end by watches and breaks at each border of an access, what is asked
+"""Makes the cases of debugger: where runs end by watches and breaks at each border of an access, what is asked
 first, sets of 32 addresses and one more, poke, hart and sched of the one hart, every malformed line of these commands, and long
 scripts of them.
 
-    tests/generators/debugger.py                      writes the file anew
+    tests/generators/debugger.py                      writes its digest and sample anew
     tests/generators/debugger.py --check              tells whether they are what this script writes
     tests/generators/debugger.py --check-with-llvm    tells whether llvm-mc gives the same word for each assembly text
 
-Nothing here comes from the bench: the machine that the cases follow is Bench, in mode M, of a few instructions.
+Nothing here comes from the bench: replies are those of the model of monitor_bench.py, over a bare hart. Where a reply is written here, by
+hand, the model gives the same.
 """
 import sys
 
@@ -15,6 +16,7 @@ sys.dont_write_bytecode = True
 sys.path.append(sys.path[0] + "/../models")
 import case_files
 from instruction_words import assemble, named
+from monitor_bench import Bench
 
 START, PAST, ONES = 0x80000000, 0x80100000, 0xFFFFFFFF
 AREA = START + 0x2000  # data, behind the code
@@ -25,133 +27,61 @@ words = {}  # those of all instructions, by their texts
 
 
 class Case:
-    """A machine in mode M, what it is told and what it must answer. All of the program stands in memory from the start."""
+    """A bench of a program in mode M, what it is told and what the model answers."""
 
     def __init__(self, name, program):
         self.topic, self.name, self.image, self.lines, self.replies = "debugger", name, {}, [], []
-        self.regs, self.pc, self.memory, self.breaks, self.watches = [0] * 32, START, {}, set(), set()
-        self.program = {START + 4 * i: instruction for i, instruction in enumerate(program)}
-        for address, instruction in self.program.items():
+        for i, instruction in enumerate(program):
             text, word = assemble(*instruction)
             words[text] = word
-            for i in range(4):
-                self.image[address + i] = word >> 8 * i & 0xFF
+            self.image.update((START + 4 * i + at, byte) for at, byte in enumerate(word.to_bytes(4, "little")))
+        self.bench = Bench(bytes(self.image.values()), kind="raw", is_monitored=False)
         cases.append(self)
 
     def files(self):
         return {"stdin": case_files.stdin(self.image, self.lines), "stdout": "".join(r + "\n" for r in self.replies)}
 
-    def tell(self, line, *replies):
+    @property
+    def pc(self):
+        return self.bench.machine.pc
+
+    def tell(self, line, *written):
+        """A line of the script, and the reply where it is written by hand."""
+        replies = self.bench.replies(line)
+        assert not written or replies == list(written), (line, replies)
         self.lines.append(line)
         self.replies += replies
 
-    # ---- the machine
-
-    def step(self):
-        """One instruction: its trap, and the addresses of the bytes that it loads or stores."""
-        name, *operands = self.program.get(self.pc, (".word", 0)) if self.is_inside(self.pc, 4) else ("no fetch",)
-        after, trap, reached = self.pc + 4, None, []
-        if name in ACCESSES:
-            register, offset, base = operands
-            address, width = self.regs[base] + offset & ONES, WIDTH[name[1]]
-            if self.is_inside(address, width):
-                reached = list(range(address, address + width))
-                self.load_or_store(name, register, reached)
-            else:
-                trap = (5 if name[0] == "l" else 7, address)
-        elif name == "addi":
-            self.set(operands[0], self.regs[operands[1]] + operands[2])
-        elif name == "jalr":
-            after = self.regs[operands[2]] + operands[1] & ~1
-            self.set(operands[0], self.pc + 4)
-        elif name == "jal":
-            self.set(operands[0], self.pc + 4)
-            after = self.pc + operands[1]
-        else:
-            trap = {"ecall": (11, 0), ".word": (2, 0), "no fetch": (1, self.pc)}[name]
-        self.pc = 0 if trap else after
-        return trap, reached
-
-    def is_inside(self, address, width):
-        return START <= address <= PAST - width
-
-    def load_or_store(self, name, register, reached):
-        if name[0] == "s":
-            for i, address in enumerate(reached):
-                self.memory[address] = self.regs[register] >> 8 * i & 0xFF
-        else:
-            number = sum(self.byte(address) << 8 * i for i, address in enumerate(reached))
-            is_negative = not name.endswith("u") and number >> 8 * len(reached) - 1
-            self.set(register, number - (is_negative and 1 << 8 * len(reached)))
-
-    def byte(self, address):
-        return self.memory.get(address, self.image.get(address, 0))
-
-    def set(self, register, number):
-        if register:
-            self.regs[register] = number & ONES
-
-    # ---- the commands
-
     def go(self, command, count, line=None):
-        """step looks at nothing; run asks after each step for a watched byte, then whether all is done, then for a break."""
-        last, done, why = None, 0, None
-        while why is None:
-            trap, reached = self.step()
-            last, done = trap or last, done + 1
-            watched = sorted(self.watches.intersection(reached))
-            if command == "run" and watched:
-                why = "watch:%08x" % watched[0]
-            elif done == count:
-                why = "done"
-            elif command == "run" and self.pc in self.breaks:
-                why = "break"
-        self.tell(line or "%s %d" % (command, count), "ran %d pc=%08x mode=M world=bare why=%s trap=%s"
-                  % (done, self.pc, why, "%08x:%08x" % last if last else "-"))
-        return why
+        """Steps, and why they ended."""
+        self.tell(line or "%s %d" % (command, count))
+        return self.replies[-1].split("why=")[1].split(" ")[0]
 
     def run(self, count):
         return self.go("run", count)
 
     def sched(self, digits):
-        """Steps of the one hart, which look at nothing; none where another is named."""
-        if "1" in digits:
-            return self.tell("sched " + digits, "error hart")
-        traps = [trap for trap, _ in (self.step() for _ in digits) if trap]
-        return self.tell("sched " + digits, "hart 0 %d pc=%08x mode=M world=bare trap=%s"
-                         % (len(digits), self.pc, "%08x:%08x" % traps[-1] if traps else "-"))
+        self.tell("sched " + digits)
 
     def put(self, command, address):
         """break or watch."""
-        addresses = self.breaks if command == "break" else self.watches
-        if address not in addresses and len(addresses) == MOST:
-            self.tell("%s %x" % (command, address), "error full")
-        else:
-            addresses.add(address)
-            self.tell("%s %x" % (command, address), "ok")
+        self.tell("%s %x" % (command, address))
 
     def take(self, command, address):
         """clear or unwatch."""
-        (self.breaks if command == "clear" else self.watches).discard(address)
-        self.tell("%s %x" % (command, address), "ok")
+        self.put(command, address)
 
     def setreg(self, register, number):
-        self.set(register, number)
-        self.tell("setreg %d %x" % (register, number), "ok")
+        self.tell("setreg %d %x" % (register, number))
 
     def poke(self, address, byte):
-        if self.is_inside(address, 1):
-            self.memory[address] = byte
-            self.tell("poke %x %x" % (address, byte), "ok")
-        else:
-            self.tell("poke %x %x" % (address, byte), "error outside")
+        self.tell("poke %x %x" % (address, byte))
 
     def mem(self, address, count):
-        self.tell("mem %x %d" % (address, count),
-                  "%08x:" % address + "".join(" %02x" % self.byte(address + i) for i in range(count)))
+        self.tell("mem %x %d" % (address, count))
 
     def reg(self, register):
-        self.tell("reg %d" % register, "x%d=%08x" % (register, self.regs[register]))
+        self.tell("reg %d" % register)
 
 
 cases = []
@@ -320,14 +250,12 @@ def pokes():
         case.poke(address, byte)
     case.tell("poke 0x%X 0" % (AREA + 2), "ok")
     case.tell("poke %x aB" % (AREA + 3), "ok")
-    case.memory[AREA + 3] = 0xAB
     case.mem(AREA, 4)
     case.mem(PAST - 1, 1)
     case.run(9)
     case.reg(5)
     # addi x1, x1, 1 becomes addi x1, x1, 3
     case.poke(START + 2, 0x30)
-    case.program[START] = ("addi", 1, 1, 3)
     case.go("step", 2)
     case.reg(1)
     case.tell("enclaves")

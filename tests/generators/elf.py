@@ -1,5 +1,5 @@
 #!/usr/bin/env python3
-"""Writes the cases of tests/cases/elf_header, elf_cut, elf_segments, elf_entry, elf_loaded, elf_company, elf_kind and elf_mutated,
+"""Makes the cases of elf_header, elf_cut, elf_segments, elf_entry, elf_loaded, elf_company, elf_kind and elf_mutated,
 and tests/fuzz/mutated_images: each fault of an ELF file, alone and in company, the borders of each field, a file that is cut to each
 length, what is loaded where, and what is not looked at.
 

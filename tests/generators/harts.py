@@ -1,8 +1,8 @@
 #!/usr/bin/env python3
-"""Writes the cases of two harts, tests/cases/harts_*.cases: races of every two calls, one on each hart; hart and sched at their
+"""Makes the cases of two harts, harts_*: races of every two calls, one on each hart; hart and sched at their
 borders, of two harts, of one, and of two benches; what each hart has of its own and what both share; a host beside an enclave that runs.
 
-    tests/generators/harts.py                      writes the files anew
+    tests/generators/harts.py                      writes their digests and samples anew
     tests/generators/harts.py --check              tells whether they are what this script writes
     tests/generators/harts.py --check-with-llvm    tells whether llvm-mc gives the same word for each assembly text
 

@@ -1,8 +1,8 @@
 #!/usr/bin/env python3
-"""Writes the cases of the monitored profile, tests/cases/monitor_*.cases: every refusal of every call at its border and in
+"""Makes the cases of the monitored profile, monitor_*: every refusal of every call at its border and in
 company of the next one, the entries, the switches, the timer, the traps that are passed on, the debugger over it, and images.
 
-    tests/generators/monitor.py                      writes the files anew
+    tests/generators/monitor.py                      writes their digests and samples anew
     tests/generators/monitor.py --check              tells whether they are what this script writes
     tests/generators/monitor.py --check-with-llvm    tells whether llvm-mc gives the same word for each assembly text
 

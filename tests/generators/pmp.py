@@ -1,8 +1,8 @@
 #!/usr/bin/env python3
-"""Writes the cases of tests/cases/pmp: verdicts at the borders of sets of PMP entries, what writes to pmpcfg and pmpaddr leave
+"""Makes the cases of pmp: verdicts at the borders of sets of PMP entries, what writes to pmpcfg and pmpaddr leave
 under which locks, and fetches, loads and stores across the borders in each mode and under MPRV.
 
-    tests/generators/pmp.py                      writes the file anew
+    tests/generators/pmp.py                      writes its digest and sample anew
     tests/generators/pmp.py --check              tells whether they are what this script writes
     tests/generators/pmp.py --check-with-llvm    tells whether llvm-mc gives the same word for each assembly text
 

@@ -1,8 +1,8 @@
 #!/usr/bin/env python3
-"""Writes the cases of tests/cases/traps, returns, interrupts and counters: each cause from each mode, mret and sret, what is
+"""Makes the cases of traps, returns, interrupts and counters: each cause from each mode, mret and sret, what is
 illegal below a mode, the order of interrupts, and what steps count.
 
-    tests/generators/traps.py                      writes the files anew
+    tests/generators/traps.py                      writes their digests and samples anew
     tests/generators/traps.py --check              tells whether they are what this script writes
     tests/generators/traps.py --check-with-llvm    tells whether llvm-mc gives the same word for each assembly text
 

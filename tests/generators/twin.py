@@ -1,8 +1,8 @@
 #!/usr/bin/env python3
-"""Writes the cases of two benches that differ in one enclave, tests/cases/twin_*.cases: every command and every call of the monitor,
+"""Makes the cases of two benches that differ in one enclave, twin_*: every command and every call of the monitor,
 what is not blind at each border of a region, what ends a run, lines, images, and worked examples whose output is written by hand.
 
-    tests/generators/twin.py                      writes the files anew
+    tests/generators/twin.py                      writes their digests and samples anew
     tests/generators/twin.py --check              tells whether they are what this script writes
     tests/generators/twin.py --check-with-llvm    tells whether llvm-mc gives the same word for each assembly text
 
