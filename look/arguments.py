@@ -19,6 +19,7 @@ WORDS = """words:
   touch        what each world read, wrote and executed, beside what it may
   leak         two runs with two secrets in an enclave: where they part
   timer        the timer before each step of an enclave: does it come to its end
+  races        all orders of two harts, all moments of the timer: which ends there are
   measure      the digest that create records
   explain      an input of the bench, read beside its faults
   page         the run as one page for a browser
@@ -27,7 +28,7 @@ WORDS = """words:
 `./rvlook WORD --help` tells more, and docs/LOOK.md all."""
 
 WORLD = re.compile(r"host\Z|bare\Z|e([0-9]|1[0-2])\Z")
-NAMES = ("map", "trace", "touch", "leak", "timer", "measure", "explain", "page", "gdb")
+NAMES = ("map", "trace", "touch", "leak", "timer", "races", "measure", "explain", "page", "gdb")
 
 
 class Parser(argparse.ArgumentParser):
@@ -172,6 +173,19 @@ def do_timer(arguments):
     show_timer(*opened(arguments), arguments.slot, arguments.every)
 
 
+def do_races(arguments):
+    from .races_text import show_races
+    if arguments.last is not None and arguments.last < arguments.first:
+        raise WordsRefused("--to %d is before --from %d" % (arguments.last, arguments.first))
+    show_races(*opened(arguments), arguments, lambda line: refuse(arguments, line))
+
+
+def refuse(arguments, line):
+    """What is not as it should be: a line, and the status."""
+    tell(line)
+    arguments.has_faults = True
+
+
 def do_measure(arguments):
     from .measure import show_measure
     numbers = (arguments.base, arguments.size, arguments.window, arguments.window_size, arguments.entry)
@@ -244,6 +258,26 @@ def timer_options(parser):
     parser.add_argument("--every", metavar="N", type=positive, default=1, help="before every Nth step (1)")
 
 
+def races_options(parser):
+    parser.add_argument("--outcome", metavar="WHAT", action="append",
+                        help="what tells ends apart, more than once: PLACE[:BYTES], HART.REGISTER, enclaves, or one, as e0; else all that both touch")
+    parser.add_argument("--forbid", metavar="CONDITION", action="append", help="status 1 if an end is so: 'left != 2', waits, livelock, unended")
+    parser.add_argument("--timer", dest="timers", metavar="N", type=count, default=0, help="the timer's line rises so many times at most (0)")
+    parser.add_argument("--preemptions", metavar="N", type=count, help="a hart that might go on is left so many times at most (any number)")
+    parser.add_argument("--end", metavar="PLACE", action="append", help="a hart is over before this instruction, more than once")
+    parser.add_argument("--limit", metavar="N", type=count, default=0, help="a hart is over behind so many steps of its own")
+    parser.add_argument("--scripts", metavar="DIR", help="writes an input of the bench there for each end")
+    parser.add_argument("--plain", action="store_true", help="leaves a hart before each of its steps: slower, with the same ends")
+    part_options(parser, "steps behind which a hart is left, or the timer comes, for the first time")
+
+
+def part_options(parser, what):
+    """A part of long work, and how long it may take."""
+    parser.add_argument("--from", dest="first", metavar="N", type=count, default=0, help="from N on: " + what)
+    parser.add_argument("--to", dest="last", metavar="N", type=count, help="the last of them")
+    parser.add_argument("--seconds", metavar="S", type=float, help="stops then, and tells what was covered")
+
+
 def gdb_options(parser):
     parser.add_argument("--port", metavar="N", type=int, help="a port of this machine, 0 for any, in place of the standard streams")
 
@@ -279,6 +313,7 @@ def parser_of():
     add_word(words, "touch", do_touch, "What each world read, wrote and executed, beside what it may", touch_options)
     add_word(words, "leak", do_leak, "Two runs with two secrets in an enclave: where they part", slot_option, leak_options)
     add_word(words, "timer", do_timer, "The timer before each step of an enclave: does it come to its end", slot_option, timer_options)
+    add_word(words, "races", do_races, "All orders of two harts, all moments of the timer: which ends there are", races_options)
     measure_word(words)
     explain_word(words)
     add_word(words, "page", do_page, "The run as one page for a browser")
