@@ -1,7 +1,10 @@
 """The stays of enclaves in a run, from each entry to the leave behind it, with what they did: each load and store, and the operands of
 divisions. Of a step that does such the registers are asked for that it names, before it. What an instruction is is asked once, for nobody
 but an enclave stores into its region; where it stores into its own code, it is asked at each step of that part of the run."""
+import itertools
 import re
+from array import array
+from collections import Counter
 from dataclasses import dataclass, field
 from functools import lru_cache
 from typing import NamedTuple, Optional
@@ -14,6 +17,7 @@ from .run import Line, Stretch
 from .trace import NO_TRAP, RAN_FIELDS
 
 DIVIDES = re.compile(r"(?:div|rem)u? x\d+, x(\d+), x(\d+)")
+MODES = {b"U": 0, b"S": 1, b"M": 3}
 LEFT_BY = {0: "exit", 1: "stop", 2: "timer"}
 ROW = 64  # bytes that `mem` shows at once
 
@@ -42,8 +46,11 @@ class Stay:
     left: str = ""
     answer: tuple = ()
     pc: Optional[int] = None  # of the step that left
-    pcs: list = field(default_factory=list)  # of its steps, with their traps
+    pcs: array = field(default_factory=lambda: array("I"))  # of each step, with its mode in the lowest bits
+    steps: array = field(default_factory=lambda: array("I"))  # the number of each
+    traps: dict = field(default_factory=dict)  # of the steps that trapped, by their place
     did: list = field(default_factory=list)
+    did_at: array = field(default_factory=lambda: array("I"))  # the places of these steps
     before: bytes = b""
     after: bytes = b""
     others: tuple = ()  # the world of the other hart, where there is one
@@ -70,8 +77,8 @@ class Stays:
 
     def __init__(self, run, start=0, is_strict=False):
         self.run, self.start, self.is_strict, self.code = run, start, is_strict, {}
-        self.places = [(run.pc.encode(), run.world.encode()) for _ in range(run.setup.harts)]
-        self.open, self.numbers, self.lives = [None] * run.setup.harts, {}, {}
+        self.places = [(run.pc.encode(), run.mode.encode(), run.world.encode()) for _ in range(run.setup.harts)]
+        self.open, self.numbers = [None] * run.setup.harts, Counter()
         self.end = None
 
     def all(self):
@@ -82,48 +89,61 @@ class Stays:
                 if isinstance(item, Stretch):
                     yield from self.take(item)
                 elif isinstance(item, Line):
-                    self.code = {} if item.text.startswith("poke") else self.code
+                    self.code = {hart: {} for hart in self.code} if item.text.startswith("poke") else self.code
                 else:
                     self.end = item
-            for stay in self.open:
-                if stay:
-                    yield self.closed(stay, self.end.steps, None, "nothing")
+            for stay in filter(None, self.open):
+                yield self.closed(stay, self.end.steps, None, "nothing")
 
     def take(self, stretch):
         """Steps of one hart: those of enclaves are looked at."""
-        after, _, worlds, traps = zip(*RAN_FIELDS.findall(stretch.data))
-        pc, world = self.places[stretch.hart]
-        self.places[stretch.hart] = after[-1], worlds[-1]
-        pcs, befores = (pc, *after[:-1]), (world, *worlds[:-1])
-        inside = [n for n, it in enumerate(befores) if it.startswith(b"e") and stretch.first + n > self.start]
-        did = self.looked_at(stretch, pcs, traps, inside) if inside else {}
-        if stretch.first + stretch.count - 1 <= self.start and not set(worlds) - {b"host"} and befores[0] == b"host":
+        hart, place = stretch.hart, 0
+        after = list(zip(*RAN_FIELDS.findall(stretch.data)))
+        traps = after.pop()
+        pcs, modes, worlds = ((before, *those[:-1]) for before, those in zip(self.places[hart], after))
+        self.places[hart] = tuple(it[-1] for it in after)
+        if stretch.first + stretch.count <= self.start:
+            self.numbers.update(self.entered(worlds, after[2]))
             return
-        for n, (was, now) in enumerate(zip(befores, worlds)):
-            step, stay = stretch.first + n, self.open[stretch.hart]
-            if was.startswith(b"e") and step > self.start:
-                if stay is None:
-                    stay = self.open[stretch.hart] = self.opened(was.decode(), stretch.hart, step - 1)
-                stay.pcs.append((pcs[n], traps[n]))
-                if n in did:
-                    stay.did.append(did[n])
-            if was != now:
-                if stay and was.startswith(b"e"):
-                    self.open[stretch.hart] = None
-                    yield self.closed(stay, step, int(pcs[n], 16))
-                if now.startswith(b"e") and step >= self.start:
-                    self.open[stretch.hart] = self.opened(now.decode(), stretch.hart, step)
+        self.offset = None  # of the teller in the stretch
+        for world, group in itertools.groupby(worlds):
+            count = sum(1 for _ in group)
+            if world.startswith(b"e"):
+                if self.open[hart] is None:
+                    self.open[hart], self.code[hart] = self.opened(world.decode(), hart, stretch.first + place - 1), {}
+                stay, inside = self.open[hart], range(place, place + count)
+                self.extend(stay, stretch.first, inside, pcs, modes, traps, self.looked_at(stretch, pcs, traps, inside))
+                if place + count < stretch.count or after[2][-1] != world:
+                    self.open[hart] = None
+                    yield self.closed(stay, stretch.first + place + count - 1, int(pcs[place + count - 1], 16))
+            place += count
+        if self.offset is not None and self.offset < stretch.count:
+            self.teller.bench.block(b"step %d\n" % (stretch.count - self.offset), 1)
+
+    @staticmethod
+    def entered(worlds, after):
+        """The worlds that steps entered."""
+        return [now.decode() for was, now in zip(worlds, after) if now != was and now.startswith(b"e")]
+
+    @staticmethod
+    def extend(stay, step, inside, pcs, modes, traps, did):
+        """Steps of a stay, by their places in a stretch."""
+        begin_at, first, end = len(stay.pcs), inside.start, inside.stop
+        stay.pcs.extend([int(pc, 16) | MODES[mode] for pc, mode in zip(pcs[first:end], modes[first:end])])
+        stay.steps.extend(range(step + first, step + end))
+        stay.traps.update((begin_at + n, it) for n, it in enumerate(traps[first:end]) if it != NO_TRAP)
+        found = [n for n in range(first, end) if n in did]
+        stay.did += [did[n] for n in found]
+        stay.did_at.extend([begin_at + n - first for n in found])
 
     # ---- its borders
 
     def opened(self, world, hart, step):
         """A stay that begins behind a step."""
-        self.numbers[world] = self.numbers.get(world, 0) + 1
+        self.numbers[world] += 1
         stay = Stay(world, hart, step + 1, self.numbers[world])
         stay.enclave, stay.before = self.seen(world, step)
-        if self.lives.get(world) != (stay.enclave.base, stay.enclave.measurement) and stay.enclave.state == "Running":
-            self.lives[world] = stay.enclave.base, stay.enclave.measurement
-        stay.others = tuple(it[1].decode() for number, it in enumerate(self.places) if number != hart)
+        stay.others = tuple(it[2].decode() for number, it in enumerate(self.places) if number != hart)
         return stay
 
     def closed(self, stay, step, pc, left=None):
@@ -156,17 +176,21 @@ class Stays:
 
     def looked_at(self, stretch, pcs, traps, inside):
         """What each of these steps did, by its place in the stretch."""
-        begin(self.teller, stretch)
-        new = list({pcs[n] for n in inside} - self.code.keys())
-        block = self.teller.bench.block(b"".join(b"dis %s\n" % it for it in new), len(new))
-        self.code.update(zip(new, block.split(b"\n")))
-        did = self.asked(self.teller, stretch, pcs, traps, inside, [self.code[pcs[n]] for n in inside])
+        if self.offset is None:
+            begin(self.teller, stretch)
+            self.offset = 0
+        code, bench = self.code[stretch.hart], self.teller.bench
+        new, first = list({pcs[n] for n in inside} - code.keys()), inside.start - self.offset
+        text = (b"step %d\n" % first if first else b"") + b"".join(b"dis %s\n" % it for it in new)
+        code.update(zip(new, bench.block(text, len(new) + bool(first)).split(b"\n")[bool(first):]))
+        self.offset = inside.start
+        did = self.asked(bench, stretch, pcs, traps, inside, [code[pcs[n]] for n in inside])
         stored = {at & -4: n for n, it in did.items() if it.kind == "w" and it.done for at in range(it.address, it.address + it.width)}
-        written = [it for it in self.code if int(it, 16) in stored]
+        written = [it for it in code if int(it, 16) in stored]
         if any(pcs[n] in written and n > stored[int(pcs[n], 16)] for n in inside):
             did = self.step_by_step(stretch, pcs, traps, inside)
         for it in written:
-            del self.code[it]
+            del code[it]
         return did
 
     def step_by_step(self, stretch, pcs, traps, inside):
@@ -175,20 +199,24 @@ class Stays:
             begin(reader, stretch)
             block = reader.bench.block(b"".join([b"dis %s\nstep 1\n" % it for it in pcs]), 2 * stretch.count).split(b"\n")
             begin(teller, stretch)
-            return self.asked(teller, stretch, pcs, traps, inside, [block[2 * n] for n in inside])
+            kept, self.offset = self.offset, 0
+            did = self.asked(teller.bench, stretch, pcs, traps, inside, [block[2 * n] for n in inside])
+            self.offset = kept
+            return did
 
-    def asked(self, teller, stretch, pcs, traps, inside, lines):
-        """The registers before the steps that want them."""
+    def asked(self, bench, stretch, pcs, traps, inside, lines):
+        """The registers before the steps that want them; the bench is then behind the last of these steps."""
         wanted = [(n, *found) for n, found in ((n, wants(line, self.is_strict)) for n, line in zip(inside, lines)) if found]
-        questions, count, done = [], 0, 0
+        questions, count = [], 0
         for n, _, registers in wanted:
-            if n > done:
-                questions.append(b"step %d\n" % (n - done))
+            if n > self.offset:
+                questions.append(b"step %d\n" % (n - self.offset))
                 count += 1
             questions += [b"reg %d\n" % it for it in registers]
-            count, done = count + len(registers), n
-        questions.append(b"step %d\n" % (stretch.count - done))
-        replies = teller.bench.block(b"".join(questions), count + 1).split(b"\n")
+            count, self.offset = count + len(registers), n
+        questions.append(b"step %d\n" % (inside.stop - self.offset))
+        self.offset = inside.stop
+        replies = bench.block(b"".join(questions), count + 1).split(b"\n")
         values = iter([int(it.split(b"=")[1], 16) for it in replies if it.startswith(b"x")])
         found = {}
         for n, memory, registers in wanted:

@@ -2,15 +2,15 @@
 again with nothing of its own between (a double fetch, if another writes between), which it wrote, which are left of an earlier stay, and
 whether what it wrote depends on a secret, by a second run in which the secret is another."""
 from collections import defaultdict
-from dataclasses import dataclass
+from dataclasses import dataclass, field
 from typing import NamedTuple
 
 from .faults import Fault
-from .leak_secrets import Secret, created, secret_of
+from .leak_secrets import secret_of
 from .progress import Progress
 from .ranges import reach
 from .show import Style, hex8, run_object
-from .stays import Stays
+from .stays import Stay, Stays
 
 WIDTH = 16  # bytes of a row of the dump
 LEAST_TOLD = 4  # bytes of a secret that are told where they stand in the window
@@ -32,9 +32,9 @@ class Byte:
     what was stored to it and where last."""
     read_at: object = None
     input_at: object = None
-    again: tuple = ()
+    again: dict = field(default_factory=dict)  # of pairs of instructions
     stored_at: object = None
-    values: tuple = ()
+    values: bytearray = field(default_factory=bytearray)
 
 
 def bytes_of(stay):
@@ -56,13 +56,14 @@ def read(byte, pc):
         if byte.input_at is None:
             byte.input_at = pc
         else:
-            byte.again = tuple(dict.fromkeys((*byte.again, (byte.read_at, pc))))
+            byte.again[byte.read_at, pc] = True
         byte.read_at = pc
 
 
 def stored(byte, pc, value):
     """A store."""
-    byte.stored_at, byte.values = pc, (*byte.values, value)
+    byte.stored_at = pc
+    byte.values.append(value)
 
 
 def ranges(what, told):
@@ -120,8 +121,8 @@ def show_window(run, symbols, printer, slot, place, seconds=None):
     """Each stay of the slot's enclave, or of all, one after another."""
     secret = None
     if place:
-        moment = created(run, 0 if slot is None else slot)
-        secret = secret_of(place, symbols, moment, 0 if slot is None else slot)
+        secret = secret_of(place, symbols, run, 0 if slot is None else slot)
+        secret = secret.with_bytes(secret.bytes_in(run))
     others = Others(run, secret) if secret else None
     if printer.as_json:
         run_object(printer, run, symbols)
@@ -143,14 +144,12 @@ class Others:
     """The stays of the run in which the secret is another: its complement."""
 
     def __init__(self, run, secret):
-        bench_bytes = secret.bytes_in(run)
-        other = Secret(secret.slot, secret.at, secret.step, bytes(it ^ 0xFF for it in bench_bytes))
-        self.bytes, self.slot = bench_bytes, secret.slot
-        self.stays = (it for it in Stays(run.with_lines(other.step, other.lines())).all() if it.slot == secret.slot)
+        other = secret.with_bytes(bytes(it ^ 0xFF for it in secret.bytes))
+        self.stays = (it for it in Stays(run.with_lines(other.step, other.lines()), secret.step).all() if it.slot == secret.slot)
 
     def next(self, stay):
         """The same stay there; one without any store where there is none."""
-        return next(self.stays, None) or type(stay)(stay.world, stay.hart, 0, 0, stay.enclave)
+        return next(self.stays, None) or Stay(stay.world, stay.hart, 0, 0, stay.enclave)
 
 
 def between_text(stay):
