@@ -1,5 +1,5 @@
 #!/usr/bin/env python3
-"""The parts of docs/LOOK.md and README.md that begin with `$` and have ./rvlook in it: each command is run, and gives the lines that stand
+"""The parts of docs/LOOK.md, README.md and that of examples/enclave_store that begin with `$` and have ./rvlook in it: each command is run, and gives the lines that stand
 behind it; `...` stands for any lines. And each member of an object of --json stands in docs/LOOK.md, in the part of its object."""
 import os
 import re
@@ -9,7 +9,7 @@ import sys
 sys.path.append(sys.path[0] + "/../scripts")
 from look_checks import ROOT, expect, objects, report
 
-PAGES = ("docs/LOOK.md", "README.md")
+PAGES = ("docs/LOOK.md", "README.md", "examples/enclave_store/README.md")
 WORDS = (
     ("map", "--monitor", "examples/enclave_adds/image"), ("touch", "--monitor", "examples/enclave_refused/stdin"),
     ("trace", "--monitor", "examples/enclave_timer/stdin"), ("timer", "--monitor", "examples/enclave_adds/image"),
@@ -72,7 +72,8 @@ def check_members():
 
 def main():
     expect("docs/LOOK.md has examples", True, check_page(PAGES[0]) > 8)
-    check_page(PAGES[1])
+    for page in PAGES[1:]:
+        check_page(page)
     check_members()
     report()
 
