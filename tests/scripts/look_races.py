@@ -3,7 +3,7 @@
 before each step; against random walks on the bench; and against what is known of a program. Each script that it writes is run by the bench
 alone. In its longer form it takes more programs, and all orders on the bench itself:
 
-    RVBENCH=PROGRAM tests/scripts/look_races.py [all | orders FROM TO | plain FROM TO | bench FROM TO]
+    RVBENCH=PROGRAM tests/scripts/look_races.py [all | known | orders FROM TO | plain FROM TO | bench FROM TO]
 """
 import itertools
 import json
@@ -162,6 +162,10 @@ both: ecall; addi x5, x10, 0; bne x10, x0, done; addi x10, x11, 0; addi x16, x0,
 FETCHED = """lui x8, 0x80011; bne x10, x0, second; addi x5, x0, 8; sw x5, 0(x8); lw x6, 0(x8); addi x7, x0, 16; bltu x7, x6, refused
 lw x6, 0(x8); addi x9, x0, 2; bgeu x7, x6, done; addi x9, x0, 3; jal x0, done; refused: addi x9, x0, 1; done: jal x0, done
 second: addi x5, x0, 24; sw x5, 0(x8); end: jal x0, end"""
+RESUMES = """lui x8, 0x80013; bne x10, x0, second; li x17, 0x0a454e43; lui x10, 0x80011; lui x11, 1; lui x12, 0x80013; lui x13, 1
+addi x14, x10, 0; addi x16, x0, 1; ecall; addi x16, x0, 3; addi x10, x0, 0; ecall; addi x16, x0, 4; addi x10, x0, 0; ecall; done: jal x0, done
+second: addi x5, x0, 7; sw x5, 0(x8); end: jal x0, end"""
+KEEPS = "lw x5, 0(x12); li x17, 0x0a454e43; addi x16, x0, 6; ecall; sw x5, 4(x12); addi x16, x0, 7; ecall"
 TAKE_FLAG, GIVE_TURN = "sw x6, 0(x9)", "sw x11, 8(x8)"
 
 
@@ -169,11 +173,13 @@ def lines_of(text):
     return [it.strip() for it in text.replace("\n", ";").split(";")]
 
 
-def raw(folder, lines, name="program"):
-    """An image in a file."""
-    path = os.path.join(folder, name)
+def raw(folder, lines, enclave=()):
+    """An image in a file; an enclave's code is a page behind the host's."""
+    path = os.path.join(folder, "program")
     with open(path, "w", encoding="ascii") as file:
         digits = assembled(lines).hex()
+        if enclave:
+            digits = digits.ljust(2 * 0x1000, "0") + assembled(enclave).hex()
         file.write("".join(digits[at:at + 120] + "\n" for at in range(0, len(digits), 120)))
     return path
 
@@ -201,6 +207,9 @@ def check_known(folder):
     expect("the double fetch", [1, 2, 3], sorted(it["values"]["0.s1"] for it in found))
     worst = next(it for it in found if it["values"]["0.s1"] == 3)
     expect("it is between the two loads", (1, ["hart 1 does 8001003c between 80010010 and 8001001c of hart 0"]), (worst["preemptions"], worst["told"]))
+    found, _ = races(raw(folder, lines_of(RESUMES), lines_of(KEEPS)), "--outcome", "80013000:8")
+    expect("what an enclave keeps while it has stopped", ["0700000000000000", "0700000007000000"], sorted(
+        it["values"]["80013000:8"] for it in found))
     found, last = races(os.path.join(ROOT, "examples", "race", "image"), "--limit", "17", "--outcome", "0.a0", "--outcome", "1.a0")
     expect("examples/race, 17 by 17 steps", [(0x80020000, 0), (0xFFFFFFF9, 0)], sorted(
         (it["values"]["0.a0"], it["values"]["1.a0"]) for it in found))
@@ -269,14 +278,17 @@ def check_cut(folder):
 
 
 def main(words):
-    if words and words[0] in ("orders", "plain", "bench"):
+    if words == ["known"]:
+        with tempfile.TemporaryDirectory() as folder:
+            check_known(folder)
+    elif words and words[0] in ("orders", "plain", "bench"):
         seeds = range(int(words[1]), int(words[2]))
         {"orders": check_orders, "plain": check_plain, "bench": check_bench}[words[0]](seeds)
     else:
         if words == ["all"]:
             check_orders(range(10 * len(KINDS)))
             check_plain(range(100, 100 + 5 * len(KINDS)))
-        check_orders((0, 1, 3, 4))
+        check_orders((0, 3, 4, 37))
         check_orders((2,), 6)
         check_plain((101, 102, 103), 3)
         with tempfile.TemporaryDirectory() as folder:

@@ -13,18 +13,19 @@ enclave:  auipc x5, 0                   # 80020004
           andi x18, x9, 60              # 80020020
           add  x18, x5, x18             # 80020024
           lw   x19, 0(x18)              # at an address that it decides, 80020028
-          divu x20, x6, x9              # 8002002c
-          sw   x9, 16(x12)              # writes it, 80020030
-          sw   x0, 16(x12)              # and wipes it, 80020034
-          sw   x6, 20(x12)              # 80020038
-          addi x10, x0, 0               # 8002003c
-          addi x16, x0, 6               # 80020040
+          sw   x0, 1024(x18)            # and stores at such a one, 8002002c
+          divu x20, x6, x9              # 80020030
+          sw   x9, 16(x12)              # writes it, 80020034
+          sw   x0, 16(x12)              # and wipes it, 80020038
+          sw   x6, 20(x12)              # 8002003c
+          addi x10, x0, 0               # 80020040
+          addi x16, x0, 6               # 80020044
           lui  x17, 42069
           addi x17, x17, -445
-          ecall                         # stop, 8002004c
-          sw   x6, 12(x12)              # writes in its second stay, 80020050
+          ecall                         # stop, 80020050
+          sw   x6, 12(x12)              # writes in its second stay, 80020054
           addi x16, x0, 7
-          ecall                         # exit, 80020058
+          ecall                         # exit, 8002005c
 host:     lui  x5, 0x80010
           lui  x6, 0x80020
           addi x7, x0, 1024
