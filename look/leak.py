@@ -3,6 +3,7 @@ when it leaves: where each step is, how many there are, the addresses of loads a
 for, the answers, and the window. Where two runs go different ways they are compared from where they come together again."""
 from bisect import bisect_left
 from collections import defaultdict
+from contextlib import closing
 from dataclasses import dataclass
 from typing import Optional
 
@@ -48,15 +49,15 @@ def public_of(texts, symbols):
     return Public("answer" in (texts or ()), tuple((at, count or 4) for at, count in (place_and_size(it, symbols) for it in found)))
 
 
-def seen(run, secret, is_strict, tell=lambda _: None):
+def seen(run, secret, is_strict):
     """What a host sees of the slot's enclave, until it exits."""
     found, stays = [], Stays(run, secret.step, is_strict)
-    for stay in stays.all():
-        tell(stay)
-        if stay.slot == secret.slot:
-            found.append(stay)
-            if stay.left == "exit":
-                return Seen(run, found, stay.last)
+    with closing(stays.all()) as every:
+        for stay in every:
+            if stay.slot == secret.slot:
+                found.append(stay)
+                if stay.left == "exit":
+                    return Seen(run, found, stay.last)
     return Seen(run, found, stays.end.steps)
 
 

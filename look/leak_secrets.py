@@ -2,6 +2,7 @@
 a register, at the moment at which an enclave first comes to a place. And which values it is given."""
 import random
 import re
+from contextlib import closing
 from dataclasses import dataclass, replace
 
 from . import names
@@ -89,9 +90,9 @@ def secret_of(text, symbols, run, slot, size=None):
 def register_secret(match, symbols, run, slot):
     """A register at the first step of the slot's enclave at a place."""
     pc, _ = place_and_size(match[2], symbols)
-    for stay in Stays(run).all():
-        if stay.slot == slot:
-            found = next((step for step, it in zip(stay.steps, stay.pcs) if it & -4 == pc), None)
+    with closing(Stays(run).all()) as every:
+        for stay in every:
+            found = next((step for step, it in zip(stay.steps, stay.pcs) if it & -4 == pc), None) if stay.slot == slot else None
             if found is not None:
                 return Secret(slot, 0, found - 1, bytes(WORD), names.NUMBER_OF[match[1]], stay.hart)
     raise Fault("the enclave of slot %d does not come to %08x" % (slot, pc))

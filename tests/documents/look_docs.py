@@ -9,11 +9,14 @@ import sys
 sys.path.append(sys.path[0] + "/../scripts")
 from look_checks import ROOT, expect, objects, report
 
-PAGES = ("docs/LOOK.md", "README.md", "examples/enclave_store/README.md")
+PAGES = ("docs/LOOK.md", "README.md", "docs/ASK.md", "examples/enclave_store/README.md")
 WORDS = (
     ("map", "--monitor", "examples/enclave_adds/image"), ("touch", "--monitor", "examples/enclave_refused/stdin"),
     ("trace", "--monitor", "examples/enclave_timer/stdin"), ("timer", "--monitor", "examples/enclave_adds/image"),
-    ("leak", "--monitor", "tests/look/leak/image", "--at", "80020800", "00", "05"), ("explain", "tests/look/explain/input"),
+    ("leak", "--monitor", "tests/look/leak/image", "--at", "80020800", "00", "05"),
+    ("leak", "--monitor", "tests/look/leak/image", "--at", "80020800:4", "--tries", "3"),
+    ("window", "--monitor", "tests/look/window/image", "--at", "80020800:4"),
+    ("races", "--monitor", "--timer", "1", "examples/enclave_adds/image"), ("explain", "tests/look/explain/input"),
     ("measure", "tests/look/measure/region", "80020000", "1000", "0", "0", "80020000"))
 
 
@@ -60,7 +63,7 @@ def members_of(value):
         return set().union(*map(members_of, value))
     if not isinstance(value, dict):
         return set()
-    return set(value) | set().union(*(members_of(it) for name, it in value.items() if name not in ("registers", "arguments", "may")))
+    return set(value) | set().union(*(members_of(it) for name, it in value.items() if name not in ("registers", "arguments", "may", "values")))
 
 
 def check_members():

@@ -14,7 +14,7 @@ from look_checks import ROOT, expect, report
 LOOK = os.path.join(ROOT, "rvlook")
 WINDOW = os.path.join(ROOT, "tests", "look", "window", "image")
 ADDS = os.path.join(ROOT, "examples", "enclave_adds", "image")
-TRIES = 48
+TRIES = 30
 
 
 def command(folder, job, *values):
@@ -76,13 +76,13 @@ def check_secrets(folder):
 def check_moments(folder):
     """Two moments of the timer, by the step of the first."""
     races = "races --monitor --timer 2 --outcome 80030000:12 %s" % ADDS
-    job = "%s %s --from {} --to $(({} + 19)) --json" % (LOOK, races)
-    done = subprocess.run(command(folder, job, *range(0, 120, 20)), stdout=subprocess.DEVNULL, stderr=subprocess.PIPE, text=True, check=False)
+    job = "%s %s --from {} --to $(({} + 39)) --json" % (LOOK, races)
+    done = subprocess.run(command(folder, job, *range(0, 120, 40)), stdout=subprocess.DEVNULL, stderr=subprocess.PIPE, text=True, check=False)
     expect("moments: it ends", (0, ""), (done.returncode, done.stderr))
     key = lambda it: (it["values"]["80030000:12"], it["over"][0]["pc"])
     mine = {key(it) for it in objects_of(folder) if it["object"] == "race"}
     expect("moments: the ends of all parts", {key(it) for it in alone(*races.split()) if it["object"] == "race"}, mine)
-    expect("moments: each part is whole", [True] * 6, [it["whole"] for it in objects_of(folder) if it["object"] == "races"])
+    expect("moments: each part is whole", [True] * 3, [it["whole"] for it in objects_of(folder) if it["object"] == "races"])
 
 
 def check_folder(folder):

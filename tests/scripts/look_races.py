@@ -166,6 +166,8 @@ RESUMES = """lui x8, 0x80013; bne x10, x0, second; li x17, 0x0a454e43; lui x10, 
 addi x14, x10, 0; addi x16, x0, 1; ecall; addi x16, x0, 3; addi x10, x0, 0; ecall; addi x16, x0, 4; addi x10, x0, 0; ecall; done: jal x0, done
 second: addi x5, x0, 7; sw x5, 0(x8); end: jal x0, end"""
 KEEPS = "lw x5, 0(x12); li x17, 0x0a454e43; addi x16, x0, 6; ecall; sw x5, 4(x12); addi x16, x0, 7; ecall"
+MASKED = """auipc x5, 0; addi x5, x5, 40; csrrw x0, mtvec, x5; addi x6, x0, 128; csrrw x0, mie, x6; addi x10, x0, 1; csrrwi x0, mstatus, 8
+addi x10, x10, 1; csrrwi x0, mstatus, 0; done: jal x0, done; add x11, x10, x0; mret"""
 TAKE_FLAG, GIVE_TURN = "sw x6, 0(x9)", "sw x11, 8(x8)"
 
 
@@ -231,6 +233,21 @@ def check_endless(folder):
     expect("which is no end that is claimed", True, "not what comes behind one hart that has not ended" in last["covered"])
 
 
+def check_begun(folder):
+    """A search that begins in an enclave, and where one has stopped; and the timer of the bare bench, which waits while it is masked."""
+    path, begin = raw(folder, lines_of(RESUMES), lines_of(KEEPS)), os.path.join(folder, "begin")
+    for steps, wanted in ((14, ["0700000000000000", "0700000007000000"]), (15, ["0700000000000000"]), (19, ["0700000000000000"])):
+        with open(begin, "w") as file:
+            file.write("step %d\n" % steps)
+        found, _ = races(path, "--script", begin, "--outcome", "80013000:8")
+        expect("begun behind %d steps of hart 0" % steps, wanted, sorted(it["values"]["80013000:8"] for it in found))
+    done = subprocess.run([LOOK, "races", "--no-monitor", raw(folder, lines_of(MASKED)), "--timer", "1", "--outcome", "0.a1", "--json"],
+                          capture_output=True, text=True, check=True)
+    found = [json.loads(it) for it in done.stdout.splitlines()]
+    expect("a timer that is masked until a step, and again from another on", [0, 1, 2],
+           sorted(it["values"]["0.a1"] for it in found if it["object"] == "race"))
+
+
 def check_scripts(folder):
     """The script of each end, run by the bench alone, shows its values."""
     shown = os.path.join(folder, "scripts")
@@ -292,7 +309,7 @@ def main(words):
         check_orders((2,), 6)
         check_plain((101, 102, 103), 3)
         with tempfile.TemporaryDirectory() as folder:
-            for check in (check_known, check_endless, check_scripts, check_parts, check_forbidden, check_cut):
+            for check in (check_known, check_endless, check_begun, check_scripts, check_parts, check_forbidden, check_cut):
                 check(folder)
     report()
 
