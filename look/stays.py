@@ -54,6 +54,7 @@ class Stay:
     before: bytes = b""
     after: bytes = b""
     others: tuple = ()  # the world of the other hart, where there is one
+    table: tuple = ()  # of the live enclaves
 
     @property
     def slot(self):
@@ -143,6 +144,7 @@ class Stays:
         self.numbers[world] += 1
         stay = Stay(world, hart, step + 1, self.numbers[world])
         stay.enclave, stay.before = self.seen(world, step)
+        stay.table = tuple(map(enclave_of, self.shower.bench.ask("enclaves")[0]))
         stay.others = tuple(it[2].decode() for number, it in enumerate(self.places) if number != hart)
         return stay
 

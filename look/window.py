@@ -152,10 +152,10 @@ class Others:
         return next(self.stays, None) or Stay(stay.world, stay.hart, 0, 0, stay.enclave)
 
 
-def between_text(stay):
-    """Who may write to the window between two loads of a stay."""
+def between_text(stay, at):
+    """Who may write to a byte of the window between two loads of a stay."""
     for world in stay.others:
-        if "w" in reach(world, [stay.enclave], stay.enclave.window):
+        if "w" in reach(world, stay.table, at):
             return "the other hart, in %s, may write between" % world
     return "the host may write between, where the timer stops it there"
 
@@ -173,7 +173,7 @@ def found_text(stay, it, symbols):
         parts.append("%s, of stay %d" % (places_text([pc], symbols), number))
     elif it.what == "reads again":
         first, second = (symbols.source(pc) or symbols.name(pc) or hex8(pc) for pc in it.pcs)
-        parts.append("%s and %s; %s" % (first, second, between_text(stay)))
+        parts.append("%s and %s; %s" % (first, second, between_text(stay, base)))
     else:
         parts.append(places_text(it.pcs, symbols))
     if it.is_secret is not None:
@@ -231,7 +231,7 @@ def stay_objects(printer, symbols, stay, found, secret):
         printer.object("window", world=stay.world, stay=stay.number, what=it.what, first=hex8(base), last=hex8(base + it.size - 1),
                        symbol=symbols.name(base), pcs=[hex8(pc) for pc in pcs], sources=[symbols.source(pc) for pc in pcs],
                        secret=it.is_secret, of=it.pcs[1] if it.what == "left" else None,
-                       between=between_text(stay) if it.what == "reads again" else None)
+                       between=between_text(stay, base) if it.what == "reads again" else None)
     for at, row in rows_of(stay):
         printer.object("dump", world=stay.world, stay=stay.number, at=hex8(at), bytes=row.hex())
     for at in places_of(stay, secret):
