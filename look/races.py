@@ -14,16 +14,36 @@ from .races_machine import State, Work
 MOST_ALONE = 10000  # moves of one hart, one behind another, and it is told that it has not ended
 
 
-class Move(NamedTuple):
-    """A step that others could be affected by, with those around it that none could be: where it leads, how many steps come before it and
-    in all, where it is, what it touched, in which world, and whether it took the timer."""
-    state: State
+class Met(NamedTuple):
+    """A step that others could be affected by: how many steps of its move come before it, where it is, what it touches, in which world, and
+    whether it took the timer."""
     before: int
-    steps: int
     pc: Optional[int]
     look: object
     world: str
     timed: bool
+
+
+class Move(NamedTuple):
+    """Such a step, with those around it that affect nobody, or these alone, where `pc` is None: where it leads, and how many steps in all."""
+    state: State
+    steps: int
+    met: Met
+
+
+class Rounds:
+    """Tells when a hart comes back to where it was: it is compared with what it was some steps before, at ever larger distances (Brent)."""
+
+    def __init__(self):
+        self.mark, self.count, self.next = None, 0, 1
+
+    def comes_back(self, work):
+        """Whether it does with this step; it is asked before each."""
+        is_same = self.mark and work.pc == self.mark[0] and (work.pc, work.context, work.digest, tuple(work.registers)) == self.mark
+        self.count += 1
+        if self.count == self.next and not is_same:
+            self.mark, self.next = (work.pc, work.context, work.digest, tuple(work.registers)), 2 * self.next
+        return bool(is_same)
 
 
 class Place(NamedTuple):
@@ -66,7 +86,7 @@ def way_of(moves):
             joined[-1][1] += move.steps
         else:
             joined.append([hart, move.steps, ""])
-        lowers = move.timed and move.world == "bare"
+        lowers = move.met.timed and move.met.world == "bare"
     return [tuple(it) for it in joined] + ([(joined[-1][0], 0, "off")] if lowers else [])
 
 
@@ -205,7 +225,7 @@ class Search:
                 comes = is_switch or is_timer
                 new = Node(Place(move.state, hart, timers + is_timer, begun or comes),
                            (preemptions, cost[1] + is_timer, cost[2] + is_switch, cost[3] + move.steps), node, move, is_timer,
-                           1 if comes else node.alone + 1, cost[3] + move.before + 1)
+                           1 if comes else node.alone + 1, cost[3] + move.met.before + 1)
                 edges.append((self.vertex(new), hart, move, is_timer))
                 yield new
 
@@ -214,7 +234,7 @@ class Search:
         that nobody is affected by, up to here, or up to the step of the hart's first move."""
         state, last = node.place.state, node.place.last
         following = self.move(state, hart if last is None else last, node.way)
-        is_late = following is None or node.cost[3] + following.before >= self.bounds.first
+        is_late = following is None or node.cost[3] + following.met.before >= self.bounds.first
         return is_late and (self.bounds.last is None or node.low <= self.bounds.last)
 
     # ---- moves
@@ -238,7 +258,7 @@ class Search:
         look = self.machine.look(work)
         done = self.machine.step(work, look, way)
         self.log(hart, world, pc, look, done)
-        return Move(self.kept(work, done), 0, 1, pc, look._replace(kind="timer"), world, is_taken(done))
+        return Move(self.kept(work, done), 1, Met(0, pc, look._replace(kind="timer"), world, is_taken(done)))
 
     @staticmethod
     def kept(work, done):
@@ -249,37 +269,32 @@ class Search:
 
     def made(self, state, hart, way):
         """Steps up to one that others could be affected by, this one, and those behind it up to the next such."""
-        machine, work, before, met = self.machine, Work(self.machine, state, hart), 0, None
-        mark, next_mark = None, 1
-        if machine.is_over(work):
-            return None
-        while True:
+        machine, work, rounds, met = self.machine, Work(self.machine, state, hart), Rounds(), None
+        behind = lambda: way() + ([(hart, work.done, "")] if work.done else [])
+        done = None
+        while not machine.is_over(work):
             look = machine.look(work)
             is_met = self.is_met(work, look)
-            if work.done and (machine.is_over(work) or is_met and met):
+            if is_met and met:
                 break
-            now = (work.pc, work.context, work.digest, tuple(work.registers)) if mark and work.pc == mark[0] else None
-            if not is_met and now and now == mark:
+            if not is_met and rounds.comes_back(work):
                 if self.to_least(work, way):
                     self.graph.waits.add((work.kept()._replace(steps=()), hart))
                 break
-            if not is_met and work.done == next_mark - 1:
-                mark, next_mark = (work.pc, work.context, work.digest, tuple(work.registers)), 2 * next_mark
             if work.done > self.bounds.steps:
                 self.graph.unended.add((state, hart))
                 return None
             world, pc = work.own.world, work.pc
-            done = machine.step(work, look, lambda: way() + ([(hart, work.done, "")] if work.done else []))
+            done = machine.step(work, look, behind)
             self.log(hart, world, pc, look, done)
             if is_met:
-                met, before = (pc, look, world, is_taken(done)), work.done - 1
-                mark, next_mark = None, work.done + 1
-                if met[3] and world == "bare":
+                met, rounds = Met(work.done - 1, pc, look, world, is_taken(done)), Rounds()
+                if met.timed and world == "bare":
                     break
-        found = self.kept(work, done if met and met[3] else None)
-        if not met and found._replace(steps=()) == state._replace(steps=()):
+        found = self.kept(work, done if met and met.timed else None)
+        if not work.done or not met and found._replace(steps=()) == state._replace(steps=()):
             return None
-        return Move(found, before, work.done, *(met or (None, None, world, False)))
+        return Move(found, work.done, met or Met(work.done, None, None, work.own.world, False))
 
     def to_least(self, work, way):
         """A hart that goes round by itself is brought to the least place of its round, so that all that come to it are alike; whether it

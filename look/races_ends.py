@@ -65,7 +65,7 @@ class Ends:
         """How each hart ended in a part of the graph; None where it is no end."""
         if part[0] not in graph.nodes:
             return None
-        inside = {hart: any(move.look and move.look.kind for move in moves) for hart, moves in moves_inside(graph, part, place_of).items()}
+        inside = {hart: any(move.met.look and move.met.look.kind for move in moves) for hart, moves in moves_inside(graph, part, place_of).items()}
         nodes = [graph.nodes[it] for it in part if it in graph.nodes]
         states = {it.place.state for it in nodes}
         state = nodes[0].place.state

@@ -58,10 +58,10 @@ class Story:
         turns = self.turns()
         for number, turn in enumerate(turns):
             if turn[0].is_timer:
-                yield "the timer stops %s before %s" % (turn[0].move.world, self.place(turn[0].move.pc))
+                yield "the timer stops %s before %s" % (turn[0].move.met.world, self.place(turn[0].move.met.pc))
             elif 0 < number < len(turns) - 1:
                 before, behind = turns[number - 1], turns[number + 1]
-                met = [[it.move.pc for it in part if it.move.pc is not None] for part in (before, turn, behind)]
+                met = [[it.move.met.pc for it in part if it.move.met.pc is not None] for part in (before, turn, behind)]
                 if all(met) and before[0].place.last == behind[0].place.last != turn[0].place.last and not behind[0].is_timer:
                     yield "hart %d does %s between %s and %s of hart %d" % (
                         turn[0].place.last, self.span(met[1]), self.place(met[0][-1]), self.place(met[2][0]), before[0].place.last)
@@ -72,7 +72,7 @@ class Story:
 
     def access(self, node):
         """One move by what it touched, and where."""
-        move = node.move
+        move = node.move.met
         if node.is_timer:
             what = "the timer stops %s" % move.world
         elif move.look.kind in ("r", "w"):
@@ -90,7 +90,7 @@ class Story:
         yield from ("  " + it for it in self.sentences())
         for turn in self.turns():
             yield "    hart %d, %s" % (turn[0].place.last, counted(sum(it.move.steps for it in turn), "step"))
-            lines = [self.access(it) for it in turn if it.move.pc is not None]
+            lines = [self.access(it) for it in turn if it.move.met.pc is not None]
             yield from lines if len(lines) <= 2 * SHOWN + 1 else \
                 [*lines[:SHOWN], "      ... %d more" % (len(lines) - 2 * SHOWN), *lines[-SHOWN:]]
         if self.end.round:
@@ -101,7 +101,7 @@ class Story:
         end, count = self.end, self.search.machine.count
         preemptions, timers, switches, steps = end.node.cost
         turns = [dict(hart=turn[0].place.last, steps=sum(it.move.steps for it in turn),
-                      touched=[self.touched(it) for it in turn if it.move.pc is not None]) for turn in self.turns()]
+                      touched=[self.touched(it) for it in turn if it.move.met.pc is not None]) for turn in self.turns()]
         printer.object("race", end=end.number, values={it.name: shown(value) for it, value in zip(self.outcome, end.values)},
                        over=[dict(hart=hart, how=how, pc=hex8(pc)) for hart, (how, pc) in enumerate(end.harts)], orders=end.orders,
                        preemptions=preemptions, timers=timers, switches=switches, steps=steps, told=list(self.sentences()),
@@ -109,7 +109,7 @@ class Story:
                        turns=turns)
 
     def touched(self, node):
-        look, pc = node.move.look, node.move.pc
+        look, pc = node.move.met.look, node.move.met.pc
         return dict(kind="timer" if node.is_timer else look.kind or "x", address=hex8(look.at) if look.kind in ("r", "w") else None,
                     symbol=self.symbols.name(look.at) if look.kind in ("r", "w") else None, pc=hex8(pc), source=self.symbols.source(pc))
 
