@@ -17,8 +17,10 @@ WORDS = """words:
   map          who may touch what, at each moment at which it changes
   trace        each step: where, what, which registers, which address, which trap
   touch        what each world read, wrote and executed, beside what it may
-  leak         two runs with two secrets in an enclave: where they part
+  window       what each stay of an enclave read, read again, wrote and left in its window
+  leak         runs with other secrets in an enclave: where they part
   timer        the timer before each step of an enclave: does it come to its end
+  races        all orders of two harts, all moments of the timer: which ends there are
   measure      the digest that create records
   explain      an input of the bench, read beside its faults
   page         the run as one page for a browser
@@ -27,7 +29,7 @@ WORDS = """words:
 `./rvlook WORD --help` tells more, and docs/LOOK.md all."""
 
 WORLD = re.compile(r"host\Z|bare\Z|e([0-9]|1[0-2])\Z")
-NAMES = ("map", "trace", "touch", "leak", "timer", "measure", "explain", "page", "gdb")
+NAMES = ("map", "trace", "touch", "window", "leak", "timer", "races", "measure", "explain", "page", "gdb")
 
 
 class Parser(argparse.ArgumentParser):
@@ -159,17 +161,31 @@ def do_touch(arguments):
 
 
 def do_leak(arguments):
-    from .leak import show_leak
-    try:
-        values = [bytes.fromhex(text) for text in (arguments.one, arguments.two)]
-    except ValueError:
-        raise Fault("BYTES are pairs of hexadecimal digits") from None
-    show_leak(*opened(arguments), arguments.slot, arguments.at, values)
+    from .leak_text import show_leak
+    show_leak(*opened(arguments), arguments)
+
+
+def do_window(arguments):
+    from .window import show_window
+    show_window(*opened(arguments), arguments.slot, arguments.at)
 
 
 def do_timer(arguments):
     from .timer import show_timer
     show_timer(*opened(arguments), arguments.slot, arguments.every)
+
+
+def do_races(arguments):
+    from .races_text import show_races
+    if arguments.last is not None and arguments.last < arguments.first:
+        raise WordsRefused("--to %d is before --from %d" % (arguments.last, arguments.first))
+    show_races(*opened(arguments), arguments, lambda line: refuse(arguments, line))
+
+
+def refuse(arguments, line):
+    """What is not as it should be: a line, and the status."""
+    tell(line)
+    arguments.has_faults = True
 
 
 def do_measure(arguments):
@@ -235,13 +251,45 @@ def slot_option(parser):
 
 
 def leak_options(parser):
-    parser.add_argument("--at", metavar="PLACE", required=True, help="where the secret stands: hexadecimal, or a symbol")
-    parser.add_argument("one", metavar="BYTES", help="the one secret, in hexadecimal digits")
-    parser.add_argument("two", metavar="BYTES", help="the other one")
+    parser.add_argument("--at", metavar="PLACE", required=True,
+                        help="where the secret stands: PLACE[:BYTES] in the region, image:PLACE[:BYTES], or REGISTER@PLACE, when it first comes there")
+    parser.usage = "rvlook leak IMAGE --at PLACE [ONE TWO] [OPTIONS]; ONE and TWO are the secrets, in hexadecimal digits"
+    parser.set_defaults(secrets=())
+    parser.add_argument("--strict", action="store_true", help="the operands of divisions too, which take as long as these say")
+    parser.add_argument("--public", metavar="WHAT", action="append",
+                        help="what may differ, more than once: PLACE[:BYTES] of the window, or of the instructions that make it; answer")
+    parser.add_argument("--tries", metavar="N", type=positive, help="draws N secrets: corner values, single bits, random ones")
+    parser.add_argument("--seed", metavar="S", type=int, default=0, help="which random ones (0)")
+    part_options(parser, "the secrets of the N that are drawn")
+
+
+def window_options(parser):
+    parser.add_argument("--slot", metavar="K", type=int, choices=range(13), help="of the enclave of this slot alone")
+    parser.add_argument("--at", metavar="PLACE", help="a secret, PLACE[:BYTES] in the region: does what is written depend on it")
 
 
 def timer_options(parser):
     parser.add_argument("--every", metavar="N", type=positive, default=1, help="before every Nth step (1)")
+
+
+def races_options(parser):
+    parser.add_argument("--outcome", metavar="WHAT", action="append",
+                        help="what tells ends apart, more than once: PLACE[:BYTES], HART.REGISTER, enclaves, or one, as e0; else all that both touch")
+    parser.add_argument("--forbid", metavar="CONDITION", action="append", help="status 1 if an end is so: 'left != 2', waits, livelock, unended")
+    parser.add_argument("--timer", dest="timers", metavar="N", type=count, default=0, help="the timer's line rises so many times at most (0)")
+    parser.add_argument("--preemptions", metavar="N", type=count, help="a hart that might go on is left so many times at most (any number)")
+    parser.add_argument("--end", metavar="PLACE", action="append", help="a hart is over before this instruction, more than once")
+    parser.add_argument("--limit", metavar="N", type=count, default=0, help="a hart is over behind so many steps of its own")
+    parser.add_argument("--scripts", metavar="DIR", help="writes an input of the bench there for each end")
+    parser.add_argument("--plain", action="store_true", help="leaves a hart before each of its steps: slower, with the same ends")
+    part_options(parser, "steps behind which a hart is left, or the timer comes, for the first time")
+
+
+def part_options(parser, what):
+    """A part of long work, and how long it may take."""
+    parser.add_argument("--from", dest="first", metavar="N", type=count, default=0, help="from N on: " + what)
+    parser.add_argument("--to", dest="last", metavar="N", type=count, help="the last of them")
+    parser.add_argument("--seconds", metavar="S", type=float, help="stops then, and tells what was covered")
 
 
 def gdb_options(parser):
@@ -277,8 +325,10 @@ def parser_of():
     add_word(words, "map", do_map, "Who may touch what, at each moment at which it changes", map_options)
     add_word(words, "trace", do_trace, "Each step of a run", trace_options)
     add_word(words, "touch", do_touch, "What each world read, wrote and executed, beside what it may", touch_options)
-    add_word(words, "leak", do_leak, "Two runs with two secrets in an enclave: where they part", slot_option, leak_options)
+    add_word(words, "window", do_window, "What each stay of an enclave read, read again, wrote and left in its window", window_options)
+    add_word(words, "leak", do_leak, "Runs with other secrets in an enclave: where they part", slot_option, leak_options)
     add_word(words, "timer", do_timer, "The timer before each step of an enclave: does it come to its end", slot_option, timer_options)
+    add_word(words, "races", do_races, "All orders of two harts, all moments of the timer: which ends there are", races_options)
     measure_word(words)
     explain_word(words)
     add_word(words, "page", do_page, "The run as one page for a browser")
@@ -292,12 +342,23 @@ def unknown_word(word):
     return "%s is no word of rvlook, and no file%s; rvlook --help tells the words" % (word, "; near it is %s" % near[0] if near else "")
 
 
+def with_secrets(parser, words):
+    """The arguments of leak, whose two secrets stand anywhere behind the image."""
+    arguments, rest = parser.parse_known_args(words)
+    if len(rest) > 2 or any(it.startswith("-") for it in rest):
+        parser.error("unrecognized arguments: %s" % " ".join(rest))
+    arguments.secrets = rest
+    return arguments
+
+
 def read(words):
     """The arguments that the words give."""
     parser = parser_of()
     if not words:
         parser.print_help()
         sys.exit(2)
+    if words[0] == "leak":
+        return with_secrets(parser, words)
     if words[0] in NAMES or words[0] in ("-h", "--help"):
         return parser.parse_args(words)
     if not words[0].startswith("-") and not os.path.exists(words[0]):

@@ -1,189 +1,182 @@
-"""The word leak: two runs that differ in some bytes of an enclave alone, from the moment at which these are poked until the enclave
-exits; where they part, in what a host can see: the steps, the answers when the enclave leaves, and the window."""
+"""The word leak: runs that differ in a secret of an enclave alone; where they part, in what a host can see or time while the enclave runs and
+when it leaves: where each step is, how many there are, the addresses of loads and stores, the operands of divisions where that is asked
+for, the answers, and the window. Where two runs go different ways they are compared from where they come together again."""
+from bisect import bisect_left
+from collections import defaultdict
+from contextlib import closing
 from dataclasses import dataclass
 from typing import Optional
 
 from .faults import Fault
-from .map import moments
-from .replies import bytes_of, register_values
-from .run import End, Stretch
-from .show import Style, hex8, run_object
+from .leak_secrets import place_and_size
+from .stays import Stays
 
-LEAVES = ("stop", "timer", "exit")
-ROW = 64  # bytes that `mem` shows at once
-PARTS = ("pc", "steps", "answer", "window")
+PARTS = ("pc", "steps", "address", "operand", "answer", "window")
+SAME, FAR = 4, 4096  # so many steps alike, and two runs are together again; looked for within so many steps
 
 
-@dataclass(frozen=True)
-class Secret:
-    """Bytes that are poked into an enclave behind a step."""
-    slot: int
-    at: int
-    step: int
-    bytes: bytes
-
-    def lines(self):
-        return ["poke %x %02x" % (self.at + place, value) for place, value in enumerate(self.bytes)]
-
-
-@dataclass(frozen=True)
-class Leave:
-    """What the host has when the enclave leaves."""
-    step: int
-    pc: str
-    event: str
-    answer: tuple
-    base: int
-    window: bytes
-
-
-@dataclass(frozen=True)
+@dataclass
 class Apart:
-    """Where two runs part: in what, at which step of each, with what values, and the instruction that was done."""
+    """Where two runs part: in what, at which step of each first, with what values, the instruction that made it, and how many times there."""
     what: str
     steps: tuple
     values: tuple
-    pc: Optional[str] = None
+    pc: Optional[int] = None
+    count: int = 1
 
 
 @dataclass
 class Seen:
-    """One run from the poke on: the enclave's leaves, and the step that is its last."""
+    """One run from where the secret is put: the enclave's stays, and the step that is its last."""
     run: object
-    leaves: list
+    stays: list
     last: int
 
 
-def created(run, slot):
-    """The moment at which the slot's enclave is created."""
-    for moment in moments(run):
-        if not isinstance(moment, End) and moment.event == "create" and moment.slot == slot:
-            return moment
-    raise Fault("no enclave is created in slot %d" % slot)
+@dataclass(frozen=True)
+class Public:
+    """What may differ: the answer, bytes of the window, and what instructions of a range make."""
+    answer: bool = False
+    ranges: tuple = ()
+
+    def has(self, address):
+        return any(at <= address < at + count for at, count in self.ranges)
 
 
-def seen(run, slot, start):
-    """What a host sees of the slot's enclave."""
-    leaves, last = [], None
-    with run.replay() as replay:
-        for moment in moments(run):
-            if isinstance(moment, End):
-                last = last or moment.steps
-            elif moment.step > start and moment.slot == slot and last is None:
-                if moment.event in LEAVES:
-                    leaves.append(leave_of(replay, moment, slot))
-                last = moment.step if moment.event in ("exit", "destroy") else None
-    return Seen(run, leaves, last)
+def public_of(texts, symbols):
+    """What --public names."""
+    found = [it for it in texts or () if it != "answer"]
+    return Public("answer" in (texts or ()), tuple((at, count or 4) for at, count in (place_and_size(it, symbols) for it in found)))
 
 
-def leave_of(replay, moment, slot):
-    """The answer and the window at a leave."""
-    enclave = next(it for it in moment.enclaves if it.slot == slot)
-    reads = ["mem %x %d" % (enclave.window + at, min(ROW, enclave.window_size - at)) for at in range(0, enclave.window_size, ROW)]
-    *_, registers = replay.bench.ask(*replay.lines_to(moment.step), "regs")
-    values = register_values(registers)
-    return Leave(moment.step, moment.pc, moment.event, (moment.event, values[10], values[11]), enclave.window,
-                 b"".join(bytes_of(reply[0]) for reply in replay.bench.ask(*reads)))
+def seen(run, secret, is_strict):
+    """What a host sees of the slot's enclave, until it exits."""
+    found, stays = [], Stays(run, secret.step, is_strict)
+    with closing(stays.all()) as every:
+        for stay in every:
+            if stay.slot == secret.slot:
+                found.append(stay)
+                if stay.left == "exit":
+                    return Seen(run, found, stay.last)
+    return Seen(run, found, stays.end.steps)
 
 
-def lines_of(run, last):
-    """The reply of each step up to the last."""
-    for item in run.stretches():
-        if isinstance(item, Stretch):
-            for offset, line in enumerate(item.data.splitlines()):
-                if item.first + offset <= last:
-                    yield item.first + offset, line.decode()
+class Comparison:
+    """Two runs; `found` has where they part, by the part and the instruction."""
+
+    def __init__(self, one, two, secret, public, is_strict):
+        self.one, self.two, self.secret, self.public, self.is_strict, self.found, self.writers = one, two, secret, public, is_strict, {}, {}
+        for pair in zip(one.stays, two.stays):
+            self.ways(*pair)
+            self.leaves(*pair)
+        if one.last != two.last:
+            self.add("steps", (one.last, two.last), (one.last, two.last))
+        if len(one.stays) != len(two.stays) and not any(it.what == "answer" for it in self.found.values()):
+            self.add("answer", (one.last, two.last), tuple("%d leaves" % len(it.stays) for it in (one, two)))
+
+    def parts(self):
+        return [it for it in PARTS if any(found.what == it for found in self.found.values())]
+
+    def all(self):
+        return sorted(self.found.values(), key=lambda it: (PARTS.index(it.what), it.steps))
+
+    def add(self, what, steps, values, pc=None):
+        """A difference, or one more where there was such."""
+        if pc is not None and self.public.has(pc):
+            return
+        old = self.found.setdefault((what, pc), Apart(what, steps, values, pc, 0))
+        old.count += 1
+
+    def ways(self, one, two):
+        """Step by step, and from where two ways come together again."""
+        theirs = dict(zip(two.did_at, two.did))
+        x = y = 0
+        while x < len(one.pcs) and y < len(two.pcs):
+            same = alike(one, x, two, y)
+            for place in range(bisect_left(one.did_at, x), bisect_left(one.did_at, x + same)):
+                other = theirs.get(one.did_at[place] - x + y)
+                if other is not None:
+                    self.access(one.did[place], other, one.enclave)
+            x, y = x + same, y + same
+            if x == len(one.pcs) and y == len(two.pcs):
+                return
+            steps = (one.steps[x - 1], two.steps[y - 1]) if x else (one.first, two.first)
+            self.add("pc", steps, (), one.pcs[max(0, x - 1)] & -4)
+            x, y = together(one, x, two, y)
+
+    def access(self, mine, theirs, enclave):
+        """What two steps did that were at the same place."""
+        steps = mine.step, theirs.step
+        if mine.kind == "d":
+            if mine.values != theirs.values:
+                self.add("operand", steps, tuple("%08x and %08x" % it.values for it in (mine, theirs)), mine.pc)
+        elif mine.address != theirs.address:
+            self.add("address", steps, tuple((it.kind, it.address) for it in (mine, theirs)), mine.pc)
+        elif mine.kind == "w" and mine.values != theirs.values and self.is_shown(mine, enclave):
+            self.add("window", steps, tuple((it.address, bytes(it.values)) for it in (mine, theirs)), mine.pc)
+
+    def is_shown(self, it, enclave):
+        """Whether a store is to a byte of the window that may not differ."""
+        places = range(it.address, it.address + it.width)
+        return any(enclave.window <= at < enclave.window + enclave.window_size and not self.public.has(at) for at in places)
+
+    def leaves(self, one, two):
+        """The answer and the window when the enclave leaves."""
+        if not self.public.answer and (one.left, one.answer) != (two.left, two.answer):
+            self.add("answer", (one.last, two.last), tuple((it.left, *it.answer) for it in (one, two)), one.pc)
+        self.writers.update(writers_of(one, two))
+        if one.after != two.after:
+            base, writers, told = one.enclave.window, self.writers, {pc for what, pc in self.found if what == "window"}
+            for at, (x, y) in enumerate(zip(one.after, two.after)):
+                pc = writers.get(base + at, one.pc)
+                if x != y and not self.public.has(base + at) and pc not in told:
+                    self.add("window", (one.last, two.last), ((base + at, bytes([x])), (base + at, bytes([y]))), pc)
 
 
-def steps_apart(one, two):
-    """The first step at which the two go on elsewhere."""
-    pc = one.run.pc
-    for (step, line), (_, other) in zip(lines_of(one.run, one.last), lines_of(two.run, two.last)):
-        if line != other:
-            return Apart("pc", (step, step), (line[len("ran 1 "):], other[len("ran 1 "):]), pc)
-        pc = line.split("pc=")[1][:8]
-    return None
-
-
-def leaves_apart(one, two):
-    """The first leaves that have other answers, and the first that have other windows."""
-    pairs = list(zip(one.leaves, two.leaves))
-    answers = next(((a, b) for a, b in pairs if a.answer != b.answer), None)
-    windows = next(((a, b) for a, b in pairs if a.window != b.window), None)
-    found = []
-    if answers:
-        found.append(between("answer", answers, ["%s a0=%08x a1=%08x" % it.answer for it in answers]))
-    if windows:
-        place = next(at for at, (x, y) in enumerate(zip(windows[0].window, windows[1].window)) if x != y)
-        found.append(between("window", windows, ["%08x is %02x" % (it.base + place, it.window[place]) for it in windows]))
+def writers_of(one, two):
+    """The instruction that stored each byte last, in either run."""
+    found = {}
+    for stay in (two, one):
+        for it in stay.did:
+            if it.kind == "w" and it.done:
+                found.update((it.address + n, it.pc) for n in range(it.width))
     return found
 
 
-def between(what, leaves, values):
-    """Where two leaves part."""
-    return Apart(what, tuple(it.step for it in leaves), tuple(values), leaves[0].pc)
+def alike(one, x, two, y):
+    """How many steps from these on are at the same places, in the same modes, with the same traps."""
+    count, most = 0, min(len(one.pcs) - x, len(two.pcs) - y)
+    if one.pcs[x:x + most] == two.pcs[y:y + most]:
+        count = most
+    else:
+        part = 1
+        while one.pcs[x + count:x + count + part] == two.pcs[y + count:y + count + part]:
+            count, part = count + part, 2 * part
+        while part:
+            if count + part <= most and one.pcs[x + count:x + count + part] == two.pcs[y + count:y + count + part]:
+                count += part
+            part //= 2
+    trapped = {n - x for n in one.traps if x <= n < x + count} | {n - y for n in two.traps if y <= n < y + count}
+    return min((n for n in trapped if one.traps.get(x + n) != two.traps.get(y + n)), default=count)
 
 
-def all_apart(one, two):
-    """In what the two part."""
-    found = [it for it in (steps_apart(one, two),) if it]
-    if one.last != two.last:
-        found.append(Apart("steps", (one.last, two.last), (one.last, two.last)))
-    found += leaves_apart(one, two)
-    if len(one.leaves) != len(two.leaves) and not any(it.what == "answer" for it in found):
-        found.append(Apart("answer", (one.last, two.last), tuple("%d leaves" % len(it.leaves) for it in (one, two))))
-    return sorted(found, key=lambda it: PARTS.index(it.what))
+def together(one, x, two, y):
+    """Where two ways come together again: the fewest steps behind these, from which on some are alike; else the ends."""
+    places = defaultdict(list)
+    for n in range(y, min(y + FAR, len(two.pcs))):
+        places[two.pcs[n]].append(n)
+    best = None
+    for m in range(x, min(x + FAR, len(one.pcs))):
+        if best and m - x > best[0]:
+            break
+        for n in places.get(one.pcs[m], ()):
+            cost = m - x + n - y
+            if cost and (best is None or cost < best[0]) and one.pcs[m:m + SAME] == two.pcs[n:n + SAME]:
+                best = cost, m, n
+                break
+    return best[1:] if best else (len(one.pcs), len(two.pcs))
 
 
-def show_leak(run, symbols, printer, slot, place, values):
-    """The two runs, and where they part."""
-    at = symbols.address(place)
-    if at is None:
-        raise Fault("%s is no hexadecimal number and no symbol" % place)
+def check_values(values):
     if len(values[0]) != len(values[1]):
         raise Fault("the two have not the same number of bytes")
-    moment = created(run, slot)
-    enclave = next(it for it in moment.enclaves if it.slot == slot)
-    if not enclave.base <= at <= at + len(values[0]) <= enclave.base + enclave.size:
-        raise Fault("the bytes from %08x on are not in the region of e%d" % (at, slot))
-    secrets = [Secret(slot, at, moment.step, value) for value in values]
-    one, two = (seen(run.with_lines(it.step, it.lines()), slot, it.step) for it in secrets)
-    write = leak_objects if printer.as_json else leak_text
-    write(run, symbols, printer, secrets, (one, two), all_apart(one, two))
-
-
-def leak_objects(run, symbols, printer, secrets, both, found):
-    run_object(printer, run, symbols)
-    first = secrets[0]
-    printer.object("secret", slot=first.slot, at=hex8(first.at), step=first.step, bytes=[it.bytes.hex() for it in secrets])
-    for it in found:
-        pc = it.pc and int(it.pc, 16)
-        printer.object("apart", what=it.what, step=list(it.steps), values=list(it.values), pc=it.pc,
-                       symbol=pc and symbols.name(pc), source=pc and symbols.source(pc))
-    printer.object("leak", parts=[it.what for it in found], steps=[it.last - first.step for it in both],
-                   leaves=[len(it.leaves) for it in both])
-
-
-def leak_text(run, symbols, printer, secrets, both, found):
-    first = secrets[0]
-    printer.line("e%d, from step %d on, with %s and with %s at %08x  %s" % (
-        first.slot, first.step, secrets[0].bytes.hex(), secrets[1].bytes.hex(), first.at, symbols.name(first.at) or ""))
-    parts = {it.what: it for it in found}
-    alike = {"pc": "each step goes on at the same pc", "steps": "%d" % (both[0].last - first.step),
-             "answer": "the same at %d leaves" % len(both[0].leaves), "window": "the same at each leave"}
-    for what in PARTS:
-        if what not in parts:
-            printer.line("  %-7s alike: %s" % (what, alike[what]))
-            continue
-        it = parts[what]
-        printer.line("  %-7s %s" % (what, printer.styled(apart_text(it, first, symbols), Style.bad)))
-    printer.line("they part in " + ", ".join(parts) if parts else "they are alike in all that a host sees")
-
-
-def apart_text(it, secret, symbols):
-    """In what two runs part, and where."""
-    if it.what == "steps":
-        return "apart: %d and %d" % tuple(step - secret.step for step in it.steps)
-    where = "  ".join(part for part in (it.pc, it.pc and symbols.name(int(it.pc, 16)), it.pc and symbols.line(int(it.pc, 16))) if part)
-    step = "step %d" % it.steps[0] if it.steps[0] == it.steps[1] else "steps %d and %d" % it.steps
-    return "apart at %s, %s\n          %s\n          %s" % (step, where, *it.values)

@@ -7,6 +7,7 @@ from typing import Optional
 from . import names
 from .faults import Fault
 from .map import moments
+from .progress import Progress
 from .replies import ran_of, register_values
 from .run import End, Stretch
 from .show import Style, place_text, run_object
@@ -92,13 +93,15 @@ def commands_for(step, is_stopped, is_first):
 def interrupted(replay, steps, every):
     """The same steps with the timer before every one of them that is on turn; behind the first difference they are only counted."""
     outcome, numbered = Outcome(), enumerate(steps)
-    while True:
-        part = list(itertools.islice(numbered, BATCH))
-        if not part:
-            return outcome
-        outcome.steps += len(part)
-        if not outcome.differs:
-            compare(replay, part, every, outcome)
+    with Progress() as progress:
+        while True:
+            part = list(itertools.islice(numbered, BATCH))
+            if not part:
+                return outcome
+            outcome.steps += len(part)
+            progress.tell("%d steps, %d stops", outcome.steps, outcome.stops)
+            if not outcome.differs:
+                compare(replay, part, every, outcome)
 
 
 def compare(replay, part, every, outcome):

@@ -1,7 +1,7 @@
 #!/usr/bin/env python3
-"""The parts of docs/LOOK.md and README.md that begin with `$` and have ./rvlook in it: each command is run, and gives the lines that stand
-behind it; `...` stands for any lines. And each object of --json is as look/objects.schema.json has it, by python3-jsonschema if that is there,
-in the names of its members in any case."""
+"""The parts of docs/LOOK.md, README.md, docs/ASK.md and the page of examples/enclave_store that begin with `$` and have ./rvlook in it: each
+command is run, and gives the lines that stand behind it; `...` stands for any lines. And each object of --json is as
+look/objects.schema.json has it, by python3-jsonschema if that is there, in the names of its members in any case."""
 import json
 import os
 import re
@@ -16,12 +16,19 @@ try:
 except ImportError:
     Validator = None
 
-PAGES = ("docs/LOOK.md", "README.md")
+PAGES = ("docs/LOOK.md", "README.md", "docs/ASK.md", "examples/enclave_store/README.md")
 SCHEMA = "look/objects.schema.json"
 WORDS = (
-    ("map", "--monitor", "examples/enclave_adds/image"), ("touch", "--monitor", "examples/enclave_refused/stdin", "--symbols", "examples/enclave_refused/listing"),
-    ("trace", "--monitor", "examples/enclave_timer/stdin"), ("map", "examples/pmp/stdin"), ("timer", "--monitor", "examples/enclave_adds/image"),
-    ("leak", "--monitor", "tests/look/leak/image", "--at", "80020800", "00", "05"), ("explain", "tests/look/explain/input"),
+    ("map", "--monitor", "examples/enclave_adds/image"),
+    ("touch", "--monitor", "examples/enclave_refused/stdin", "--symbols", "examples/enclave_refused/listing"),
+    ("trace", "--monitor", "examples/enclave_timer/stdin"), ("map", "examples/pmp/stdin"),
+    ("timer", "--monitor", "examples/enclave_adds/image"),
+    ("leak", "--monitor", "tests/look/leak/image", "--at", "80020800", "00", "05"),
+    ("leak", "--monitor", "tests/look/leak/image", "--at", "80020800:4", "--tries", "3"),
+    ("window", "--monitor", "tests/look/window/image", "--at", "80020800:4"),
+    ("window", "--harts", "2", "--monitor", "examples/enclave_store_leaking/image", "--symbols",
+     "examples/enclave_store_leaking/listing", "--at", "key:32"),
+    ("races", "--monitor", "--timer", "1", "examples/enclave_adds/image"), ("explain", "tests/look/explain/input"),
     ("measure", "tests/look/measure/region", "80020000", "1000", "0", "0", "80020000"))
 
 
@@ -70,7 +77,7 @@ def named_by(schema, path):
 
 
 def check_objects():
-    """Each object is as the schema has it, and each member that the schema names is written, but for those of source lines."""
+    """Each object is as the schema has it, and each member that the schema names is written, but for those of source lines and of secrets in a window."""
     with open(os.path.join(ROOT, SCHEMA)) as file:
         shapes = json.load(file)["$defs"]
     found = set()
@@ -83,14 +90,15 @@ def check_objects():
             expect("%s of %s" % (SCHEMA, " ".join(words)), [], faults)
     named = set().union(*(named_by(it, name) for name, it in shapes.items()))
     expect("members that %s does not name" % SCHEMA, [], sorted(found - named))
-    expect("members of %s that are not written" % SCHEMA, [], sorted(it for it in named - found if not it.startswith("line.")))
+    expect("members of %s that are not written" % SCHEMA, [], sorted(it for it in named - found if not it.startswith(("line.", "holds."))))
     if not Validator:
         print("not run: the types of the objects, for want of python3-jsonschema")
 
 
 def main():
     expect("docs/LOOK.md has examples", True, check_page(PAGES[0]) > 6)
-    check_page(PAGES[1])
+    for page in PAGES[1:]:
+        check_page(page)
     check_objects()
     report()
 

@@ -20,7 +20,8 @@ has() {
 }
 
 if [[ $(clang --version 2> "$scratch/out") == *"version 14."* ]] && has ld.lld llvm-nm llvm-objcopy llvm-objdump; then
-  for name in enclave_adds enclave_bug enclave_hmac enclave_hmac_attacked enclave_refused enclave_timer monitor_at_rest two_harts; do
+  for name in enclave_adds enclave_bug enclave_hmac enclave_hmac_attacked enclave_refused enclave_store enclave_store_leaking \
+    enclave_timer monitor_at_rest two_harts; do
     "$examples/monitor/build" $name > "$scratch/out" 2>&1
     expect "build of $name" 0 $? /dev/null "$scratch/out"
     for part in image listing stdin; do

@@ -16,6 +16,8 @@ ADDS, LISTING = "examples/enclave_adds/image", "examples/enclave_adds/listing"
 SUM = "examples/sum/stdin"
 SYMBOLS = ["--symbols", LISTING]
 LEAKS = "tests/look/leak/image"
+LEAK_TRIES = ["--monitor", LEAKS, "--tries", "2", "--at"]
+COUNTED = ["--monitor", "--harts", "2", "--ram", "131072"]
 FULL = 'exec "$0" "$@" > /dev/full'
 ROW = re.compile(r"^\| (\d+) \| `(.*)` \| .*\|$", re.M)
 
@@ -29,6 +31,9 @@ class Files:
         self.loop = self.write("loop", "1303130013031300\n6ff09fff\n")
         self.lines = {name: self.write(name, text + "\n") for name, text in (
             ("unknown", "stepp 4"), ("twice", "break trapped"), ("man", "break man"))}
+        self.counter = self.write("counter", "b712018083a302009383130023a072006f000000\n")  # 80011000 is one more
+        self.many = self.write("many", "b71201801303803e83a302009383130023a072001303f3ffe31803fe6f000000\n")  # a thousand times
+        self.cycle = self.write("cycle", "732500b06f000000\n")  # mcycle is read
         self.key = self.write("key", "b758450a938838e473000000\n6f000000\n")
         self.text = self.write("text", "no image\n")
         self.cut = self.write("cut.elf", "\x7fELF")
@@ -98,8 +103,21 @@ def cases(files):
         "BYTES are": leak("80020800", "0", "01"),
         "no enclave is created": leak("80020800", "00", "01", "--slot", "4"),
         "the bytes from": leak("80010000", "00", "01"),
+        "the two have": leak("80020800", "00", "0001"),
+        "--at PLACE:BYTES": lambda: ran(["leak", *LEAK_TRIES, "80020800"]),
+        "the enclave of slot NUMBER does not come": lambda: ran(["leak", *LEAK_TRIES, "a0@80020f00"]),
+        "leak compares": lambda: ran(["leak", "--monitor", LEAKS, "--at", "80020800"]),
+        "no enclave runs": lambda: ran(["window", SUM]),
+        "--forbid CONDITION": lambda: ran(["races", *COUNTED, files.counter, "--forbid", "80011000 == 2"]),
+        "--forbid is not": lambda: ran(["races", *COUNTED, files.counter, "--forbid", "80011000 == 99", "--seconds", "0"]),
+        "--forbid is NAME": lambda: ran(["races", *COUNTED, files.counter, "--forbid", "80011000"]),
+        "--forbid compares": lambda: ran(["races", *COUNTED, files.counter, "--forbid", "80011000 == many"]),
+        "--outcome is": lambda: ran(["races", *COUNTED, files.counter, "--outcome", "nowhere"]),
+        "--outcome PLACE": lambda: ran(["races", *COUNTED, files.counter, "--outcome", "80011000:0x4"]),
+        "the step at": lambda: ran(["races", files.cycle]),
+        "DIR: WHY": lambda: ran(["races", *COUNTED, files.counter, "--scripts", files.text]),
         "there is no enclave": lambda: ran(["timer", SUM, "--monitor", "--steps", "9"]),
-        "the enclave of slot": lambda: ran(["timer", "--monitor", "examples/monitor_at_rest/image"]),
+        "the enclave of slot NUMBER does nothing": lambda: ran(["timer", "--monitor", "examples/monitor_at_rest/image"]),
         "create refuses": lambda: ran(["measure", files.region, "80020000", "1001", "0", "0", "80020000"]),
         "there are no source": lambda: ran(["touch", SUM, "--lcov"]),
         "page has no": lambda: ran(["page", SUM, "--json"]),
@@ -162,7 +180,10 @@ def words_over(files):
         "touch": (["touch", files.loop], ["touch", SUM]), "page": (["page", files.loop], ["page", SUM]),
         "map --json": (["map", files.loop, "--json"], ["map", SUM, "--json"]),
         "trace --format spike": (["trace", files.loop, "--format", "spike"], ["trace", SUM, "--format", "spike"]),
-        "leak": (None, ["leak", "--monitor", LEAKS, *leak]),
+        "leak": (None, ["leak", "--monitor", LEAKS, *leak]), "window": (None, ["window", "--monitor", ADDS]),
+        "leak --tries": (["leak", "--monitor", LEAKS, "--at", "80020800:4", "--tries", "1000"],
+                         ["leak", "--monitor", LEAKS, "--at", "80020800:4", "--tries", "1"]),
+        "races": (["races", *COUNTED, files.many], ["races", "--monitor", ADDS]),
         "timer": (["timer", "--monitor", "examples/enclave_hmac/image"], ["timer", "--monitor", ADDS]),
         "measure": (None, ["measure", files.region, "80020000", "1000", "0", "0", "80020000"]),
         "explain": (None, ["explain", SUM]), "the prompt": (None, [SUM])}

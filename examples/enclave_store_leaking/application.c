@@ -1,0 +1,2 @@
+#define LEAKING
+#include "../enclave_store/application.c"

@@ -1,0 +1,1 @@
+#include "../enclave_store/host.c"

@@ -1,0 +1,40 @@
+"""A line on a terminal that tells how far long work is; nothing is written where standard error is no terminal."""
+import sys
+import time
+
+EVERY = 0.2  # seconds
+
+
+class Progress:
+    """The line; it is written anew at most five times a second, and taken away at the end."""
+
+    def __init__(self, stream=None):
+        self.stream = stream or sys.stderr
+        self.is_shown, self.last, self.width = self.stream.isatty(), time.monotonic(), 0
+
+    def __enter__(self):
+        return self
+
+    def __exit__(self, *_):
+        self.clear()
+
+    def tell(self, text, *values):
+        """Shows a line, of a form and its values."""
+        if not self.is_shown or time.monotonic() - self.last < EVERY:
+            return
+        self.last, told = time.monotonic(), text % values
+        self.stream.write("\r" + told.ljust(self.width))
+        self.stream.flush()
+        self.width = len(told)
+
+    def bar(self, done, of, found):
+        """Shows how much of a known amount is done, and what was found."""
+        if self.is_shown and of:
+            filled = 30 * done // of
+            self.tell("[%s%s] %d of %d  %s", "#" * filled, "." * (30 - filled), done, of, found)
+
+    def clear(self):
+        if self.width:
+            self.stream.write("\r" + " " * self.width + "\r")
+            self.stream.flush()
+            self.width = 0

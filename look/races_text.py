@@ -1,0 +1,234 @@
+"""What the word races tells: the ends, each with the simplest order that leads to it, for a person and as objects; and what was covered."""
+from .outcomes import Table, condition_of, number_of, outcomes_of, ranges_of, value_text
+from .faults import Fault
+from .progress import Progress
+from .races import MOST_ALONE, Bounds, Search
+from .races_ends import GOES_ON, LEFT, LONG, OVER, WAITS, Ends
+from .races_machine import Machine, commands_of
+from .races_replay import Replays, write_scripts
+from .show import Style, hex8, place_text, run_object
+
+SHOWN = 3  # accesses at the beginning and at the end of a hart's turn
+HOW_TEXT = {WAITS: "waits for ever", GOES_ON: "goes on for ever", LEFT: "is left"}
+
+
+def counted(count, name):
+    return "%d %s%s" % (count, name, "" if count == 1 else "s")
+
+
+class Story:
+    """An end with the words for it."""
+
+    def __init__(self, end, outcome, search, symbols, places):
+        self.end, self.outcome, self.search, self.symbols, self.places = end, outcome, search, symbols, places
+
+    def heading(self):
+        """An end in a line: the values that tell it, and how the harts ended where that is not told by them."""
+        parts = ["%s=%s" % (it.name, value_text(value)) for it, value in zip(self.outcome, self.end.values) if value != ()]
+        for hart, (how, pc) in enumerate(self.end.harts):
+            if how == LONG:
+                parts.append("hart %d has not ended in %s" % (hart, self.limit(hart)))
+            elif how != OVER:
+                parts.append("hart %d %s" % (hart, HOW_TEXT[how]))
+            elif len(self.places[hart]) > 1:
+                parts.append("hart %d at %s" % (hart, self.place(pc)))
+        return "  ".join(parts) or "all is over"
+
+    def limit(self, hart):
+        """How long a hart was let go on."""
+        search, state = self.search, self.end.node.place.state
+        graphs = filter(None, (search.earlier, search.graph))
+        return "%d moves alone" % MOST_ALONE if any((state, hart) in it.alone for it in graphs) else counted(search.bounds.steps, "step")
+
+    def place(self, pc):
+        return self.symbols.source(pc) or self.symbols.name(pc) or hex8(pc)
+
+    def turns(self):
+        """The moves that lead to it, in turns of one hart; the timer begins a turn."""
+        turns = []
+        for it in self.end.node.pieces():
+            if turns and turns[-1][0].place.last == it.place.last and not it.is_timer:
+                turns[-1].append(it)
+            else:
+                turns.append([it])
+        return turns
+
+    def sentences(self):
+        """What a turn did that came into another one, and where the timer came."""
+        turns = self.turns()
+        for number, turn in enumerate(turns):
+            if turn[0].is_timer:
+                yield "the timer stops %s before %s" % (turn[0].move.met.world, self.place(turn[0].move.met.pc))
+            elif 0 < number < len(turns) - 1:
+                before, behind = turns[number - 1], turns[number + 1]
+                met = [[it.move.met.pc for it in part if it.move.met.pc is not None] for part in (before, turn, behind)]
+                if all(met) and before[0].place.last == behind[0].place.last != turn[0].place.last and not behind[0].is_timer:
+                    yield "hart %d does %s between %s and %s of hart %d" % (
+                        turn[0].place.last, self.span(met[1]), self.place(met[0][-1]), self.place(met[2][0]), before[0].place.last)
+
+    def span(self, pcs):
+        first, last = self.place(pcs[0]), self.place(pcs[-1])
+        return first if first == last else "%s to %s" % (first, last)
+
+    def access(self, node):
+        """One move by what it touched, and where."""
+        move = node.move.met
+        if node.is_timer:
+            what = "the timer stops %s" % move.world
+        elif move.look.kind in ("r", "w"):
+            what = "%s %08x %d  %s" % (move.look.kind, move.look.at, move.look.width, self.symbols.name(move.look.at) or "")
+        else:
+            what = "calls the monitor" if move.look.kind == "call" else "x"
+        return "      %-34s %s" % (what.rstrip(), place_text(hex8(move.pc), self.symbols))
+
+    def lines(self, total):
+        """The end, line by line, behind its heading."""
+        preemptions, timers, switches, steps = self.end.node.cost
+        parts = [counted(preemptions, "preemption")] + ([counted(timers, "timer")] if self.search.bounds.timers else [])
+        yield "  %d of %s; simplest: %s, %s, %s" % (self.end.orders, counted(total, "order"), ", ".join(parts),
+                                                    counted(switches, "switch").replace("switchs", "switches"), counted(steps, "step"))
+        yield from ("  " + it for it in self.sentences())
+        for turn in self.turns():
+            yield "    hart %d, %s" % (turn[0].place.last, counted(sum(it.move.steps for it in turn), "step"))
+            lines = [self.access(it) for it in turn if it.move.met.pc is not None]
+            yield from lines if len(lines) <= 2 * SHOWN + 1 else \
+                [*lines[:SHOWN], "      ... %d more" % (len(lines) - 2 * SHOWN), *lines[-SHOWN:]]
+        if self.end.round:
+            moves = self.end.round_way()
+            yield "    and from there, again and again: " + ", ".join("%s of hart %d" % (counted(steps, "step"), hart) for hart, steps, _ in moves)
+
+    def object(self, printer):
+        end, count = self.end, self.search.machine.count
+        preemptions, timers, switches, steps = end.node.cost
+        turns = [dict(hart=turn[0].place.last, steps=sum(it.move.steps for it in turn),
+                      touched=[self.touched(it) for it in turn if it.move.met.pc is not None]) for turn in self.turns()]
+        printer.object("race", end=end.number, values={it.name: shown(value) for it, value in zip(self.outcome, end.values)},
+                       over=[dict(hart=hart, how=how, pc=hex8(pc)) for hart, (how, pc) in enumerate(end.harts)], orders=end.orders,
+                       preemptions=preemptions, timers=timers, switches=switches, steps=steps, told=list(self.sentences()),
+                       schedule=commands_of(end.node.way(), count), round=commands_of(end.round_way(), count) if end.round else [],
+                       turns=turns)
+
+    def touched(self, node):
+        look, pc = node.move.met.look, node.move.met.pc
+        return dict(kind="timer" if node.is_timer else look.kind or "x", address=hex8(look.at) if look.kind in ("r", "w") else None,
+                    symbol=self.symbols.name(look.at) if look.kind in ("r", "w") else None, pc=hex8(pc), source=self.symbols.source(pc))
+
+
+def shown(value):
+    """A value in an object: words as numbers, longer bytes as digits."""
+    if isinstance(value, bytes):
+        return number_of(value) if len(value) in (1, 2, 4) else value.hex()
+    return dict(("e%d" % slot, state) for slot, state in value) if isinstance(value, tuple) else value
+
+
+def covered_text(search, orders):
+    """What was searched, in words that are true."""
+    bounds, graph = search.bounds, search.graph
+    bound = []
+    if bounds.preemptions is not None:
+        bound.append("at most " + counted(bounds.preemptions, "preemption"))
+    if bounds.timers:
+        bound.append("at most " + counted(bounds.timers, "timer"))
+    what = " with " + " and ".join(bound) if bound else ""
+    if bounds.is_part:
+        what += ", left for the first time behind step %d%s" % (bounds.first, " or later" if bounds.last is None else " to %d" % bounds.last)
+    if search.why_cut:
+        text = "cut by %s behind %s%s; wholly searched: %s" % (search.why_cut, counted(orders, "order"), what, level_text(search))
+    else:
+        text = "all %d of %s%s" % (orders, counted(orders, "order"), what)
+    given_up = len(graph.alone) + len(graph.unended)
+    return text + ("; not what comes behind one hart that has not ended alone, %s" % counted(given_up, "place") if given_up else "")
+
+
+def level_text(search):
+    """Of which orders all were searched before it was cut."""
+    if search.whole is None:
+        return "none"
+    preemptions, timers = search.whole
+    parts = (["at most " + counted(preemptions, "preemption")] if search.machine.count > 1 else []) + \
+        (["at most " + counted(timers, "timer")] if search.bounds.timers else [])
+    return "those with " + " and ".join(parts)
+
+
+def show_races(run, symbols, printer, options, refuse):
+    """The search, and what it found; `refuse` is told what is forbidden and found."""
+    conditions = [condition_of(it, symbols) for it in options.forbid or ()]
+    outcome = outcomes_of(options.outcome, conditions, symbols, run.setup.harts)
+    ends = [place_of(it, symbols) for it in options.end or ()]
+    bounds = Bounds(options.preemptions, options.timers, run.setup.limit, options.first, options.last)
+    machine = Machine(run, ends, options.limit)
+    addresses = {at for it in outcome if hasattr(it, "at") for at in range(it.at, it.at + it.count)}
+    try:
+        with Progress() as progress:
+            search = Search(machine, bounds, options.plain, addresses, options.seconds, teller(progress)).run()
+        told(search, outcome, conditions, symbols, printer, options, run, refuse)
+    finally:
+        machine.close()
+    if search.why_cut == "Ctrl-C":
+        raise KeyboardInterrupt
+
+
+def place_of(text, symbols):
+    at = symbols.address(text)
+    if at is None:
+        raise Fault("%s is no hexadecimal number and no symbol" % text)
+    return at
+
+
+def teller(progress):
+    """How far the search is."""
+    def tell(search):
+        if progress.is_shown:
+            progress.tell("round %d: %d places, %d more wait, %d preemptions, %d timers, %d runs of the bench", search.rounds,
+                          len(search.done), search.waiting, *search.level, search.machine.asked)
+    return tell
+
+
+def told(search, outcome, conditions, symbols, printer, options, run, refuse):
+    """All ends that were found, each done again on the bench first."""
+    machine, named = search.machine, outcome or [*ranges_of(search.met, symbols), Table()]
+    if search.why_cut == "Ctrl-C":
+        machine.renew()
+    found = Ends(search, named)
+    replays = Replays(machine)
+    for end in found.ends:
+        replays.check(end)
+    places = [{pc for it in found.ends for how, pc in it.harts[hart:hart + 1]} for hart in range(machine.count)]
+    stories = [Story(it, named, search, symbols, places) for it in found.ends]
+    if options.scripts:
+        write_scripts(options.scripts, machine, found.ends, named, lambda end: "end %d: %s" % (
+            end.number, stories[end.number - 1].heading()))
+    bad = [(condition, end) for condition in conditions for end in found.ends if condition.holds(end, [it.name for it in named])]
+    (objects if printer.as_json else texts)(search, found, stories, bad, symbols, printer, run)
+    for condition, end in bad:
+        refuse("--forbid %s: end %d is so" % (condition.text, end.number))
+    if conditions and not bad and search.why_cut == "--seconds":
+        refuse("--forbid is not decided: not all was searched")
+
+
+def objects(search, found, stories, bad, symbols, printer, run):
+    run_object(printer, run, symbols)
+    for story in stories:
+        story.object(printer)
+    machine, bounds = search.machine, search.bounds
+    printer.object("races", ends=len(stories), orders=found.orders, whole=not search.why_cut, covered=covered_text(search, found.orders),
+                   forbidden=sorted({end.number for _, end in bad}), preemptions=bounds.preemptions, timers=bounds.timers,
+                   met=[dict(address=hex8(it.at), size=it.count, symbol=it.name) for it in ranges_of(search.met, symbols)],
+                   places=len(search.done), moves=search.count, rounds=search.rounds, runs=machine.asked, asked=machine.learned)
+
+
+def texts(search, found, stories, bad, symbols, printer, _run):
+    for it in ranges_of(search.met, symbols):
+        printer.line("both touch  %08x %d  %s" % (it.at, it.count, it.name))
+    forbidden = {end.number for _, end in bad}
+    for story in stories:
+        printer.line()
+        style = Style.bad if story.end.number in forbidden else Style.heading
+        printer.line(printer.styled("end %d: %s" % (story.end.number, story.heading()), style))
+        for line in story.lines(found.orders):
+            printer.line(line)
+    printer.line()
+    printer.line("%s, each done again on the bench. Covered: %s" % (counted(len(stories), "end"), covered_text(search, found.orders)))
+    printer.line("%s, %s, in %s; %s of the bench with %s" % (
+        counted(len(search.done), "place"), counted(search.count, "move"), counted(search.rounds, "round"),
+        counted(search.machine.asked, "run"), counted(search.machine.learned, "step")))
