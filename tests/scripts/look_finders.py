@@ -5,6 +5,7 @@ import json
 import os
 import pty
 import re
+import select
 import shutil
 import signal
 import subprocess
@@ -99,40 +100,37 @@ def long_race(folder):
     return ["races", "--monitor", "--harts", "2", "--ram", "131072", "--outcome", "80011000", "--json", path]
 
 
-def on_terminal(words, seconds):
-    """What is written to standard error where it is a terminal, and the objects."""
+def on_terminal(words, pattern):
+    """A word whose standard error is a terminal, stopped by Ctrl-C where the pattern was shown three times: its status, how often it was,
+    and the objects."""
     ours, theirs = pty.openpty()
-    process = subprocess.Popen([LOOK, *words], cwd=ROOT, stdin=subprocess.DEVNULL, stdout=subprocess.PIPE, stderr=theirs, text=True,
-                               preexec_fn=lambda: signal.signal(signal.SIGINT, signal.default_int_handler))
-    os.close(theirs)
-    time.sleep(seconds)
-    process.send_signal(signal.SIGINT)
-    told, shown = process.communicate(timeout=60)[0], b""
-    try:
-        while True:
-            part = os.read(ours, 65536)
-            shown += part
-            if not part:
-                break
-    except OSError:
-        pass
-    os.close(ours)
-    return process.returncode, shown.decode(), [json.loads(it) for it in told.splitlines()]
+    with tempfile.TemporaryFile("w+") as output:
+        process = subprocess.Popen([LOOK, *words], cwd=ROOT, stdin=subprocess.DEVNULL, stdout=output, stderr=theirs,
+                                   preexec_fn=lambda: signal.signal(signal.SIGINT, signal.default_int_handler))
+        os.close(theirs)
+        shown, until = "", time.monotonic() + 60
+        while len(re.findall(pattern, shown)) < 3 and time.monotonic() < until and process.poll() is None:
+            shown += os.read(ours, 65536).decode() if select.select([ours], [], [], 1)[0] else ""
+        process.send_signal(signal.SIGINT)
+        process.wait(timeout=60)
+        os.close(ours)
+        output.seek(0)
+        return process.returncode, len(re.findall(pattern, shown)), [json.loads(it) for it in output]
 
 
 def check_shown(folder):
     """A line on a terminal that is written again and again; what was found is told where it is stopped."""
     words = long_race(folder)
-    status, shown, found = on_terminal(words, 2.5)
+    status, shown, found = on_terminal(words, r"\rround \d+: \d+ places")
     expect("races: Ctrl-C, its status", 130, status)
-    expect("races: how far it is, on a terminal", True, len(re.findall(r"\rround \d+: \d+ places", shown)) > 2)
+    expect("races: how far it is, on a terminal", True, shown > 2)
     expect("races: what it has is told", ("races", False), (found[-1]["object"], found[-1]["whole"]))
     expect("races: and what it claims", True, found[-1]["covered"].startswith("cut by Ctrl-C behind "))
     store = os.path.join(ROOT, "examples", "enclave_store_leaking")
     words = ["leak", "--monitor", store + "/image", "--symbols", store + "/listing", "--at", "key:32", "--tries", "1000", "--json"]
-    status, shown, found = on_terminal(words, 3)
+    status, shown, found = on_terminal(words, r"\r\[#*\.+\] \d+ of 1000  \d+ told")
     expect("leak: Ctrl-C, its status", 130, status)
-    expect("leak: a bar, on a terminal", True, len(re.findall(r"\r\[#*\.+\] \d+ of 1000  \d+ told", shown)) > 2)
+    expect("leak: a bar, on a terminal", True, shown > 2)
     last = found[-1]
     expect("leak: what it has is told", ("leak", sum(it["object"] == "try" for it in found)), (last["object"], last["pairs"]))
     done = subprocess.run([LOOK, *words, "--seconds", "1"], cwd=ROOT, capture_output=True, text=True, check=False)
