@@ -11,7 +11,7 @@ kept_reach state mode access address width kept below inside =
     subst (λ (entries : Entries). permits (verdict entries mode access (bytes_from address (bytes_in width)))
     ≡ in_reach state.shared.memory state.shared.table state.seat.world access (bytes_from address (bytes_in width)))
     (sym kept.layout.entries)
-    (reach_law state.shared.memory state.shared.table state.seat.world mode access address width kept.shared.valid below inside)
+    (reach_law state.shared.memory state.shared.table state.seat.world mode access address width kept.valid below inside)
 
 pub below_M : (mode : Mode) → is_machine mode ≡ false → mode ≢ M
 below_M mode below same = let machine : is_machine mode ≡ true = rw same refl in let never : true ≡ false = sym machine ∙ below in cc

@@ -11,7 +11,7 @@ unfoldable pub use Rattle.rv_hart.specs.Step.{step}
 pub use Rattle.rv_memory.proofs.MemoryLaws.{length-write}
 pub use Rattle.rv_memory.specs.Memory.{byte_at, is_inside, is_ram_size, ram_base}
 unfoldable pub use Rattle.rv_memory.specs.Memory.{write}
-pub use Rattle.rv_monitor.specs.AgreeBut.{AgreeBut, runs_on, seat_of}
+pub use Rattle.rv_monitor.specs.AgreeBut.{AgreeBut, SeatsAgreeBut, runs_on}
 pub use Rattle.rv_monitor.specs.CallRefusals.{a0, a1}
 pub use Rattle.rv_enclaves.specs.Calls.{asked_in, status_of}
 pub use Rattle.rv_monitor.specs.Confidentiality.{bare}
@@ -21,14 +21,14 @@ pub use Rattle.rv_enclaves.specs.Create.{proposed}
 pub use Rattle.rv_monitor.specs.Integrity.{IsSpared}
 pub use Rattle.rv_monitor.specs.Leaving.{state_after}
 pub use Rattle.rv_enclaves.specs.Measure.{measured_slot}
-pub use Rattle.rv_monitor.specs.State.{AreStored, HostIsStored, IsKept, IsSeated, MonitoredState, OnTurn, count_of, seated}
-pub use Rattle.rv_monitor.specs.State.{seated_beside, seen_by, turned, worlds_beside}
-pub use Rattle.rv_monitor.specs.Step.{MonitoredStepped, answered, forwarded, handled_cause, past_call, refused, returned, returned_to, unhandled, with_layout}
+pub use Rattle.rv_monitor.specs.State.{AreStored, HostIsStored, IsKept, IsOwn, IsSeated, Machine, MonitoredState, count_of, seat_at_start, seat_of, seated}
+pub use Rattle.rv_monitor.specs.State.{seen_by, with_seat, worlds}
+pub use Rattle.rv_monitor.specs.Step.{MachineStepped, MonitoredStepped, answered, forwarded, handled_cause, not_stepped, past_call, refused, returned}
+pub use Rattle.rv_monitor.specs.Step.{returned_to, seats_behind, seen_after, stepped_by, unhandled, with_layout}
 unfoldable pub use Rattle.rv_monitor.specs.Step.{handled, monitored_step, step_of}
 pub use Rattle.rv_monitor.specs.SwitchLaws.{StaysOrSwitches, reason, value}
 pub use Rattle.rv_monitor.specs.Switches.{Handled}
 unfoldable pub use Rattle.rv_monitor.specs.Switches.{entered_slot, left_slot}
-pub use Rattle.rv_monitor.specs.Turns.{as_seen, on_turn}
 pub use Rattle.rv_enclaves.specs.Unlocked.{HasNoLock}
 pub use Rattle.rv_pmp.specs.Entries.{Entries, cfg_of}
 pub use Rattle.rv_pmp.specs.Verdicts.{bytes_from, permits}

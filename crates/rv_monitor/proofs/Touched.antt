@@ -5,7 +5,7 @@ use Rattle.rv_memory.specs.declared.touched.Touched.{Touched}
 use Rattle.rv_hart.specs.Step.{retired_or_trapped, span}
 use Rattle.rv_hart.proofs.StepCases.{by_ways}
 use Rattle.rv_monitor.specs.Touches.{executes, IsReached, IsTouchedInReach, TouchLaw}
-use Rattle.rv_monitor.proofs.Prelude.{Hart, IsKept, MayTouch, MonitoredState, State, Stepped, bare, data_mode, step, touches_permitted}
+use Rattle.rv_monitor.proofs.Prelude.{Hart, IsOwn, MayTouch, MonitoredState, State, Stepped, bare, data_mode, step, touches_permitted}
 use Rattle.rv_monitor.proofs.Types.{Access, Fetch, M, Mode, Read, Span, Trap, Write}
 use Rattle.rv_monitor.proofs.KeptReaches.{kept_reach, below_M, clear_mode}
 use Rattle.rv_monitor.proofs.TrapSteps.{same_outcome}
@@ -37,7 +37,7 @@ fetches_at_pc state = by_ways state (FetchesAtPc state.hart.pc) (record {
 
 -- ---- what is touched
 
-module _ (state : MonitoredState) (kept : IsKept state) where
+module _ (state : MonitoredState) (kept : IsOwn state) where
   reached : (mode : Mode) (access : Access) (o : Option Span) → mode ≢ M → MayTouch (bare state) mode access o → IsReached state access o
   reached mode access None below may = tt
   reached mode access (Some span) below may = sym (kept_reach state mode access span.addr span.len kept below may.0) ∙ may.1
