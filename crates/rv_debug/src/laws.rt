@@ -7,11 +7,13 @@ ghost use Rattle.rv_debug.specs.Returns.{ReturnLaw, ReturnWithinLaw};
 
 /// Integrity: every list of commands leaves the record, the region and the context of each live enclave that no hart runs in a step of
 /// its own, that it neither enters nor ends, and of whose region it pokes no byte. The enclave may run on the hart that does not step.
+#[tactic(auto, using(crate::proofs::Isolation::integrity))]
 pub const fn integrity()
     ensures { IntegrityLaw }
 {}
 
 /// An enclave that runs on a hart is spared so by every command that does not step that hart and pokes no byte of the region.
+#[tactic(auto, using(crate::proofs::Isolation::running))]
 pub const fn runs_beside()
     ensures { RunningLaw }
 {}
@@ -19,28 +21,33 @@ pub const fn runs_beside()
 /// Confidentiality: a command that is blind to an enclave, and neither steps nor shows the hart on which that runs, enters it in both of two
 /// benches that agree but for it, or in neither; if in neither, the replies are equal and the benches agree again, and are equal once the
 /// enclave is gone.
+#[tactic(auto, using(crate::proofs::AnswersAlike::confidentiality))]
 pub const fn confidentiality()
     ensures { ConfidentialityLaw }
 {}
 
 /// Of an enclave that runs on no hart every command is so; and behind one that does not enter it, it runs on none.
+#[tactic(auto, using(crate::proofs::AtRest::rest_law))]
 pub const fn stays_at_rest()
     ensures { RestLaw }
 {}
 
 /// Two benches that agree but for an enclave do so too once each has a byte poked into its region, whichever and wherever; the replies
 /// are equal.
+#[tactic(auto, using(crate::proofs::PokesAlike::poke_law))]
 pub const fn poking()
     ensures { PokeLaw }
 {}
 
 /// Leaving: from the command with which the host enters an enclave to the one with which the enclave leaves, whatever commands stand
 /// between them, the host of that hart goes on as it was before the step that entered, past its ecall, but for a0 and a1.
+#[tactic(auto, using(crate::proofs::Returned::return_law))]
 pub const fn host_comes_back()
     ensures { ReturnLaw }
 {}
 
 /// So it is within one command that both enters and leaves it, whatever steps of either hart lie between.
+#[tactic(auto, using(crate::proofs::Returned::return_within))]
 pub const fn host_comes_back_within()
     ensures { ReturnWithinLaw }
 {}
