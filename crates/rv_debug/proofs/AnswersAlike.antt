@@ -4,55 +4,37 @@ use Rattle.std.proofs.Common.{arith}
 use Rattle.std.specs.List.{range_with_len}
 use Rattle.std.specs.Option.{option_map}
 use Rattle.std.proofs.lemmas.Bool.{cases_Bool, cases_eq, cases_lt}
-use Rattle.rv_word.specs.Cases.{option_case, result_case}
-use Rattle.rv_word.specs.Widths.{bytes_in}
+use Rattle.rv_word.specs.Cases.{result_case}
 use Rattle.rv_word.specs.declared.width.Width.{Width}
-use Rattle.rv_memory.specs.Memory.{is_inside, read, write, write_bytes, ram_base, number_of_bytes}
-use Rattle.rv_pmp.specs.Entries.{Entries}
+use Rattle.rv_memory.specs.Memory.{number_of_bytes}
 use Rattle.rv_pmp.specs.declared.access.Access.{Access as AccessKind}
 use Rattle.rv_pmp.specs.declared.mode.Mode.{Mode}
-use Rattle.rv_pmp.specs.declared.mode.Mode.TheVariants.{M}
-use Rattle.rv_state.specs.CsrTable.{read_result}
-use Rattle.rv_state.specs.Registers.{register}
-use Rattle.rv_hart.specs.State.{State}
 use Rattle.std.specs.Prelude.{nat_lt, ◌++◌, if◌then◌else◌}
-use Rattle.rv_monitor.specs.AgreeBut.{AgreeBut, runs_on}
-use Rattle.rv_monitor.specs.Debugger.{reg_set, timer_set}
-use Rattle.rv_monitor.specs.HartLaws.{RunsOnNone}
-use Rattle.rv_monitor.specs.State.{Machine, IsKept, count_of, seat_of}
-use Rattle.rv_monitor.specs.declared.seat.Seat.{Seat}
-use Rattle.rv_monitor.proofs.Agreeing.{changed_agree, shared_agree}
-use Rattle.rv_monitor.proofs.Kept.{own_kept}
+use Rattle.rv_monitor.proofs.Agreeing.{changed_agree}
 use Rattle.rv_monitor.proofs.MonitoredAlike.{gone_equal}
 use Rattle.rv_monitor.proofs.Places.{past_seat}
-use Rattle.rv_enclaves.specs.SharedButFor.{AgreeOutside, is_private}
-use Rattle.rv_enclaves.specs.Blocks.{meets}
 use Rattle.rv_enclaves.specs.Layout.{layout}
-use Rattle.rv_enclaves.specs.Table.{Slots, region, is_world_of}
 use Rattle.rv_enclaves.specs.declared.block.Block.{Block}
 use Rattle.rv_enclaves.specs.declared.shared.Shared.{Shared}
 use Rattle.rv_enclaves.specs.declared.world.World.{World}
-use Rattle.rv_enclaves.proofs.Agreement.{same_read, read-none, write-none, write-some, same_write}
+use Rattle.rv_enclaves.proofs.Agreement.{same_read, read-none, write-none, same_write}
 use Rattle.rv_enclaves.proofs.Alike.{seen_block}
-use Rattle.rv_script.specs.Schedules.{harts_in, has_all}
-use Rattle.rv_script.specs.declared.command.Command.{Command}
-use Rattle.rv_script.specs.declared.command.Command.TheVariants.{Step, Run, Reg, Regs, SetReg, Csr, Mem, Poke, Dis, Pmp, Enclaves, Access, Timer, Hart, Sched}
-use Rattle.rv_debug.specs.Answer.{Answered, access_reply, answer, hart_told, harts_told, ran_reply}
-use Rattle.rv_debug.specs.BenchState.{BenchState}
-use Rattle.rv_debug.specs.Chosen.{Chosen}
+use Rattle.rv_script.specs.Schedules.{harts_in}
+use Rattle.rv_script.specs.declared.command.Command.TheVariants.{Step, Run, Reg, Regs, SetReg, Csr, Mem, Dis, Pmp, Enclaves, Access, Timer, Hart, Sched}
+use Rattle.rv_debug.specs.Answer.{hart_told, harts_told, ran_reply}
 use Rattle.rv_debug.specs.Confidentiality.{AgreeAgain, ConfidentialityLaw}
-use Rattle.rv_debug.specs.Deeds.{Deed, Nothing, Steps, deed, done, entered_by, run_deed, steps_of}
 use Rattle.rv_debug.specs.EnclaveText.{table_text}
-use Rattle.rv_debug.specs.ReplyText.{csr_text, dis_text, hart_text, memory_text, no_csr_text, no_hart_text, ok_text, outside_text, pmp_text, ran_text, register_text, registers_text}
-use Rattle.rv_debug.specs.Turns.{AfterTurns, no_turns, turns}
-use Rattle.rv_debug.specs.Steps.{AfterRun, no_steps, run}
-use Rattle.rv_debug.specs.Targets.{chosen_at, IsBare, KeepsMonitor, over_memory, with_chosen, world_name}
-use Rattle.rv_debug.specs.BothBenches.{BenchesAgreeBut, ChosenAgreeBut, PassesBy, RestsIn, TargetsAgreeBut, is_blind, is_entered}
-use Rattle.rv_debug.specs.declared.scheduled.HartRan.{HartRan}
-use Rattle.rv_debug.specs.declared.scheduled.Scheduled.{Scheduled}
-use Rattle.rv_debug.specs.declared.steps.Ran.{Ran}
-use Rattle.rv_debug.specs.declared.target.Target.{Target}
-use Rattle.rv_debug.specs.declared.target.Target.TheVariants.{Bare, Monitored}
+use Rattle.rv_debug.specs.ReplyText.{hart_text, no_hart_text}
+use Rattle.rv_debug.specs.Targets.{world_name}
+use Rattle.rv_debug.specs.BothBenches.{PassesBy}
+use Rattle.rv_debug.proofs.Prelude.{AfterRun, AfterTurns, AgreeBut, AgreeOutside, Answered, BenchState, BenchesAgreeBut, Chosen, ChosenAgreeBut, Deed}
+use Rattle.rv_debug.proofs.Prelude.{Entries, IsBare, IsKept, KeepsMonitor, Machine, Nothing, RestsIn, RunsOnNone, Slots, State, Steps}
+use Rattle.rv_debug.proofs.Prelude.{TargetsAgreeBut, access_reply, answer, bytes_in, chosen_at, count_of, csr_text, deed, dis_text, done, entered_by}
+use Rattle.rv_debug.proofs.Prelude.{has_all, is_blind, is_entered, is_inside, is_private, is_world_of, meets, memory_text, no_csr_text, no_steps}
+use Rattle.rv_debug.proofs.Prelude.{no_turns, ok_text, option_case, outside_text, over_memory, own_kept, pmp_text, ram_base, ran_text, read}
+use Rattle.rv_debug.proofs.Prelude.{read_result, reg_set, region, register, register_text, registers_text, run, run_deed, runs_on, seat_of}
+use Rattle.rv_debug.proofs.Prelude.{shared_agree, steps_of, timer_set, turns, with_chosen, write, write-some, write_bytes}
+use Rattle.rv_debug.proofs.Types.{Bare, Command, HartRan, M, Monitored, Poke, Ran, Scheduled, Seat, Target}
 use Rattle.rv_debug.proofs.DeedsKept.{bare_done, keeps_monitor, poke_of}
 use Rattle.rv_debug.proofs.RunTurns.{run_done, run_entered}
 use Rattle.rv_debug.proofs.SchedAlike.{BothPast, turns_alike}

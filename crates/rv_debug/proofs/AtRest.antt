@@ -1,30 +1,15 @@
 -- An enclave that runs on no hart: every command passes by it, and behind one that does not enter it, it runs on none.
 use Rattle.std.proofs.Common.{◌≡◌, ℕ, true, false, List, [], ◌∷◌, Option, Some, None, refl, sym, ◌∙◌, ap, subst, inl, inr}
 use Rattle.std.proofs.lemmas.Bool.{both_ways, cases_Bool}
-use Rattle.rv_memory.specs.Memory.{write}
-use Rattle.rv_enclaves.proofs.Alike.{itself}
 use Rattle.rv_enclaves.proofs.Scrambled.{slot_rests}
-use Rattle.rv_enclaves.specs.Table.{is_world_of, slot_at}
-use Rattle.rv_monitor.specs.AgreeBut.{runs_on}
-use Rattle.rv_monitor.specs.Debugger.{changed, reg_set, timer_set}
-use Rattle.rv_monitor.specs.HartLaws.{RunsOnNone}
-use Rattle.rv_monitor.specs.State.{Machine}
-use Rattle.rv_monitor.specs.declared.seat.Seat.{Seat}
-use Rattle.rv_monitor.proofs.Agreeing.{agrees_itself}
 use Rattle.rv_monitor.proofs.Beside.{runs_among}
-use Rattle.rv_monitor.proofs.Kept.{changed_of}
-use Rattle.rv_script.specs.declared.command.Command.{Command}
-use Rattle.rv_script.specs.declared.command.Command.TheVariants.{Poke}
-use Rattle.rv_debug.specs.Answer.{answer}
-use Rattle.rv_debug.specs.BenchState.{BenchState}
-use Rattle.rv_debug.specs.Chosen.{Chosen}
-use Rattle.rv_debug.specs.BothBenches.{ChosenAgreeBut, RestsIn, RunsOnNoneIn, can_scramble_in, harts_shown, is_entered}
-use Rattle.rv_debug.specs.Confidentiality.{AllPassBy, PokesInto, RestLaw}
-use Rattle.rv_debug.specs.Deeds.{Deed, Nothing, Steps, Register, TimerLine, OneByte, deed, done, entered_by}
-use Rattle.rv_debug.specs.Targets.{IsBare, KeepsMonitor, chosen_at, with_chosen}
-use Rattle.rv_debug.specs.Turns.{no_turns, turns}
-use Rattle.rv_debug.specs.declared.target.Target.{Target}
-use Rattle.rv_debug.specs.declared.target.Target.TheVariants.{Bare, Monitored}
+use Rattle.rv_debug.specs.BothBenches.{RunsOnNoneIn, can_scramble_in, harts_shown}
+use Rattle.rv_debug.specs.Confidentiality.{PokesInto, RestLaw}
+use Rattle.rv_debug.proofs.Prelude.{AllPassBy, BenchState, Chosen, ChosenAgreeBut, Deed, IsBare, KeepsMonitor, Machine, Nothing, OneByte, Register}
+use Rattle.rv_debug.proofs.Prelude.{RestsIn, RunsOnNone, Steps, TimerLine, agrees_itself, answer, changed, changed_of, chosen_at, deed, done}
+use Rattle.rv_debug.proofs.Prelude.{entered_by, is_entered, is_world_of, itself, no_turns, reg_set, runs_on, slot_at, timer_set, turns, with_chosen}
+use Rattle.rv_debug.proofs.Prelude.{write}
+use Rattle.rv_debug.proofs.Types.{Bare, Command, Monitored, Poke, Seat, Target}
 use Rattle.rv_debug.proofs.DeedsKept.{bare_done, keeps_monitor, poke_of}
 use Rattle.rv_debug.proofs.SchedAlike.{turns_alike}
 

@@ -3,25 +3,14 @@ use Rattle.std.proofs.Common.{◌≡◌, ◌≢◌, ◌<◌, ℕ, ◌==◌, true
 use Rattle.std.specs.List.{list_all}
 use Rattle.std.proofs.lemmas.Bool.{and_parts, eq-eqb}
 use Rattle.std.proofs.lemmas.List.{get_or-set_other}
-use Rattle.rv_memory.specs.Memory.{write}
-use Rattle.rv_hart.specs.State.{State}
-use Rattle.rv_monitor.specs.Debugger.{changed, reg_set, timer_set}
-use Rattle.rv_monitor.specs.HartLaws.{sched}
-use Rattle.rv_monitor.specs.State.{Machine, IsKept, count_of, seat_at_start, seat_of, seated}
-use Rattle.rv_monitor.specs.Step.{step_of}
-use Rattle.rv_monitor.specs.declared.seat.Seat.{Seat}
-use Rattle.rv_monitor.proofs.Kept.{kept_law}
+use Rattle.rv_monitor.specs.State.{seat_at_start, seated}
 use Rattle.rv_monitor.proofs.LastAct.{as_is}
-use Rattle.rv_monitor.proofs.Places.{step_count, step_laid}
-use Rattle.rv_script.specs.declared.command.Command.{Command}
-use Rattle.rv_debug.specs.Answer.{answer}
-use Rattle.rv_debug.specs.BenchState.{BenchState}
-use Rattle.rv_debug.specs.Chosen.{Chosen}
-use Rattle.rv_debug.specs.Deeds.{Deed, Nothing, Steps, Register, TimerLine, OneByte, deed, done}
-use Rattle.rv_debug.specs.Isolation.{KeepsHart, LeavesHart, SparesHarts}
-use Rattle.rv_debug.specs.Targets.{IsBare, KeepsMonitor, chosen_at, harts_of}
-use Rattle.rv_debug.specs.declared.target.Target.{Target}
-use Rattle.rv_debug.specs.declared.target.Target.TheVariants.{Bare, Monitored}
+use Rattle.rv_monitor.proofs.Places.{step_laid}
+use Rattle.rv_debug.specs.Isolation.{KeepsHart, LeavesHart}
+use Rattle.rv_debug.proofs.Prelude.{BenchState, Chosen, Deed, IsBare, IsKept, KeepsMonitor, Machine, Nothing, OneByte, Register, SparesHarts, State}
+use Rattle.rv_debug.proofs.Prelude.{Steps, TimerLine, answer, changed, chosen_at, count_of, deed, done, harts_of, kept_law, reg_set, sched, seat_of}
+use Rattle.rv_debug.proofs.Prelude.{step_count, step_of, timer_set, write}
+use Rattle.rv_debug.proofs.Types.{Bare, Command, Monitored, Seat, Target}
 use Rattle.rv_debug.proofs.DeedsKept.{bare_done, poke_of}
 use Rattle.rv_debug.proofs.Turns.{turns_are_sched}
 

@@ -1,22 +1,11 @@
 -- What is true in every state of a target is kept by what is done.
 use Rattle.std.proofs.Common.{◌≡◌, ℕ, List, [], ◌∷◌, Option, Some, None, refl, sym, subst}
 use Rattle.std.specs.Option.{option_map}
-use Rattle.rv_word.specs.Cases.{option_case}
-use Rattle.rv_memory.specs.Memory.{write}
-use Rattle.rv_memory.proofs.MemoryLaws.{length-write}
 use Rattle.rv_state.specs.Registers.{with_register}
-use Rattle.rv_hart.specs.State.{State}
-use Rattle.rv_monitor.specs.State.{IsKept}
-use Rattle.rv_monitor.proofs.Kept.{kept_by_size, sched_kept, written_kept}
-use Rattle.rv_script.specs.declared.command.Command.{Command}
-use Rattle.rv_debug.specs.Answer.{answer}
-use Rattle.rv_debug.specs.BenchState.{BenchState}
-use Rattle.rv_debug.specs.Chosen.{Chosen}
-use Rattle.rv_debug.specs.Deeds.{Deed, Nothing, Steps, Register, TimerLine, OneByte, deed, done}
-use Rattle.rv_debug.specs.Turns.{no_turns}
-use Rattle.rv_debug.specs.Targets.{IsBare, KeepsMonitor, chosen_seat, over_memory}
-use Rattle.rv_debug.specs.declared.target.Target.{Target}
-use Rattle.rv_debug.specs.declared.target.Target.TheVariants.{Bare, Monitored}
+use Rattle.rv_monitor.proofs.Kept.{kept_by_size, written_kept}
+use Rattle.rv_debug.proofs.Prelude.{BenchState, Chosen, Deed, IsBare, IsKept, KeepsMonitor, Nothing, OneByte, Register, State, Steps, TimerLine}
+use Rattle.rv_debug.proofs.Prelude.{answer, chosen_seat, deed, done, length-write, no_turns, option_case, over_memory, sched_kept, write}
+use Rattle.rv_debug.proofs.Types.{Bare, Command, Monitored, Target}
 use Rattle.rv_debug.proofs.Turns.{bare_kept, stays_bare, turned_bare, turns_are_sched}
 
 -- what is left where a byte is written, or is not in memory

@@ -2,28 +2,18 @@
 use Rattle.std.proofs.Common.{◌≡◌, ◌≢◌, ℕ, ◌+◌, ◌<◌, ◌≤◌, ◌⊎◌, true, false, List, [], ◌∷◌, Option, Some, None, refl}
 use Rattle.std.proofs.Common.{sym, ◌∙◌, subst, inl, inr, arith, ap}
 use Rattle.std.proofs.lemmas.Bool.{cases_lt, cases_eq}
-use Rattle.rv_memory.specs.Memory.{read, write, byte_at}
+use Rattle.rv_memory.specs.Memory.{byte_at}
 use Rattle.rv_memory.proofs.MemoryLaws.{byte_at-write}
-use Rattle.rv_hart.specs.State.{State}
-use Rattle.rv_monitor.specs.AgreeBut.{runs_on}
-use Rattle.rv_monitor.specs.HartLaws.{IsLeftAlone, RunsOnNone}
-use Rattle.rv_monitor.specs.State.{IsKept, seen_by}
+use Rattle.rv_monitor.specs.HartLaws.{IsLeftAlone}
 use Rattle.rv_monitor.proofs.HartsSpare.{running_law, sched_changes, sched_spares, spared_twice}
 use Rattle.rv_monitor.proofs.KeptReaches.{kept_reach}
-use Rattle.rv_monitor.proofs.Kept.{own_kept}
-use Rattle.rv_enclaves.specs.Blocks.{has}
-use Rattle.rv_enclaves.specs.Table.{region}
-use Rattle.rv_script.specs.declared.command.Command.{Command}
 use Rattle.rv_script.specs.declared.command.Command.TheVariants.{Access}
-use Rattle.rv_debug.specs.Answer.{answer}
-use Rattle.rv_debug.specs.BenchState.{BenchState}
-use Rattle.rv_debug.specs.Chosen.{Chosen}
-use Rattle.rv_debug.specs.Deeds.{Deed, Steps, OneByte, deed, done, harts_stepped}
-use Rattle.rv_debug.specs.Isolation.{TellsReach, ChangesMemory, IntegrityLaw, IsLiveIn, IsMonitored, IsSparedIn, MayChange, PokesNone, RestsThroughDeed, RunningLaw, SparesResting}
-use Rattle.rv_debug.specs.Isolation.{after_commands}
-use Rattle.rv_debug.specs.Targets.{KeepsMonitor, chosen_of, harts_of, memory_of}
-use Rattle.rv_debug.specs.declared.target.Target.{Target}
-use Rattle.rv_debug.specs.declared.target.Target.TheVariants.{Bare, Monitored}
+use Rattle.rv_debug.specs.Isolation.{TellsReach, IntegrityLaw, IsLiveIn, IsMonitored, MayChange, PokesNone, RestsThroughDeed, RunningLaw}
+use Rattle.rv_debug.specs.Targets.{memory_of}
+use Rattle.rv_debug.proofs.Prelude.{BenchState, ChangesMemory, Chosen, Deed, IsKept, IsSparedIn, KeepsMonitor, OneByte, RunsOnNone, SparesResting}
+use Rattle.rv_debug.proofs.Prelude.{State, Steps, after_commands, answer, chosen_of, deed, done, harts_of, harts_stepped, has, own_kept, read, region}
+use Rattle.rv_debug.proofs.Prelude.{runs_on, seen_by, write}
+use Rattle.rv_debug.proofs.Types.{Bare, Command, Monitored, Target}
 use Rattle.rv_debug.proofs.DeedsKept.{keeps_monitor, poke_of}
 use Rattle.rv_debug.proofs.Turns.{turns_are_sched}
 

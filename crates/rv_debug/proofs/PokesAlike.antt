@@ -3,26 +3,18 @@ use Rattle.std.proofs.Common.{◌≡◌, ℕ, ◌+◌, ◌-◌, ◌≤◌, Bool,
 use Rattle.std.proofs.Common.{sym, ◌∙◌, ap, subst, inl, inr, arith}
 use Rattle.std.specs.Prelude.{is_some, nat_le, nat_lt, ◌==◌, ◌%◌}
 use Rattle.std.proofs.lemmas.Bool.{cases_lt, and_parts, and_from, leb-true, ltb-true, le-leb}
-use Rattle.rv_memory.specs.Memory.{ram_base, is_inside, write, write_bytes}
-use Rattle.rv_memory.proofs.MemoryLaws.{length-write, index-below, index-above, write-is}
+use Rattle.rv_memory.proofs.MemoryLaws.{index-below, index-above, write-is}
 use Rattle.rv_monitor.specs.Debugger.{with_memory}
-use Rattle.rv_monitor.specs.State.{Machine, IsKept}
-use Rattle.rv_monitor.proofs.Agreeing.{agrees_itself, shared_agree}
-use Rattle.rv_enclaves.specs.SharedButFor.{AgreeOutside, is_private}
-use Rattle.rv_enclaves.specs.Blocks.{has, is_block_size, is_lawful}
-use Rattle.rv_enclaves.specs.Table.{Slots, IsLawfulSlot, region, region_of as region_in, slot_at}
+use Rattle.rv_enclaves.specs.Blocks.{is_block_size, is_lawful}
+use Rattle.rv_enclaves.specs.Table.{IsLawfulSlot, region_of as region_in}
 use Rattle.rv_enclaves.specs.declared.slot_info.SlotInfo.{SlotInfo}
-use Rattle.rv_enclaves.proofs.Agreement.{inside-is, write-some}
-use Rattle.rv_enclaves.proofs.Alike.{itself}
-use Rattle.rv_script.specs.declared.command.Command.TheVariants.{Poke}
-use Rattle.rv_debug.specs.Answer.{answer}
-use Rattle.rv_debug.specs.BenchState.{BenchState}
-use Rattle.rv_debug.specs.Chosen.{Chosen}
+use Rattle.rv_enclaves.proofs.Agreement.{inside-is}
 use Rattle.rv_debug.specs.Confidentiality.{PassAlike, PokeLaw}
-use Rattle.rv_debug.specs.Targets.{KeepsMonitor}
-use Rattle.rv_debug.specs.BothBenches.{BenchesAgreeBut, ChosenAgreeBut, TargetsAgreeBut, region_of}
-use Rattle.rv_debug.specs.declared.target.Target.{Target}
-use Rattle.rv_debug.specs.declared.target.Target.TheVariants.{Bare, Monitored}
+use Rattle.rv_debug.specs.BothBenches.{region_of}
+use Rattle.rv_debug.proofs.Prelude.{AgreeOutside, BenchState, BenchesAgreeBut, Chosen, ChosenAgreeBut, IsKept, KeepsMonitor, Machine, Slots}
+use Rattle.rv_debug.proofs.Prelude.{TargetsAgreeBut, agrees_itself, answer, has, is_inside, is_private, itself, length-write, ram_base, region}
+use Rattle.rv_debug.proofs.Prelude.{shared_agree, slot_at, write, write-some, write_bytes}
+use Rattle.rv_debug.proofs.Types.{Bare, Monitored, Poke, Target}
 
 -- ---- memory
 

@@ -1,29 +1,18 @@
 -- What is kept of the host while an enclave runs on a hart is as it was, whatever commands are given.
 use Rattle.std.proofs.Common.{◌≡◌, ℕ, List, [], ◌∷◌, ◌++◌, Option, Some, None, refl, sym, ◌∙◌, ap, subst}
-use Rattle.rv_memory.specs.Memory.{write}
-use Rattle.rv_pmp.specs.declared.mode.Mode.TheVariants.{S}
 use Rattle.rv_monitor.specs.Switches.{saved}
-use Rattle.rv_monitor.specs.Debugger.{changed, reg_set, timer_set}
-use Rattle.rv_monitor.specs.HartLaws.{sched}
 use Rattle.rv_monitor.specs.Refused.{past_ecall}
 use Rattle.rv_monitor.specs.Returns.{HostComesBack}
-use Rattle.rv_monitor.specs.State.{Machine, MonitoredState, IsKept, seen_by}
-use Rattle.rv_monitor.specs.Step.{monitored_step, step_of}
-use Rattle.rv_monitor.specs.declared.seat.Seat.{Seat}
-use Rattle.rv_monitor.proofs.Kept.{changed_of, sched_kept}
+use Rattle.rv_monitor.specs.State.{MonitoredState}
+use Rattle.rv_monitor.specs.Step.{monitored_step}
 use Rattle.rv_monitor.proofs.Returned.{KeptStored, comes_back, entered_is, first_runs, host_on, last_runs, return_law as schedule_law, steps_keep}
 use Rattle.rv_enclaves.specs.Table.{is_host}
 use Rattle.rv_enclaves.specs.declared.context.Context.{Context}
-use Rattle.rv_script.specs.declared.command.Command.{Command}
-use Rattle.rv_debug.specs.Answer.{answer}
-use Rattle.rv_debug.specs.BenchState.{BenchState}
-use Rattle.rv_debug.specs.Chosen.{Chosen}
-use Rattle.rv_debug.specs.Deeds.{Deed, Nothing, Steps, Register, TimerLine, OneByte, deed, done, harts_stepped}
-use Rattle.rv_debug.specs.Isolation.{after_commands}
 use Rattle.rv_debug.specs.Returns.{EntersAndLeaves, EntersAndLeavesUnder, EntersUnder, EntersWithin, IsStoredIn, LeavesUnder, LeavesWithin, ReturnLaw, ReturnWithinLaw, RunsUnder, RunsUnderAll}
-use Rattle.rv_debug.specs.Targets.{KeepsMonitor, chosen_at}
-use Rattle.rv_debug.specs.declared.target.Target.{Target}
-use Rattle.rv_debug.specs.declared.target.Target.TheVariants.{Bare, Monitored}
+use Rattle.rv_debug.proofs.Prelude.{BenchState, Chosen, Deed, IsKept, KeepsMonitor, Machine, Nothing, OneByte, Register, Steps, TimerLine}
+use Rattle.rv_debug.proofs.Prelude.{after_commands, answer, changed, changed_of, chosen_at, deed, done, harts_stepped, reg_set, sched, sched_kept}
+use Rattle.rv_debug.proofs.Prelude.{seen_by, step_of, timer_set, write}
+use Rattle.rv_debug.proofs.Types.{Bare, Command, Monitored, S, Seat, Target}
 use Rattle.rv_debug.proofs.DeedsKept.{keeps_monitor, poke_of}
 use Rattle.rv_debug.proofs.Turns.{turns_are_sched}
 

@@ -1,17 +1,11 @@
 -- A run of the debugger is so many steps of the chosen hart.
 use Rattle.std.proofs.Common.{◌≡◌, ℕ, zero, suc, ◌+◌, ◌==◌, Bool, true, false, cond, List, replicate, Option, Some, None, refl, sym, ◌∙◌}
 use Rattle.std.proofs.Common.{ap, arith}
-use Rattle.rv_word.specs.Cases.{option_case}
-use Rattle.rv_debug.specs.Addresses.{is_among}
-use Rattle.rv_debug.specs.Deeds.{done, entered_by, run_deed, steps_of}
-use Rattle.rv_debug.specs.Turns.{AfterTurns, no_turns, turns, with_turn}
-use Rattle.rv_debug.specs.Steps.{AfterSteps, AfterRun, with_slot, with_step, no_steps, ended, run}
-use Rattle.rv_debug.specs.Stops.{lowest_accessed}
-use Rattle.rv_debug.specs.Targets.{chosen_of, pc_of, stepped, with_chosen}
-use Rattle.rv_debug.specs.declared.scheduled.Scheduled.{Scheduled}
-use Rattle.rv_debug.specs.declared.steps.Stop.TheVariants.{Done, Break, Watch}
-use Rattle.rv_debug.specs.declared.target.Target.{Target}
-use Rattle.rv_debug.specs.declared.target.Target.TheVariants.{Bare, Monitored}
+use Rattle.rv_debug.specs.declared.steps.Stop.TheVariants.{Break, Watch}
+use Rattle.rv_debug.proofs.Prelude.{AfterRun, AfterSteps, AfterTurns, chosen_of, done, ended, entered_by, is_among, lowest_accessed, no_steps}
+use Rattle.rv_debug.proofs.Prelude.{no_turns, option_case, pc_of, run, run_deed, stepped, steps_of, turns, with_chosen, with_slot, with_step}
+use Rattle.rv_debug.proofs.Prelude.{with_turn}
+use Rattle.rv_debug.proofs.Types.{Bare, Done, Monitored, Scheduled, Target}
 use Rattle.rv_debug.proofs.Turns.{after_turns}
 
 -- ---- the chosen hart

@@ -2,19 +2,10 @@
 -- enters it.
 use Rattle.std.proofs.Common.{◌≡◌, ℕ, true, List, [], ◌∷◌, ◌⊎◌, Some, refl, sym, ◌∙◌, ap, subst, inl, inr}
 use Rattle.std.proofs.lemmas.Bool.{cases_Bool}
-use Rattle.rv_monitor.specs.Integrity.{enters}
-use Rattle.rv_monitor.specs.State.{Machine, IsKept}
-use Rattle.rv_monitor.specs.Step.{step_of}
-use Rattle.rv_monitor.specs.declared.outcome.Outcome.{Outcome}
-use Rattle.rv_monitor.proofs.HartsAlike.{entered_some, entry_law}
-use Rattle.rv_monitor.proofs.Kept.{kept_law}
 use Rattle.rv_monitor.proofs.MonitoredAlike.{confidentiality}
-use Rattle.rv_debug.specs.Chosen.{Chosen}
-use Rattle.rv_debug.specs.Turns.{AfterTurns, turns, with_turn}
-use Rattle.rv_debug.specs.Targets.{stepped, with_chosen}
-use Rattle.rv_debug.specs.BothBenches.{ChosenAgreeBut, RestsIn, is_entered}
-use Rattle.rv_debug.specs.declared.scheduled.Scheduled.{Scheduled}
-use Rattle.rv_debug.specs.declared.target.Target.TheVariants.{Monitored}
+use Rattle.rv_debug.proofs.Prelude.{AfterTurns, Chosen, ChosenAgreeBut, IsKept, Machine, RestsIn, entered_some, enters, entry_law, is_entered}
+use Rattle.rv_debug.proofs.Prelude.{kept_law, step_of, stepped, turns, with_chosen, with_turn}
+use Rattle.rv_debug.proofs.Types.{Monitored, Outcome, Scheduled}
 use Rattle.rv_debug.proofs.StepsAlike.{enters-with, enters-now}
 use Rattle.rv_debug.proofs.Turns.{after_turns}
 

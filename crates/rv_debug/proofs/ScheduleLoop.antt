@@ -6,18 +6,11 @@ use Rattle.std.specs.Prelude.{◌^◌, ◌&&◌, nat_lt}
 use Rattle.std.specs.Option.{option_or}
 use Rattle.std.proofs.lemmas.Bool.Decides.{nat_tests}
 use Rattle.std.proofs.lemmas.List.{drop_all, drop_more}
-use Rattle.rv_hart.specs.declared.trap.Trap.{Trap}
-use Rattle.rv_monitor.proofs.Places.{step_count}
-use Rattle.rv_script.specs.Schedules.{has_all, hart_of_digit}
-use Rattle.rv_debug.specs.Turns.{AfterTurns, turns, with_own, with_turn}
-use Rattle.rv_debug.specs.Steps.{AfterRun, ended, no_steps, run, with_slot, with_step}
-use Rattle.rv_debug.specs.Targets.{IsBare, harts_of, pc_of, stepped, with_chosen}
-use Rattle.rv_debug.specs.declared.scheduled.HartRan.{HartRan}
-use Rattle.rv_debug.specs.declared.scheduled.Scheduled.{Scheduled}
-use Rattle.rv_debug.specs.declared.steps.Ran.{Ran}
-use Rattle.rv_debug.specs.declared.steps.Stop.TheVariants.{Done}
-use Rattle.rv_debug.specs.declared.target.Target.{Target}
-use Rattle.rv_debug.specs.declared.target.Target.TheVariants.{Bare, Monitored}
+use Rattle.rv_script.specs.Schedules.{hart_of_digit}
+use Rattle.rv_debug.specs.Turns.{with_own}
+use Rattle.rv_debug.proofs.Prelude.{AfterRun, AfterTurns, IsBare, ended, harts_of, has_all, no_steps, pc_of, run, step_count, stepped, turns}
+use Rattle.rv_debug.proofs.Prelude.{with_chosen, with_slot, with_step, with_turn}
+use Rattle.rv_debug.proofs.Types.{Bare, Done, HartRan, Monitored, Ran, Scheduled, Target, Trap}
 use Rattle.rv_debug.proofs.Stepping.{run-once}
 use Rattle.rv_debug.proofs.Turns.{after_turns, step_bare}
 

@@ -5,21 +5,11 @@ use Rattle.std.proofs.Common.{inl, inr, arith}
 use Rattle.std.specs.Prelude.{bit_or, ◌^◌}
 use Rattle.std.proofs.lemmas.Bool.{cases_Bool, cases_eq}
 use Rattle.std.proofs.lemmas.Nat.Bits.{bit_at_or, bit_at-lt, bit_at-pow_same}
-use Rattle.rv_word.specs.Cases.{option_case}
-use Rattle.rv_monitor.specs.AgreeBut.{AgreeBut, runs_on}
-use Rattle.rv_monitor.specs.Integrity.{enters}
-use Rattle.rv_monitor.specs.State.{Machine, IsKept}
-use Rattle.rv_monitor.specs.Step.{step_of}
-use Rattle.rv_monitor.specs.declared.outcome.Outcome.{Outcome}
-use Rattle.rv_monitor.specs.declared.seat.Seat.{Seat}
 use Rattle.rv_monitor.proofs.MonitoredAlike.{confidentiality}
-use Rattle.rv_monitor.proofs.HartsAlike.{entered_some, entry_law}
-use Rattle.rv_monitor.proofs.Kept.{kept_law}
-use Rattle.rv_debug.specs.Addresses.{is_among}
-use Rattle.rv_debug.specs.Steps.{AfterSteps, AfterRun, with_slot, with_step, ended, run}
-use Rattle.rv_debug.specs.Stops.{lowest_accessed}
-use Rattle.rv_debug.specs.BothBenches.{is_entered}
-use Rattle.rv_debug.specs.declared.steps.Stop.TheVariants.{Done, Break as AtBreak, Watch as AtWatch}
+use Rattle.rv_debug.specs.declared.steps.Stop.TheVariants.{Break as AtBreak, Watch as AtWatch}
+use Rattle.rv_debug.proofs.Prelude.{AfterRun, AfterSteps, AgreeBut, IsKept, Machine, ended, entered_some, enters, entry_law, is_among, is_entered}
+use Rattle.rv_debug.proofs.Prelude.{kept_law, lowest_accessed, option_case, run, runs_on, step_of, with_slot, with_step}
+use Rattle.rv_debug.proofs.Types.{Done, Outcome, Seat}
 use Rattle.rv_debug.proofs.TargetRuns.{hart_pc, hart_stepped}
 
 -- ---- slots that are entered

@@ -1,18 +1,10 @@
 -- Steps of a target are those of the machine that it is.
 use Rattle.std.proofs.Common.{◌≡◌, ℕ, zero, suc, ◌==◌, Bool, true, false, cond, List, Option, Some, None, refl, sym, ◌∙◌, ap}
-use Rattle.rv_word.specs.Cases.{option_case}
-use Rattle.rv_hart.specs.State.{State}
-use Rattle.rv_monitor.specs.State.{Machine, seat_of}
-use Rattle.rv_monitor.specs.Step.{step_of}
-use Rattle.rv_debug.specs.Addresses.{is_among}
-use Rattle.rv_debug.specs.Stops.{lowest_accessed}
-use Rattle.rv_debug.specs.Steps.{Stepped, AfterSteps, AfterRun, with_step, no_steps, ended, run}
-use Rattle.rv_debug.specs.Targets.{machine_stepped, with_target, stepped, chosen_seat, chosen_stepped, pc_of, chosen_at}
-use Rattle.rv_debug.specs.Chosen.{Chosen}
-use Rattle.rv_debug.specs.declared.steps.Ran.{Ran}
-use Rattle.rv_debug.specs.declared.steps.Stop.TheVariants.{Done, Break, Watch}
-use Rattle.rv_debug.specs.declared.target.Target.{Target}
-use Rattle.rv_debug.specs.declared.target.Target.TheVariants.{Bare, Monitored}
+use Rattle.rv_debug.specs.Targets.{with_target}
+use Rattle.rv_debug.specs.declared.steps.Stop.TheVariants.{Break, Watch}
+use Rattle.rv_debug.proofs.Prelude.{AfterRun, AfterSteps, Chosen, Machine, State, Stepped, chosen_at, chosen_seat, chosen_stepped, ended, is_among}
+use Rattle.rv_debug.proofs.Prelude.{lowest_accessed, machine_stepped, no_steps, option_case, pc_of, run, seat_of, step_of, stepped, with_step}
+use Rattle.rv_debug.proofs.Types.{Bare, Done, Monitored, Ran, Target}
 
 abbrev pub in_target : {A : Type 0} → (A → Target) → AfterSteps A → AfterSteps Target
 in_target target after = record { state = target after.state; steps = after.steps; trap = after.trap; entered = after.entered }

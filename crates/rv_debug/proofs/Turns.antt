@@ -1,13 +1,7 @@
 -- Steps of named harts: those of the machine that the target is, in the order of the harts.
 use Rattle.std.proofs.Common.{◌≡◌, ℕ, List, [], ◌∷◌, refl}
-use Rattle.rv_monitor.specs.HartLaws.{sched}
-use Rattle.rv_monitor.specs.Step.{step_of}
-use Rattle.rv_debug.specs.Chosen.{Chosen}
-use Rattle.rv_debug.specs.Turns.{AfterTurns, turns, with_turn}
-use Rattle.rv_debug.specs.Targets.{IsBare, KeepsMonitor, chosen_at, stepped, with_chosen}
-use Rattle.rv_debug.specs.declared.scheduled.Scheduled.{Scheduled}
-use Rattle.rv_debug.specs.declared.target.Target.{Target}
-use Rattle.rv_debug.specs.declared.target.Target.TheVariants.{Bare, Monitored}
+use Rattle.rv_debug.proofs.Prelude.{AfterTurns, Chosen, IsBare, KeepsMonitor, chosen_at, sched, step_of, stepped, turns, with_chosen, with_turn}
+use Rattle.rv_debug.proofs.Types.{Bare, Monitored, Scheduled, Target}
 
 abbrev pub after_turns : Target → Scheduled → AfterTurns
 after_turns state did = record { state = state; did = did }
