@@ -145,7 +145,6 @@ all_rest e machine none hart = elim (cases_lt hart (count_of machine)) [
   | inr past ↦ ap (λ (seat : Seat). is_world_of e seat.world) (past_seat machine.seats hart past)
 ]
 
-
 module _ (e hart : ℕ) (one other : Machine) (agree : AgreeBut e one other) (breaks watches : List ℕ) where
   abbrev at : Machine → Target
   at machine = chosen_at hart machine

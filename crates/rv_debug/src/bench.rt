@@ -58,7 +58,7 @@ impl Bench {
         ensures { result ≡ monitored machine }
     {
         machine.invariant();
-        Bench::over(Target::Monitored(ChosenHart::first(machine)))
+        Bench::over(Target::Monitored(ChosenHart { machine, hart: 0 }))
     }
 
     /// A bench over a target, with no break and no watch.

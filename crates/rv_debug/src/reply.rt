@@ -90,7 +90,7 @@ fn push_world(out: &mut Reply, target: &Target)
 {
     match target {
         Target::Bare(_) => push_text(out, "bare"),
-        Target::Monitored(chosen) => push_world_name(out, chosen.machine().world(chosen.hart())),
+        Target::Monitored(chosen) => push_world_name(out, chosen.machine.world(chosen.hart)),
     }
 }
 
@@ -103,7 +103,7 @@ fn push_world_at(out: &mut Reply, target: &Target, hart: u8)
 {
     match target {
         Target::Bare(_) => push_text(out, "bare"),
-        Target::Monitored(chosen) => push_world_name(out, chosen.machine().world(hart)),
+        Target::Monitored(chosen) => push_world_name(out, chosen.machine.world(hart)),
     }
 }
 

@@ -35,7 +35,7 @@ impl Target {
         ensures { IsStoredIn self.now }
     {
         if let Target::Monitored(chosen) = self {
-            chosen.machine().invariant();
+            chosen.machine.invariant();
         }
     }
 
@@ -45,7 +45,7 @@ impl Target {
     {
         match self {
             Target::Bare(machine) => machine.regs(),
-            Target::Monitored(chosen) => chosen.machine().regs(chosen.hart()),
+            Target::Monitored(chosen) => chosen.machine.regs(chosen.hart),
         }
     }
 
@@ -55,7 +55,7 @@ impl Target {
     {
         match self {
             Target::Bare(machine) => machine.csrs(),
-            Target::Monitored(chosen) => chosen.machine().csrs(chosen.hart()),
+            Target::Monitored(chosen) => chosen.machine.csrs(chosen.hart),
         }
     }
 
@@ -65,7 +65,7 @@ impl Target {
     {
         match self {
             Target::Bare(machine) => machine.ram(),
-            Target::Monitored(chosen) => chosen.machine().ram(),
+            Target::Monitored(chosen) => chosen.machine.ram(),
         }
     }
 
@@ -75,11 +75,7 @@ impl Target {
     {
         match self {
             Target::Bare(_) => None,
-            Target::Monitored(chosen) => chosen
-                .machine()
-                .table()
-                .get(slot)
-                .map(|info| info.region),
+            Target::Monitored(chosen) => chosen.machine.table().get(slot).map(|info| info.region),
         }
     }
 
@@ -89,7 +85,7 @@ impl Target {
     {
         match self {
             Target::Bare(machine) => machine.pc(),
-            Target::Monitored(chosen) => chosen.machine().pc(chosen.hart()),
+            Target::Monitored(chosen) => chosen.machine.pc(chosen.hart),
         }
     }
 
@@ -99,7 +95,7 @@ impl Target {
     {
         match self {
             Target::Bare(machine) => machine.mode(),
-            Target::Monitored(chosen) => chosen.machine().mode(chosen.hart()),
+            Target::Monitored(chosen) => chosen.machine.mode(chosen.hart),
         }
     }
 
@@ -110,7 +106,7 @@ impl Target {
     {
         match self {
             Target::Bare(_) => 1,
-            Target::Monitored(chosen) => chosen.machine().harts(),
+            Target::Monitored(chosen) => chosen.machine.harts(),
         }
     }
 
@@ -121,7 +117,7 @@ impl Target {
     {
         match self {
             Target::Bare(_) => 0,
-            Target::Monitored(chosen) => chosen.hart(),
+            Target::Monitored(chosen) => chosen.hart,
         }
     }
 
@@ -134,7 +130,7 @@ impl Target {
     {
         match self {
             Target::Bare(_) => {}
-            Target::Monitored(chosen) => chosen.choose(hart),
+            Target::Monitored(chosen) => chosen.hart = hart,
         }
     }
 
@@ -145,7 +141,7 @@ impl Target {
     {
         match self {
             Target::Bare(machine) => machine.pc(),
-            Target::Monitored(chosen) => chosen.machine().pc(hart),
+            Target::Monitored(chosen) => chosen.machine.pc(hart),
         }
     }
 
@@ -156,7 +152,7 @@ impl Target {
     {
         match self {
             Target::Bare(machine) => machine.mode(),
-            Target::Monitored(chosen) => chosen.machine().mode(hart),
+            Target::Monitored(chosen) => chosen.machine.mode(hart),
         }
     }
 
@@ -167,7 +163,7 @@ impl Target {
     {
         match self {
             Target::Bare(machine) => machine.regs_mut().set(reg, value),
-            Target::Monitored(chosen) => chosen.set_reg(reg, value),
+            Target::Monitored(chosen) => chosen.machine.set_reg(chosen.hart, reg, value),
         }
     }
 
@@ -178,7 +174,7 @@ impl Target {
     {
         match self {
             Target::Bare(machine) => machine.csrs_mut().set_timer(raised),
-            Target::Monitored(chosen) => chosen.set_timer(raised),
+            Target::Monitored(chosen) => chosen.machine.set_timer(chosen.hart, raised),
         }
     }
 
@@ -191,7 +187,7 @@ impl Target {
     {
         match self {
             Target::Bare(machine) => machine.ram_mut().poke(address, byte),
-            Target::Monitored(chosen) => chosen.poke(address, byte),
+            Target::Monitored(chosen) => chosen.machine.poke(address, byte),
         }
     }
 
@@ -206,7 +202,7 @@ impl Target {
     {
         match self {
             Target::Bare(_) => false,
-            Target::Monitored(chosen) => chosen.scramble(slot),
+            Target::Monitored(chosen) => chosen.machine.scramble(slot),
         }
     }
 
@@ -242,6 +238,6 @@ fn run_monitored(
     ensures kept { IsKept chosen.new.state }
 {
     let ran = run_steps(chosen, count, breaks, watches);
-    chosen.machine().invariant();
+    chosen.machine.invariant();
     ran
 }
