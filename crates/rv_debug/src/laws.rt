@@ -21,20 +21,17 @@ pub const fn runs_beside()
 /// Confidentiality: a command that is blind to an enclave, and neither steps nor shows the hart on which that runs, enters it in both of two
 /// benches that agree but for it, or in neither; if in neither, the replies are equal and the benches agree again, and are equal once the
 /// enclave is gone.
-#[tactic(auto, using(crate::proofs::AnswersAlike::confidentiality))]
 pub const fn confidentiality()
     ensures { ConfidentialityLaw }
 {}
 
 /// Of an enclave that runs on no hart every command is so; and behind one that does not enter it, it runs on none.
-#[tactic(auto, using(crate::proofs::AtRest::rest_law))]
 pub const fn stays_at_rest()
     ensures { RestLaw }
 {}
 
 /// Two benches that agree but for an enclave do so too once each has a byte poked into its region, whichever and wherever; the replies
 /// are equal.
-#[tactic(auto, using(crate::proofs::PokesAlike::poke_law))]
 pub const fn poking()
     ensures { PokeLaw }
 {}

@@ -4,8 +4,7 @@ use Rattle.std.proofs.lemmas.Bool.{cases_eq, cases_lt}
 use Rattle.std.proofs.lemmas.Grind.{get_or-set_at}
 use Rattle.std.proofs.lemmas.List.{get_or-set_other, length-set}
 use Rattle.rv_enclaves.proofs.Prelude.{SharedButFor, is_world_of}
-use Rattle.rv_monitor.specs.Debugger.{changed}
-use Rattle.rv_monitor.proofs.Prelude.{AgreeBut, Machine, SeatsAgreeBut, count_of, seat_at_start, seat_of}
+use Rattle.rv_monitor.proofs.Prelude.{AgreeBut, Machine, SeatsAgreeBut, changed, count_of, seat_at_start, seat_of}
 use Rattle.rv_monitor.proofs.Types.{Seat, Shared}
 use Rattle.rv_monitor.proofs.Kept.{past_as_is}
 

@@ -4,14 +4,14 @@ use Rattle.std.specs.Prelude.{map, not, slice_index, slice_index_or, slice_set}
 use Rattle.std.proofs.lemmas.Bool.{cases_eq, eq-eqb, both_ways, ne_eqb}
 use Rattle.rv_enclaves.specs.Create.{bytes_of_block}
 use Rattle.rv_enclaves.proofs.Agreement.{or_same, write-alike}
-use Rattle.rv_enclaves.proofs.SavedLists.{same_after_set}
 use Rattle.rv_enclaves.proofs.Prelude.{AgreeOutside, Contexts, Slots, context_at, created, destroyed, first_context, kept_context, measured, measurement_at}
 use Rattle.rv_enclaves.proofs.Prelude.{measurement_of, new_slot, recorded, region, with_context, with_slot, with_state}
-use Rattle.rv_monitor.specs.Asked.{asked_by, is_entering, SameAsked, SameWhereSame, SameWork, AskedLaw, AskedStepLaw}
+use Rattle.rv_monitor.specs.Asked.{asked_by, SameAsked, SameWhereSame, SameWork, AskedLaw, AskedStepLaw}
 use Rattle.rv_monitor.specs.declared.next.Next.{Next}
-use Rattle.rv_monitor.proofs.Prelude.{Handled, MonitoredState, MonitoredStepped, a0, a1, answered, bare, entered_slot, exited_context, handled, left_slot}
-use Rattle.rv_monitor.proofs.Prelude.{measured_slot, monitored_step, option_case, proposed, ram_base, returned, returned_to, seated, seen_by}
-use Rattle.rv_monitor.proofs.Prelude.{Machine, seat_at_start, state_after, status_of, step, step_of, with_layout, write}
+use Rattle.rv_monitor.proofs.Prelude.{Handled, Machine, MonitoredState, MonitoredStepped, a0, a1, answered, bare, entered_slot, exited_context}
+use Rattle.rv_monitor.proofs.Prelude.{handled, is_entering, left_slot, measured_slot, monitored_step, option_case, proposed, ram_base, returned}
+use Rattle.rv_monitor.proofs.Prelude.{returned_to, same_after_set, seat_at_start, seated, seen_by, state_after, status_of, step, step_of, with_layout}
+use Rattle.rv_monitor.proofs.Prelude.{write}
 use Rattle.rv_monitor.proofs.Types.{Call, Cause, Context, Create, Outcome, Proposal, Running, Seat, Shared, StepOutcome, Trap}
 use Rattle.rv_monitor.proofs.Places.{is_trapping}
 use Rattle.rv_monitor.proofs.TrapSteps.{seat_after, trapped_step}

@@ -2,11 +2,12 @@
 use Rattle.std.proofs.Common.{◌≡◌, ◌≢◌, ◌<◌, ℕ, Bool, true, false, Option, Some, None, refl, sym, ◌∙◌, ap, inl, inr}
 use Rattle.std.specs.Prelude.{◌||◌, is_some}
 use Rattle.std.specs.List.{list_any}
+use Rattle.std.proofs.lemmas.List.Folds.{list_any_at}
 use Rattle.std.proofs.lemmas.Bool.{both_ways, cases_lt}
 use Rattle.rv_enclaves.proofs.Prelude.{is_live, is_running, is_world_of, slot_at}
 use Rattle.rv_monitor.proofs.Prelude.{IsKept, Machine, count_of, option_case, runs_on, seat_of, seated, step_of, worlds}
 use Rattle.rv_monitor.proofs.Types.{Host, Seat, SlotInfo}
-use Rattle.rv_monitor.proofs.Others.{any_at, any_front}
+use Rattle.rv_monitor.proofs.Others.{any_front}
 use Rattle.rv_monitor.proofs.Kept.{beside, has_world, world_at, worlds_are}
 use Rattle.rv_monitor.proofs.Places.{past_seat, step_laid}
 
@@ -22,7 +23,7 @@ runs_inside k j machine runs = elim (cases_lt j (count_of machine)) [
 pub runs_among : (k j : ℕ) (machine : Machine) → runs_on k j machine ≡ true → list_any (is_world_of k) (worlds machine) ≡ true
 runs_among k j machine runs =
     let has = runs_inside k j machine runs in
-    any_at (is_world_of k) (worlds machine) j Host (has_world j machine has) (ap (is_world_of k) (world_at j machine has) ∙ runs)
+    list_any_at (is_world_of k) (worlds machine) j Host (has_world j machine has) (ap (is_world_of k) (world_at j machine has) ∙ runs)
 
 pub live_by : (o : Option SlotInfo) → option_case o false (λ info. is_running info.state) ≡ true → is_some o ≡ true
 live_by None runs = runs

@@ -1,15 +1,13 @@
 -- A bare step of a kept state neither depends on a region that is not the world's nor changes it.
 use Rattle.std.proofs.Common.{◌≡◌, ℕ, Bool, false, List, Option, Some, None}
-use Rattle.rv_memory.specs.declared.touched.Touched.{Touched}
-use Rattle.rv_hart.specs.Confinement.{SameIn}
 use Rattle.rv_hart.specs.Permitted.{MayTouchAll}
 use Rattle.rv_enclaves.proofs.Agreement.{IsSeen, same_read, same_write}
 use Rattle.rv_enclaves.proofs.Reaches.{permitted_apart, small_ram, inside_is, some_bytes}
 use Rattle.rv_enclaves.proofs.Prelude.{AgreeOutside, is_private, is_world_of}
 use Rattle.rv_monitor.specs.Confidentiality.{BareLaw, StepAlike}
-use Rattle.rv_monitor.proofs.Prelude.{AgreeOn, IsOwn, MayTouch, MonitoredState, State, Stores, bare, bytes_in, confined, data_mode, is_machine, step}
-use Rattle.rv_monitor.proofs.Prelude.{touches_permitted}
-use Rattle.rv_monitor.proofs.Types.{Access, Fetch, Mode, Read, Span}
+use Rattle.rv_monitor.proofs.Prelude.{AgreeOn, IsOwn, MayTouch, MonitoredState, SameIn, State, Stores, bare, bytes_in, confined, data_mode}
+use Rattle.rv_monitor.proofs.Prelude.{is_machine, step, touches_permitted}
+use Rattle.rv_monitor.proofs.Types.{Access, Fetch, Mode, Read, Span, Touched}
 use Rattle.rv_monitor.proofs.KeptReaches.{below_M, clear_mode}
 
 module _ (e : ℕ) (state : MonitoredState) (kept : IsOwn state) (other : is_world_of e state.seat.world ≡ false) where

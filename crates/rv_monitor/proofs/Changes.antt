@@ -7,20 +7,16 @@ use Rattle.std.proofs.lemmas.List.{length-replicate}
 use Rattle.rv_word.specs.declared.width.Width.TheVariants.{Byte}
 use Rattle.rv_pmp.proofs.VerdictLemmas.{each_from_all}
 use Rattle.rv_memory.proofs.MemoryLaws.{byte_at-write}
-use Rattle.rv_hart.specs.Confinement.{IsConfined}
 use Rattle.rv_hart.specs.Permitted.{TouchesPermitted}
 use Rattle.rv_enclaves.specs.Measure.{measure_refusals, may_store, may_store_all}
-use Rattle.rv_enclaves.proofs.Reaches.{reach_law}
-use Rattle.rv_enclaves.proofs.Refusals.{IsTaken}
-use Rattle.rv_enclaves.proofs.Slots.{at_same}
-use Rattle.rv_enclaves.proofs.Sound.{live_in_range}
 use Rattle.rv_enclaves.proofs.Prelude.{IsLawfulSlot, IsValid, created, destroyed, first_refusal, has, is_live, layout, measured, region, slot_at, with_bytes}
 use Rattle.rv_enclaves.proofs.Prelude.{with_slot, zeroed}
 use Rattle.rv_monitor.specs.Asked.{is_call}
-use Rattle.rv_monitor.specs.Changes.{IsStoredInReach, IsMeasured, ByMonitor, IsChanged, ChangeLaw}
-use Rattle.rv_monitor.proofs.Prelude.{AgreeOn, Entries, IsOwn, MayTouch, MonitoredState, Stepped, Stores, a0, a1, asked_in, bare, byte_at, bytes_from}
-use Rattle.rv_monitor.proofs.Prelude.{bytes_in, confined, data_mode, entered_slot, handled, is_inside, left_slot, measured_slot, option_case}
-use Rattle.rv_monitor.proofs.Prelude.{permits, step, touches_permitted, verdict, write}
+use Rattle.rv_monitor.specs.Changes.{IsStoredInReach, IsMeasured, ByMonitor, ChangeLaw}
+use Rattle.rv_memory.specs.Memory.{is_inside}
+use Rattle.rv_monitor.proofs.Prelude.{AgreeOn, Entries, IsChanged, IsConfined, IsOwn, IsTaken, MayTouch, MonitoredState, Stepped, Stores, a0, a1}
+use Rattle.rv_monitor.proofs.Prelude.{asked_in, at_same, bare, byte_at, bytes_from, bytes_in, confined, data_mode, entered_slot, handled, left_slot}
+use Rattle.rv_monitor.proofs.Prelude.{live_in_range, measured_slot, option_case, permits, reach_law, step, touches_permitted, verdict, write}
 use Rattle.rv_monitor.proofs.Types.{Block, Call, Destroy, M, Measure, S, Seat, Shared, SlotInfo, Span, Trap, World, Write}
 use Rattle.rv_monitor.proofs.KeptReaches.{kept_reach, below_M, clear_mode}
 use Rattle.rv_monitor.proofs.StepKept.{same_in}

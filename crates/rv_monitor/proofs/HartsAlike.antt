@@ -2,10 +2,9 @@
 use Rattle.std.proofs.Common.{◌≡◌, ℕ, ◌⊎◌, ◌==◌, true, false, List, [], ◌∷◌, Option, Some, None, refl, sym, ◌∙◌, ap, ap₂, subst, inl, inr}
 use Rattle.std.proofs.lemmas.Bool.{cases_Bool, cases_eq, cases_lt, eq-eqb, eqb-true}
 use Rattle.rv_enclaves.proofs.Prelude.{is_world_of}
-use Rattle.rv_monitor.specs.HartLaws.{EntryLaw, NotOwnLaw, RunsOnNone, SchedLaw}
-use Rattle.rv_monitor.specs.Integrity.{enters}
-use Rattle.rv_monitor.proofs.Prelude.{Handled, Machine, MachineStepped, MonitoredState, MonitoredStepped, count_of, handled, monitored_step, reason, runs_on}
-use Rattle.rv_monitor.proofs.Prelude.{seen_by, step_of, value}
+use Rattle.rv_monitor.specs.HartLaws.{EntryLaw, NotOwnLaw, SchedLaw}
+use Rattle.rv_monitor.proofs.Prelude.{Handled, Machine, MachineStepped, MonitoredState, MonitoredStepped, RunsOnNone, count_of, enters, handled}
+use Rattle.rv_monitor.proofs.Prelude.{monitored_step, reason, runs_on, seen_by, step_of, value}
 use Rattle.rv_monitor.proofs.Types.{Outcome, Seat}
 use Rattle.rv_monitor.proofs.Kept.{kept_law}
 use Rattle.rv_monitor.proofs.MonitoredAlike.{confidentiality}

@@ -2,11 +2,10 @@
 use Rattle.std.proofs.Common.{◌≡◌, ◌⊎◌, ℕ, true, false, List, [], ◌∷◌, refl, sym, ◌∙◌, ap, subst, inl, inr}
 use Rattle.std.proofs.lemmas.Bool.{both_ways, cases_lt}
 use Rattle.rv_enclaves.proofs.Prelude.{has, is_live, is_world_of, region_of, slot_at}
-use Rattle.rv_monitor.specs.Changes.{IsChanged}
-use Rattle.rv_monitor.specs.HartLaws.{sched, IsLeftAlone, RunningLaw, RunsOnNone, SchedSparesLaw, SchedChangeLaw}
-use Rattle.rv_monitor.specs.Integrity.{enters, GoesOn, GoOnLaw, IsUntouched}
-use Rattle.rv_monitor.proofs.Prelude.{IsKept, IsSpared, Machine, MachineStepped, MonitoredStepped, byte_at, count_of, monitored_step, runs_on, seat_of, seated}
-use Rattle.rv_monitor.proofs.Prelude.{seen_after, seen_by, step_of}
+use Rattle.rv_monitor.specs.HartLaws.{IsLeftAlone, RunningLaw, SchedSparesLaw, SchedChangeLaw}
+use Rattle.rv_monitor.specs.Integrity.{GoesOn, GoOnLaw, IsUntouched}
+use Rattle.rv_monitor.proofs.Prelude.{IsChanged, IsKept, IsSpared, Machine, MachineStepped, MonitoredStepped, RunsOnNone, byte_at, count_of, enters}
+use Rattle.rv_monitor.proofs.Prelude.{monitored_step, runs_on, sched, seat_of, seated, seen_after, seen_by, step_of}
 use Rattle.rv_monitor.proofs.Types.{Seat, Shared}
 use Rattle.rv_monitor.proofs.Beside.{live_by, runs_beside, runs_inside, running_is_live}
 use Rattle.rv_monitor.proofs.Changes.{changes}

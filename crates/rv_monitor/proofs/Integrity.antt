@@ -4,15 +4,16 @@ use Rattle.std.specs.Prelude.{is_some}
 use Rattle.std.proofs.lemmas.Bool.{both_ways, cases_eq, eq-eqb}
 use Rattle.rv_enclaves.proofs.Owners.{apart_at}
 use Rattle.rv_enclaves.proofs.Reaches.{reached_apart}
-use Rattle.rv_enclaves.proofs.Refusals.{MayCreate, IsTaken}
-use Rattle.rv_enclaves.proofs.Slots.{at_same, at_other}
-use Rattle.rv_enclaves.proofs.Sound.{live_in_range, free_slot_from}
+use Rattle.rv_enclaves.proofs.Slots.{at_other}
+use Rattle.rv_enclaves.proofs.Sound.{free_slot_from}
 use Rattle.rv_enclaves.proofs.Prelude.{IsValid, Slots, context_at, created, destroyed, first_context, has, is_live, is_world_of, measured, new_slot, recorded}
 use Rattle.rv_enclaves.proofs.Prelude.{region, slot_at, with_context, with_slot, with_state}
-use Rattle.rv_monitor.specs.Integrity.{enters, IntegrityLaw}
-use Rattle.rv_monitor.proofs.Prelude.{Handled, IsOwn, IsSpared, MonitoredState, a0, byte_at, bytes_in, entered_slot, handled, left_slot, monitored_step, option_case}
-use Rattle.rv_monitor.proofs.Prelude.{proposed, register, seen_by, state_after}
-use Rattle.rv_monitor.proofs.Types.{Context, Destroy, EnclaveState, Proposal, Running, Seat, Shared, SlotInfo, Trap, Write}
+use Rattle.rv_monitor.specs.Integrity.{IntegrityLaw}
+use Rattle.rv_enclaves.specs.declared.slot_info.EnclaveState.{EnclaveState}
+use Rattle.rv_monitor.proofs.Prelude.{Handled, IsOwn, IsSpared, IsTaken, MayCreate, MonitoredState, a0, at_same, byte_at, bytes_in, entered_slot}
+use Rattle.rv_monitor.proofs.Prelude.{enters, handled, left_slot, live_in_range, monitored_step, option_case, proposed, register, seen_by}
+use Rattle.rv_monitor.proofs.Prelude.{state_after}
+use Rattle.rv_monitor.proofs.Types.{Context, Destroy, Proposal, Running, Seat, Shared, SlotInfo, Trap, Write}
 use Rattle.rv_monitor.proofs.Beside.{seat_spared}
 use Rattle.rv_monitor.proofs.Changes.{changes}
 use Rattle.rv_monitor.proofs.Kept.{own_kept}

@@ -5,11 +5,9 @@ use Rattle.std.proofs.lemmas.Bool.{cases_eq, cases_lt}
 use Rattle.std.proofs.lemmas.List.{get_or-map, get_or-set_other, length-map, length-set, map-set, set-get_or, set_past}
 use Rattle.std.proofs.lemmas.Grind.{get_or-set_at}
 use Rattle.rv_enclaves.proofs.Prelude.{IsSound, Slots}
-use Rattle.rv_enclaves.proofs.Sound.{sound_by_size}
-use Rattle.rv_monitor.specs.Debugger.{changed}
 use Rattle.rv_monitor.specs.HartLaws.{KeptLaw, SchedKeptLaw}
-use Rattle.rv_monitor.proofs.Prelude.{AreStored, HostIsStored, IsKept, IsOwn, IsSeated, Machine, count_of, monitored_step, seat_at_start, seat_of, seated, seats_behind}
-use Rattle.rv_monitor.proofs.Prelude.{seen_by, step_of, stepped_by, with_seat, worlds}
+use Rattle.rv_monitor.proofs.Prelude.{AreStored, HostIsStored, IsKept, IsOwn, IsSeated, Machine, changed, count_of, monitored_step, seat_at_start}
+use Rattle.rv_monitor.proofs.Prelude.{seat_of, seated, seats_behind, seen_by, sound_by_size, step_of, stepped_by, with_seat, worlds}
 use Rattle.rv_monitor.proofs.Types.{Host, Seat, Trap, World}
 use Rattle.rv_monitor.proofs.Others.{sound_back, sound_front, without}
 use Rattle.rv_monitor.proofs.Places.{behind_seated, by_hart, count_behind, other_seat, own_seat}

@@ -1,9 +1,8 @@
 -- In every kept state the entries permit S and U exactly what is in reach.
 use Rattle.std.proofs.Common.{◌≡◌, ◌≢◌, true, false, refl, sym, ◌∙◌, subst}
 use Rattle.rv_enclaves.specs.Reach.{in_reach}
-use Rattle.rv_enclaves.proofs.Reaches.{reach_law}
 use Rattle.rv_monitor.specs.Access.{KeptReachLaw}
-use Rattle.rv_monitor.proofs.Prelude.{Entries, Hart, bytes_from, bytes_in, data_mode, is_machine, permits, verdict}
+use Rattle.rv_monitor.proofs.Prelude.{Entries, Hart, bytes_from, bytes_in, data_mode, is_machine, permits, reach_law, verdict}
 use Rattle.rv_monitor.proofs.Types.{M, Mode}
 
 pub kept_reach : KeptReachLaw

@@ -2,8 +2,8 @@
 use Rattle.std.proofs.Common.{◌≡◌, ◌<◌, ℕ, suc, List, [], ◌∷◌, length, refl, ◌∙◌, ap, arith}
 use Rattle.std.specs.Prelude.{map, slice_index_or}
 use Rattle.rv_enclaves.proofs.Prelude.{Slots}
-use Rattle.rv_monitor.specs.Step.{forwarded_csrs}
-use Rattle.rv_monitor.proofs.Prelude.{Entries, Handled, IsSeated, entered_slot, forwarded, handled_cause, left_slot, seat_at_start, seated, with_layout}
+use Rattle.rv_monitor.proofs.Prelude.{Entries, Handled, IsSeated, entered_slot, forwarded, forwarded_csrs, handled_cause, left_slot, seat_at_start}
+use Rattle.rv_monitor.proofs.Prelude.{seated, with_layout}
 use Rattle.rv_monitor.proofs.Types.{Seat, Shared, Trap}
 use Rattle.rv_monitor.proofs.Ready.{IsLaidOut}
 use Rattle.rv_monitor.proofs.Works.{by_pieces}

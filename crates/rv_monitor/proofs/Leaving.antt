@@ -1,11 +1,10 @@
 -- What an enclave leaves behind when it leaves: either it goes on, or the state is the one that leaving leaves.
 use Rattle.std.proofs.Common.{◌≡◌, ℕ, ◌⊎◌, true, Option, Some, None, IfSome, refl, sym, ◌∙◌, ap, subst, inl, inr}
-use Rattle.rv_word.specs.BitFields.{is_set}
 use Rattle.rv_state.specs.declared.cause.Cause.TheVariants as causes
 use Rattle.rv_enclaves.proofs.Prelude.{can_go_on}
 use Rattle.rv_monitor.specs.Leaving.{LeaveLaw, kept_after, left_hart, left_shared}
-use Rattle.rv_monitor.proofs.Prelude.{Handled, IsOwn, MonitoredState, MonitoredStepped, bare, handled, left_slot, reason, returned, state_after, step, value}
-use Rattle.rv_monitor.proofs.Prelude.{monitored_step, seen_by, with_layout}
+use Rattle.rv_monitor.proofs.Prelude.{Handled, IsOwn, MonitoredState, MonitoredStepped, bare, handled, is_set, left_slot, monitored_step, reason}
+use Rattle.rv_monitor.proofs.Prelude.{returned, seen_by, state_after, step, value, with_layout}
 use Rattle.rv_monitor.proofs.Types.{Cause, Context, Enclave, Host, Outcome, Seat, StepOutcome, Trap}
 use Rattle.rv_monitor.proofs.Kept.{own_kept}
 use Rattle.rv_monitor.proofs.Places.{is_trapping, laid_by, step_seen}

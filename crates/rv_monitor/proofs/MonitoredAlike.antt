@@ -2,12 +2,11 @@
 use Rattle.std.proofs.Common.{◌≡◌, ◌<◌, ℕ, false, List, Option, Some, None, refl, sym, ◌∙◌, ap, ap₂, subst, inl, inr, arith}
 use Rattle.std.proofs.lemmas.Bool.{both_ways, cases_Bool, cases_eq, cases_lt}
 use Rattle.std.proofs.lemmas.List.{get_or_default, get_or-map, length-map, same_lists}
-use Rattle.rv_enclaves.proofs.Sound.{sound_by_size}
 use Rattle.rv_enclaves.proofs.Prelude.{IsSound, SharedButFor, Slots, is_live, is_world_of}
 use Rattle.rv_monitor.specs.Confidentiality.{ConfidentialityLaw}
 use Rattle.rv_monitor.proofs.Prelude.{AgreeBut, Hart, IsKept, IsOwn, Machine, MonitoredState, MonitoredStepped, SeatsAgreeBut, State, Stepped}
 use Rattle.rv_monitor.proofs.Prelude.{confined, count_of, handled, monitored_step, option_case, returned, runs_on, seat_at_start, seat_of, seated}
-use Rattle.rv_monitor.proofs.Prelude.{seen_by, step, stepped_by, unhandled, worlds}
+use Rattle.rv_monitor.proofs.Prelude.{seen_by, sound_by_size, step, stepped_by, unhandled, worlds}
 use Rattle.rv_monitor.proofs.Types.{Outcome, Seat, Shared, StepOutcome, Trap, World}
 use Rattle.rv_monitor.proofs.Agreeing.{same_seats, seats_agree}
 use Rattle.rv_monitor.proofs.Beside.{running_is_live}

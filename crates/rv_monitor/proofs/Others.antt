@@ -1,8 +1,9 @@
 -- Who runs on one hart, and on the others: a list of worlds with one of them put first.
 use Rattle.std.proofs.Common.{◌≡◌, ℕ, zero, suc, ◌<◌, Bool, true, false, List, [], ◌∷◌, length, slice_set, refl, sym, ◌∙◌, ap, inl, inr, arith}
-use Rattle.std.specs.Prelude.{◌||◌, slice_index_or}
+use Rattle.std.specs.Prelude.{◌||◌}
 use Rattle.std.specs.List.{list_any}
 use Rattle.std.proofs.lemmas.Bool.{both_ways, cases_Bool}
+use Rattle.rv_enclaves.proofs.Slots.{or-first, or-second}
 use Rattle.rv_enclaves.proofs.Prelude.{AreApart, IsSound, is_world_of}
 use Rattle.rv_monitor.proofs.Types.{Shared, World}
 
@@ -10,10 +11,6 @@ or_swap : (a b c : Bool) → (a || (b || c)) ≡ (b || (a || c))
 or_swap true true c = refl
 or_swap true false c = refl
 or_swap false b c = refl
-
-or_parts : (a b : Bool) → (a || b) ≡ false → (a ≡ false) × (b ≡ false)
-or_parts true b is = cc
-or_parts false b is = (refl, is)
 
 or_none : (a b : Bool) → a ≡ false → b ≡ false → (a || b) ≡ false
 or_none a b left right = rw (left, right) refl
@@ -35,11 +32,6 @@ any_front p (x ∷ xs) zero w has = refl
 any_front p (x ∷ xs) (suc i) w has =
     ap (λ (b : Bool). p x || b) (any_front p xs i w (omega (arith, has))) ∙ or_swap (p x) (p w) (list_any p (without xs i))
 
-pub any_at : (p : World → Bool) (ws : List World) (i : ℕ) (d : World) → i < length ws → p (slice_index_or ws i d) ≡ true → list_any p ws ≡ true
-any_at p [] i d has is = absurd (omega (arith, has))
-any_at p (x ∷ xs) zero d has is = rw is refl
-any_at p (x ∷ xs) (suc i) d has is = or_second (p x) (list_any p xs) (any_at p xs i d (omega (arith, has)) is)
-
 apart_front : (ws : List World) (i : ℕ) (w : World) → i < length ws → AreApart (slice_set ws i w) → AreApart (w ∷ without ws i)
 apart_front [] i w has apart = absurd (omega (arith, has))
 apart_front (x ∷ xs) zero w has apart = apart
@@ -47,7 +39,7 @@ apart_front (x ∷ xs) (suc i) w has apart =
     let has' : i < length xs = omega (arith, has) in
     let rest = apart_front xs i w has' apart.1 in
     let both : (k : ℕ) → is_world_of k x ≡ true → (is_world_of k w ≡ false) × (list_any (is_world_of k) (without xs i) ≡ false) =
-    λ k own. or_parts _ _ (sym (any_front (is_world_of k) xs i w has') ∙ apart.0 k own) in (
+    λ k own. let none = sym (any_front (is_world_of k) xs i w has') ∙ apart.0 k own in (or-first _ _ none, or-second _ _ none) in (
       λ k own. elim (cases_Bool (is_world_of k x)) [
         | inl here ↦ absurd (both_ways _ (both k here).0 own)
         | inr none ↦ or_none (is_world_of k x) _ none (rest.0 k own)
@@ -61,10 +53,10 @@ apart_back (x ∷ xs) zero w has apart = apart
 apart_back (x ∷ xs) (suc i) w has apart =
     let has' : i < length xs = omega (arith, has) in (
       λ k own. any_front (is_world_of k) xs i w has' ∙ elim (cases_Bool (is_world_of k w)) [
-        | inl here ↦ absurd (both_ways _ (or_parts _ _ (apart.0 k here)).0 own)
+        | inl here ↦ absurd (both_ways _ (or-first _ _ (apart.0 k here)) own)
         | inr none ↦ or_none (is_world_of k w) _ none (apart.1.0 k own)
       ],
-      apart_back xs i w has' (λ k own. (or_parts _ _ (apart.0 k own)).1, apart.1.1),
+      apart_back xs i w has' (λ k own. or-second _ _ (apart.0 k own), apart.1.1),
     )
 
 pub sound_front : (shared : Shared) (ws : List World) (i : ℕ) (w : World) → i < length ws → IsSound shared (slice_set ws i w)

@@ -6,7 +6,8 @@ use Rattle.std.proofs.lemmas.Bool.Decides.{nat_tests}
 use Rattle.std.proofs.lemmas.Grind.{get_or-set_at}
 use Rattle.std.proofs.lemmas.List.{get_or-map, get_or-set_other, get_or_past, length-map, length-set}
 use Rattle.rv_enclaves.proofs.Prelude.{Slots}
-use Rattle.rv_monitor.proofs.Prelude.{IsKept, IsSeated, Machine, MachineStepped, MonitoredState, MonitoredStepped, count_of, monitored_step, not_stepped}
+use Rattle.rv_monitor.specs.Step.{not_stepped}
+use Rattle.rv_monitor.proofs.Prelude.{IsKept, IsSeated, Machine, MachineStepped, MonitoredState, MonitoredStepped, count_of, monitored_step}
 use Rattle.rv_monitor.proofs.Prelude.{seat_at_start, seat_of, seated, seats_behind, seen_after, seen_by, step_of, stepped_by}
 use Rattle.rv_monitor.proofs.Types.{Seat, Trap}
 use Rattle.rv_monitor.proofs.LastAct.{as_is}

@@ -1,17 +1,13 @@
 -- A call that is refused changes nothing but a0, a1, pc, and what every trap and return change.
 use Rattle.std.proofs.Common.{◌≡◌, ℕ, Bool, true, false, List, slice_set, Option, Some, None, refl, sym, ◌∙◌, ap, subst, arith}
 use Rattle.std.specs.Prelude.{◌||◌}
-use Rattle.rv_word.specs.BitFields.{is_set}
 use Rattle.rv_state.specs.declared.cause.Cause.TheVariants as causes
-use Rattle.rv_hart.specs.Arithmetic.{sum_of}
-use Rattle.rv_enclaves.specs.declared.refusal.Refusal.TheVariants.{NotSupported}
 use Rattle.rv_enclaves.proofs.Prelude.{first_refusal}
-use Rattle.rv_monitor.specs.CallRefusals.{call_refusals}
 use Rattle.rv_monitor.specs.Refused.{refusal_of, refused_hart, RefusalLaw}
-use Rattle.rv_monitor.specs.Step.{called, call_handled}
-use Rattle.rv_monitor.proofs.Prelude.{IsOwn, Machine, MonitoredState, MonitoredStepped, aligned_to_4, asked_in, bare, handled, handled_cause, option_case, refused}
-use Rattle.rv_monitor.proofs.Prelude.{monitored_step, returned, seen_by, step, with_layout}
-use Rattle.rv_monitor.proofs.Types.{Call, Cause, EnvironmentCallFromS, Outcome, Refusal, Seat, Shared, StepOutcome, Trap}
+use Rattle.rv_monitor.proofs.Prelude.{IsOwn, Machine, MonitoredState, MonitoredStepped, aligned_to_4, asked_in, bare, call_handled, call_refusals}
+use Rattle.rv_monitor.proofs.Prelude.{called, handled, handled_cause, is_set, monitored_step, option_case, refused, returned, seen_by, step, sum_of}
+use Rattle.rv_monitor.proofs.Prelude.{with_layout}
+use Rattle.rv_monitor.proofs.Types.{Call, Cause, EnvironmentCallFromS, NotSupported, Outcome, Refusal, Seat, Shared, StepOutcome, Trap}
 use Rattle.rv_monitor.proofs.Kept.{own_kept}
 use Rattle.rv_monitor.proofs.LastAct.{all_as_are}
 use Rattle.rv_monitor.proofs.Places.{is_trapping, laid_by}

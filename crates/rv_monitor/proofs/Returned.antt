@@ -3,14 +3,11 @@
 use Rattle.std.proofs.Common.{◌≡◌, ◌<◌, ℕ, true, false, List, [], ◌∷◌, Option, Some, None, IfSome, refl, sym, ap, ◌∙◌, subst, inl, inr}
 use Rattle.std.specs.Prelude.{not, is_some}
 use Rattle.std.proofs.lemmas.Bool.{both_ways, cases_eq, cases_lt}
-use Rattle.rv_enclaves.specs.Contexts.{with_answer, IsStored}
 use Rattle.rv_enclaves.proofs.Prelude.{is_host}
-use Rattle.rv_monitor.specs.HartLaws.{sched}
 use Rattle.rv_monitor.specs.Refused.{past_ecall}
 use Rattle.rv_monitor.specs.Returns.{RunsThrough, HostComesBack, ReturnLaw}
-use Rattle.rv_monitor.specs.State.{KeepsHost}
-use Rattle.rv_monitor.proofs.Prelude.{HostIsStored, IsKept, Machine, MonitoredState, MonitoredStepped, StaysOrSwitches, count_of, monitored_step, reason, saved}
-use Rattle.rv_monitor.proofs.Prelude.{seat_of, seen_by, step_of, value}
+use Rattle.rv_monitor.proofs.Prelude.{HostIsStored, IsKept, IsStored, KeepsHost, Machine, MonitoredState, MonitoredStepped, StaysOrSwitches, count_of}
+use Rattle.rv_monitor.proofs.Prelude.{monitored_step, reason, saved, sched, seat_of, seen_by, step_of, value, with_answer}
 use Rattle.rv_monitor.proofs.Types.{Context, S, Seat}
 use Rattle.rv_monitor.proofs.Kept.{kept_law, sched_kept}
 use Rattle.rv_monitor.proofs.Places.{past_seat, step_beside, step_count, step_seen}

@@ -5,15 +5,16 @@ use Rattle.std.proofs.lemmas.Bool.{cases_lt}
 use Rattle.std.proofs.lemmas.List.{get_or_past}
 use Rattle.std.proofs.lemmas.List.FromFn.{get_or-map-range_with_len}
 use Rattle.rv_state.specs.MachineParts.{machine_parts}
-use Rattle.rv_hart.specs.Confinement.{IsConfined, SameIn}
 use Rattle.rv_hart.specs.StepLaws.{TrapKeeps, StaysBelow}
 use Rattle.rv_enclaves.proofs.Kept.{entry_is_plain}
-use Rattle.rv_enclaves.proofs.Sound.{sound_by_size}
 use Rattle.rv_enclaves.proofs.Prelude.{IsSound, Slots, entry_at, layout}
 use Rattle.rv_hart.proofs.StepLaws.{keeps_mprv_clear, keeps_machine_parts}
-use Rattle.rv_monitor.specs.State.{HasLayout, KeepsHost}
-use Rattle.rv_monitor.proofs.Prelude.{AgreeOn, CsrState, Handled, Hart, HasNoLock, IsOwn, IsSeated, MonitoredState, MonitoredStepped, State, Stepped, Stores}
-use Rattle.rv_monitor.proofs.Prelude.{aligned_to_4, bare, cfg_of, confined, handled, length-write, monitored_step, returned, returned_to, seated, step, unhandled}
+use Rattle.rv_monitor.specs.State.{HasLayout}
+use Rattle.rv_pmp.specs.Entries.{cfg_of}
+use Rattle.rv_memory.proofs.MemoryLaws.{length-write}
+use Rattle.rv_monitor.proofs.Prelude.{AgreeOn, CsrState, Handled, Hart, HasNoLock, IsConfined, IsOwn, IsSeated, KeepsHost, MonitoredState}
+use Rattle.rv_monitor.proofs.Prelude.{MonitoredStepped, SameIn, State, Stepped, Stores, aligned_to_4, bare, confined, handled, monitored_step}
+use Rattle.rv_monitor.proofs.Prelude.{returned, returned_to, seated, sound_by_size, step, unhandled}
 use Rattle.rv_monitor.proofs.Types.{Seat, Shared, Span, StepOutcome, Trap, World}
 use Rattle.rv_monitor.proofs.Ready.{IsTrapped, IsDone, IsLaidOut, handled_done, handled_laid_out}
 use Rattle.rv_monitor.proofs.TrapSteps.{by_step, hart_after, seat_after}

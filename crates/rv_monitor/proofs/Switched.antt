@@ -3,14 +3,13 @@ use Rattle.std.proofs.Common.{◌≡◌, ℕ, ◌==◌, ◌⊎◌, true, false, 
 use Rattle.std.specs.Prelude.{◌%◌, ◌&&◌, not}
 use Rattle.std.proofs.lemmas.Bool.{and_parts, both_ways}
 use Rattle.std.proofs.lemmas.Bool.Decides.{nat_tests}
-use Rattle.rv_state.specs.SContexts.{s_context, with_s_context, KeepsOwn}
+use Rattle.rv_state.specs.SContexts.{s_context, with_s_context}
 use Rattle.rv_state.specs.declared.s_context.SContext.{SContext}
-use Rattle.rv_enclaves.specs.Contexts.{IsStored, with_answer}
 use Rattle.rv_enclaves.proofs.Prelude.{can_go_on, is_host}
-use Rattle.rv_monitor.specs.State.{KeepsHost}
 use Rattle.rv_monitor.specs.SwitchLaws.{SwitchLaw}
-use Rattle.rv_monitor.proofs.Prelude.{CsrState, Handled, HostIsStored, MonitoredState, StaysOrSwitches, a0, aligned_to_4, bare, entered_slot, handled}
-use Rattle.rv_monitor.proofs.Prelude.{is_machine, left_slot, monitored_step, past_call, reason, returned, saved, step, value}
+use Rattle.rv_monitor.proofs.Prelude.{CsrState, Handled, HostIsStored, IsStored, KeepsHost, KeepsOwn, MonitoredState, StaysOrSwitches, a0}
+use Rattle.rv_monitor.proofs.Prelude.{aligned_to_4, bare, entered_slot, handled, is_machine, left_slot, monitored_step, past_call, reason, returned}
+use Rattle.rv_monitor.proofs.Prelude.{saved, step, value, with_answer}
 use Rattle.rv_monitor.proofs.Types.{Context, Enclave, Host, Mode, S, Seat, Shared, StepOutcome, Trap}
 use Rattle.rv_monitor.proofs.TrapSteps.{by_step, seat_after}
 use Rattle.rv_monitor.proofs.Works.{by_work}

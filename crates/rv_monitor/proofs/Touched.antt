@@ -1,12 +1,11 @@
 -- What a step's instruction touches is in the reach of the world that runs.
 use Rattle.std.proofs.Common.{◌≡◌, ◌≢◌, ◌⊎◌, ℕ, false, Option, Some, None, Result, Ok, Err, refl, sym, ◌∙◌, subst, inl, inr}
 use Rattle.rv_word.specs.declared.width.Width.TheVariants.{Word}
-use Rattle.rv_memory.specs.declared.touched.Touched.{Touched}
 use Rattle.rv_hart.specs.Step.{retired_or_trapped, span}
 use Rattle.rv_hart.proofs.StepCases.{by_ways}
 use Rattle.rv_monitor.specs.Touches.{executes, IsReached, IsTouchedInReach, TouchLaw}
 use Rattle.rv_monitor.proofs.Prelude.{Hart, IsOwn, MayTouch, MonitoredState, State, Stepped, bare, data_mode, step, touches_permitted}
-use Rattle.rv_monitor.proofs.Types.{Access, Fetch, M, Mode, Read, Span, Trap, Write}
+use Rattle.rv_monitor.proofs.Types.{Access, Fetch, M, Mode, Read, Span, Touched, Trap, Write}
 use Rattle.rv_monitor.proofs.KeptReaches.{kept_reach, below_M, clear_mode}
 use Rattle.rv_monitor.proofs.TrapSteps.{same_outcome}
 
