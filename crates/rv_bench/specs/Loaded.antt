@@ -6,7 +6,7 @@ use Rattle.rv_pmp.specs.declared.mode.Mode.TheVariants.{M}
 use Rattle.rv_hart.specs.Hart.{at_reset}
 use Rattle.rv_memory.specs.Memory.{is_ram_size}
 use Rattle.rv_memory.specs.declared.ram_fault.RamFault.TheVariants.{BadSize, NoMemory as NoRamMemory}
-use Rattle.rv_monitor.specs.State.{at_start, seen_from}
+use Rattle.rv_monitor.specs.State.{at_start}
 use Rattle.rv_monitor.specs.declared.harts.Harts.{Harts as MonitorHarts}
 use Rattle.rv_monitor.specs.declared.harts.Harts.TheVariants as monitor
 use Rattle.rv_debug.specs.BenchState.{BenchState, bare, monitored as monitored_bench}
@@ -45,7 +45,7 @@ harts_of Two = monitor.Two
 -- the bench at reset over a memory: the image alone on one hart in mode M, or the host on each hart above the monitor, with hart 0 chosen
 abbrev pub reset_over : Setup → List ℕ → ℕ → BenchState
 reset_over setup memory entry =
-    if setup.monitored then monitored_bench (seen_from 0 (at_start memory entry (harts_of setup.harts)))
+    if setup.monitored then monitored_bench (at_start memory entry (harts_of setup.harts))
     else bare (record { hart = at_reset entry M; memory = memory })
 
 -- the bench at reset, or the first fault: of the RAM's size, then of the image

@@ -3,7 +3,7 @@ use Rattle.std.proofs.Common.{◌≡◌, ℕ, ◌==◌, ltb, Bool, true, false, 
 use Rattle.std.proofs.Common.{◌∙◌, ap, arith}
 use Rattle.std.proofs.lemmas.Bool.Decides.{nat_tests}
 use Rattle.std.proofs.lemmas.List.Folds.{list_any-append}
-use Rattle.rv_debug.specs.Addresses.{is_among, with_address, without_address}
+use Rattle.rv_debug.proofs.Prelude.{is_among, with_address, without_address}
 
 no_and : (b : Bool) → false ≡ (b && false)
 no_and true = refl

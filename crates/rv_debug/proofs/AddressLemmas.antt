@@ -11,8 +11,9 @@ use Rattle.std.specs.List.Sorted.{IsBinarySearchResult}
 use Rattle.std.specs.Ordering.{nat_cmp}
 use Rattle.std.specs.Result.{is_ok}
 use Rattle.std.specs.List.{find, insert, remove}
-use Rattle.rv_debug.specs.Addresses.{RisesAbove, Rises, HasPlace, is_among, with_address, without_address, with_room_for}
-use Rattle.rv_debug.specs.Stops.{is_between, is_in, lower, lowest}
+use Rattle.rv_debug.specs.Addresses.{RisesAbove, Rises, with_room_for}
+use Rattle.rv_debug.specs.Stops.{is_between, lower, lowest}
+use Rattle.rv_debug.proofs.Prelude.{HasPlace, is_among, is_in, with_address, without_address}
 
 pub rises_above-weaker : (a b : ℕ) (xs : List ℕ) → a ≤ b → RisesAbove b xs → RisesAbove a xs
 rises_above-weaker a b [] le all = tt

@@ -3,8 +3,8 @@ use Rattle.std.proofs.Common.{◌≡◌, ℕ, List, take, ap, sym, ◌∙◌}
 use Rattle.rv_script.specs.Command.{parse_of}
 use Rattle.rv_script.proofs.Commands.{parse_of-cut}
 use Rattle.rv_debug.specs.Answer.{answer_or_fault, line_answer}
-use Rattle.rv_debug.specs.BenchState.{BenchState}
 use Rattle.rv_debug.specs.BothBenches.{both_line_answer, both_told}
+use Rattle.rv_debug.proofs.Prelude.{BenchState}
 
 -- 121 bytes of a line say what the whole line says
 line_answer-cut : (bench : BenchState) (line : List ℕ) → line_answer bench (take 121 line) ≡ line_answer bench line

@@ -1,58 +1,45 @@
 -- The law of confidentiality of a command: two benches that agree but for an enclave show and leave the same, where they do not enter it.
-use Rattle.std.proofs.Common.{◌≡◌, ℕ, zero, suc, ◌==◌, ◌-◌, Bool, true, false, List, [], ◌∷◌, Option, refl, sym, ◌∙◌, ap, ap₂, subst, inl, inr, not}
+use Rattle.std.proofs.Common.{◌≡◌, ℕ, zero, suc, ◌==◌, ◌+◌, ◌-◌, ◌<◌, ◌≤◌, Bool, true, false, List, [], ◌∷◌, Option, refl, sym, ◌∙◌, ap, ap₂, subst, inl, inr, not}
+use Rattle.std.proofs.Common.{arith}
+use Rattle.std.specs.List.{range_with_len}
 use Rattle.std.specs.Option.{option_map}
-use Rattle.std.proofs.lemmas.Bool.{cases_Bool}
-use Rattle.rv_word.specs.Cases.{option_case, result_case}
-use Rattle.rv_word.specs.Widths.{bytes_in}
+use Rattle.std.proofs.lemmas.Bool.{cases_Bool, cases_eq, cases_lt}
+use Rattle.rv_word.specs.Cases.{result_case}
 use Rattle.rv_word.specs.declared.width.Width.{Width}
-use Rattle.rv_memory.specs.Memory.{is_inside, read, write, write_bytes, ram_base, number_of_bytes}
-use Rattle.rv_pmp.specs.Entries.{Entries}
+use Rattle.rv_memory.specs.Memory.{number_of_bytes}
 use Rattle.rv_pmp.specs.declared.access.Access.{Access as AccessKind}
 use Rattle.rv_pmp.specs.declared.mode.Mode.{Mode}
-use Rattle.rv_pmp.specs.declared.mode.Mode.TheVariants.{M}
-use Rattle.rv_state.specs.CsrTable.{read_result}
-use Rattle.rv_state.specs.Registers.{register, with_register}
-use Rattle.rv_hart.specs.State.{State}
 use Rattle.std.specs.Prelude.{nat_lt, ◌++◌, if◌then◌else◌}
-use Rattle.rv_monitor.specs.State.{MonitoredState, OnTurn, IsKept, count_of, machine_of}
-use Rattle.rv_monitor.specs.declared.seat.Seat.{Seat}
-use Rattle.rv_monitor.specs.AgreeBut.{AgreeBut}
-use Rattle.rv_monitor.specs.HartLaws.{RunsOnNone}
-use Rattle.rv_monitor.proofs.Agreeing.{seat_agree, shared_agree}
+use Rattle.rv_monitor.proofs.Agreeing.{changed_agree}
 use Rattle.rv_monitor.proofs.MonitoredAlike.{gone_equal}
-use Rattle.rv_monitor.proofs.Turned.{seen_twice}
-use Rattle.rv_enclaves.specs.SharedButFor.{AgreeOutside, is_private}
-use Rattle.rv_enclaves.specs.Blocks.{meets}
+use Rattle.rv_monitor.proofs.Places.{past_seat}
 use Rattle.rv_enclaves.specs.Layout.{layout}
-use Rattle.rv_enclaves.specs.Table.{Slots, region, is_world_of}
 use Rattle.rv_enclaves.specs.declared.block.Block.{Block}
 use Rattle.rv_enclaves.specs.declared.shared.Shared.{Shared}
 use Rattle.rv_enclaves.specs.declared.world.World.{World}
-use Rattle.rv_enclaves.proofs.Agreement.{same_read, read-none, write-none, write-some, same_write}
+use Rattle.rv_enclaves.proofs.Agreement.{same_read, read-none, write-none, same_write}
 use Rattle.rv_enclaves.proofs.Alike.{seen_block}
-use Rattle.rv_script.specs.Schedules.{harts_in, has_all}
-use Rattle.rv_script.specs.declared.command.Command.{Command}
-use Rattle.rv_script.specs.declared.command.Command.TheVariants.{Step, Run, Reg, Regs, SetReg, Csr, Mem, Poke, Dis, Pmp, Enclaves, Access, Timer, Hart, Sched}
-use Rattle.rv_debug.specs.Answer.{Answered, access_reply, answer, hart_told, harts_told, ran_reply}
-use Rattle.rv_debug.specs.BenchState.{BenchState}
+use Rattle.rv_script.specs.Schedules.{harts_in}
+use Rattle.rv_script.specs.declared.command.Command.TheVariants.{Step, Run, Reg, Regs, SetReg, Csr, Mem, Dis, Pmp, Enclaves, Access, Timer, Hart, Sched}
+use Rattle.rv_debug.specs.Answer.{hart_told, harts_told, ran_reply}
 use Rattle.rv_debug.specs.Confidentiality.{AgreeAgain, ConfidentialityLaw}
-use Rattle.rv_debug.specs.Deeds.{Deed, Nothing, Steps, deed, done, entered_by, run_deed, steps_of}
 use Rattle.rv_debug.specs.EnclaveText.{table_text}
-use Rattle.rv_debug.specs.ReplyText.{csr_text, dis_text, hart_text, memory_text, no_csr_text, no_hart_text, ok_text, outside_text, pmp_text, ran_text, register_text, registers_text}
-use Rattle.rv_debug.specs.Turns.{AfterTurns, no_turns, turns}
-use Rattle.rv_debug.specs.Steps.{AfterRun, no_steps, run}
-use Rattle.rv_debug.specs.Targets.{chosen_at, IsBare, KeepsMonitor, monitored_stepped, over_memory, turned_to, world_name}
-use Rattle.rv_debug.specs.BothBenches.{BenchesAgreeBut, ChosenAgreeBut, PassesBy, RestsIn, TargetsAgreeBut, is_blind, is_entered}
-use Rattle.rv_debug.specs.declared.scheduled.HartRan.{HartRan}
-use Rattle.rv_debug.specs.declared.scheduled.Scheduled.{Scheduled}
-use Rattle.rv_debug.specs.declared.steps.Ran.{Ran}
-use Rattle.rv_debug.specs.declared.target.Target.{Target}
-use Rattle.rv_debug.specs.declared.target.Target.TheVariants.{Bare, Monitored}
+use Rattle.rv_debug.specs.ReplyText.{hart_text, no_hart_text}
+use Rattle.rv_debug.specs.Targets.{world_name}
+use Rattle.rv_debug.specs.BothBenches.{PassesBy}
+use Rattle.rv_debug.proofs.Prelude.{AfterRun, AfterTurns, AgreeBut, AgreeOutside, Answered, BenchState, BenchesAgreeBut, Chosen, ChosenAgreeBut, Deed}
+use Rattle.rv_debug.proofs.Prelude.{Entries, IsBare, IsKept, KeepsMonitor, Machine, Nothing, RestsIn, RunsOnNone, Slots, State, Steps}
+use Rattle.rv_debug.proofs.Prelude.{TargetsAgreeBut, access_reply, answer, bytes_in, chosen_at, count_of, csr_text, deed, dis_text, done, entered_by}
+use Rattle.rv_debug.proofs.Prelude.{has_all, is_blind, is_entered, is_inside, is_private, is_world_of, meets, memory_text, no_csr_text, no_steps}
+use Rattle.rv_debug.proofs.Prelude.{no_turns, ok_text, option_case, outside_text, over_memory, own_kept, pmp_text, ram_base, ran_text, read}
+use Rattle.rv_debug.proofs.Prelude.{read_result, reg_set, region, register, register_text, registers_text, run, run_deed, runs_on, seat_of}
+use Rattle.rv_debug.proofs.Prelude.{shared_agree, steps_of, timer_set, turns, with_chosen, write, write-some, write_bytes}
+use Rattle.rv_debug.proofs.Types.{Bare, Command, HartRan, M, Monitored, Poke, Ran, Scheduled, Seat, Target}
 use Rattle.rv_debug.proofs.DeedsKept.{bare_done, keeps_monitor, poke_of}
 use Rattle.rv_debug.proofs.RunTurns.{run_done, run_entered}
-use Rattle.rv_debug.proofs.SchedAlike.{BothPast, turned_agree, turns_alike}
+use Rattle.rv_debug.proofs.SchedAlike.{BothPast, turns_alike}
 use Rattle.rv_debug.proofs.StepsAlike.{RunAlike, run-alike}
-use Rattle.rv_debug.proofs.TargetRuns.{monitored_pc, target_of, run_monitored}
+use Rattle.rv_debug.proofs.TargetRuns.{hart_pc, hart_stepped, target_of, run_monitored}
 use Rattle.rv_debug.proofs.Turns.{after_turns}
 
 -- ---- what is shown of both, before it is said that they are equal once the enclave is gone
@@ -82,14 +69,13 @@ passes e one other breaks watches reply reply' agree same = record {
 
 -- ---- steps of named harts, of which the same is told of both
 
-same_line : (e hart : ℕ) (ran : HartRan) (one other : OnTurn) → ChosenAgreeBut e one other → RestsIn e (Monitored one)
+same_line : (e hart : ℕ) (ran : HartRan) (one other : Chosen) → ChosenAgreeBut e one other → RestsIn e (Monitored one)
     → hart_told (Monitored one) hart ran ≡ hart_told (Monitored other) hart ran
 same_line e hart ran one other agree rests =
-    let seen = turned_agree e hart one other agree in
-    let seats = (let state = seen.state in state.seats 0) in
+    let seats = (let state = agree.state in state.seats hart) in
     ap (λ (seat : Seat). hart_text hart seat.hart.pc seat.hart.mode (world_name seat.world) ran) (seats.same (rests hart))
 
-same_lines : (e : ℕ) (did : Scheduled) (one other : OnTurn) → ChosenAgreeBut e one other → RestsIn e (Monitored one)
+same_lines : (e : ℕ) (did : Scheduled) (one other : Chosen) → ChosenAgreeBut e one other → RestsIn e (Monitored one)
     → harts_told (after_turns (Monitored one) did) ≡ harts_told (after_turns (Monitored other) did)
 same_lines e did one other agree rests =
     let state = agree.state in
@@ -99,9 +85,9 @@ same_lines e did one other agree rests =
 -- the answer that tells of them
 abbrev told_turns : ℕ → List ℕ → List ℕ → AfterTurns → Answered
 told_turns hart breaks watches after =
-    record { state = over (turned_to hart after.state) breaks watches; reply = harts_told after; entered = after.did.entered }
+    record { state = over (with_chosen hart after.state) breaks watches; reply = harts_told after; entered = after.did.entered }
 
-past_alike : (e hart : ℕ) (breaks watches : List ℕ) (did did' : Scheduled) (one other : OnTurn) → did ≡ did' → ChosenAgreeBut e one other
+past_alike : (e hart : ℕ) (breaks watches : List ℕ) (did did' : Scheduled) (one other : Chosen) → did ≡ did' → ChosenAgreeBut e one other
     → RestsIn e (Monitored one)
     → Alike e (told_turns hart breaks watches (after_turns (Monitored one) did)) (told_turns hart breaks watches (after_turns (Monitored other) did'))
 past_alike e hart breaks watches did did' one other same agree rests =
@@ -112,7 +98,7 @@ past_alike e hart breaks watches did did' one other same agree rests =
       passed = λ none. record {
         reply = same_lines e did one other agree rests;
         entered = refl;
-        state = record { target = turned_agree e hart one other agree; breaks = refl; watches = refl };
+        state = record { target = record { hart = refl; state = agree.state }; breaks = refl; watches = refl };
       };
     })
 
@@ -145,11 +131,25 @@ run_told target breaks watches at_breaks at_watches count =
 
 -- ---- machines under the monitor
 
-module _ (e hart : ℕ) (one other : MonitoredState) (agree : AgreeBut e one other) (breaks watches : List ℕ) where
-  abbrev at : MonitoredState → Target
+-- the enclave runs on no hart, where it runs on none that there is
+on_none : (e n first j : ℕ) (machine : Machine) → RunsOnNone e (range_with_len first n) machine → first ≤ j → j < first + n → runs_on e j machine ≡ false
+on_none e zero first j machine none low high = absurd (omega (arith, low, high))
+on_none e (suc n) first j machine none low high = elim (cases_eq j first) [
+  | inl same ↦ ap (λ (hart : ℕ). runs_on e hart machine) same ∙ none.0
+  | inr other ↦ on_none e n (first + 1) j machine none.1 (omega (arith, low, other)) (omega (arith, high))
+]
+
+all_rest : (e : ℕ) (machine : Machine) → RunsOnNone e (range_with_len 0 (count_of machine)) machine → (hart : ℕ) → runs_on e hart machine ≡ false
+all_rest e machine none hart = elim (cases_lt hart (count_of machine)) [
+  | inl has ↦ on_none e (count_of machine) 0 hart machine none (omega arith) (omega (arith, has))
+  | inr past ↦ ap (λ (seat : Seat). is_world_of e seat.world) (past_seat machine.seats hart past)
+]
+
+module _ (e hart : ℕ) (one other : Machine) (agree : AgreeBut e one other) (breaks watches : List ℕ) where
+  abbrev at : Machine → Target
   at machine = chosen_at hart machine
 
-  abbrev on : MonitoredState → OnTurn
+  abbrev on : Machine → Chosen
   on machine = record { hart = hart; state = machine }
 
   abbrev here : BenchState
@@ -168,25 +168,24 @@ module _ (e hart : ℕ) (one other : MonitoredState) (agree : AgreeBut e one oth
 
   -- ---- what is shown of a hart that does not run the enclave
 
-  own_rests : PassesBy e here Regs → is_world_of e one.seat.world ≡ false
-  own_rests by = ap (λ (machine : MonitoredState). is_world_of e machine.seat.world) (sym (seen_twice hart one)) ∙ by.0
-
-  seats : PassesBy e here Regs → one.seat ≡ other.seat
-  seats by = let own = agree.seats 0 in own.same (own_rests by)
-
-  all_rest : RunsOnNone e (0 ∷ 1 ∷ []) (machine_of (on one)) → RestsIn e (at one)
-  all_rest none zero = none.0
-  all_rest none (suc n) = none.1.0
+  seats : PassesBy e here Regs → seat_of hart one ≡ seat_of hart other
+  seats by = let own = agree.seats hart in own.same by.0
 
   -- and of the entries of any, which are those of the table and its world
-  same_entries : IsKept one → IsKept other → one.seat.hart.csrs.pmp ≡ other.seat.hart.csrs.pmp
+  same_entries : IsKept one → IsKept other → (seat_of hart one).hart.csrs.pmp ≡ (seat_of hart other).hart.csrs.pmp
   same_entries kept kept' =
-      let own = agree.seats 0 in
-      let tables = (let shared = agree.shared in shared.table) in
-      let of : Slots → World → Entries = λ slots world. layout slots world in
-      let mine = kept.layout.entries in
-      let theirs = kept'.layout.entries in
-      mine ∙ ap₂ of tables own.world ∙ sym theirs
+      let own = agree.seats hart in
+      let size = agree.harts in
+      let entries : Seat → Entries = λ seat. seat.hart.csrs.pmp in
+      elim (cases_lt hart (count_of one)) [
+        | inr past ↦ ap entries (past_seat one.seats hart past ∙ sym (past_seat other.seats hart (omega (arith, size, past))))
+        | inl has ↦
+            let tables = (let shared = agree.shared in shared.table) in
+            let of : Slots → World → Entries = λ slots world. layout slots world in
+            let mine = (own_kept hart one kept has).layout.entries in
+            let theirs = (own_kept hart other kept' (omega (arith, size, has))).layout.entries in
+            mine ∙ ap₂ of tables own.world ∙ sym theirs
+      ]
 
   -- ---- what is shown of memory
 
@@ -219,7 +218,7 @@ module _ (e hart : ℕ) (one other : MonitoredState) (agree : AgreeBut e one oth
 
   -- ---- a byte that is poked
 
-  abbrev poke_answer : MonitoredState → Option (List ℕ) → Answered
+  abbrev poke_answer : Machine → Option (List ℕ) → Answered
   poke_answer machine memory =
       answered_with (poke_of (at machine) memory) breaks watches (option_case (option_map (over_memory (at machine)) memory) outside_text (λ after. ok_text))
 
@@ -252,7 +251,7 @@ module _ (e hart : ℕ) (one other : MonitoredState) (agree : AgreeBut e one oth
 
   -- ---- steps
 
-  steps-alike : (first second : AfterRun MonitoredState) → RunAlike e first second
+  steps-alike : (first second : AfterRun Machine) → RunAlike e hart first second
       → Alike e (steps_answer breaks watches (target_of (chosen_at hart) first)) (steps_answer breaks watches (target_of (chosen_at hart) second))
   steps-alike first second (inl both_in) = record {
     entered = both_in.here ∙ sym both_in.there;
@@ -262,7 +261,7 @@ module _ (e hart : ℕ) (one other : MonitoredState) (agree : AgreeBut e one oth
     entered = ap (λ (ran : Ran). is_entered e ran.entered) past.ran;
     passed = λ none. record {
       reply =
-          let own = (let state = past.state in state.seats 0) in
+          let own = (let state = past.state in state.seats hart) in
           ap₂ (λ (seat : Seat) (ran : Ran). ran_text seat.hart.pc seat.hart.mode (world_name seat.world) ran) (own.same past.rests) past.ran;
       entered = ap (λ (ran : Ran). ran.entered) past.ran;
       state = record { target = record { hart = refl; state = past.state }; breaks = refl; watches = refl };
@@ -270,8 +269,8 @@ module _ (e hart : ℕ) (one other : MonitoredState) (agree : AgreeBut e one oth
   }
 
   -- what is told of a run, said of the machine
-  run-is : (machine : MonitoredState) (at_breaks at_watches : List ℕ) (count : ℕ)
-      → (let ran = run monitored_stepped monitored_pc at_breaks at_watches count (no_steps machine) in
+  run-is : (machine : Machine) (at_breaks at_watches : List ℕ) (count : ℕ)
+      → (let ran = run (hart_stepped hart) (hart_pc hart) at_breaks at_watches count (no_steps machine) in
       run_answer (at machine) breaks watches at_breaks at_watches count ≡ steps_answer breaks watches (target_of (chosen_at hart) ran))
   run-is machine at_breaks at_watches count =
       run_told (at machine) breaks watches at_breaks at_watches count
@@ -283,24 +282,24 @@ module _ (e hart : ℕ) (one other : MonitoredState) (agree : AgreeBut e one oth
       subst (λ (first : Answered). Alike e first (run_answer (at other) breaks watches at_breaks at_watches count))
       (sym (run-is one at_breaks at_watches count))
       (subst (Alike e (steps_answer breaks watches _)) (sym (run-is other at_breaks at_watches count))
-      (steps-alike _ _ (run-alike e at_breaks at_watches count (no_steps one) other kept kept' agree (own_rests by))))
+      (steps-alike _ _ (run-alike e hart at_breaks at_watches count (no_steps one) other kept kept' agree by.0)))
 
   -- ---- harts
 
   hart-answers : (number : ℕ) (has has' : Bool) (reply : Bool → List ℕ) → has ≡ has'
-      → (let answers : MonitoredState → Bool → Answered =
+      → (let answers : Machine → Bool → Answered =
       λ machine known.
       let d : Deed = (if known then Steps [] number else Nothing) in
       record { state = over (done (at machine) d) breaks watches; reply = reply known; entered = entered_by (at machine) d } in
       Alike e (answers one has) (answers other has'))
   unfolding turns
   hart-answers number true true reply same =
-      passes e _ _ breaks watches (reply true) (reply true) (turned_agree e number (on one) (on other) both) refl
+      passes e _ _ breaks watches (reply true) (reply true) (record { hart = refl; state = agree }) refl
   hart-answers number false false reply same = shown (reply false) (reply false) refl
   hart-answers number true false reply same = cc
   hart-answers number false true reply same = cc
 
-  abbrev sched-told : MonitoredState → List ℕ → Bool → Answered
+  abbrev sched-told : Machine → List ℕ → Bool → Answered
   sched-told machine harts has =
       let d : Deed = (if has then Steps harts hart else Nothing) in
       record {
@@ -342,13 +341,11 @@ module _ (e hart : ℕ) (one other : MonitoredState) (agree : AgreeBut e one oth
       else result_case (read_result seat.hart.csrs number M) (csr_text number) (λ _. no_csr_text)) (seats by))
   alike (SetReg number value) kept kept' blind by = passes e _ _ breaks watches ok_text ok_text (record {
     hart = refl;
-    state = seat_agree e (λ (seat : Seat). record seat { hart = record seat.hart { regs = with_register seat.hart.regs number value } }) (λ seat. refl)
-        one other agree;
+    state = changed_agree e hart (reg_set number value) one other (λ seat. refl) agree;
   }) refl
   alike (Timer raised) kept kept' blind by = passes e _ _ breaks watches ok_text ok_text (record {
     hart = refl;
-    state = seat_agree e (λ (seat : Seat). record seat { hart = record seat.hart { csrs = record seat.hart.csrs { timer = raised } } }) (λ seat. refl)
-        one other agree;
+    state = changed_agree e hart (timer_set raised) one other (λ seat. refl) agree;
   }) refl
   alike (Mem address count) kept kept' blind by =
       shown _ _ (ap (λ (bytes : Option (List ℕ)). option_case bytes outside_text (memory_text address))
@@ -362,9 +359,9 @@ module _ (e hart : ℕ) (one other : MonitoredState) (agree : AgreeBut e one oth
       (ap (nat_lt number) agree.harts)
   alike (Sched schedule) kept kept' blind by =
       let harts = harts_in schedule in
-      sched-answers harts (has_all (count_of one) harts) (has_all (count_of other) harts) (ap (λ (n : ℕ). has_all n harts) agree.harts) kept kept' (all_rest by)
+      sched-answers harts (has_all (count_of one) harts) (has_all (count_of other) harts) (ap (λ (n : ℕ). has_all n harts) agree.harts) kept kept' (all_rest e one by)
   alike (Access mode access address width) kept kept' blind by =
-      shown _ _ (same-access one.seat.hart.csrs.pmp mode access address width
+      shown _ _ (same-access (seat_of hart one).hart.csrs.pmp mode access address width
       ∙ ap (λ (entries : Entries). access_reply other.shared.memory entries mode access address width) (same_entries kept kept'))
   alike Pmp kept kept' blind by = shown _ _ (ap pmp_text (same_entries kept kept'))
   alike Enclaves kept kept' blind by = shown _ _ (ap (λ (slots : Slots). table_text slots) (let shared = agree.shared in shared.table))
@@ -372,7 +369,7 @@ module _ (e hart : ℕ) (one other : MonitoredState) (agree : AgreeBut e one oth
 
 -- ---- any two benches
 
-monitored-alike : (e : ℕ) (one other : OnTurn) (breaks watches : List ℕ) (command : Command) → IsKept one.state → IsKept other.state
+monitored-alike : (e : ℕ) (one other : Chosen) (breaks watches : List ℕ) (command : Command) → IsKept one.state → IsKept other.state
     → ChosenAgreeBut e one other
     → is_blind e (over (Monitored one) breaks watches) command ≡ true → PassesBy e (over (Monitored one) breaks watches) command
     → Alike e (answer (over (Monitored one) breaks watches) command) (answer (over (Monitored other) breaks watches) command)
@@ -423,7 +420,7 @@ again e (Bare one) (Bare other) breaks watches kept agree = record {
 }
 again e (Monitored one) (Monitored other) breaks watches kept agree = record {
   but = record { target = agree; breaks = refl; watches = refl };
-  gone = λ none. ap₂ (λ (hart : ℕ) (machine : MonitoredState). over (chosen_at hart machine) breaks watches) agree.hart
+  gone = λ none. ap₂ (λ (hart : ℕ) (machine : Machine). over (chosen_at hart machine) breaks watches) agree.hart
       (gone_equal e one.state other.state kept agree.state none);
 }
 again e (Bare one) (Monitored other) breaks watches kept agree = absurd agree

@@ -4,21 +4,15 @@ use Rattle.std.proofs.Common.{◌∙◌, ap, ap₂, subst, inl, inr, arith, not}
 use Rattle.std.specs.Prelude.{◌&&◌, ◌||◌, if◌then◌else◌}
 use Rattle.std.proofs.lemmas.List.{drop_more, drop_all}
 use Rattle.std.proofs.lemmas.Bool.{cases_Bool, and_parts}
-use Rattle.rv_enclaves.specs.Blocks.{meets}
-use Rattle.rv_enclaves.specs.Table.{Slots, region}
 use Rattle.rv_script.specs.Command.{bytes_named}
-use Rattle.rv_script.specs.declared.command.Command.{Command}
-use Rattle.rv_debug.specs.Answer.{answer}
-use Rattle.rv_debug.specs.BenchState.{BenchState}
-use Rattle.rv_debug.specs.Confidentiality.{AlikeBy, AllPassBy, AnswerAlike, PassAll, PassBy, StayAlike}
-use Rattle.rv_debug.specs.Isolation.{after_commands}
-use Rattle.rv_debug.specs.Targets.{KeepsMonitor}
-use Rattle.rv_debug.specs.BothBenches.{BenchesAgreeBut, BothAnswered, BothRan, TargetsAgreeBut, both_answer, both_do, both_run, go_on, is_blind, is_entered}
+use Rattle.rv_debug.specs.Confidentiality.{AlikeBy, AnswerAlike, PassAll, PassBy}
+use Rattle.rv_debug.specs.BothBenches.{BothRan, both_answer, both_do, go_on}
 use Rattle.rv_debug.specs.BothBenches.{region_of}
 use Rattle.rv_debug.specs.declared.both.BothWhy.{BothWhy}
 use Rattle.rv_debug.specs.declared.both.BothWhy.TheVariants.{All, Entered, NotBlind}
-use Rattle.rv_debug.specs.declared.target.Target.{Target}
-use Rattle.rv_debug.specs.declared.target.Target.TheVariants.{Bare, Monitored}
+use Rattle.rv_debug.proofs.Prelude.{AllPassBy, BenchState, BenchesAgreeBut, BothAnswered, KeepsMonitor, Slots, StayAlike, TargetsAgreeBut}
+use Rattle.rv_debug.proofs.Prelude.{after_commands, answer, both_run, is_blind, is_entered, meets, region}
+use Rattle.rv_debug.proofs.Types.{Bare, Command, Monitored, Target}
 use Rattle.rv_debug.proofs.AnswersAlike.{agree_again, confidentiality}
 use Rattle.rv_debug.proofs.DeedsKept.{keeps_monitor}
 

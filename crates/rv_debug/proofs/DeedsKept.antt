@@ -1,22 +1,12 @@
 -- What is true in every state of a target is kept by what is done.
-use Rattle.std.proofs.Common.{◌≡◌, ℕ, Bool, List, [], ◌∷◌, Option, Some, None, refl, sym, subst}
+use Rattle.std.proofs.Common.{◌≡◌, ℕ, List, [], ◌∷◌, Option, Some, None, refl, sym, subst}
 use Rattle.std.specs.Option.{option_map}
-use Rattle.rv_word.specs.Cases.{option_case}
-use Rattle.rv_memory.specs.Memory.{write}
-use Rattle.rv_memory.proofs.MemoryLaws.{length-write}
 use Rattle.rv_state.specs.Registers.{with_register}
-use Rattle.rv_hart.specs.State.{State}
-use Rattle.rv_monitor.specs.State.{MonitoredState, OnTurn, IsKept}
-use Rattle.rv_monitor.proofs.StepKept.{kept_by_size}
-use Rattle.rv_script.specs.declared.command.Command.{Command}
-use Rattle.rv_debug.specs.Answer.{answer}
-use Rattle.rv_debug.specs.BenchState.{BenchState}
-use Rattle.rv_debug.specs.Deeds.{Deed, Nothing, Steps, Register, TimerLine, OneByte, deed, done}
-use Rattle.rv_debug.specs.Turns.{no_turns}
-use Rattle.rv_debug.specs.Targets.{IsBare, KeepsMonitor, over_memory}
-use Rattle.rv_debug.specs.declared.target.Target.{Target}
-use Rattle.rv_debug.specs.declared.target.Target.TheVariants.{Bare, Monitored}
-use Rattle.rv_debug.proofs.Turns.{bare_kept, sched_keeps, stays_bare, turned_bare, turns_are_sched}
+use Rattle.rv_monitor.proofs.Kept.{kept_by_size, written_kept}
+use Rattle.rv_debug.proofs.Prelude.{BenchState, Chosen, Deed, IsBare, IsKept, KeepsMonitor, Nothing, OneByte, Register, State, Steps, TimerLine}
+use Rattle.rv_debug.proofs.Prelude.{answer, chosen_seat, deed, done, length-write, no_turns, option_case, over_memory, sched_kept, write}
+use Rattle.rv_debug.proofs.Types.{Bare, Command, Monitored, Target}
+use Rattle.rv_debug.proofs.Turns.{bare_kept, stays_bare, turned_bare, turns_are_sched}
 
 -- what is left where a byte is written, or is not in memory
 abbrev pub poke_of : Target → Option (List ℕ) → Target
@@ -35,38 +25,18 @@ bare_done machine _ = tt
 
 -- ---- a machine under the monitor
 
--- what is true in every state knows nothing of the registers and the timer line
-writes_keep : (machine : MonitoredState) (regs : List ℕ) (raised : Bool) → IsKept machine
-    → IsKept
-    (record machine { seat = record machine.seat { hart = record machine.seat.hart { regs = regs; csrs = record machine.seat.hart.csrs { timer = raised } } } })
-writes_keep machine regs raised kept = record {
-  shared = kept.shared;
-  other = kept.other;
-  host = record { kept = kept.host.kept; held = kept.host.held };
-  layout = record {
-    entries = kept.layout.entries;
-    mie = kept.layout.mie;
-    mode = kept.layout.mode;
-    mstatus_mie = kept.layout.mstatus_mie;
-    mprv = kept.layout.mprv;
-    tvm = kept.layout.tvm;
-    tw = kept.layout.tw;
-    tsr = kept.layout.tsr;
-  };
-}
-
-poke_keeps : (machine : OnTurn) (address byte : ℕ) (memory : Option (List ℕ)) → write machine.state.shared.memory address (byte ∷ []) ≡ memory
+poke_keeps : (machine : Chosen) (address byte : ℕ) (memory : Option (List ℕ)) → write machine.state.shared.memory address (byte ∷ []) ≡ memory
     → IsKept machine.state → KeepsMonitor (poke_of (Monitored machine) memory)
 poke_keeps machine address byte None is kept = kept
 poke_keeps machine address byte (Some memory) is kept =
     kept_by_size machine.state memory kept (sym (length-write machine.state.shared.memory address (byte ∷ []) memory is))
 
-monitored_keeps : (machine : OnTurn) (d : Deed) → IsKept machine.state → KeepsMonitor (done (Monitored machine) d)
+monitored_keeps : (machine : Chosen) (d : Deed) → IsKept machine.state → KeepsMonitor (done (Monitored machine) d)
 monitored_keeps machine Nothing kept = kept
-monitored_keeps machine (Steps harts chosen) kept = subst KeepsMonitor (sym (turns_are_sched harts machine chosen)) (sched_keeps harts machine chosen kept)
+monitored_keeps machine (Steps harts chosen) kept = subst KeepsMonitor (sym (turns_are_sched harts machine _ chosen)) (sched_kept harts machine.state kept)
 monitored_keeps machine (Register number value) kept =
-    writes_keep machine.state (with_register machine.state.seat.hart.regs number value) machine.state.seat.hart.csrs.timer kept
-monitored_keeps machine (TimerLine raised) kept = writes_keep machine.state machine.state.seat.hart.regs raised kept
+    let hart = (chosen_seat machine).hart in written_kept machine.hart (with_register hart.regs number value) hart.csrs.timer machine.state kept
+monitored_keeps machine (TimerLine raised) kept = written_kept machine.hart (chosen_seat machine).hart.regs raised machine.state kept
 monitored_keeps machine (OneByte address byte) kept =
     poke_keeps machine address byte (write machine.state.shared.memory address (byte ∷ [])) refl kept
 

@@ -2,61 +2,45 @@
 use Rattle.std.proofs.Common.{◌≡◌, ◌≢◌, ℕ, ◌+◌, ◌<◌, ◌≤◌, ◌⊎◌, true, false, List, [], ◌∷◌, Option, Some, None, refl}
 use Rattle.std.proofs.Common.{sym, ◌∙◌, subst, inl, inr, arith, ap}
 use Rattle.std.proofs.lemmas.Bool.{cases_lt, cases_eq}
-use Rattle.rv_memory.specs.Memory.{read, write, byte_at}
+use Rattle.rv_memory.specs.Memory.{byte_at}
 use Rattle.rv_memory.proofs.MemoryLaws.{byte_at-write}
-use Rattle.rv_hart.specs.State.{State}
-use Rattle.rv_monitor.specs.AgreeBut.{runs_on}
-use Rattle.rv_monitor.specs.HartLaws.{IsLeftAlone, RunsOnNone, sched}
-use Rattle.rv_monitor.specs.Integrity.{IsSpared}
-use Rattle.rv_monitor.specs.State.{OnTurn, IsKept, machine_of}
+use Rattle.rv_monitor.specs.HartLaws.{IsLeftAlone}
 use Rattle.rv_monitor.proofs.HartsSpare.{running_law, sched_changes, sched_spares, spared_twice}
 use Rattle.rv_monitor.proofs.KeptReaches.{kept_reach}
-use Rattle.rv_monitor.proofs.Turned.{seen_kept}
-use Rattle.rv_enclaves.specs.Blocks.{has}
-use Rattle.rv_enclaves.specs.Table.{is_live, region}
-use Rattle.rv_enclaves.specs.declared.shared.Shared.{Shared}
-use Rattle.rv_script.specs.declared.command.Command.{Command}
 use Rattle.rv_script.specs.declared.command.Command.TheVariants.{Access}
-use Rattle.rv_debug.specs.Answer.{answer}
-use Rattle.rv_debug.specs.BenchState.{BenchState}
-use Rattle.rv_debug.specs.Deeds.{Deed, Steps, OneByte, deed, done, harts_stepped}
-use Rattle.rv_debug.specs.Isolation.{TellsReach, ChangesMemory, IntegrityLaw, IsLiveIn, IsMonitored, IsSparedIn, MayChange, PokesNone, RestsThroughDeed, RunningLaw, SparesResting}
-use Rattle.rv_debug.specs.Isolation.{after_commands}
-use Rattle.rv_debug.specs.Targets.{KeepsMonitor, memory_of}
-use Rattle.rv_debug.specs.declared.target.Target.{Target}
-use Rattle.rv_debug.specs.declared.target.Target.TheVariants.{Bare, Monitored}
+use Rattle.rv_debug.specs.Isolation.{TellsReach, IntegrityLaw, IsLiveIn, IsMonitored, MayChange, PokesNone, RestsThroughDeed, RunningLaw}
+use Rattle.rv_debug.specs.Targets.{memory_of}
+use Rattle.rv_debug.proofs.Prelude.{BenchState, ChangesMemory, Chosen, Deed, IsKept, IsSparedIn, KeepsMonitor, OneByte, RunsOnNone, SparesResting}
+use Rattle.rv_debug.proofs.Prelude.{State, Steps, after_commands, answer, chosen_of, deed, done, harts_of, harts_stepped, has, own_kept, read, region}
+use Rattle.rv_debug.proofs.Prelude.{runs_on, seen_by, write}
+use Rattle.rv_debug.proofs.Types.{Bare, Command, Monitored, Target}
 use Rattle.rv_debug.proofs.DeedsKept.{keeps_monitor, poke_of}
-use Rattle.rv_debug.proofs.Turns.{shared_after, shared_before, turns_are_sched}
+use Rattle.rv_debug.proofs.Turns.{turns_are_sched}
 
 -- ---- reach
 
-pub tells_reach : (target : Target) (command : Command) → KeepsMonitor target → TellsReach target command
+pub tells_reach : (target : Target) (command : Command) → KeepsMonitor target → chosen_of target < harts_of target → TellsReach target command
 unfolding read
-tells_reach (Monitored chosen) (Access mode access address width) kept = λ below inside. record {
+tells_reach (Monitored chosen) (Access mode access address width) kept has = λ below inside. record {
   told = rw inside refl;
-  exact = kept_reach chosen.state mode access address width kept below inside;
+  exact = kept_reach (seen_by chosen.hart chosen.state) mode access address width (own_kept chosen.hart chosen.state kept has) below inside;
 }
-tells_reach _ _ kept = tt
+tells_reach _ _ kept has = tt
 
 -- ---- what is spared
 
-itself : (k : ℕ) (chosen : OnTurn) → IsSparedIn k (Monitored chosen) (Monitored chosen)
+itself : (k : ℕ) (chosen : Chosen) → IsSparedIn k (Monitored chosen) (Monitored chosen)
 itself k chosen = record { slot = refl; bytes = λ byte own. refl; context = refl }
 
-steps_spare : (k chosen : ℕ) (harts : List ℕ) (machine : OnTurn) → IsKept machine.state → IsLeftAlone k harts (machine_of machine)
+steps_spare : (k chosen : ℕ) (harts : List ℕ) (machine : Chosen) → IsKept machine.state → IsLeftAlone k harts machine.state
     → IsSparedIn k (Monitored machine) (done (Monitored machine) (Steps harts chosen))
 steps_spare k chosen harts machine kept alone =
-    let before = machine.state.shared in
-    let end = (sched harts (machine_of machine)).state in
-    let spared = sched_spares k harts (machine_of machine) (seen_kept machine.hart machine.state kept) alone in
-    subst (IsSparedIn k (Monitored machine)) (sym (turns_are_sched harts machine chosen))
-    (subst (IsSpared k before) (sym (shared_after chosen end))
-    (subst (λ (shared : Shared). IsSpared k shared end.shared) (shared_before machine) spared.spared))
+    subst (IsSparedIn k (Monitored machine)) (sym (turns_are_sched harts machine _ chosen)) (sched_spares k harts machine.state kept alone).spared
 
 beside : (byte address : ℕ) → byte ≢ address → byte < address ⊎ address + 1 ≤ byte
 beside byte address other = elim (cases_lt byte address) [ inl below ↦ inl below | inr above ↦ inr (omega (arith, other)) ]
 
-poke_spares : (k address byte : ℕ) (machine : OnTurn) (memory : Option (List ℕ)) → write machine.state.shared.memory address (byte ∷ []) ≡ memory
+poke_spares : (k address byte : ℕ) (machine : Chosen) (memory : Option (List ℕ)) → write machine.state.shared.memory address (byte ∷ []) ≡ memory
     → has (region machine.state.shared.table k) address ≡ false → IsSparedIn k (Monitored machine) (poke_of (Monitored machine) memory)
 poke_spares k address byte machine None is apart = itself k machine
 poke_spares k address byte machine (Some memory) is apart =
@@ -69,7 +53,7 @@ poke_spares k address byte machine (Some memory) is apart =
       context = refl;
     }
 
-deed_spares : (k : ℕ) (machine : OnTurn) (d : Deed) → IsKept machine.state → RestsThroughDeed k (Monitored machine) d
+deed_spares : (k : ℕ) (machine : Chosen) (d : Deed) → IsKept machine.state → RestsThroughDeed k (Monitored machine) d
     → IsSparedIn k (Monitored machine) (done (Monitored machine) d)
 deed_spares k machine (Steps harts chosen) kept rests = steps_spare k chosen harts machine kept rests
 deed_spares k machine (OneByte address byte) kept rests =
@@ -92,17 +76,14 @@ spares_resting bench command kept = spares bench.target (deed bench command) kep
 
 -- ---- an enclave that runs on a hart which no step is of
 
-rests_by : (k own : ℕ) (chosen : OnTurn) (d : Deed) → IsKept chosen.state → runs_on k own (machine_of chosen) ≡ true
-    → RunsOnNone k (harts_stepped d) (machine_of chosen) → PokesNone k (Monitored chosen) d → RestsThroughDeed k (Monitored chosen) d
+rests_by : (k own : ℕ) (chosen : Chosen) (d : Deed) → IsKept chosen.state → runs_on k own chosen.state ≡ true
+    → RunsOnNone k (harts_stepped d) chosen.state → PokesNone k (Monitored chosen) d → RestsThroughDeed k (Monitored chosen) d
 rests_by k own chosen d kept runs none pokes = by d none pokes where
-  machine_kept : IsKept (machine_of chosen)
-  machine_kept = seen_kept chosen.hart chosen.state kept
-
   live : IsLiveIn k (Monitored chosen)
-  live = ap (λ (shared : Shared). is_live shared.table k) (sym (shared_before chosen)) ∙ running_law k own [] (machine_of chosen) machine_kept runs tt
+  live = running_law k own [] chosen.state kept runs tt
 
-  by : (d : Deed) → RunsOnNone k (harts_stepped d) (machine_of chosen) → PokesNone k (Monitored chosen) d → RestsThroughDeed k (Monitored chosen) d
-  by (Steps harts last) none pokes = running_law k own harts (machine_of chosen) machine_kept runs none
+  by : (d : Deed) → RunsOnNone k (harts_stepped d) chosen.state → PokesNone k (Monitored chosen) d → RestsThroughDeed k (Monitored chosen) d
+  by (Steps harts last) none pokes = running_law k own harts chosen.state kept runs none
   by (OneByte address byte) none pokes = (live, pokes)
   by _ none pokes = live
 
@@ -116,17 +97,15 @@ running k own chosen breaks watches command kept runs none pokes =
 abbrev ByteIsOr : ℕ → Target → Target → Type 0 → Type 0
 ByteIsOr byte before after other = byte_at (memory_of after) byte ≡ byte_at (memory_of before) byte ⊎ other
 
-steps_change : (byte chosen : ℕ) (harts : List ℕ) (machine : OnTurn) → IsKept machine.state
+steps_change : (byte chosen : ℕ) (harts : List ℕ) (machine : Chosen) → IsKept machine.state
     → ByteIsOr byte (Monitored machine) (done (Monitored machine) (Steps harts chosen)) (MayChange (Monitored machine) (Steps harts chosen) byte)
 steps_change byte chosen harts machine kept =
-    let of : Shared → Option ℕ = λ shared. byte_at shared.memory byte in
-    elim (sched_changes harts (machine_of machine) byte (seen_kept machine.hart machine.state kept)) [
-      | inl same ↦ inl (ap (λ (target : Target). byte_at (memory_of target) byte) (turns_are_sched harts machine chosen)
-          ∙ ap of (shared_after chosen (sched harts (machine_of machine)).state) ∙ same ∙ ap of (shared_before machine))
+    elim (sched_changes harts machine.state byte kept) [
+      | inl same ↦ inl (ap (λ (target : Target). byte_at (memory_of target) byte) (turns_are_sched harts machine _ chosen) ∙ same)
       | inr change ↦ inr change
     ]
 
-poke_changes : (address value byte : ℕ) (machine : OnTurn) (memory : Option (List ℕ))
+poke_changes : (address value byte : ℕ) (machine : Chosen) (memory : Option (List ℕ))
     → write machine.state.shared.memory address (value ∷ []) ≡ memory
     → ByteIsOr byte (Monitored machine) (poke_of (Monitored machine) memory) (byte ≡ address)
 poke_changes address value byte machine None is = inl refl
@@ -135,7 +114,7 @@ poke_changes address value byte machine (Some memory) is = elim (cases_eq byte a
   | inr other ↦ inl (byte_at-write machine.state.shared.memory address (value ∷ []) memory byte is (beside byte address other))
 ]
 
-deed_changes : (byte : ℕ) (machine : OnTurn) (d : Deed) → IsKept machine.state
+deed_changes : (byte : ℕ) (machine : Chosen) (d : Deed) → IsKept machine.state
     → ByteIsOr byte (Monitored machine) (done (Monitored machine) d) (MayChange (Monitored machine) d byte)
 deed_changes byte machine (Steps harts chosen) kept = steps_change byte chosen harts machine kept
 deed_changes byte machine (OneByte address value) kept =

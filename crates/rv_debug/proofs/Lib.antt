@@ -1,3 +1,5 @@
+pub mod Prelude
+pub mod Types
 mod AddressLaws
 pub mod AddressLemmas
 pub mod Answers

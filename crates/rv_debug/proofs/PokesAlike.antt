@@ -3,25 +3,18 @@ use Rattle.std.proofs.Common.{◌≡◌, ℕ, ◌+◌, ◌-◌, ◌≤◌, Bool,
 use Rattle.std.proofs.Common.{sym, ◌∙◌, ap, subst, inl, inr, arith}
 use Rattle.std.specs.Prelude.{is_some, nat_le, nat_lt, ◌==◌, ◌%◌}
 use Rattle.std.proofs.lemmas.Bool.{cases_lt, and_parts, and_from, leb-true, ltb-true, le-leb}
-use Rattle.rv_memory.specs.Memory.{ram_base, is_inside, write, write_bytes}
-use Rattle.rv_memory.proofs.MemoryLaws.{length-write, index-below, index-above, write-is}
+use Rattle.rv_memory.proofs.MemoryLaws.{index-below, index-above, write-is}
 use Rattle.rv_monitor.specs.Debugger.{with_memory}
-use Rattle.rv_monitor.specs.State.{MonitoredState, OnTurn, IsKept}
-use Rattle.rv_monitor.proofs.Agreeing.{agrees_itself, shared_agree}
-use Rattle.rv_enclaves.specs.SharedButFor.{AgreeOutside, is_private}
-use Rattle.rv_enclaves.specs.Blocks.{has, is_block_size, is_lawful}
-use Rattle.rv_enclaves.specs.Table.{Slots, IsLawfulSlot, region, region_of as region_in, slot_at}
+use Rattle.rv_enclaves.specs.Blocks.{is_block_size, is_lawful}
+use Rattle.rv_enclaves.specs.Table.{IsLawfulSlot, region_of as region_in}
 use Rattle.rv_enclaves.specs.declared.slot_info.SlotInfo.{SlotInfo}
-use Rattle.rv_enclaves.proofs.Agreement.{inside-is, write-some}
-use Rattle.rv_enclaves.proofs.Alike.{itself}
-use Rattle.rv_script.specs.declared.command.Command.TheVariants.{Poke}
-use Rattle.rv_debug.specs.Answer.{answer}
-use Rattle.rv_debug.specs.BenchState.{BenchState}
+use Rattle.rv_enclaves.proofs.Agreement.{inside-is}
 use Rattle.rv_debug.specs.Confidentiality.{PassAlike, PokeLaw}
-use Rattle.rv_debug.specs.Targets.{KeepsMonitor}
-use Rattle.rv_debug.specs.BothBenches.{BenchesAgreeBut, ChosenAgreeBut, TargetsAgreeBut, region_of}
-use Rattle.rv_debug.specs.declared.target.Target.{Target}
-use Rattle.rv_debug.specs.declared.target.Target.TheVariants.{Bare, Monitored}
+use Rattle.rv_debug.specs.BothBenches.{region_of}
+use Rattle.rv_debug.proofs.Prelude.{AgreeOutside, BenchState, BenchesAgreeBut, Chosen, ChosenAgreeBut, IsKept, KeepsMonitor, Machine, Slots}
+use Rattle.rv_debug.proofs.Prelude.{TargetsAgreeBut, agrees_itself, answer, has, is_inside, is_private, itself, length-write, ram_base, region}
+use Rattle.rv_debug.proofs.Prelude.{shared_agree, slot_at, write, write-some, write_bytes}
+use Rattle.rv_debug.proofs.Types.{Bare, Monitored, Poke, Target}
 
 -- ---- memory
 
@@ -75,14 +68,14 @@ has_inside memory (Some info) address law is =
     let high = ltb-true _ _ at.1 in
     and_from _ _ (le-leb ram_base address (omega (arith, inside.0, low))) (le-leb (address + 1) (ram_base + length memory) (omega (arith, inside.1, high)))
 
-written : (state : MonitoredState) (e address byte : ℕ) → IsKept state → has (region state.shared.table e) address ≡ true
+written : (state : Machine) (e address byte : ℕ) → IsKept state → has (region state.shared.table e) address ≡ true
     → write state.shared.memory address (byte ∷ []) ≡ Some (write_bytes state.shared.memory (address - ram_base) (byte ∷ []))
 written state e address byte kept is =
     write-some state.shared.memory address (byte ∷ []) (has_inside state.shared.memory (slot_at state.shared.table e) address (kept.shared.valid.lawful e) is)
 
 -- ---- machines
 
-module _ (e : ℕ) (one other : OnTurn) (here there byte byte' : ℕ) (agree : ChosenAgreeBut e one other) (m n : List ℕ)
+module _ (e : ℕ) (one other : Chosen) (here there byte byte' : ℕ) (agree : ChosenAgreeBut e one other) (m n : List ℕ)
     (first : write one.state.shared.memory here (byte ∷ []) ≡ Some m) (second : write other.state.shared.memory there (byte' ∷ []) ≡ Some n)
     (secret : has (region one.state.shared.table e) here ≡ true) (secret' : has (region one.state.shared.table e) there ≡ true) where
   machines_agree : ChosenAgreeBut e (record one { state = with_memory one.state m }) (record other { state = with_memory other.state n })

@@ -1,41 +1,24 @@
 -- What is kept of the host while an enclave runs on a hart is as it was, whatever commands are given.
-use Rattle.std.proofs.Common.{◌≡◌, ℕ, zero, suc, false, List, [], ◌∷◌, ◌++◌, Option, Some, None, IfSome, refl, sym, ◌∙◌, ap, subst}
-use Rattle.rv_word.specs.Cases.{option_case}
-use Rattle.rv_memory.specs.Memory.{write}
-use Rattle.rv_pmp.specs.declared.mode.Mode.TheVariants.{S}
+use Rattle.std.proofs.Common.{◌≡◌, ℕ, List, [], ◌∷◌, ◌++◌, Option, Some, None, refl, sym, ◌∙◌, ap, subst}
 use Rattle.rv_monitor.specs.Switches.{saved}
-use Rattle.rv_monitor.specs.Debugger.{with_memory, with_reg, with_timer}
-use Rattle.rv_monitor.specs.HartLaws.{sched}
 use Rattle.rv_monitor.specs.Refused.{past_ecall}
 use Rattle.rv_monitor.specs.Returns.{HostComesBack}
-use Rattle.rv_monitor.specs.State.{MonitoredState, OnTurn, IsKept, machine_of, seen_by}
-use Rattle.rv_monitor.specs.Step.{monitored_step, step_of}
-use Rattle.rv_monitor.specs.declared.seat.Seat.{Seat}
-use Rattle.rv_monitor.proofs.HartsAlike.{sched_kept, step_kept}
-use Rattle.rv_monitor.proofs.Returned.{back_from, entered_from, first_runs, host_on, host_stored, last_runs, next, return_law as schedule_law, step_seen, steps_keep}
-use Rattle.rv_monitor.proofs.Switched.{switch_law}
-use Rattle.rv_monitor.proofs.Turned.{seen_kept, seen_stored, seen_twice}
-use Rattle.rv_enclaves.specs.Contexts.{IsStored}
+use Rattle.rv_monitor.specs.State.{MonitoredState}
+use Rattle.rv_monitor.specs.Step.{monitored_step}
+use Rattle.rv_monitor.proofs.Returned.{KeptStored, comes_back, entered_is, first_runs, host_on, last_runs, return_law as schedule_law, steps_keep}
 use Rattle.rv_enclaves.specs.Table.{is_host}
 use Rattle.rv_enclaves.specs.declared.context.Context.{Context}
-use Rattle.rv_script.specs.declared.command.Command.{Command}
-use Rattle.rv_debug.specs.Answer.{answer}
-use Rattle.rv_debug.specs.BenchState.{BenchState}
-use Rattle.rv_debug.specs.Deeds.{Deed, Nothing, Steps, Register, TimerLine, OneByte, deed, done, harts_stepped}
-use Rattle.rv_debug.specs.Isolation.{after_commands}
 use Rattle.rv_debug.specs.Returns.{EntersAndLeaves, EntersAndLeavesUnder, EntersUnder, EntersWithin, IsStoredIn, LeavesUnder, LeavesWithin, ReturnLaw, ReturnWithinLaw, RunsUnder, RunsUnderAll}
-use Rattle.rv_debug.specs.Targets.{KeepsMonitor}
-use Rattle.rv_debug.specs.declared.target.Target.{Target}
-use Rattle.rv_debug.specs.declared.target.Target.TheVariants.{Bare, Monitored}
+use Rattle.rv_debug.proofs.Prelude.{BenchState, Chosen, Deed, IsKept, KeepsMonitor, Machine, Nothing, OneByte, Register, Steps, TimerLine}
+use Rattle.rv_debug.proofs.Prelude.{after_commands, answer, changed, changed_of, chosen_at, deed, done, harts_stepped, reg_set, sched, sched_kept}
+use Rattle.rv_debug.proofs.Prelude.{seen_by, step_of, timer_set, write}
+use Rattle.rv_debug.proofs.Types.{Bare, Command, Monitored, S, Seat, Target}
 use Rattle.rv_debug.proofs.DeedsKept.{keeps_monitor, poke_of}
 use Rattle.rv_debug.proofs.Turns.{turns_are_sched}
 
-abbrev KeptStored : Option Context → Type 0
-KeptStored o = IfSome o (λ context. IsStored context.supervisor)
-
 -- ---- steps of harts in their order
 
-sched_on : (before rest : List ℕ) (machine : MonitoredState) → (sched (before ++ rest) machine).state ≡ (sched rest (sched before machine).state).state
+sched_on : (before rest : List ℕ) (machine : Machine) → (sched (before ++ rest) machine).state ≡ (sched rest (sched before machine).state).state
 sched_on [] rest machine = refl
 sched_on (named ∷ before) rest machine = sched_on before rest (step_of named machine).state
 
@@ -43,58 +26,38 @@ sched_on (named ∷ before) rest machine = sched_on before rest (step_of named m
 
 abbrev host_in : ℕ → Target → Option Context
 host_in hart (Bare machine) = None
-host_in hart (Monitored chosen) = host_on hart (machine_of chosen)
+host_in hart (Monitored chosen) = host_on hart chosen.state
 
 -- what the debugger writes is no part of what is kept
-abbrev beside_of : MonitoredState → Option Seat → Option Context
-beside_of machine o = (option_case o machine (λ seat. record { seat = seat; other = Some machine.seat; shared = machine.shared })).seat.host_context
+write_host : (hart : ℕ) (machine : Chosen) (change : Seat → Seat) → ((seat : Seat) → (change seat).host_context ≡ seat.host_context)
+    → host_in hart (chosen_at machine.hart (changed machine.hart change machine.state)) ≡ host_on hart machine.state
+write_host hart machine change same = changed_of (λ (seat : Seat). seat.host_context) change same machine.hart hart machine.state
 
-turned_alike : (one other : MonitoredState) (o : Option Seat) → other.seat.host_context ≡ one.seat.host_context → beside_of other o ≡ beside_of one o
-turned_alike one other None same = same
-turned_alike one other (Some seat) same = refl
-
--- of two machines with the same hart beside, as the chosen hart sees them
-alike_on : (hart chosen : ℕ) (one other : MonitoredState) → other.seat.host_context ≡ one.seat.host_context → other.other ≡ one.other
-    → host_on hart (seen_by chosen other) ≡ host_on hart (seen_by chosen one)
-alike_on zero zero one other same beside = same
-alike_on (suc n) (suc i) one other same beside =
-    ap (λ (m : MonitoredState). m.seat.host_context) (seen_twice 1 other) ∙ same
-    ∙ ap (λ (m : MonitoredState). m.seat.host_context) (sym (seen_twice 1 one))
-alike_on zero (suc i) one other same beside = ap (beside_of other) beside ∙ turned_alike one other one.other same
-alike_on (suc n) zero one other same beside = ap (beside_of other) beside ∙ turned_alike one other one.other same
-
-steps_host : (hart chosen : ℕ) (harts : List ℕ) (machine : OnTurn)
-    → host_in hart (done (Monitored machine) (Steps harts chosen)) ≡ host_on hart (sched harts (machine_of machine)).state
-steps_host hart chosen harts machine =
-    ap (host_in hart) (turns_are_sched harts machine chosen) ∙ ap (host_on hart) (seen_twice chosen (sched harts (machine_of machine)).state)
-
-poke_host : (hart : ℕ) (machine : OnTurn) (memory : Option (List ℕ))
-    → host_in hart (poke_of (Monitored machine) memory) ≡ host_on hart (machine_of machine)
+poke_host : (hart : ℕ) (machine : Chosen) (memory : Option (List ℕ)) → host_in hart (poke_of (Monitored machine) memory) ≡ host_on hart machine.state
 poke_host hart machine None = refl
-poke_host hart machine (Some memory) = alike_on hart machine.hart machine.state (with_memory machine.state memory) refl refl
+poke_host hart machine (Some memory) = refl
 
 -- what is kept behind it is what is kept behind its steps
-host_after : (hart : ℕ) (machine : OnTurn) (d : Deed)
-    → host_in hart (done (Monitored machine) d) ≡ host_on hart (sched (harts_stepped d) (machine_of machine)).state
+host_after : (hart : ℕ) (machine : Chosen) (d : Deed)
+    → host_in hart (done (Monitored machine) d) ≡ host_on hart (sched (harts_stepped d) machine.state).state
 host_after hart machine Nothing = refl
-host_after hart machine (Steps harts chosen) = steps_host hart chosen harts machine
-host_after hart machine (Register number value) = alike_on hart machine.hart machine.state (with_reg machine.state number value) refl refl
-host_after hart machine (TimerLine raised) = alike_on hart machine.hart machine.state (with_timer machine.state raised) refl refl
+host_after hart machine (Steps harts chosen) = ap (host_in hart) (turns_are_sched harts machine _ chosen)
+host_after hart machine (Register number value) = write_host hart machine (reg_set number value) (λ seat. refl)
+host_after hart machine (TimerLine raised) = write_host hart machine (timer_set raised) (λ seat. refl)
 host_after hart machine (OneByte address byte) = poke_host hart machine (write machine.state.shared.memory address (byte ∷ []))
 
-deed_host : (hart : ℕ) (target : Target) (d : Deed) → KeepsMonitor target → RunsUnder hart (harts_stepped d) target
+deed_host : (hart : ℕ) (target : Target) (d : Deed) → RunsUnder hart (harts_stepped d) target
     → host_in hart (done target d) ≡ host_in hart target
-deed_host hart (Bare machine) d kept runs = absurd runs
-deed_host hart (Monitored machine) d kept runs =
-    host_after hart machine d ∙ steps_keep hart (harts_stepped d) (machine_of machine) (seen_kept machine.hart machine.state kept) runs
+deed_host hart (Bare machine) d runs = absurd runs
+deed_host hart (Monitored machine) d runs = host_after hart machine d ∙ steps_keep hart (harts_stepped d) machine.state runs
 
 -- ---- commands
 
-command_keeps : (hart : ℕ) (bench : BenchState) (command : Command) → KeepsMonitor bench.target
+command_keeps : (hart : ℕ) (bench : BenchState) (command : Command)
     → RunsUnder hart (harts_stepped (deed bench command)) bench.target
     → host_in hart (answer bench command).state.target ≡ host_in hart bench.target
 unfolding answer
-command_keeps hart bench command kept runs = deed_host hart bench.target (deed bench command) kept runs
+command_keeps hart bench command runs = deed_host hart bench.target (deed bench command) runs
 
 -- through all commands the host is kept as it was
 commands_keep : (hart : ℕ) (bench : BenchState) (commands : List Command) → KeepsMonitor bench.target → RunsUnderAll hart bench commands
@@ -102,60 +65,54 @@ commands_keep : (hart : ℕ) (bench : BenchState) (commands : List Command) → 
 commands_keep hart bench [] kept runs = (kept, refl)
 commands_keep hart bench (command ∷ commands) kept runs =
     let rest = commands_keep hart (answer bench command).state commands (keeps_monitor bench command kept) runs.1 in
-    (rest.0, rest.1 ∙ command_keeps hart bench command kept runs.0)
+    (rest.0, rest.1 ∙ command_keeps hart bench command runs.0)
 
 -- ---- from the first to the last
 
 abbrev kept_at : MonitoredState → Option Context
 kept_at entry = Some (saved entry.seat.hart (past_ecall entry.seat.hart) S)
 
-enters_within : (hart : ℕ) (harts : List ℕ) (machine entry : MonitoredState) → IsKept machine
+enters_within : (hart : ℕ) (harts : List ℕ) (machine : Machine) (entry : MonitoredState) → IsKept machine
     → EntersWithin hart harts machine entry → host_on hart (sched harts machine).state ≡ kept_at entry
 enters_within hart harts machine entry kept enters =
     let here = (sched enters.before machine).state in
-    let here_kept = sched_kept enters.before machine kept in
-    let entry_kept : IsKept entry = subst IsKept (sym enters.at) (seen_kept hart here here_kept) in
-    let seen : seen_by hart (step_of hart here).state ≡ next entry = step_seen hart here ∙ ap next (sym enters.at) in
-    let still : is_host (next entry).seat.world ≡ false =
-    subst (λ (m : MonitoredState). is_host m.seat.world ≡ false) seen (first_runs hart enters.rest (step_of hart here).state enters.runs) in
-    let saved_is = entered_from entry (monitored_step entry) (switch_law entry entry_kept (host_stored entry entry_kept enters.host)) enters.host still in
-    let after_is : host_on hart (step_of hart here).state ≡ kept_at entry = ap (λ (m : MonitoredState). m.seat.host_context) seen ∙ saved_is in
+    let host = ap (λ (m : MonitoredState). is_host m.seat.world) (sym enters.at) ∙ enters.host in
     ap (λ (hs : List ℕ). host_on hart (sched hs machine).state) enters.is
     ∙ ap (host_on hart) (sched_on enters.before (hart ∷ enters.rest) machine)
-    ∙ steps_keep hart enters.rest (step_of hart here).state (step_kept hart here here_kept) enters.runs
-    ∙ after_is
+    ∙ steps_keep hart enters.rest (step_of hart here).state enters.runs
+    ∙ entered_is hart here (sched_kept enters.before machine kept) host (first_runs hart enters.rest (step_of hart here).state enters.runs)
+    ∙ ap kept_at (sym enters.at)
 
 enters_under : (hart : ℕ) (target : Target) (d : Deed) (entry : MonitoredState) → KeepsMonitor target
     → EntersUnder hart (harts_stepped d) target entry → host_in hart (done target d) ≡ kept_at entry
 enters_under hart (Bare machine) d entry kept enters = absurd enters
 enters_under hart (Monitored machine) d entry kept enters =
-    host_after hart machine d ∙ enters_within hart (harts_stepped d) (machine_of machine) entry (seen_kept machine.hart machine.state kept) enters
+    host_after hart machine d ∙ enters_within hart (harts_stepped d) machine.state entry kept enters
 
 command_enters : (hart : ℕ) (bench : BenchState) (command : Command) (entry : MonitoredState) → KeepsMonitor bench.target
     → EntersUnder hart (harts_stepped (deed bench command)) bench.target entry → host_in hart (answer bench command).state.target ≡ kept_at entry
 unfolding answer
 command_enters hart bench command entry kept enters = enters_under hart bench.target (deed bench command) entry kept enters
 
-leaves_within : (hart : ℕ) (harts : List ℕ) (machine entry exit : MonitoredState) → IsKept machine → KeptStored (kept_at entry)
+leaves_within : (hart : ℕ) (harts : List ℕ) (machine : Machine) (entry exit : MonitoredState) → IsKept machine → KeptStored (kept_at entry)
     → host_on hart machine ≡ kept_at entry → LeavesWithin hart harts machine exit → HostComesBack entry exit (monitored_step exit)
 leaves_within hart harts machine entry exit kept stored is leaves =
     let here = (sched leaves.before machine).state in
-    let same : host_on hart here ≡ kept_at entry = steps_keep hart leaves.before machine kept leaves.runs ∙ is in
-    let exit_kept : IsKept exit = subst IsKept (sym leaves.at) (seen_kept hart here (sched_kept leaves.before machine kept)) in
-    let host_is : exit.seat.host_context ≡ kept_at entry = ap (λ (m : MonitoredState). m.seat.host_context) leaves.at ∙ same in
-    let runs : is_host exit.seat.world ≡ false = ap (λ (m : MonitoredState). is_host m.seat.world) leaves.at
-    ∙ last_runs hart leaves.before machine leaves.runs in
-    back_from entry exit (monitored_step exit) (switch_law exit exit_kept (subst KeptStored (sym host_is) stored)) host_is runs leaves.host
+    let same : host_on hart here ≡ kept_at entry = steps_keep hart leaves.before machine leaves.runs ∙ is in
+    let host = ap (λ (m : MonitoredState). is_host (monitored_step m).state.seat.world) (sym leaves.at) ∙ leaves.host in
+    subst (λ (m : MonitoredState). HostComesBack entry m (monitored_step m)) (sym leaves.at)
+    (comes_back hart entry here (sched_kept leaves.before machine kept) (subst KeptStored (sym same) stored) same
+    (last_runs hart leaves.before machine leaves.runs) host)
 
 leaves_under : (hart : ℕ) (harts : List ℕ) (target : Target) (entry exit : MonitoredState) → KeepsMonitor target → KeptStored (kept_at entry)
     → host_in hart target ≡ kept_at entry → LeavesUnder hart harts target exit → HostComesBack entry exit (monitored_step exit)
 leaves_under hart harts (Bare machine) entry exit kept stored is leaves = absurd leaves
 leaves_under hart harts (Monitored machine) entry exit kept stored is leaves =
-    leaves_within hart harts (machine_of machine) entry exit (seen_kept machine.hart machine.state kept) stored is leaves
+    leaves_within hart harts machine.state entry exit kept stored is leaves
 
 stored_on : (hart : ℕ) (target : Target) → IsStoredIn target → KeptStored (host_in hart target)
 stored_on hart (Bare machine) stored = tt
-stored_on hart (Monitored machine) stored = (seen_stored hart (machine_of machine) (seen_stored machine.hart machine.state stored)).0
+stored_on hart (Monitored machine) stored = stored hart
 
 pub return_law : ReturnLaw
 return_law hart bench first last commands entry exit kept enters stored_between runs leaves =
@@ -168,7 +125,7 @@ return_law hart bench first last commands entry exit kept enters stored_between 
 
 -- ---- within one command
 
-goes_within : (hart : ℕ) (harts : List ℕ) (machine entry exit : MonitoredState) → IsKept machine → EntersAndLeaves hart harts machine entry exit
+goes_within : (hart : ℕ) (harts : List ℕ) (machine : Machine) (entry exit : MonitoredState) → IsKept machine → EntersAndLeaves hart harts machine entry exit
     → HostComesBack entry exit (monitored_step exit)
 goes_within hart harts machine entry exit kept goes =
     let here = (sched goes.before machine).state in
@@ -183,7 +140,7 @@ goes_under : (hart : ℕ) (harts : List ℕ) (target : Target) (entry exit : Mon
     → EntersAndLeavesUnder hart harts target entry exit → HostComesBack entry exit (monitored_step exit)
 goes_under hart harts (Bare machine) entry exit kept goes = absurd goes
 goes_under hart harts (Monitored machine) entry exit kept goes =
-    goes_within hart harts (machine_of machine) entry exit (seen_kept machine.hart machine.state kept) goes
+    goes_within hart harts machine.state entry exit kept goes
 
 pub return_within : ReturnWithinLaw
 return_within hart bench command entry exit kept goes = goes_under hart (harts_stepped (deed bench command)) bench.target entry exit kept goes

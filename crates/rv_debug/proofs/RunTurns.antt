@@ -1,32 +1,25 @@
 -- A run of the debugger is so many steps of the chosen hart.
 use Rattle.std.proofs.Common.{◌≡◌, ℕ, zero, suc, ◌+◌, ◌==◌, Bool, true, false, cond, List, replicate, Option, Some, None, refl, sym, ◌∙◌}
 use Rattle.std.proofs.Common.{ap, arith}
-use Rattle.rv_word.specs.Cases.{option_case}
-use Rattle.rv_monitor.proofs.Turned.{seen_twice}
-use Rattle.rv_debug.specs.Addresses.{is_among}
-use Rattle.rv_debug.specs.Deeds.{done, entered_by, run_deed, steps_of}
-use Rattle.rv_debug.specs.Turns.{AfterTurns, no_turns, turns, with_turn}
-use Rattle.rv_debug.specs.Steps.{AfterSteps, AfterRun, with_slot, with_step, no_steps, ended, run}
-use Rattle.rv_debug.specs.Stops.{lowest_accessed}
-use Rattle.rv_debug.specs.Targets.{chosen_at, chosen_of, pc_of, stepped, turned_to}
-use Rattle.rv_debug.specs.declared.scheduled.Scheduled.{Scheduled}
-use Rattle.rv_debug.specs.declared.steps.Stop.TheVariants.{Done, Break, Watch}
-use Rattle.rv_debug.specs.declared.target.Target.{Target}
-use Rattle.rv_debug.specs.declared.target.Target.TheVariants.{Bare, Monitored}
+use Rattle.rv_debug.specs.declared.steps.Stop.TheVariants.{Break, Watch}
+use Rattle.rv_debug.proofs.Prelude.{AfterRun, AfterSteps, AfterTurns, chosen_of, done, ended, entered_by, is_among, lowest_accessed, no_steps}
+use Rattle.rv_debug.proofs.Prelude.{no_turns, option_case, pc_of, run, run_deed, stepped, steps_of, turns, with_chosen, with_slot, with_step}
+use Rattle.rv_debug.proofs.Prelude.{with_turn}
+use Rattle.rv_debug.proofs.Types.{Bare, Done, Monitored, Scheduled, Target}
 use Rattle.rv_debug.proofs.Turns.{after_turns}
 
 -- ---- the chosen hart
 
-own_turn : (target : Target) → turned_to (chosen_of target) target ≡ target
+own_turn : (target : Target) → with_chosen (chosen_of target) target ≡ target
 own_turn (Bare machine) = refl
-own_turn (Monitored machine) = ap (chosen_at machine.hart) (seen_twice machine.hart machine.state)
+own_turn (Monitored machine) = refl
 
 same_hart : (target : Target) → chosen_of (stepped target).state ≡ chosen_of target
 same_hart (Bare machine) = refl
 same_hart (Monitored machine) = refl
 
-turned_own : (hart : ℕ) (target : Target) → chosen_of target ≡ hart → turned_to hart target ≡ target
-turned_own hart target is = ap (λ (h : ℕ). turned_to h target) (sym is) ∙ own_turn target
+turned_own : (hart : ℕ) (target : Target) → chosen_of target ≡ hart → with_chosen hart target ≡ target
+turned_own hart target is = ap (λ (h : ℕ). with_chosen h target) (sym is) ∙ own_turn target
 
 -- ---- its steps
 
@@ -97,8 +90,8 @@ run_done target breaks watches count =
     let is = is-turns breaks watches (chosen_of target) count (no_steps target) refl in
     let end = steps_of target breaks watches count in
     let all : is.count ≡ end.ran.steps = omega (arith, is.steps) in
-    ap (λ (n : ℕ). turned_to (chosen_of target) (turns (replicate n (chosen_of target)) (no_turns target)).state) (sym all)
-    ∙ ap (turned_to (chosen_of target)) (is.state _) ∙ turned_own (chosen_of target) end.state is.chosen
+    ap (λ (n : ℕ). with_chosen (chosen_of target) (turns (replicate n (chosen_of target)) (no_turns target)).state) (sym all)
+    ∙ ap (with_chosen (chosen_of target)) (is.state _) ∙ turned_own (chosen_of target) end.state is.chosen
 
 pub run_entered : (target : Target) (breaks watches : List ℕ) (count : ℕ)
     → entered_by target (run_deed target breaks watches count) ≡ (steps_of target breaks watches count).ran.entered

@@ -6,18 +6,11 @@ use Rattle.std.specs.Prelude.{◌^◌, ◌&&◌, nat_lt}
 use Rattle.std.specs.Option.{option_or}
 use Rattle.std.proofs.lemmas.Bool.Decides.{nat_tests}
 use Rattle.std.proofs.lemmas.List.{drop_all, drop_more}
-use Rattle.rv_hart.specs.declared.trap.Trap.{Trap}
-use Rattle.rv_monitor.proofs.Turned.{count_step, count_turned}
-use Rattle.rv_script.specs.Schedules.{has_all, hart_of_digit}
-use Rattle.rv_debug.specs.Turns.{AfterTurns, turns, with_own, with_turn}
-use Rattle.rv_debug.specs.Steps.{AfterRun, ended, no_steps, run, with_slot, with_step}
-use Rattle.rv_debug.specs.Targets.{IsBare, harts_of, pc_of, stepped, turned_to}
-use Rattle.rv_debug.specs.declared.scheduled.HartRan.{HartRan}
-use Rattle.rv_debug.specs.declared.scheduled.Scheduled.{Scheduled}
-use Rattle.rv_debug.specs.declared.steps.Ran.{Ran}
-use Rattle.rv_debug.specs.declared.steps.Stop.TheVariants.{Done}
-use Rattle.rv_debug.specs.declared.target.Target.{Target}
-use Rattle.rv_debug.specs.declared.target.Target.TheVariants.{Bare, Monitored}
+use Rattle.rv_script.specs.Schedules.{hart_of_digit}
+use Rattle.rv_debug.specs.Turns.{with_own}
+use Rattle.rv_debug.proofs.Prelude.{AfterRun, AfterTurns, IsBare, ended, harts_of, has_all, no_steps, pc_of, run, step_count, stepped, turns}
+use Rattle.rv_debug.proofs.Prelude.{with_chosen, with_slot, with_step, with_turn}
+use Rattle.rv_debug.proofs.Types.{Bare, Done, HartRan, Monitored, Ran, Scheduled, Target, Trap}
 use Rattle.rv_debug.proofs.Stepping.{run-once}
 use Rattle.rv_debug.proofs.Turns.{after_turns, step_bare}
 
@@ -25,11 +18,11 @@ use Rattle.rv_debug.proofs.Turns.{after_turns, step_bare}
 
 stepped_harts : (target : Target) → harts_of (stepped target).state ≡ harts_of target
 stepped_harts (Bare machine) = refl
-stepped_harts (Monitored machine) = count_step machine.state
+stepped_harts (Monitored machine) = step_count machine.hart machine.state
 
-pub turned_harts : (hart : ℕ) (target : Target) → harts_of (turned_to hart target) ≡ harts_of target
+pub turned_harts : (hart : ℕ) (target : Target) → harts_of (with_chosen hart target) ≡ harts_of target
 turned_harts hart (Bare machine) = refl
-turned_harts hart (Monitored machine) = count_turned hart machine.hart machine.state
+turned_harts hart (Monitored machine) = refl
 
 -- ---- one turn
 
@@ -47,13 +40,13 @@ pub one_step : (target after : Target) (ran : Ran) → run stepped pc_of [] [] 1
 one_step target after ran is = sym (run-once stepped pc_of (no_steps target)) ∙ is
 
 pub turn_done : (hart : ℕ) (before : AfterTurns) (none : List ℕ) (seen after : Target) (ran : Ran) (did : Scheduled) → none ≡ []
-    → seen ≡ turned_to hart before.state
+    → seen ≡ with_chosen hart before.state
     → run stepped pc_of none none 1 (no_steps seen) ≡ record { state = after; ran = ran }
     → did.first ≡ with_own 0 hart ran.trap before.did.first → did.second ≡ with_own 1 hart ran.trap before.did.second
     → did.entered ≡ bit_or before.did.entered ran.entered
-    → with_turn hart before (stepped (turned_to hart before.state)) ≡ after_turns after did
+    → with_turn hart before (stepped (with_chosen hart before.state)) ≡ after_turns after did
 turn_done hart before none seen after ran did nothing turned is first second entered =
-    let target = turned_to hart before.state in
+    let target = with_chosen hart before.state in
     let last = stepped target in
     let run_is : run stepped pc_of [] [] 1 (no_steps target) ≡ record { state = after; ran = ran } =
     subst (λ (t : Target). run stepped pc_of [] [] 1 (no_steps t) ≡ record { state = after; ran = ran }) turned
@@ -71,12 +64,12 @@ turn_done hart before none seen after ran did nothing turned is first second ent
     ∙ ap (make after did.first did.second) (slots ∙ sym entered))
 
 -- the target after it has as many harts, and stays a machine alone, if it is one
-pub harts_after : (hart : ℕ) (before after : AfterTurns) → with_turn hart before (stepped (turned_to hart before.state)) ≡ after
+pub harts_after : (hart : ℕ) (before after : AfterTurns) → with_turn hart before (stepped (with_chosen hart before.state)) ≡ after
     → harts_of after.state ≡ harts_of before.state
 harts_after hart before after is =
-    sym (ap (λ (a : AfterTurns). harts_of a.state) is) ∙ stepped_harts (turned_to hart before.state) ∙ turned_harts hart before.state
+    sym (ap (λ (a : AfterTurns). harts_of a.state) is) ∙ stepped_harts (with_chosen hart before.state) ∙ turned_harts hart before.state
 
-pub bare_after : (hart : ℕ) (before after : AfterTurns) → with_turn hart before (stepped (turned_to hart before.state)) ≡ after → IsBare before.state
+pub bare_after : (hart : ℕ) (before after : AfterTurns) → with_turn hart before (stepped (with_chosen hart before.state)) ≡ after → IsBare before.state
     → IsBare after.state
 bare_after hart before after is bare = subst (λ (a : AfterTurns). IsBare a.state) is (step_bare hart before.state bare)
 
@@ -99,13 +92,13 @@ next_digit digits n digit inside is =
     ap (map hart_of_digit) (drop_more digits n 0 inside ∙ ap (λ (first : ℕ). first ∷ drop (n + 1) digits) (sym is))
 
 unfold_turns : (hart : ℕ) (harts : List ℕ) (before : AfterTurns)
-    → turns (hart ∷ harts) before ≡ turns harts (with_turn hart before (stepped (turned_to hart before.state)))
+    → turns (hart ∷ harts) before ≡ turns harts (with_turn hart before (stepped (with_chosen hart before.state)))
 unfolding turns
 unfold_turns hart harts before = refl
 
 pub turn_more : (digits : List ℕ) (n digit hart : ℕ) (before after : AfterTurns) → n < length digits → digit ≡ get_or digits n 0
     → hart ≡ hart_of_digit digit
-    → with_turn hart before (stepped (turned_to hart before.state)) ≡ after → turns (rest n digits) before ≡ turns (rest (n + 1) digits) after
+    → with_turn hart before (stepped (with_chosen hart before.state)) ≡ after → turns (rest n digits) before ≡ turns (rest (n + 1) digits) after
 turn_more digits n digit hart before after inside is names goes =
     ap (λ (harts : List ℕ). turns harts before) (next_digit digits n digit inside is ∙ ap (λ (h : ℕ). h ∷ rest (n + 1) digits) (sym names))
     ∙ unfold_turns hart (rest (n + 1) digits) before ∙ ap (turns (rest (n + 1) digits)) goes

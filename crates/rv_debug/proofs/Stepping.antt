@@ -2,13 +2,10 @@
 use Rattle.std.proofs.Common.{◌≡◌, ℕ, zero, suc, ◌+◌, ◌-◌, ◌<◌, ◌≤◌, ◌==◌, true, false, cond, List, [], Option, Some, None, refl}
 use Rattle.std.proofs.Common.{◌∙◌, ap, arith, inl, inr}
 use Rattle.std.proofs.lemmas.Bool.{cases_eq}
-use Rattle.rv_word.specs.Cases.{option_case}
 use Rattle.std.specs.Option.{option_or}
-use Rattle.rv_hart.specs.declared.trap.Trap.{Trap}
-use Rattle.rv_debug.specs.Addresses.{is_among}
-use Rattle.rv_debug.specs.Stops.{lowest_accessed}
-use Rattle.rv_debug.specs.Steps.{Stepped, AfterSteps, AfterRun, with_slot, with_step, ended, run}
-use Rattle.rv_debug.specs.declared.steps.Stop.TheVariants.{Done, Break, Watch}
+use Rattle.rv_debug.specs.declared.steps.Stop.TheVariants.{Break, Watch}
+use Rattle.rv_debug.proofs.Prelude.{AfterRun, AfterSteps, Stepped, ended, is_among, lowest_accessed, option_case, run, with_slot, with_step}
+use Rattle.rv_debug.proofs.Types.{Done, Trap}
 
 module _ {A : Type 0} (step : A → Stepped A) (pc : A → ℕ) (breaks watches : List ℕ) where
   -- one step of a run, and where it ends or goes on

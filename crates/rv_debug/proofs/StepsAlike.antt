@@ -5,24 +5,12 @@ use Rattle.std.proofs.Common.{inl, inr, arith}
 use Rattle.std.specs.Prelude.{bit_or, ◌^◌}
 use Rattle.std.proofs.lemmas.Bool.{cases_Bool, cases_eq}
 use Rattle.std.proofs.lemmas.Nat.Bits.{bit_at_or, bit_at-lt, bit_at-pow_same}
-use Rattle.rv_word.specs.Cases.{option_case}
-use Rattle.rv_enclaves.specs.Table.{is_world_of}
-use Rattle.rv_monitor.specs.AgreeBut.{AgreeBut}
-use Rattle.rv_monitor.specs.Integrity.{enters}
-use Rattle.rv_monitor.specs.State.{MonitoredState, IsKept}
-use Rattle.rv_monitor.specs.Step.{monitored_step}
-use Rattle.rv_monitor.specs.declared.outcome.Outcome.{Outcome}
-use Rattle.rv_monitor.specs.declared.seat.Seat.{Seat}
 use Rattle.rv_monitor.proofs.MonitoredAlike.{confidentiality}
-use Rattle.rv_monitor.proofs.HartsAlike.{entered_some, own_apart}
-use Rattle.rv_monitor.proofs.Kept.{kept_law}
-use Rattle.rv_debug.specs.Addresses.{is_among}
-use Rattle.rv_debug.specs.Steps.{AfterSteps, AfterRun, with_slot, with_step, ended, run}
-use Rattle.rv_debug.specs.Stops.{lowest_accessed}
-use Rattle.rv_debug.specs.Targets.{monitored_stepped}
-use Rattle.rv_debug.specs.BothBenches.{is_entered}
-use Rattle.rv_debug.specs.declared.steps.Stop.TheVariants.{Done, Break as AtBreak, Watch as AtWatch}
-use Rattle.rv_debug.proofs.TargetRuns.{monitored_pc}
+use Rattle.rv_debug.specs.declared.steps.Stop.TheVariants.{Break as AtBreak, Watch as AtWatch}
+use Rattle.rv_debug.proofs.Prelude.{AfterRun, AfterSteps, AgreeBut, IsKept, Machine, ended, entered_some, enters, entry_law, is_among, is_entered}
+use Rattle.rv_debug.proofs.Prelude.{kept_law, lowest_accessed, option_case, run, runs_on, step_of, with_slot, with_step}
+use Rattle.rv_debug.proofs.Types.{Done, Outcome, Seat}
+use Rattle.rv_debug.proofs.TargetRuns.{hart_pc, hart_stepped}
 
 -- ---- slots that are entered
 
@@ -47,86 +35,86 @@ enters-now e slots entered is =
 -- ---- runs
 
 -- both entered the slot
-pub record BothIn (e : ℕ) (one other : AfterRun MonitoredState) : Type 0 where
+pub record BothIn (e : ℕ) (one other : AfterRun Machine) : Type 0 where
   pub here : is_entered e one.ran.entered ≡ true
   pub there : is_entered e other.ran.entered ≡ true
 
 -- they did the same, and agree again, and the chosen hart does not run the enclave
-pub record BothPast (e : ℕ) (one other : AfterRun MonitoredState) : Type 0 where
+pub record BothPast (e hart : ℕ) (one other : AfterRun Machine) : Type 0 where
   pub ran : one.ran ≡ other.ran
   pub state : AgreeBut e one.state other.state
-  pub rests : is_world_of e one.state.seat.world ≡ false
+  pub rests : runs_on e hart one.state ≡ false
 
-abbrev pub RunAlike : ℕ → AfterRun MonitoredState → AfterRun MonitoredState → Type 0
-RunAlike e one other = BothIn e one other ⊎ BothPast e one other
+abbrev pub RunAlike : ℕ → ℕ → AfterRun Machine → AfterRun Machine → Type 0
+RunAlike e hart one other = BothIn e one other ⊎ BothPast e hart one other
 
-abbrev with_state : AfterSteps MonitoredState → MonitoredState → AfterSteps MonitoredState
+abbrev with_state : AfterSteps Machine → Machine → AfterSteps Machine
 with_state before state = record before { state = state }
 
-module _ (e : ℕ) (breaks watches : List ℕ) where
-  abbrev on : ℕ → AfterSteps MonitoredState → AfterRun MonitoredState
-  on left before = run monitored_stepped monitored_pc breaks watches left before
+module _ (e hart : ℕ) (breaks watches : List ℕ) where
+  abbrev on : ℕ → AfterSteps Machine → AfterRun Machine
+  on left before = run (hart_stepped hart) (hart_pc hart) breaks watches left before
 
   -- what comes after so many steps, by what the last accessed, whether it was the last, and whether the next is at a break
-  abbrev next : ℕ → AfterSteps MonitoredState → Option ℕ → Bool → Bool → AfterRun MonitoredState
+  abbrev next : ℕ → AfterSteps Machine → Option ℕ → Bool → Bool → AfterRun Machine
   next left after hit last here =
       option_case hit (cond last (ended after Done) (cond here (ended after AtBreak) (on left after))) (λ address. ended after (AtWatch address))
 
   -- the steps and one more
-  abbrev after_step : AfterSteps MonitoredState → Outcome → MonitoredState → AfterSteps MonitoredState
+  abbrev after_step : AfterSteps Machine → Outcome → Machine → AfterSteps Machine
   after_step before outcome state = with_step before (record { state = state; outcome = outcome.step; entered = outcome.entered })
 
-  abbrev next_run : ℕ → AfterSteps MonitoredState → Outcome → MonitoredState → AfterRun MonitoredState
+  abbrev next_run : ℕ → AfterSteps Machine → Outcome → Machine → AfterRun Machine
   next_run left before outcome state =
-      next left (after_step before outcome state) (lowest_accessed watches outcome.step.touched) (left == 0) (is_among state.seat.hart.pc breaks)
+      next left (after_step before outcome state) (lowest_accessed watches outcome.step.touched) (left == 0) (is_among (hart_pc hart state) breaks)
 
   -- a slot that was entered stays so
-  next-enters : (left : ℕ) (after : AfterSteps MonitoredState) (hit : Option ℕ) (last here : Bool) → is_entered e after.entered ≡ true
+  next-enters : (left : ℕ) (after : AfterSteps Machine) (hit : Option ℕ) (last here : Bool) → is_entered e after.entered ≡ true
       → is_entered e (on left after).ran.entered ≡ true → is_entered e (next left after hit last here).ran.entered ≡ true
   next-enters left after (Some address) last here is more = is
   next-enters left after None true here is more = is
   next-enters left after None false true is more = is
   next-enters left after None false false is more = more
 
-  stays-entered : (left : ℕ) (before : AfterSteps MonitoredState) → is_entered e before.entered ≡ true
+  stays-entered : (left : ℕ) (before : AfterSteps Machine) → is_entered e before.entered ≡ true
       → is_entered e (on left before).ran.entered ≡ true
   unfolding run
   stays-entered zero before is = is
   stays-entered (suc left) before is =
-      let last = monitored_stepped before.state in
+      let last = hart_stepped hart before.state in
       let more = enters-with e before.entered last.entered is in
-      next-enters left (with_step before last) (lowest_accessed watches last.outcome.touched) (left == 0) (is_among last.state.seat.hart.pc breaks)
+      next-enters left (with_step before last) (lowest_accessed watches last.outcome.touched) (left == 0) (is_among (hart_pc hart last.state) breaks)
       more (stays-entered left (with_step before last) more)
 
   -- and so does one that this step enters
-  entered-next : (left : ℕ) (before : AfterSteps MonitoredState) (outcome : Outcome) (state : MonitoredState) → outcome.entered ≡ Some e
+  entered-next : (left : ℕ) (before : AfterSteps Machine) (outcome : Outcome) (state : Machine) → outcome.entered ≡ Some e
       → is_entered e (next_run left before outcome state).ran.entered ≡ true
   entered-next left before outcome state is =
       let after = after_step before outcome state in
       let now = enters-now e before.entered outcome.entered is in
-      next-enters left after (lowest_accessed watches outcome.step.touched) (left == 0) (is_among state.seat.hart.pc breaks)
+      next-enters left after (lowest_accessed watches outcome.step.touched) (left == 0) (is_among (hart_pc hart state) breaks)
       now (stays-entered left after now)
 
-  next-alike : (left : ℕ) (after : AfterSteps MonitoredState) (other : MonitoredState) (hit : Option ℕ) (last here : Bool)
-      → AgreeBut e after.state other → is_world_of e after.state.seat.world ≡ false
-      → RunAlike e (on left after) (on left (with_state after other))
-      → RunAlike e (next left after hit last here) (next left (with_state after other) hit last here)
+  next-alike : (left : ℕ) (after : AfterSteps Machine) (other : Machine) (hit : Option ℕ) (last here : Bool)
+      → AgreeBut e after.state other → runs_on e hart after.state ≡ false
+      → RunAlike e hart (on left after) (on left (with_state after other))
+      → RunAlike e hart (next left after hit last here) (next left (with_state after other) hit last here)
   next-alike left after other (Some address) last here agree rests more = inr (record { ran = refl; state = agree; rests = rests })
   next-alike left after other None true here agree rests more = inr (record { ran = refl; state = agree; rests = rests })
   next-alike left after other None false true agree rests more = inr (record { ran = refl; state = agree; rests = rests })
   next-alike left after other None false false agree rests more = more
 
-  pub run-alike : (left : ℕ) (before : AfterSteps MonitoredState) (other : MonitoredState) → IsKept before.state → IsKept other
-      → AgreeBut e before.state other → is_world_of e before.state.seat.world ≡ false
-      → RunAlike e (on left before) (on left (with_state before other))
+  pub run-alike : (left : ℕ) (before : AfterSteps Machine) (other : Machine) → IsKept before.state → IsKept other
+      → AgreeBut e before.state other → runs_on e hart before.state ≡ false
+      → RunAlike e hart (on left before) (on left (with_state before other))
   unfolding run
   run-alike zero before other kept kept' agree rests = inr (record { ran = refl; state = agree; rests = rests })
   run-alike (suc left) before other kept kept' agree rests =
-      let one = monitored_step before.state in
-      let two = monitored_step other in
+      let one = step_of hart before.state in
+      let two = step_of hart other in
       let after = after_step before one.outcome one.state in
       let hit = lowest_accessed watches one.outcome.step.touched in
-      let both = confidentiality before.state kept e other kept' agree rests in
+      let both = confidentiality hart before.state kept e other kept' agree rests in
       elim (cases_Bool (enters e one.outcome.entered)) [
         | inl enters_it ↦
             let is = entered_some e one.outcome.entered enters_it in
@@ -135,13 +123,13 @@ module _ (e : ℕ) (breaks watches : List ℕ) where
               there = entered-next left (with_state before other) two.outcome two.state (ap (λ (outcome : Outcome). outcome.entered) (sym both.outcome) ∙ is);
             })
         | inr passes ↦
-            let still = own_apart e before.state rests passes in
-            let more = run-alike left after two.state (kept_law before.state kept) (kept_law other kept') both.state still in
-            let alike = next-alike left after two.state hit (left == 0) (is_among one.state.seat.hart.pc breaks) both.state still more in
-            let seats = (let state = both.state in state.seats 0) in
+            let still = entry_law e hart hart before.state rests passes in
+            let more = run-alike left after two.state (kept_law hart before.state kept) (kept_law hart other kept') both.state still in
+            let alike = next-alike left after two.state hit (left == 0) (is_among (hart_pc hart one.state) breaks) both.state still more in
+            let seats = (let state = both.state in state.seats hart) in
             let place = ap (λ (seat : Seat). is_among seat.hart.pc breaks) (seats.same still) in
-            subst (λ (outcome : Outcome). RunAlike e (next_run left before one.outcome one.state)
+            subst (λ (outcome : Outcome). RunAlike e hart (next_run left before one.outcome one.state)
             (next_run left (with_state before other) outcome two.state)) both.outcome
-            (subst (λ (here : Bool). RunAlike e (next_run left before one.outcome one.state)
+            (subst (λ (here : Bool). RunAlike e hart (next_run left before one.outcome one.state)
             (next left (with_state after two.state) hit (left == 0) here)) place alike)
       ]

@@ -1,17 +1,10 @@
 -- Steps of a target are those of the machine that it is.
 use Rattle.std.proofs.Common.{◌≡◌, ℕ, zero, suc, ◌==◌, Bool, true, false, cond, List, Option, Some, None, refl, sym, ◌∙◌, ap}
-use Rattle.rv_word.specs.Cases.{option_case}
-use Rattle.rv_hart.specs.State.{State}
-use Rattle.rv_monitor.specs.State.{MonitoredState}
-use Rattle.rv_debug.specs.Addresses.{is_among}
-use Rattle.rv_debug.specs.Stops.{lowest_accessed}
-use Rattle.rv_debug.specs.Steps.{Stepped, AfterSteps, AfterRun, with_step, no_steps, ended, run}
-use Rattle.rv_debug.specs.Targets.{machine_stepped, monitored_stepped, with_target, stepped, chosen_stepped, pc_of, chosen_at}
-use Rattle.rv_monitor.specs.State.{OnTurn}
-use Rattle.rv_debug.specs.declared.steps.Ran.{Ran}
-use Rattle.rv_debug.specs.declared.steps.Stop.TheVariants.{Done, Break, Watch}
-use Rattle.rv_debug.specs.declared.target.Target.{Target}
-use Rattle.rv_debug.specs.declared.target.Target.TheVariants.{Bare, Monitored}
+use Rattle.rv_debug.specs.Targets.{with_target}
+use Rattle.rv_debug.specs.declared.steps.Stop.TheVariants.{Break, Watch}
+use Rattle.rv_debug.proofs.Prelude.{AfterRun, AfterSteps, Chosen, Machine, State, Stepped, chosen_at, chosen_seat, chosen_stepped, ended, is_among}
+use Rattle.rv_debug.proofs.Prelude.{lowest_accessed, machine_stepped, no_steps, option_case, pc_of, run, seat_of, step_of, stepped, with_step}
+use Rattle.rv_debug.proofs.Types.{Bare, Done, Monitored, Ran, Target}
 
 abbrev pub in_target : {A : Type 0} → (A → Target) → AfterSteps A → AfterSteps Target
 in_target target after = record { state = target after.state; steps = after.steps; trap = after.trap; entered = after.entered }
@@ -65,18 +58,24 @@ module _ {A : Type 0} (target : A → Target) (step : A → Stepped A) (pc : A �
 abbrev pub machine_pc : State → ℕ
 machine_pc machine = machine.hart.pc
 
-abbrev pub monitored_pc : MonitoredState → ℕ
-monitored_pc machine = machine.seat.hart.pc
+-- of a machine under the monitor, whose chosen hart stays so
+abbrev pub hart_stepped : ℕ → Machine → Stepped Machine
+hart_stepped hart machine =
+    let after = step_of hart machine in
+    record { state = after.state; outcome = after.outcome.step; entered = after.outcome.entered }
+
+abbrev pub hart_pc : ℕ → Machine → ℕ
+hart_pc hart machine = (seat_of hart machine).hart.pc
 
 pub runs_bare : (breaks watches : List ℕ) (count : ℕ) (machine after : State) (ran : Ran)
     → run machine_stepped machine_pc breaks watches count (no_steps machine) ≡ record { state = after; ran = ran }
     → run stepped pc_of breaks watches count (no_steps (Bare machine)) ≡ record { state = Bare after; ran = ran }
 runs_bare breaks watches = runs-in Bare machine_stepped machine_pc (λ machine. refl) (λ machine. refl) breaks watches
 
-pub run_monitored : (hart : ℕ) (breaks watches : List ℕ) (count : ℕ) (before : AfterSteps MonitoredState)
+pub run_monitored : (hart : ℕ) (breaks watches : List ℕ) (count : ℕ) (before : AfterSteps Machine)
     → run stepped pc_of breaks watches count (in_target (chosen_at hart) before) ≡ target_of (chosen_at hart)
-    (run monitored_stepped monitored_pc breaks watches count before)
-run_monitored hart breaks watches = run-in (chosen_at hart) monitored_stepped monitored_pc (λ machine. refl) (λ machine. refl) breaks watches
+    (run (hart_stepped hart) (hart_pc hart) breaks watches count before)
+run_monitored hart breaks watches = run-in (chosen_at hart) (hart_stepped hart) (hart_pc hart) (λ machine. refl) (λ machine. refl) breaks watches
 
 -- ---- a machine alone enters no enclave
 
@@ -104,10 +103,10 @@ enters_none breaks watches count machine after ran is =
 
 -- ---- of a chosen hart
 
-abbrev pub chosen_pc : OnTurn → ℕ
-chosen_pc chosen = chosen.state.seat.hart.pc
+abbrev pub chosen_pc : Chosen → ℕ
+chosen_pc chosen = (chosen_seat chosen).hart.pc
 
-pub runs_chosen : (breaks watches : List ℕ) (count : ℕ) (machine after : OnTurn) (ran : Ran)
+pub runs_chosen : (breaks watches : List ℕ) (count : ℕ) (machine after : Chosen) (ran : Ran)
     → run chosen_stepped chosen_pc breaks watches count (no_steps machine) ≡ record { state = after; ran = ran }
     → run stepped pc_of breaks watches count (no_steps (Monitored machine)) ≡ record { state = Monitored after; ran = ran }
 runs_chosen breaks watches = runs-in Monitored chosen_stepped chosen_pc (λ machine. refl) (λ machine. refl) breaks watches

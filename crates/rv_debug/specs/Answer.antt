@@ -24,7 +24,7 @@ use Rattle.rv_debug.specs.ReplyText.{ran_text, register_text, registers_text, ok
 use Rattle.rv_debug.specs.ReplyText.{denied_outside_text, full_text, fault_text, hart_text, no_csr_text, no_hart_text, outside_text}
 use Rattle.rv_debug.specs.Turns.{AfterTurns, no_turns, turns}
 use Rattle.rv_debug.specs.Steps.{AfterRun}
-use Rattle.rv_debug.specs.Targets.{chosen_of, hart_of, harts_of, memory_of, world_text, enclaves_text, pc_of, poked, turned_to}
+use Rattle.rv_debug.specs.Targets.{chosen_of, hart_of, harts_of, memory_of, world_text, enclaves_text, pc_of, poked, with_chosen}
 use Rattle.rv_debug.specs.declared.scheduled.HartRan.{HartRan}
 use Rattle.rv_debug.specs.declared.target.Target.{Target}
 
@@ -71,7 +71,7 @@ hart_reply target hart = if nat_lt hart (harts_of target) then ok_text else no_h
 -- what the steps of a hart did, and where, in which mode and world it is then
 abbrev pub hart_told : Target → ℕ → HartRan → List ℕ
 hart_told target hart ran =
-    let seen = turned_to hart target in hart_text hart (pc_of seen) (hart_of seen).mode (world_text seen) ran
+    let seen = with_chosen hart target in hart_text hart (pc_of seen) (hart_of seen).mode (world_text seen) ran
 
 -- of each hart that there is
 abbrev pub harts_told : AfterTurns → List ℕ

@@ -1,7 +1,7 @@
 -- The state of a bench: what its commands show and change. (This project's own debugger.)
 use Rattle.std.specs.Prelude.{ℕ, List, []}
 use Rattle.rv_hart.specs.State.{State}
-use Rattle.rv_monitor.specs.State.{OnTurn}
+use Rattle.rv_monitor.specs.State.{Machine}
 use Rattle.rv_debug.specs.declared.target.Target.{Target}
 use Rattle.rv_debug.specs.declared.target.Target.TheVariants.{Bare, Monitored}
 
@@ -15,6 +15,6 @@ pub record BenchState : Type 0 where
 abbrev pub bare : State → BenchState
 bare machine = record { target = Bare machine; breaks = []; watches = [] }
 
--- the same over a monitored machine, whose hart on turn is the chosen one
-abbrev pub monitored : OnTurn → BenchState
-monitored machine = record { target = Monitored machine; breaks = []; watches = [] }
+-- the same over a monitored machine, of which hart 0 is chosen
+abbrev pub monitored : Machine → BenchState
+monitored machine = record { target = Monitored (record { hart = 0; state = machine }); breaks = []; watches = [] }

@@ -3,6 +3,7 @@
 use Rattle.std.specs.Prelude.{ℕ, ◌≡◌, suc, ◌==◌, Bool, true, false, not, ◌&&◌, ◌||◌, if◌then◌else◌, List, [], ◌∷◌, Result, Ok}
 use Rattle.std.specs.Prelude.{Err}
 use Rattle.std.specs.Int.{bit_at}
+use Rattle.std.specs.List.{range_with_len}
 use Rattle.rv_monitor.specs.AgreeBut.{AgreeBut, runs_on}
 use Rattle.rv_monitor.specs.HartLaws.{RunsOnNone}
 use Rattle.rv_monitor.specs.Scrambled.{scrambled as scrambled_of}
@@ -16,9 +17,9 @@ use Rattle.rv_script.specs.declared.command.Command.TheVariants.{Blank, Step, Ru
 use Rattle.rv_script.specs.declared.command.CommandFault.{CommandFault}
 use Rattle.rv_debug.specs.Answer.{Answered, answer}
 use Rattle.rv_debug.specs.BenchState.{BenchState}
+use Rattle.rv_debug.specs.Chosen.{Chosen}
 use Rattle.rv_debug.specs.ReplyText.{fault_text}
-use Rattle.rv_monitor.specs.State.{OnTurn, machine_of}
-use Rattle.rv_debug.specs.Targets.{chosen_at, chosen_of}
+use Rattle.rv_debug.specs.Targets.{chosen_at, chosen_of, harts_of}
 use Rattle.rv_debug.specs.declared.both.BothLine.{BothLine}
 use Rattle.rv_debug.specs.declared.both.BothLine.TheVariants.{Faulty, Given}
 use Rattle.rv_debug.specs.declared.both.BothWhy.{BothWhy}
@@ -30,7 +31,7 @@ use Rattle.rv_debug.specs.declared.target.Target.TheVariants.{Bare, Monitored}
 
 -- the chosen hart is the same, and the machines agree but for the enclave of slot e, wherever it runs: they are equal but for the bytes of
 -- its region, its context, and the hart on which it runs, if it runs; a machine alone has no enclave
-pub record ChosenAgreeBut (e : ℕ) (one other : OnTurn) : Type 0 where
+pub record ChosenAgreeBut (e : ℕ) (one other : Chosen) : Type 0 where
   pub hart : one.hart ≡ other.hart
   pub state : AgreeBut e one.state other.state
 
@@ -62,18 +63,18 @@ harts_shown target (Run count) = chosen_of target ∷ []
 harts_shown target (Reg number) = chosen_of target ∷ []
 harts_shown target Regs = chosen_of target ∷ []
 harts_shown target (Csr number) = chosen_of target ∷ []
-harts_shown target (Sched schedule) = 0 ∷ 1 ∷ []
+harts_shown target (Sched schedule) = range_with_len 0 (harts_of target)
 harts_shown target _ = []
 
 -- the enclave of slot e runs on none of these harts
 abbrev pub RunsOnNoneIn : ℕ → List ℕ → Target → Type 0
 RunsOnNoneIn e harts (Bare machine) = Unit {0}
-RunsOnNoneIn e harts (Monitored chosen) = RunsOnNone e harts (machine_of chosen)
+RunsOnNoneIn e harts (Monitored chosen) = RunsOnNone e harts chosen.state
 
 -- it runs on none that there is
 abbrev pub RestsIn : ℕ → Target → Type 0
 RestsIn e (Bare machine) = Unit {0}
-RestsIn e (Monitored chosen) = (hart : ℕ) → runs_on e hart (machine_of chosen) ≡ false
+RestsIn e (Monitored chosen) = (hart : ℕ) → runs_on e hart chosen.state ≡ false
 
 -- the command neither steps nor shows a hart on which it runs
 abbrev pub PassesBy : ℕ → BenchState → Command → Type 0

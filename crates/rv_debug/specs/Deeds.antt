@@ -7,7 +7,7 @@ use Rattle.rv_script.specs.declared.command.Command.TheVariants.{Step, Run, SetR
 use Rattle.rv_debug.specs.BenchState.{BenchState}
 use Rattle.rv_debug.specs.Turns.{no_turns, turns}
 use Rattle.rv_debug.specs.Steps.{AfterRun, no_steps, run}
-use Rattle.rv_debug.specs.Targets.{chosen_of, harts_of, pc_of, stepped, register_set, timer_set, poked, turned_to}
+use Rattle.rv_debug.specs.Targets.{chosen_of, harts_of, pc_of, stepped, register_set, timer_set, poked, with_chosen}
 use Rattle.rv_debug.specs.declared.target.Target.{Target}
 
 -- nothing; steps of these harts in their order, behind which this one is chosen; a word put into a register of the chosen hart; its timer
@@ -23,7 +23,7 @@ pub data Deed : Type 0 where
 
 abbrev pub done : Target → Deed → Target
 done target Nothing = target
-done target (Steps harts chosen) = turned_to chosen (turns harts (no_turns target)).state
+done target (Steps harts chosen) = with_chosen chosen (turns harts (no_turns target)).state
 done target (Register number value) = register_set target number value
 done target (TimerLine raised) = timer_set target raised
 done target (OneByte address byte) = option_case (poked target address byte) target (λ after. after)

@@ -1,7 +1,7 @@
 -- What the commands of a monitored bench show and keep of isolation: the law of reach as `access` tells it, and the law of integrity
 -- for a command and for a list of commands. (This project's own debugger over its own monitor.)
 use Rattle.std.specs.List.{list_all}
-use Rattle.std.specs.Prelude.{ℕ, ◌≡◌, ◌≢◌, ◌⊎◌, ◌==◌, true, false, List, [], ◌∷◌}
+use Rattle.std.specs.Prelude.{ℕ, ◌≡◌, ◌≢◌, ◌<◌, ◌⊎◌, ◌==◌, true, false, not, List, [], ◌∷◌}
 use Rattle.rv_word.specs.Widths.{bytes_in}
 use Rattle.rv_word.specs.declared.width.Width.{Width}
 use Rattle.rv_pmp.specs.Verdicts.{bytes_from, permits}
@@ -13,7 +13,7 @@ use Rattle.rv_memory.specs.Memory.{byte_at, is_inside}
 use Rattle.rv_monitor.specs.AgreeBut.{runs_on}
 use Rattle.rv_monitor.specs.HartLaws.{IsChangedInOrder, IsLeftAlone, RunsOnNone}
 use Rattle.rv_monitor.specs.Integrity.{IsSpared}
-use Rattle.rv_monitor.specs.State.{IsKept, MonitoredState, OnTurn, machine_of, seated_beside, seen_by}
+use Rattle.rv_monitor.specs.State.{IsKept, MonitoredState, seat_of, seated, seen_by}
 use Rattle.rv_enclaves.specs.Blocks.{has}
 use Rattle.rv_enclaves.specs.Reach.{in_reach}
 use Rattle.rv_enclaves.specs.Table.{region, is_live}
@@ -21,9 +21,10 @@ use Rattle.rv_script.specs.declared.command.Command.{Command}
 use Rattle.rv_script.specs.declared.command.Command.TheVariants.{Access}
 use Rattle.rv_debug.specs.Answer.{access_reply, answer}
 use Rattle.rv_debug.specs.BenchState.{BenchState}
+use Rattle.rv_debug.specs.Chosen.{Chosen}
 use Rattle.rv_debug.specs.Deeds.{Deed, Steps, Register, TimerLine, OneByte, deed, harts_stepped}
 use Rattle.rv_debug.specs.ReplyText.{verdict_text}
-use Rattle.rv_debug.specs.Targets.{KeepsMonitor, chosen_of, memory_of}
+use Rattle.rv_debug.specs.Targets.{KeepsMonitor, chosen_of, harts_of, memory_of}
 use Rattle.rv_debug.specs.declared.target.Target.{Target}
 use Rattle.rv_debug.specs.declared.target.Target.TheVariants.{Bare, Monitored}
 
@@ -39,7 +40,7 @@ pub record TellsVerdict (machine : MonitoredState) (mode : Mode) (access : Acces
 -- in S and U, of bytes that are in RAM
 abbrev pub TellsReach : Target → Command → Type 0
 TellsReach (Monitored chosen) (Access mode access address width) =
-    mode ≢ M → is_inside chosen.state.shared.memory address (bytes_in width) ≡ true → TellsVerdict chosen.state mode access address width
+    mode ≢ M → is_inside chosen.state.shared.memory address (bytes_in width) ≡ true → TellsVerdict (seen_by chosen.hart chosen.state) mode access address width
 TellsReach _ _ = Unit {0}
 
 -- ---- integrity
@@ -52,7 +53,7 @@ IsLiveIn k (Monitored chosen) = is_live chosen.state.shared.table k ≡ true
 -- steps of these harts leave it alone: before each it is live, and not the world of the hart that steps, which does not enter it
 abbrev pub IsLeftAloneIn : ℕ → List ℕ → Target → Type 0
 IsLeftAloneIn k harts (Bare machine) = ⊥
-IsLeftAloneIn k harts (Monitored chosen) = IsLeftAlone k harts (machine_of chosen)
+IsLeftAloneIn k harts (Monitored chosen) = IsLeftAlone k harts chosen.state
 
 -- a byte at an address is not in its region
 abbrev pub IsApart : ℕ → ℕ → Target → Type 0
@@ -62,7 +63,7 @@ IsApart k address (Monitored chosen) = has (region chosen.state.shared.table k) 
 -- one step of these harts changed the byte, as a step of its hart may
 abbrev pub IsChangedInTurns : List ℕ → ℕ → Target → Type 0
 IsChangedInTurns harts byte (Bare machine) = ⊥
-IsChangedInTurns harts byte (Monitored chosen) = IsChangedInOrder harts (machine_of chosen) byte
+IsChangedInTurns harts byte (Monitored chosen) = IsChangedInOrder harts chosen.state byte
 
 -- the target is a monitored machine
 abbrev pub IsMonitored : Target → Type 0
@@ -92,10 +93,10 @@ PokesNone k target _ = Unit {0}
 -- one that runs on a hart rests under every command that does not step that hart, and pokes no byte of its region
 abbrev pub RunningLaw : Type 0
 RunningLaw =
-    (k own : ℕ) (chosen : OnTurn) (breaks watches : List ℕ) (command : Command) → IsKept chosen.state → runs_on k own (machine_of chosen) ≡ true
+    (k own : ℕ) (chosen : Chosen) (breaks watches : List ℕ) (command : Command) → IsKept chosen.state → runs_on k own chosen.state ≡ true
     → (let bench : BenchState = record { target = Monitored chosen; breaks = breaks; watches = watches } in
     let does = deed bench command in
-    RunsOnNone k (harts_stepped does) (machine_of chosen) → PokesNone k bench.target does → RestsUnder k bench command)
+    RunsOnNone k (harts_stepped does) chosen.state → PokesNone k bench.target does → RestsUnder k bench command)
 
 -- a command spares each enclave that rests through it
 abbrev pub SparesResting : BenchState → Command → BenchState → Type 0
@@ -113,25 +114,24 @@ ChangesMemory before command after =
     IsMonitored before.target → (byte : ℕ)
     → byte_at (memory_of after.target) byte ≡ byte_at (memory_of before.target) byte ⊎ MayChange before.target (deed before command) byte
 
--- ---- the other hart
+-- ---- the other harts
 
--- what is done is done to this hart alone: no other makes a step, or has a register or its timer line set
-abbrev pub LeavesOther : ℕ → Target → Deed → Type 0
-LeavesOther hart target (Steps harts chosen) = list_all (λ named. named == hart) harts ≡ true
-LeavesOther hart target (Register number value) = hart ≡ chosen_of target
-LeavesOther hart target (TimerLine raised) = hart ≡ chosen_of target
-LeavesOther hart target _ = Unit {0}
+-- nothing is done to this hart: it makes no step, and has no register and no timer line set
+abbrev pub LeavesHart : ℕ → Target → Deed → Type 0
+LeavesHart hart target (Steps harts chosen) = list_all (λ named. not (named == hart)) harts ≡ true
+LeavesHart hart target (Register number value) = hart ≢ chosen_of target
+LeavesHart hart target (TimerLine raised) = hart ≢ chosen_of target
+LeavesHart hart target _ = Unit {0}
 
--- the hart beside this one is as before, its world, registers, pc and mode, but for the entries and mie, which are those of the table and
--- its world
-abbrev pub KeepsOther : ℕ → Target → Target → Type 0
-KeepsOther hart (Monitored before) (Monitored after) =
-    (seen_by hart (machine_of after)).other ≡ seated_beside after.state.shared.table (seen_by hart (machine_of before)).other
-KeepsOther hart (Bare before) (Bare after) = Unit {0}
-KeepsOther hart _ _ = ⊥
+-- it is as before, its world, registers, pc and mode, but for the entries and mie, which are those of the table and its world
+abbrev pub KeepsHart : ℕ → Target → Target → Type 0
+KeepsHart hart (Monitored before) (Monitored after) = seat_of hart after.state ≡ seated after.state.shared.table (seat_of hart before.state)
+KeepsHart hart (Bare before) (Bare after) = Unit {0}
+KeepsHart hart _ _ = ⊥
 
-abbrev pub SparesOther : BenchState → Command → BenchState → Type 0
-SparesOther before command after = (hart : ℕ) → LeavesOther hart before.target (deed before command) → KeepsOther hart before.target after.target
+abbrev pub SparesHarts : BenchState → Command → BenchState → Type 0
+SparesHarts before command after =
+    (hart : ℕ) → hart < harts_of before.target → LeavesHart hart before.target (deed before command) → KeepsHart hart before.target after.target
 
 -- ---- lists of commands
 

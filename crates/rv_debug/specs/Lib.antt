@@ -1,5 +1,6 @@
 pub mod Addresses
 pub mod Answer
+pub mod Chosen
 pub mod BenchState
 pub mod Confidentiality
 pub mod Deeds

@@ -2,10 +2,9 @@
 -- the host goes on as it was before the step that entered, past its ecall, but for a0 and a1. (A law of this project's own debugger over
 -- its own monitor; Keystone, EuroSys 2020, in this project's profile.)
 use Rattle.std.specs.Prelude.{ℕ, ◌≡◌, true, List, [], ◌∷◌, ◌++◌}
-use Rattle.rv_monitor.specs.AgreeBut.{seat_of}
 use Rattle.rv_monitor.specs.HartLaws.{sched}
 use Rattle.rv_monitor.specs.Returns.{HostComesBack, RunsThrough}
-use Rattle.rv_monitor.specs.State.{MonitoredState, AreStored, HostIsStored, machine_of, seen_by}
+use Rattle.rv_monitor.specs.State.{Machine, MonitoredState, AreStored, HostIsStored, seat_of, seen_by}
 use Rattle.rv_monitor.specs.Step.{monitored_step, step_of}
 use Rattle.rv_enclaves.specs.Table.{is_host}
 use Rattle.rv_script.specs.declared.command.Command.{Command}
@@ -20,7 +19,7 @@ use Rattle.rv_debug.specs.declared.target.Target.TheVariants.{Bare, Monitored}
 -- ---- steps
 
 -- one of these steps is of this hart and from this state, in which the host runs; behind it an enclave runs on the hart through the rest
-pub record EntersWithin (hart : ℕ) (harts : List ℕ) (machine entry : MonitoredState) : Type 0 where
+pub record EntersWithin (hart : ℕ) (harts : List ℕ) (machine : Machine) (entry : MonitoredState) : Type 0 where
   pub before : List ℕ
   pub rest : List ℕ
   pub is : harts ≡ before ++ hart ∷ rest
@@ -29,7 +28,7 @@ pub record EntersWithin (hart : ℕ) (harts : List ℕ) (machine entry : Monitor
   pub runs : RunsThrough hart rest (step_of hart (sched before machine).state).state
 
 -- an enclave runs on the hart up to this state; from it one of these steps is of this hart, and leads to the host
-pub record LeavesWithin (hart : ℕ) (harts : List ℕ) (machine exit : MonitoredState) : Type 0 where
+pub record LeavesWithin (hart : ℕ) (harts : List ℕ) (machine : Machine) (exit : MonitoredState) : Type 0 where
   pub before : List ℕ
   pub rest : List ℕ
   pub is : harts ≡ before ++ hart ∷ rest
@@ -39,7 +38,7 @@ pub record LeavesWithin (hart : ℕ) (harts : List ℕ) (machine exit : Monitore
 
 -- Both within one list of steps: a step of this hart enters an enclave from the one state, in which the host runs; an enclave runs on the
 -- hart through steps between, and a step of it leads to the host from the other. What the first keeps of the host is as a hart stores it.
-pub record EntersAndLeaves (hart : ℕ) (harts : List ℕ) (machine entry exit : MonitoredState) : Type 0 where
+pub record EntersAndLeaves (hart : ℕ) (harts : List ℕ) (machine : Machine) (entry exit : MonitoredState) : Type 0 where
   pub before : List ℕ
   pub between : List ℕ
   pub rest : List ℕ
@@ -56,22 +55,22 @@ pub record EntersAndLeaves (hart : ℕ) (harts : List ℕ) (machine entry exit :
 -- a step of the command enters an enclave from this state
 abbrev pub EntersUnder : ℕ → List ℕ → Target → MonitoredState → Type 0
 EntersUnder hart harts (Bare machine) entry = ⊥
-EntersUnder hart harts (Monitored chosen) entry = EntersWithin hart harts (machine_of chosen) entry
+EntersUnder hart harts (Monitored chosen) entry = EntersWithin hart harts chosen.state entry
 
 -- an enclave runs on the hart through its steps
 abbrev pub RunsUnder : ℕ → List ℕ → Target → Type 0
 RunsUnder hart harts (Bare machine) = ⊥
-RunsUnder hart harts (Monitored chosen) = RunsThrough hart harts (machine_of chosen)
+RunsUnder hart harts (Monitored chosen) = RunsThrough hart harts chosen.state
 
 -- an enclave leaves by one of them from this state
 abbrev pub LeavesUnder : ℕ → List ℕ → Target → MonitoredState → Type 0
 LeavesUnder hart harts (Bare machine) exit = ⊥
-LeavesUnder hart harts (Monitored chosen) exit = LeavesWithin hart harts (machine_of chosen) exit
+LeavesUnder hart harts (Monitored chosen) exit = LeavesWithin hart harts chosen.state exit
 
 -- it does both
 abbrev pub EntersAndLeavesUnder : ℕ → List ℕ → Target → MonitoredState → MonitoredState → Type 0
 EntersAndLeavesUnder hart harts (Bare machine) entry exit = ⊥
-EntersAndLeavesUnder hart harts (Monitored chosen) entry exit = EntersAndLeaves hart harts (machine_of chosen) entry exit
+EntersAndLeavesUnder hart harts (Monitored chosen) entry exit = EntersAndLeaves hart harts chosen.state entry exit
 
 -- what is kept of the host of each hart is as a hart stores it
 abbrev pub IsStoredIn : Target → Type 0

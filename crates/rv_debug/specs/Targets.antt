@@ -7,8 +7,10 @@ use Rattle.rv_hart.specs.HartState.{Hart}
 use Rattle.rv_hart.specs.State.{State}
 use Rattle.rv_hart.specs.Step.{step}
 use Rattle.rv_monitor.specs.Debugger.{with_reg, with_timer, with_memory}
-use Rattle.rv_monitor.specs.State.{MonitoredState, OnTurn, IsKept, count_of, machine_of, seen_from}
-use Rattle.rv_monitor.specs.Step.{monitored_step}
+use Rattle.rv_monitor.specs.State.{Machine, IsKept, count_of, seat_of}
+use Rattle.rv_monitor.specs.Step.{step_of}
+use Rattle.rv_monitor.specs.declared.seat.Seat.{Seat}
+use Rattle.rv_debug.specs.Chosen.{Chosen}
 use Rattle.rv_enclaves.specs.declared.world.World.{World}
 use Rattle.rv_enclaves.specs.declared.world.World.TheVariants.{Host, Enclave}
 use Rattle.rv_debug.specs.EnclaveText.{table_text}
@@ -16,10 +18,14 @@ use Rattle.rv_debug.specs.Steps.{Stepped}
 use Rattle.rv_debug.specs.declared.target.Target.{Target}
 use Rattle.rv_debug.specs.declared.target.Target.TheVariants.{Bare, Monitored}
 
+-- the seat of the chosen hart
+abbrev pub chosen_seat : Chosen → Seat
+chosen_seat chosen = seat_of chosen.hart chosen.state
+
 -- its hart; of two, the chosen one
 abbrev pub hart_of : Target → Hart
 hart_of (Bare machine) = machine.hart
-hart_of (Monitored chosen) = chosen.state.seat.hart
+hart_of (Monitored chosen) = (chosen_seat chosen).hart
 
 -- its memory
 abbrev pub memory_of : Target → List ℕ
@@ -34,7 +40,7 @@ world_name (Enclave slot) = codes "e" ++ decimal slot
 -- the name of its world
 abbrev pub world_text : Target → List ℕ
 world_text (Bare machine) = codes "bare"
-world_text (Monitored chosen) = world_name chosen.state.seat.world
+world_text (Monitored chosen) = world_name (chosen_seat chosen).world
 
 -- a line for each of its live enclaves; a machine alone has none
 abbrev pub enclaves_text : Target → List ℕ
@@ -49,24 +55,18 @@ pc_of target = (hart_of target).pc
 abbrev pub machine_stepped : State → Stepped State
 machine_stepped machine = let after = step machine in record { state = after.state; outcome = after.outcome; entered = None }
 
--- a monitored machine after one step
-abbrev pub monitored_stepped : MonitoredState → Stepped MonitoredState
-monitored_stepped machine =
-    let after = monitored_step machine in
-    record { state = after.state; outcome = after.outcome.step; entered = after.outcome.entered }
-
--- of the chosen hart
-abbrev pub chosen_stepped : OnTurn → Stepped OnTurn
+-- a monitored machine after one step of the chosen hart
+abbrev pub chosen_stepped : Chosen → Stepped Chosen
 chosen_stepped chosen =
-    let after = monitored_step chosen.state in
+    let after = step_of chosen.hart chosen.state in
     record { state = record { hart = chosen.hart; state = after.state }; outcome = after.outcome.step; entered = after.outcome.entered }
 
 -- the same of a target
 abbrev pub with_target : {A : Type 0} → (A → Target) → Stepped A → Stepped Target
 with_target target after = record { state = target after.state; outcome = after.outcome; entered = after.entered }
 
--- a machine under the monitor, as the chosen hart sees it
-abbrev pub chosen_at : ℕ → MonitoredState → Target
+-- a machine under the monitor with a chosen hart
+abbrev pub chosen_at : ℕ → Machine → Target
 chosen_at hart state = Monitored (record { hart = hart; state = state })
 
 -- a target after one step, of the chosen hart
@@ -85,21 +85,21 @@ chosen_of (Bare machine) = 0
 chosen_of (Monitored chosen) = chosen.hart
 
 -- another hart chosen, which it has
-abbrev pub turned_to : ℕ → Target → Target
-turned_to hart (Bare machine) = Bare machine
-turned_to hart (Monitored chosen) = Monitored (seen_from hart (machine_of chosen))
+abbrev pub with_chosen : ℕ → Target → Target
+with_chosen hart (Bare machine) = Bare machine
+with_chosen hart (Monitored chosen) = chosen_at hart chosen.state
 
 -- a word put into a register; x0 stays 0
 abbrev pub register_set : Target → ℕ → ℕ → Target
 register_set (Bare machine) number value =
     Bare (record machine { hart = record machine.hart { regs = with_register machine.hart.regs number value } })
-register_set (Monitored chosen) number value = chosen_at chosen.hart (with_reg chosen.state number value)
+register_set (Monitored chosen) number value = chosen_at chosen.hart (with_reg chosen.hart chosen.state number value)
 
 -- the timer line raised or lowered
 abbrev pub timer_set : Target → Bool → Target
 timer_set (Bare machine) raised =
     Bare (record machine { hart = record machine.hart { csrs = record machine.hart.csrs { timer = raised } } })
-timer_set (Monitored chosen) raised = chosen_at chosen.hart (with_timer chosen.state raised)
+timer_set (Monitored chosen) raised = chosen_at chosen.hart (with_timer chosen.hart chosen.state raised)
 
 -- a memory in place of its own
 abbrev pub over_memory : Target → List ℕ → Target

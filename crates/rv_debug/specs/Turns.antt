@@ -4,7 +4,7 @@ use Rattle.std.specs.Prelude.{Option, None, if◌then◌else◌}
 use Rattle.std.specs.Option.{option_or}
 use Rattle.rv_hart.specs.declared.trap.Trap.{Trap}
 use Rattle.rv_debug.specs.Steps.{Stepped, with_slot}
-use Rattle.rv_debug.specs.Targets.{stepped, turned_to}
+use Rattle.rv_debug.specs.Targets.{stepped, with_chosen}
 use Rattle.rv_debug.specs.declared.scheduled.HartRan.{HartRan}
 use Rattle.rv_debug.specs.declared.scheduled.Scheduled.{Scheduled}
 use Rattle.rv_debug.specs.declared.target.Target.{Target}
@@ -39,4 +39,4 @@ with_turn hart before last = record {
 -- one step of each of these harts, in this order, whatever is a break or watched; the last of them is chosen then
 unfoldable pub turns : List ℕ → AfterTurns → AfterTurns
 turns [] before = before
-turns (hart ∷ harts) before = turns harts (with_turn hart before (stepped (turned_to hart before.state)))
+turns (hart ∷ harts) before = turns harts (with_turn hart before (stepped (with_chosen hart before.state)))

@@ -118,7 +118,7 @@ pub(crate) fn answer_hart(target: &mut Target, hart: u8, reply: &mut Reply)
     ensures monitor { KeepsMonitor target.old → KeepsMonitor target.new }
 {
     if hart < target.harts() {
-        target.turn_to(hart);
+        target.choose(hart);
         push_ok(reply);
     } else {
         push_no_hart(reply);
@@ -130,8 +130,9 @@ fn push_harts(reply: &mut Reply, target: &Target, did: &Scheduled)
     requires { array_vec_len reply.old ≡ 0 }
     ensures { reply.new.items ≡ harts_told (record { state = target.now; did = did.now }) }
 {
+    let harts = target.harts();
     push_hart(reply, target, 0, did.first);
-    if target.harts() > 1 {
+    if harts > 1 {
         push_hart(reply, target, 1, did.second);
     }
 }
@@ -153,7 +154,7 @@ pub(crate) fn answer_sched(target: &mut Target, schedule: &Schedule, reply: &mut
     let chosen = target.chosen();
     let did = run_schedule(target, schedule);
     push_harts(reply, target, &did);
-    target.turn_to(chosen);
+    target.choose(chosen);
     did.entered
 }
 

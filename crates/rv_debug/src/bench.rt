@@ -5,6 +5,7 @@ use crate::answer::{
     answer_access, answer_csr, answer_dis, answer_hart, answer_mem, answer_poke, answer_removal,
     answer_run, answer_sched, answer_setreg, answer_timer,
 };
+use crate::chosen::ChosenHart;
 use crate::enclaves::push_enclaves;
 use crate::reply::{push_fault, push_pmp, push_register, push_registers, push_set};
 use crate::target::Target;
@@ -40,7 +41,7 @@ impl Bench {
     ghost use Rattle.arrayvec.specs.ArrayVec.{array_vec_len};
     ghost use Rattle.rv_debug.specs.Answer.{answer, line_answer, only_shows};
     ghost use Rattle.rv_debug.specs.BenchState.{bare, monitored};
-    ghost use Rattle.rv_debug.specs.Isolation.{TellsReach, ChangesMemory, SparesResting, SparesOther};
+    ghost use Rattle.rv_debug.specs.Isolation.{TellsReach, ChangesMemory, SparesResting, SparesHarts};
     ghost use Rattle.rv_debug.specs.Returns.{IsStoredIn};
     ghost use Rattle.rv_debug.specs.Targets.{IsBare, KeepsMonitor};
     ghost use Rattle.rv_debug.specs.BothBenches.{BenchesAgreeBut, RestsIn, can_scramble, is_blind, scrambled};
@@ -52,12 +53,12 @@ impl Bench {
         Bench::over(Target::Bare(machine))
     }
 
-    /// A bench over a monitored machine as it is, with no break and no watch.
+    /// A bench over a monitored machine as it is, with hart 0 chosen, no break and no watch.
     pub fn monitored(machine: Monitored) -> Self
         ensures { result ≡ monitored machine }
     {
         machine.invariant();
-        Bench::over(Target::Monitored(machine))
+        Bench::over(Target::Monitored(ChosenHart { machine, hart: 0 }))
     }
 
     /// A bench over a target, with no break and no watch.
@@ -111,10 +112,11 @@ impl Bench {
         ensures reach { TellsReach self.old.target command.now }
         ensures changes { ChangesMemory self.old command.now self.new }
         ensures spares { SparesResting self.old command.now self.new }
-        ensures beside { SparesOther self.old command.now self.new }
+        ensures beside { SparesHarts self.old command.now self.new }
         ensures stored { IsStoredIn self.new.target }
     {
         self.invariant();
+        self.target.chosen();
         let entered = self.answer(command, out);
         self.target.stored();
         entered

@@ -16,6 +16,7 @@ mod addresses;
 mod answer;
 mod bench;
 mod both;
+mod chosen;
 mod enclaves;
 mod free_limits;
 pub mod laws;
@@ -27,5 +28,6 @@ mod target;
 
 pub use bench::Bench;
 pub use both::{Both, BothLine, BothWhy, both_command, both_line, run_both};
+pub use chosen::ChosenHart;
 pub use rv_script::{ByteCount, Command, CommandFault, Schedule, StepCount, Within, parse};
 pub use target::Target;

@@ -4,7 +4,7 @@ ghost use Rattle.std.specs.Prelude.{◌≡◌, ℕ, ◌+◌, ◌*◌, ◌<◌, �
 ghost use Rattle.arrayvec.specs.ArrayVec.{array_vec_len};
 ghost use Rattle.rv_debug.specs.Answer.{hart_told};
 ghost use Rattle.rv_debug.specs.ReplyText.{mode_text, stop_text, ran_text, hart_text, no_hart_text, trap_text, register_text, registers_text, pc_text, ok_text, csr_text, memory_text, dis_text, entry_text, pmp_text, verdict_text, denied_outside_text, full_text, fault_text, no_csr_text, outside_text};
-ghost use Rattle.rv_debug.specs.Targets.{hart_of, harts_of, pc_of, turned_to, world_name, world_text};
+ghost use Rattle.rv_debug.specs.Targets.{hart_of, harts_of, pc_of, with_chosen, world_name, world_text};
 
 use crate::scheduled::HartRan;
 use crate::steps::{Ran, Stop};
@@ -90,7 +90,7 @@ fn push_world(out: &mut Reply, target: &Target)
 {
     match target {
         Target::Bare(_) => push_text(out, "bare"),
-        Target::Monitored(machine) => push_world_name(out, machine.world_on_turn()),
+        Target::Monitored(chosen) => push_world_name(out, chosen.machine.world(chosen.hart)),
     }
 }
 
@@ -98,12 +98,12 @@ fn push_world(out: &mut Reply, target: &Target)
 fn push_world_at(out: &mut Reply, target: &Target, hart: u8)
     requires has { hart < harts_of target.now }
     requires room { array_vec_len out.old + 11 ≤ 2048 }
-    ensures items { out.new.items ≡ out.old.items ++ world_text (turned_to hart target.now) }
+    ensures items { out.new.items ≡ out.old.items ++ world_text (with_chosen hart target.now) }
     ensures len { array_vec_len out.new ≤ array_vec_len out.old + 11 }
 {
     match target {
         Target::Bare(_) => push_text(out, "bare"),
-        Target::Monitored(machine) => push_world_name(out, machine.world(hart)),
+        Target::Monitored(chosen) => push_world_name(out, chosen.machine.world(hart)),
     }
 }
 

@@ -85,7 +85,7 @@ pub(crate) fn run_schedule(target: &mut Target, schedule: &Schedule) -> Schedule
     let digits = schedule.digits();
     for digit in digits {
         let hart = hart(*digit);
-        target.turn_to(hart);
+        target.choose(hart);
         let ran = target.run(1, &none, &none);
         did.add(hart, ran);
     }

@@ -8,13 +8,14 @@ ghost use Rattle.rv_monitor.specs.State.{IsKept};
 ghost use Rattle.rv_debug.specs.Returns.{IsStoredIn};
 ghost use Rattle.rv_debug.specs.Steps.{no_steps, run};
 ghost use Rattle.rv_debug.specs.BothBenches.{TargetsAgreeBut, can_scramble_in, region_of, scrambled_in};
-ghost use Rattle.rv_debug.specs.Targets.{chosen_of, hart_of, harts_of, memory_of, pc_of, stepped, turned_to, register_set, timer_set, poked, IsBare, KeepsMonitor};
+ghost use Rattle.rv_debug.specs.Targets.{chosen_of, hart_of, harts_of, memory_of, pc_of, stepped, with_chosen, register_set, timer_set, poked, IsBare, KeepsMonitor};
 
 use crate::addresses::Addresses;
+use crate::chosen::ChosenHart;
 use crate::steps::{Ran, run_steps};
 use rv_hart::Machine;
 use rv_memory::Ram;
-use rv_monitor::{Block, Monitored, Slot};
+use rv_monitor::{Block, Slot};
 use rv_pmp::Mode;
 use rv_state::{Csrs, Regs};
 use rv_word::Reg;
@@ -24,8 +25,8 @@ use rv_word::Reg;
 pub enum Target {
     /// A machine alone.
     Bare(Machine),
-    /// A machine under the monitor.
-    Monitored(Monitored),
+    /// A machine under the monitor, of which commands work on one hart.
+    Monitored(ChosenHart),
 }
 
 impl Target {
@@ -33,8 +34,8 @@ impl Target {
     pub(crate) fn stored(&self)
         ensures { IsStoredIn self.now }
     {
-        if let Target::Monitored(machine) = self {
-            machine.invariant();
+        if let Target::Monitored(chosen) = self {
+            chosen.machine.invariant();
         }
     }
 
@@ -44,7 +45,7 @@ impl Target {
     {
         match self {
             Target::Bare(machine) => machine.regs(),
-            Target::Monitored(machine) => machine.hart_on_turn().regs(),
+            Target::Monitored(chosen) => chosen.machine.regs(chosen.hart),
         }
     }
 
@@ -54,7 +55,7 @@ impl Target {
     {
         match self {
             Target::Bare(machine) => machine.csrs(),
-            Target::Monitored(machine) => machine.hart_on_turn().csrs(),
+            Target::Monitored(chosen) => chosen.machine.csrs(chosen.hart),
         }
     }
 
@@ -64,7 +65,7 @@ impl Target {
     {
         match self {
             Target::Bare(machine) => machine.ram(),
-            Target::Monitored(machine) => machine.ram(),
+            Target::Monitored(chosen) => chosen.machine.ram(),
         }
     }
 
@@ -74,7 +75,7 @@ impl Target {
     {
         match self {
             Target::Bare(_) => None,
-            Target::Monitored(machine) => machine.table().get(slot).map(|info| info.region),
+            Target::Monitored(chosen) => chosen.machine.table().get(slot).map(|info| info.region),
         }
     }
 
@@ -84,7 +85,7 @@ impl Target {
     {
         match self {
             Target::Bare(machine) => machine.pc(),
-            Target::Monitored(machine) => machine.hart_on_turn().pc(),
+            Target::Monitored(chosen) => chosen.machine.pc(chosen.hart),
         }
     }
 
@@ -94,17 +95,18 @@ impl Target {
     {
         match self {
             Target::Bare(machine) => machine.mode(),
-            Target::Monitored(machine) => machine.hart_on_turn().mode(),
+            Target::Monitored(chosen) => chosen.machine.mode(chosen.hart),
         }
     }
 
     /// How many harts it has: 1 or 2.
     pub(crate) fn harts(&self) -> u8
-        ensures { result ≡ harts_of self.now }
+        ensures count { result ≡ harts_of self.now }
+        ensures some { 0 < result }
     {
         match self {
             Target::Bare(_) => 1,
-            Target::Monitored(machine) => machine.harts(),
+            Target::Monitored(chosen) => chosen.machine.harts(),
         }
     }
 
@@ -115,42 +117,42 @@ impl Target {
     {
         match self {
             Target::Bare(_) => 0,
-            Target::Monitored(machine) => machine.turn(),
+            Target::Monitored(chosen) => chosen.hart,
         }
     }
 
     /// Chooses a hart.
-    pub(crate) fn turn_to(&mut self, hart: u8)
+    pub(crate) fn choose(&mut self, hart: u8)
         requires { hart < harts_of self.old }
-        ensures turned { self.new ≡ turned_to hart self.old }
+        ensures turned { self.new ≡ with_chosen hart self.old }
         ensures harts { harts_of self.new ≡ harts_of self.old }
         ensures monitor { KeepsMonitor self.old → KeepsMonitor self.new }
     {
         match self {
             Target::Bare(_) => {}
-            Target::Monitored(machine) => machine.turn_to(hart),
+            Target::Monitored(chosen) => chosen.hart = hart,
         }
     }
 
     /// The address of the next instruction of a hart.
     pub(crate) fn pc_at(&self, hart: u8) -> u32
         requires { hart < harts_of self.now }
-        ensures { result ≡ pc_of (turned_to hart self.now) }
+        ensures { result ≡ pc_of (with_chosen hart self.now) }
     {
         match self {
             Target::Bare(machine) => machine.pc(),
-            Target::Monitored(machine) => machine.pc(hart),
+            Target::Monitored(chosen) => chosen.machine.pc(hart),
         }
     }
 
     /// The mode of a hart.
     pub(crate) fn mode_at(&self, hart: u8) -> Mode
         requires { hart < harts_of self.now }
-        ensures { result ≡ (hart_of (turned_to hart self.now)).mode }
+        ensures { result ≡ (hart_of (with_chosen hart self.now)).mode }
     {
         match self {
             Target::Bare(machine) => machine.mode(),
-            Target::Monitored(machine) => machine.mode(hart),
+            Target::Monitored(chosen) => chosen.machine.mode(hart),
         }
     }
 
@@ -161,7 +163,7 @@ impl Target {
     {
         match self {
             Target::Bare(machine) => machine.regs_mut().set(reg, value),
-            Target::Monitored(machine) => machine.set_reg_on_turn(reg, value),
+            Target::Monitored(chosen) => chosen.machine.set_reg(chosen.hart, reg, value),
         }
     }
 
@@ -172,7 +174,7 @@ impl Target {
     {
         match self {
             Target::Bare(machine) => machine.csrs_mut().set_timer(raised),
-            Target::Monitored(machine) => machine.set_timer_on_turn(raised),
+            Target::Monitored(chosen) => chosen.machine.set_timer(chosen.hart, raised),
         }
     }
 
@@ -185,7 +187,7 @@ impl Target {
     {
         match self {
             Target::Bare(machine) => machine.ram_mut().poke(address, byte),
-            Target::Monitored(machine) => machine.poke(address, byte),
+            Target::Monitored(chosen) => chosen.machine.poke(address, byte),
         }
     }
 
@@ -200,7 +202,7 @@ impl Target {
     {
         match self {
             Target::Bare(_) => false,
-            Target::Monitored(machine) => machine.scramble(slot),
+            Target::Monitored(chosen) => chosen.machine.scramble(slot),
         }
     }
 
@@ -212,7 +214,7 @@ impl Target {
     {
         match self {
             Target::Bare(machine) => run_bare(machine, count, breaks, watches),
-            Target::Monitored(machine) => run_monitored(machine, count, breaks, watches),
+            Target::Monitored(chosen) => run_monitored(chosen, count, breaks, watches),
         }
     }
 }
@@ -225,17 +227,17 @@ fn run_bare(machine: &mut Machine, count: u32, breaks: &Addresses, watches: &Add
     run_steps(machine, count, breaks, watches)
 }
 
-/// The steps of a machine under the monitor.
+/// The steps of the chosen hart of a machine under the monitor.
 fn run_monitored(
-    machine: &mut Monitored,
+    chosen: &mut ChosenHart,
     count: u32,
     breaks: &Addresses,
     watches: &Addresses,
 ) -> Ran
-    ensures run { run stepped pc_of breaks.now watches.now count (no_steps (Target.Monitored machine.old)) ≡ record { state = Target.Monitored machine.new; ran = result } }
-    ensures kept { IsKept machine.new.state }
+    ensures run { run stepped pc_of breaks.now watches.now count (no_steps (Target.Monitored chosen.old)) ≡ record { state = Target.Monitored chosen.new; ran = result } }
+    ensures kept { IsKept chosen.new.state }
 {
-    let ran = run_steps(machine, count, breaks, watches);
-    machine.invariant();
+    let ran = run_steps(chosen, count, breaks, watches);
+    chosen.machine.invariant();
     ran
 }

@@ -1,54 +1,59 @@
 -- Two machines that agree but for an enclave, once one part of each is changed.
-use Rattle.std.proofs.Common.{◌≡◌, ℕ, zero, suc, Option, Some, None, refl, sym, ◌∙◌, ap}
+use Rattle.std.proofs.Common.{◌≡◌, ◌<◌, ℕ, refl, sym, ◌∙◌, ap, subst, inl, inr, arith}
+use Rattle.std.proofs.lemmas.Bool.{cases_eq, cases_lt}
+use Rattle.std.proofs.lemmas.Grind.{get_or-set_at}
+use Rattle.std.proofs.lemmas.List.{get_or-set_other, length-set}
 use Rattle.rv_enclaves.proofs.Prelude.{SharedButFor, is_world_of}
-use Rattle.rv_monitor.specs.AgreeBut.{SeatsAgreeBut}
-use Rattle.rv_monitor.proofs.Prelude.{AgreeBut, MonitoredState, count_of, seat_of}
+use Rattle.rv_monitor.proofs.Prelude.{AgreeBut, Machine, SeatsAgreeBut, changed, count_of, seat_at_start, seat_of}
 use Rattle.rv_monitor.proofs.Types.{Seat, Shared}
-use Rattle.rv_monitor.proofs.Beside.{on}
-use Rattle.rv_monitor.proofs.Turned.{seats_agree}
+use Rattle.rv_monitor.proofs.Kept.{past_as_is}
 
--- ---- what they share
+pub seats_agree : (e : ℕ) (a b c d : Seat) → a ≡ b → c ≡ d → SeatsAgreeBut e b d → SeatsAgreeBut e a c
+seats_agree e a b c d left right agree =
+    subst (λ (s : Seat). SeatsAgreeBut e s c) (sym left) (subst (SeatsAgreeBut e b) (sym right) agree)
 
-seat_over : (j : ℕ) (seat : Seat) (other : Option Seat) (x y : Shared) → seat_of j (on seat other x) ≡ seat_of j (on seat other y)
-seat_over zero seat other x y = refl
-seat_over (suc j) seat None x y = refl
-seat_over (suc j) seat (Some other) x y = refl
+pub same_seats : (e : ℕ) (one other : Seat) → one ≡ other → SeatsAgreeBut e one other
+same_seats e one other is = record { world = ap (λ (s : Seat). s.world) is; same = λ rests. is }
 
-pub shared_agree : (e : ℕ) (one other : MonitoredState) (x y : Shared) → AgreeBut e one other → SharedButFor e x y
+pub shared_agree : (e : ℕ) (one other : Machine) (x y : Shared) → AgreeBut e one other → SharedButFor e x y
     → AgreeBut e (record one { shared = x }) (record other { shared = y })
-shared_agree e one other x y agree shared = record {
-  harts = agree.harts;
-  seats = λ j. seats_agree e _ _ _ _ (seat_over j one.seat one.other x one.shared) (seat_over j other.seat other.other y other.shared) (agree.seats j);
-  shared = shared;
-}
+shared_agree e one other x y agree shared = record { harts = agree.harts; seats = agree.seats; shared = shared }
 
-pub agrees_itself : (e : ℕ) (state : MonitoredState) → SharedButFor e state.shared state.shared → AgreeBut e state state
-agrees_itself e state shared =
+pub agrees_itself : (e : ℕ) (machine : Machine) → SharedButFor e machine.shared machine.shared → AgreeBut e machine machine
+agrees_itself e machine shared =
     record { harts = refl; seats = λ hart. record { world = refl; same = λ rests. refl }; shared = shared }
 
--- ---- the seat of a hart, changed in the same way, but for its world
+-- the seat of a hart, changed in the same way, but for its world
+changed_in : (e hart : ℕ) (change : Seat → Seat) (one other : Machine) → ((seat : Seat) → (change seat).world ≡ seat.world)
+    → hart < count_of one → AgreeBut e one other → AgreeBut e (changed hart change one) (changed hart change other)
+changed_in e hart change one other keeps has agree =
+    let a = change (seat_of hart one) in
+    let b = change (seat_of hart other) in
+    let size = agree.harts in
+    let own = agree.seats hart in
+    record {
+      harts = length-set one.seats hart a ∙ agree.harts ∙ sym (length-set other.seats hart b);
+      seats = λ j. elim (cases_eq j hart) [
+        | inl at ↦
+            seats_agree e _ _ _ _ (get_or-set_at one.seats hart j a (seat_at_start 0) at has)
+            (get_or-set_at other.seats hart j b (seat_at_start 0) at (omega (arith, size, has))) (record {
+              world = keeps (seat_of hart one) ∙ own.world ∙ sym (keeps (seat_of hart other));
+              same = λ rests. ap change (own.same (sym (ap (is_world_of e) (keeps (seat_of hart one))) ∙ rests));
+            })
+        | inr apart ↦
+            seats_agree e _ _ _ _ (get_or-set_other one.seats hart j a (seat_at_start 0) apart)
+            (get_or-set_other other.seats hart j b (seat_at_start 0) apart) (agree.seats j)
+      ];
+      shared = agree.shared;
+    }
 
-module _ (e : ℕ) (change : Seat → Seat) (keeps : (seat : Seat) → (change seat).world ≡ seat.world) where
-  changed_agree : (a b : Seat) → SeatsAgreeBut e a b → SeatsAgreeBut e (change a) (change b)
-  changed_agree a b agree = record {
-    world = keeps a ∙ agree.world ∙ sym (keeps b);
-    same = λ rests. ap change (agree.same (sym (ap (is_world_of e) (keeps a)) ∙ rests));
-  }
-
-  beside_agree : (s t : Seat) (a b : Option Seat) (x y : Shared) → count_of (on s a x) ≡ count_of (on t b y)
-      → SeatsAgreeBut e (seat_of 1 (on s a x)) (seat_of 1 (on t b y))
-      → SeatsAgreeBut e (seat_of 1 (on (change s) a x)) (seat_of 1 (on (change t) b y))
-  beside_agree s t None None x y harts agree = changed_agree s t agree
-  beside_agree s t None (Some b) x y harts agree = cc
-  beside_agree s t (Some a) None x y harts agree = cc
-  beside_agree s t (Some a) (Some b) x y harts agree = agree
-
-  at_agree : (one other : MonitoredState) → AgreeBut e one other → (j : ℕ)
-      → SeatsAgreeBut e (seat_of j (record one { seat = change one.seat })) (seat_of j (record other { seat = change other.seat }))
-  at_agree one other agree zero = changed_agree one.seat other.seat (agree.seats 0)
-  at_agree one other agree (suc j) =
-      beside_agree one.seat other.seat one.other other.other one.shared other.shared agree.harts (agree.seats 1)
-
-  pub seat_agree : (one other : MonitoredState) → AgreeBut e one other
-      → AgreeBut e (record one { seat = change one.seat }) (record other { seat = change other.seat })
-  seat_agree one other agree = record { harts = agree.harts; seats = at_agree one other agree; shared = agree.shared }
+pub changed_agree : (e hart : ℕ) (change : Seat → Seat) (one other : Machine) → ((seat : Seat) → (change seat).world ≡ seat.world)
+    → AgreeBut e one other → AgreeBut e (changed hart change one) (changed hart change other)
+changed_agree e hart change one other keeps agree = elim (cases_lt hart (count_of one)) [
+  | inl has ↦ changed_in e hart change one other keeps has agree
+  | inr past ↦
+      let size = agree.harts in
+      let here = past_as_is hart (change (seat_of hart one)) one past in
+      let there = past_as_is hart (change (seat_of hart other)) other (omega (arith, size, past)) in
+      rw (here, there) agree
+]

@@ -1,18 +1,19 @@
 -- What the monitor's work after a trap asks of memory and of the kept contexts.
-use Rattle.std.proofs.Common.{◌≡◌, ℕ, ◌+◌, ◌==◌, Bool, true, false, List, length, replicate, Option, Some, None, refl, sym, ap, ap₂, subst, inl, inr, arith}
-use Rattle.std.specs.Prelude.{not, slice_index}
+use Rattle.std.proofs.Common.{◌≡◌, ℕ, ◌+◌, ◌==◌, Bool, true, false, List, length, replicate, Option, Some, None, refl, sym, ◌∙◌, ap, ap₂, subst, inl, inr, arith}
+use Rattle.std.specs.Prelude.{map, not, slice_index, slice_index_or, slice_set}
 use Rattle.std.proofs.lemmas.Bool.{cases_eq, eq-eqb, both_ways, ne_eqb}
 use Rattle.rv_enclaves.specs.Create.{bytes_of_block}
 use Rattle.rv_enclaves.proofs.Agreement.{or_same, write-alike}
-use Rattle.rv_enclaves.proofs.SavedLists.{same_after_set}
 use Rattle.rv_enclaves.proofs.Prelude.{AgreeOutside, Contexts, Slots, context_at, created, destroyed, first_context, kept_context, measured, measurement_at}
 use Rattle.rv_enclaves.proofs.Prelude.{measurement_of, new_slot, recorded, region, with_context, with_slot, with_state}
-use Rattle.rv_monitor.specs.Asked.{asked_by, is_entering, SameAsked, SameWhereSame, SameWork, AskedLaw, SameStep, AskedStepLaw}
+use Rattle.rv_monitor.specs.Asked.{asked_by, SameAsked, SameWhereSame, SameWork, AskedLaw, AskedStepLaw}
 use Rattle.rv_monitor.specs.declared.next.Next.{Next}
-use Rattle.rv_monitor.proofs.Prelude.{Handled, MonitoredState, MonitoredStepped, a0, a1, answered, bare, entered_slot, exited_context, handled, left_slot}
-use Rattle.rv_monitor.proofs.Prelude.{measured_slot, monitored_step, option_case, proposed, ram_base, returned, returned_to, seated, seated_beside}
-use Rattle.rv_monitor.proofs.Prelude.{state_after, status_of, step, with_layout, write}
-use Rattle.rv_monitor.proofs.Types.{Call, Cause, Context, Create, Proposal, Running, Seat, Shared, StepOutcome, Trap}
+use Rattle.rv_monitor.proofs.Prelude.{Handled, Machine, MonitoredState, MonitoredStepped, a0, a1, answered, bare, entered_slot, exited_context}
+use Rattle.rv_monitor.proofs.Prelude.{handled, is_entering, left_slot, measured_slot, monitored_step, option_case, proposed, ram_base, returned}
+use Rattle.rv_monitor.proofs.Prelude.{returned_to, same_after_set, seat_at_start, seated, seen_by, state_after, status_of, step, step_of, with_layout}
+use Rattle.rv_monitor.proofs.Prelude.{write}
+use Rattle.rv_monitor.proofs.Types.{Call, Cause, Context, Create, Outcome, Proposal, Running, Seat, Shared, StepOutcome, Trap}
+use Rattle.rv_monitor.proofs.Places.{is_trapping}
 use Rattle.rv_monitor.proofs.TrapSteps.{seat_after, trapped_step}
 use Rattle.rv_monitor.proofs.Works.{AsksFor, by_work_of_both, entering, kept_by, over}
 
@@ -139,25 +140,47 @@ asked_after cause seat trap one other same = record {
   entered = same.entered;
 }
 
-returned_same : (one other : MonitoredState) (x y : StepOutcome) (a b : Handled) → one.other ≡ other.other → SameWork one.shared other.shared a b
-    → SameStep one other (returned one.other x a) (returned other.other y b)
-returned_same one other x y a b beside same =
+record SameOne (one other : Shared) (one_after other_after : MonitoredStepped) : Type 0 where
+  seat : one_after.state.seat ≡ other_after.state.seat
+  entered : one_after.outcome.entered ≡ other_after.outcome.entered
+  shared : SameWhereSame one other one_after.state.shared other_after.state.shared
+
+returned_same : (one other : Shared) (x y : StepOutcome) (a b : Handled) → SameWork one other a b → SameOne one other (returned x a) (returned y b)
+returned_same one other x y a b same =
     let back : Seat → Next → Seat = λ seat next. record seat { hart = returned_to seat.hart next.pc next.mode } in
-    record {
-      seat = ap₂ back same.seat same.next;
-      beside = ap₂ seated_beside same.shared.table beside;
-      entered = ap (λ (next : Next). next.entered) same.next;
-      shared = same.shared;
-    }
+    record { seat = ap₂ back same.seat same.next; entered = ap (λ (next : Next). next.entered) same.next; shared = same.shared }
+
+asked_one : (seat : Seat) (one other : Shared) (trap : Trap)
+    → (let here : MonitoredState = record { seat = seat; shared = one } in
+    let there : MonitoredState = record { seat = seat; shared = other } in
+    (monitored_step here).outcome.step.trap ≡ Some trap → (monitored_step there).outcome.step.trap ≡ Some trap → SameAsked seat trap.cause one other
+    → SameOne one other (monitored_step here) (monitored_step there))
+asked_one seat one other trap trapped trapped_too same =
+    let here : MonitoredState = record { seat = seat; shared = one } in
+    let there : MonitoredState = record { seat = seat; shared = other } in
+    let work = asked_law (seat_after seat trap) trap one other (asked_after trap.cause seat trap one other same) in
+    rw (trapped_step here trap trapped, trapped_step there trap trapped_too)
+    (returned_same one other (step (bare here)).outcome (step (bare there)).outcome _ _ work)
 
 pub asked_step_law : AskedStepLaw
-asked_step_law state other trap seats besides trapped trapped_too same =
-    let left : Seat → Handled = λ seat. handled (seat_after seat trap) other.shared trap in
-    let work = asked_law (seat_after state.seat trap) trap state.shared other.shared (asked_after trap.cause state.seat trap state.shared other.shared same) in
-    let works : SameWork state.shared other.shared (handled (seat_after state.seat trap) state.shared trap) (left other.seat) =
-    subst (λ (seat : Seat). SameWork state.shared other.shared (handled (seat_after state.seat trap) state.shared trap) (left seat)) seats work in
-    let stepped : SameStep state other (returned state.other (step (bare state)).outcome (handled (seat_after state.seat trap) state.shared trap))
-    (returned other.other (step (bare other)).outcome (left other.seat)) = returned_same state other _ _ _ _ besides works in
-    subst (λ (after : MonitoredStepped). SameStep state other after (monitored_step other)) (sym (trapped_step state trap trapped))
-    (subst (SameStep state other (returned state.other (step (bare state)).outcome (handled (seat_after state.seat trap) state.shared trap)))
-    (sym (trapped_step other trap trapped_too)) stepped)
+asked_step_law hart machine other trap seats trapped trapped_too same =
+    let here = is_trapping hart machine trap trapped in
+    let there = is_trapping hart other trap trapped_too in
+    let seat : List Seat → Seat = λ all. slice_index_or all hart (seat_at_start 0) in
+    let over : Seat → MonitoredState = λ s. record { seat = s; shared = other.shared } in
+    let own = ap seat seats in
+    let Same : Seat → Type 0 = λ s. SameOne machine.shared other.shared (monitored_step (seen_by hart machine)) (monitored_step (over s)) in
+    let trapped_there = subst (λ (s : Seat). (monitored_step (over s)).outcome.step.trap ≡ Some trap) (sym own) there.trapped in
+    let one = subst Same own (asked_one (seat machine.seats) machine.shared other.shared trap here.trapped trapped_there same) in
+    let put : List Seat → Slots → Seat → List Seat = λ all slots s. slice_set (map (seated slots) all) hart s in
+    let table = one.shared.table in
+    let after = (monitored_step (seen_by hart other)).state in
+    record {
+      seats = ap (λ (m : Machine). m.seats) here.state
+          ∙ ap (λ (all : List Seat). put all (monitored_step (seen_by hart machine)).state.shared.table (monitored_step (seen_by hart machine)).state.seat) seats
+          ∙ ap₂ (put other.seats) table one.seat ∙ sym (ap (λ (m : Machine). m.seats) there.state);
+      entered = ap (λ (o : Outcome). o.entered) here.outcome ∙ one.entered ∙ sym (ap (λ (o : Outcome). o.entered) there.outcome);
+      shared = subst (λ (m : Machine). SameWhereSame machine.shared other.shared m.shared (step_of hart other).state.shared) (sym here.state)
+          (subst (λ (m : Machine). SameWhereSame machine.shared other.shared (monitored_step (seen_by hart machine)).state.shared m.shared) (sym there.state)
+          one.shared);
+    }

@@ -1,18 +1,16 @@
 -- A bare step of a kept state neither depends on a region that is not the world's nor changes it.
 use Rattle.std.proofs.Common.{◌≡◌, ℕ, Bool, false, List, Option, Some, None}
-use Rattle.rv_memory.specs.declared.touched.Touched.{Touched}
-use Rattle.rv_hart.specs.Confinement.{SameIn}
 use Rattle.rv_hart.specs.Permitted.{MayTouchAll}
 use Rattle.rv_enclaves.proofs.Agreement.{IsSeen, same_read, same_write}
 use Rattle.rv_enclaves.proofs.Reaches.{permitted_apart, small_ram, inside_is, some_bytes}
 use Rattle.rv_enclaves.proofs.Prelude.{AgreeOutside, is_private, is_world_of}
 use Rattle.rv_monitor.specs.Confidentiality.{BareLaw, StepAlike}
-use Rattle.rv_monitor.proofs.Prelude.{AgreeOn, IsKept, MayTouch, MonitoredState, State, Stores, bare, bytes_in, confined, data_mode, is_machine, step}
-use Rattle.rv_monitor.proofs.Prelude.{touches_permitted}
-use Rattle.rv_monitor.proofs.Types.{Access, Fetch, Mode, Read, Span}
+use Rattle.rv_monitor.proofs.Prelude.{AgreeOn, IsOwn, MayTouch, MonitoredState, SameIn, State, Stores, bare, bytes_in, confined, data_mode}
+use Rattle.rv_monitor.proofs.Prelude.{is_machine, step, touches_permitted}
+use Rattle.rv_monitor.proofs.Types.{Access, Fetch, Mode, Read, Span, Touched}
 use Rattle.rv_monitor.proofs.KeptReaches.{below_M, clear_mode}
 
-module _ (e : ℕ) (state : MonitoredState) (kept : IsKept state) (other : is_world_of e state.seat.world ≡ false) where
+module _ (e : ℕ) (state : MonitoredState) (kept : IsOwn state) (other : is_world_of e state.seat.world ≡ false) where
   abbrev before : State
   before = bare state
 
@@ -25,7 +23,7 @@ module _ (e : ℕ) (state : MonitoredState) (kept : IsKept state) (other : is_wo
   seen mode access span below may byte low high =
       let entries = kept.layout.entries in
       permitted_apart state.shared.memory state.shared.table state.seat.world mode access span.addr (bytes_in span.len)
-      (small_ram state.shared.memory kept.shared.valid.ram) kept.shared.valid (below_M mode below) (some_bytes span.len)
+      (small_ram state.shared.memory kept.valid.ram) kept.valid (below_M mode below) (some_bytes span.len)
       (inside_is state.shared.memory span.addr (bytes_in span.len) may.0) e other (rw (← entries) may.1) byte low high
 
   same_in : (mode : Mode) (access : Access) (touched : Option Span) (n : List ℕ) → is_machine mode ≡ false → MayTouch before mode access touched

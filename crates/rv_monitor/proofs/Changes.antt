@@ -7,24 +7,19 @@ use Rattle.std.proofs.lemmas.List.{length-replicate}
 use Rattle.rv_word.specs.declared.width.Width.TheVariants.{Byte}
 use Rattle.rv_pmp.proofs.VerdictLemmas.{each_from_all}
 use Rattle.rv_memory.proofs.MemoryLaws.{byte_at-write}
-use Rattle.rv_hart.specs.Confinement.{IsConfined}
 use Rattle.rv_hart.specs.Permitted.{TouchesPermitted}
 use Rattle.rv_enclaves.specs.Measure.{measure_refusals, may_store, may_store_all}
-use Rattle.rv_enclaves.proofs.Reaches.{reach_law}
-use Rattle.rv_enclaves.proofs.Refusals.{IsTaken}
-use Rattle.rv_enclaves.proofs.Slots.{at_same}
-use Rattle.rv_enclaves.proofs.Sound.{live_in_range}
 use Rattle.rv_enclaves.proofs.Prelude.{IsLawfulSlot, IsValid, created, destroyed, first_refusal, has, is_live, layout, measured, region, slot_at, with_bytes}
 use Rattle.rv_enclaves.proofs.Prelude.{with_slot, zeroed}
 use Rattle.rv_monitor.specs.Asked.{is_call}
-use Rattle.rv_monitor.specs.Changes.{IsStoredInReach, IsMeasured, ByMonitor, IsChanged, ChangeLaw}
-use Rattle.rv_monitor.proofs.Prelude.{AgreeOn, Entries, IsKept, MayTouch, MonitoredState, Stepped, Stores, a0, a1, asked_in, bare, byte_at, bytes_from}
-use Rattle.rv_monitor.proofs.Prelude.{bytes_in, confined, data_mode, entered_slot, handled, is_inside, left_slot, measured_slot, option_case}
-use Rattle.rv_monitor.proofs.Prelude.{permits, step, touches_permitted, verdict, worlds_beside, write}
+use Rattle.rv_monitor.specs.Changes.{IsStoredInReach, IsMeasured, ByMonitor, ChangeLaw}
+use Rattle.rv_memory.specs.Memory.{is_inside}
+use Rattle.rv_monitor.proofs.Prelude.{AgreeOn, Entries, IsChanged, IsConfined, IsOwn, IsTaken, MayTouch, MonitoredState, Stepped, Stores, a0, a1}
+use Rattle.rv_monitor.proofs.Prelude.{asked_in, at_same, bare, byte_at, bytes_from, bytes_in, confined, data_mode, entered_slot, handled, left_slot}
+use Rattle.rv_monitor.proofs.Prelude.{live_in_range, measured_slot, option_case, permits, reach_law, step, touches_permitted, verdict, write}
 use Rattle.rv_monitor.proofs.Types.{Block, Call, Destroy, M, Measure, S, Seat, Shared, SlotInfo, Span, Trap, World, Write}
 use Rattle.rv_monitor.proofs.KeptReaches.{kept_reach, below_M, clear_mode}
-use Rattle.rv_monitor.proofs.Ready.{IsTrapped}
-use Rattle.rv_monitor.proofs.StepKept.{same_in, trapped_here}
+use Rattle.rv_monitor.proofs.StepKept.{same_in}
 use Rattle.rv_monitor.proofs.TrapSteps.{by_step, seat_after}
 use Rattle.rv_monitor.proofs.Works.{AsksFor, by_work}
 
@@ -117,7 +112,8 @@ module _ (seat : Seat) (shared : Shared) (valid : IsValid shared.memory shared.t
     unfolding measured
     measured_changes = put_changes (slot_at shared.table slot) (valid.lawful slot) live
 
-module _ (beside : List World) (seat : Seat) (shared : Shared) (trapped : IsTrapped beside seat shared) (byte : ℕ) (trap : Trap) where
+module _ (seat : Seat) (shared : Shared) (valid : IsValid shared.memory shared.table) (laid : seat.hart.csrs.pmp ≡ layout shared.table seat.world) (byte : ℕ)
+    (trap : Trap) where
   -- only a call changes a byte
   abbrev ChangedBy : Shared → Type 0
   ChangedBy after =
@@ -133,11 +129,11 @@ module _ (beside : List World) (seat : Seat) (shared : Shared) (trapped : IsTrap
   handled_changes = by_work seat trap shared (λ h. ChangedBy h.shared) (record {
     refuses = λ refusal. inl refl;
     creates = λ asks may. inl refl;
-    destroys = λ asks taken. by_call Destroy (destroyed shared (a0 seat)) asks (destroyed_changes seat shared byte trapped.ready.sound.valid asks.asked taken);
+    destroys = λ asks taken. by_call Destroy (destroyed shared (a0 seat)) asks (destroyed_changes seat shared byte valid asks.asked taken);
     measures = λ asks may.
         by_call Measure (measured shared (measured_slot seat.world (a0 seat)) (a1 seat)) asks
-        (measured_changes seat shared trapped.ready.sound.valid byte asks.asked may.live
-        (subst (λ (entries : Entries). may_store_all shared.memory entries (a1 seat) ≡ true) trapped.layout.entries may.stores));
+        (measured_changes seat shared valid byte asks.asked may.live
+        (subst (λ (entries : Entries). may_store_all shared.memory entries (a1 seat) ≡ true) laid may.stores));
     enters = λ call asks enters host taken. inl refl;
     leaves = λ k host runs is. inl refl;
     stays = inl refl;
@@ -146,7 +142,7 @@ module _ (beside : List World) (seat : Seat) (shared : Shared) (trapped : IsTrap
 
 -- ---- the bare step
 
-module _ (state : MonitoredState) (kept : IsKept state) (byte : ℕ) where
+module _ (state : MonitoredState) (kept : IsOwn state) (byte : ℕ) where
   abbrev Stored : Option Span → List ℕ → Type 0
   Stored stored memory = byte_at memory byte ≡ byte_at state.shared.memory byte ⊎ IsStoredInReach state.seat.world state.shared stored byte
 
@@ -190,7 +186,7 @@ changes state kept byte = by_step state (λ after. byte_at after.state.shared.me
       | inl same ↦ inl same
       | inr stored ↦ inr (inl stored)
     ])
-    (λ trap is. elim (handled_changes (worlds_beside state.other) (seat_after state.seat trap) state.shared (trapped_here state trap kept) byte trap) [
+    (λ trap is. elim (handled_changes (seat_after state.seat trap) state.shared kept.valid kept.layout.entries byte trap) [
       | inl same ↦ inl same
       | inr changed ↦ inr (inr (record { trap = trap; trapped = is; is = changed.0; change = changed.1 }))
     ])

@@ -4,16 +4,13 @@ use Rattle.std.proofs.Common.{◌≡◌, ℕ, ◌+◌, ◌==◌, false, List, le
 use Rattle.std.specs.Prelude.{is_some}
 use Rattle.std.proofs.lemmas.Bool.{cases_eq, both_ways, eq-eqb}
 use Rattle.rv_enclaves.specs.declared.slot_info.EnclaveState.TheVariants as states
-use Rattle.rv_enclaves.proofs.Refusals.{IsTaken}
-use Rattle.rv_enclaves.proofs.SavedLists.{same_after_set, length_after}
-use Rattle.rv_enclaves.proofs.Slots.{at_same}
-use Rattle.rv_enclaves.proofs.Sound.{live_in_range}
+use Rattle.rv_enclaves.proofs.SavedLists.{length_after}
 use Rattle.rv_enclaves.proofs.WorksAlike.{WorksAlike, works_alike}
 use Rattle.rv_enclaves.proofs.Prelude.{Contexts, SharedButFor, Slots, has, is_world_of, new_slot, region, region_of}
 use Rattle.rv_enclaves.proofs.Prelude.{slot_at, with_context, with_slot, with_state}
 use Rattle.rv_monitor.specs.Confidentiality.{HandledAlike, HandlerLaw, going_on_from}
-use Rattle.rv_monitor.proofs.Prelude.{a0, a1, answered, entered_slot, handled, left_slot, measured_slot, option_case, proposed, ram_base}
-use Rattle.rv_monitor.proofs.Prelude.{state_after, status_of, with_layout}
+use Rattle.rv_monitor.proofs.Prelude.{IsTaken, a0, a1, answered, at_same, entered_slot, handled, left_slot, live_in_range, measured_slot, option_case}
+use Rattle.rv_monitor.proofs.Prelude.{proposed, ram_base, same_after_set, state_after, status_of, with_layout}
 use Rattle.rv_monitor.proofs.Types.{Block, Call, Context, Enclave, Running, Seat, Shared, SlotInfo, Trap}
 use Rattle.rv_monitor.proofs.Works.{by_work_of_both, entering, kept_by, leaving, over}
 

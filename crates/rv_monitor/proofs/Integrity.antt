@@ -4,17 +4,20 @@ use Rattle.std.specs.Prelude.{is_some}
 use Rattle.std.proofs.lemmas.Bool.{both_ways, cases_eq, eq-eqb}
 use Rattle.rv_enclaves.proofs.Owners.{apart_at}
 use Rattle.rv_enclaves.proofs.Reaches.{reached_apart}
-use Rattle.rv_enclaves.proofs.Refusals.{MayCreate, IsTaken}
-use Rattle.rv_enclaves.proofs.Slots.{at_same, at_other}
-use Rattle.rv_enclaves.proofs.Sound.{live_in_range, free_slot_from}
+use Rattle.rv_enclaves.proofs.Slots.{at_other}
+use Rattle.rv_enclaves.proofs.Sound.{free_slot_from}
 use Rattle.rv_enclaves.proofs.Prelude.{IsValid, Slots, context_at, created, destroyed, first_context, has, is_live, is_world_of, measured, new_slot, recorded}
 use Rattle.rv_enclaves.proofs.Prelude.{region, slot_at, with_context, with_slot, with_state}
-use Rattle.rv_monitor.specs.Integrity.{enters, IntegrityLaw}
-use Rattle.rv_monitor.proofs.Prelude.{Handled, IsKept, MonitoredState, a0, byte_at, bytes_in, entered_slot, handled, left_slot, monitored_step, option_case}
-use Rattle.rv_monitor.proofs.Prelude.{proposed, register, state_after}
-use Rattle.rv_monitor.proofs.Types.{Context, Destroy, EnclaveState, Proposal, Running, Seat, Shared, SlotInfo, Trap, Write}
+use Rattle.rv_monitor.specs.Integrity.{IntegrityLaw}
+use Rattle.rv_enclaves.specs.declared.slot_info.EnclaveState.{EnclaveState}
+use Rattle.rv_monitor.proofs.Prelude.{Handled, IsOwn, IsSpared, IsTaken, MayCreate, MonitoredState, a0, at_same, byte_at, bytes_in, entered_slot}
+use Rattle.rv_monitor.proofs.Prelude.{enters, handled, left_slot, live_in_range, monitored_step, option_case, proposed, register, seen_by}
+use Rattle.rv_monitor.proofs.Prelude.{state_after}
+use Rattle.rv_monitor.proofs.Types.{Context, Destroy, Proposal, Running, Seat, Shared, SlotInfo, Trap, Write}
 use Rattle.rv_monitor.proofs.Beside.{seat_spared}
 use Rattle.rv_monitor.proofs.Changes.{changes}
+use Rattle.rv_monitor.proofs.Kept.{own_kept}
+use Rattle.rv_monitor.proofs.Places.{by_hart}
 use Rattle.rv_monitor.proofs.TrapSteps.{by_step, seat_after}
 use Rattle.rv_monitor.proofs.Works.{by_work, kept_by}
 
@@ -83,12 +86,12 @@ module _ (k : ℕ) (seat : Seat) (shared : Shared) (valid : IsValid shared.memor
 -- ---- the bytes of its region
 
 -- what a step changes is in the reach of the world that runs, or in the region of an enclave that it ends
-not_changed : (state : MonitoredState) (k byte : ℕ) → IsKept state → is_world_of k state.seat.world ≡ false
+not_changed : (state : MonitoredState) (k byte : ℕ) → IsOwn state → is_world_of k state.seat.world ≡ false
     → is_live (monitored_step state).state.shared.table k ≡ true
     → has (region state.shared.table k) byte ≡ true → byte_at (monitored_step state).state.shared.memory byte ≡ byte_at state.shared.memory byte
 not_changed state k byte kept rests stays own =
     let shared = state.shared in
-    let valid = kept.shared.valid in
+    let valid = kept.valid in
     let apart = reached_apart shared.memory shared.table state.seat.world Write in
     elim (changes state kept byte) [
       | inl same ↦ same
@@ -109,14 +112,23 @@ not_changed state k byte kept rests stays own =
 
 -- ---- the step
 
-pub integrity : IntegrityLaw
-integrity state kept k rests live passes stays =
+-- of one hart
+pub integrity_in : (state : MonitoredState) → IsOwn state → (k : ℕ) → is_world_of k state.seat.world ≡ false → is_live state.shared.table k ≡ true
+    → enters k (monitored_step state).outcome.entered ≡ false → is_live (monitored_step state).state.shared.table k ≡ true
+    → IsSpared k state.shared (monitored_step state).state.shared
+integrity_in state kept k rests live passes stays =
     let keeps = by_step state
     (λ after. enters k after.outcome.entered ≡ false → is_live after.state.shared.table k ≡ true → KeepsSlot k state.shared after.state.shared)
     (λ none passes stays. record { slot = refl; context = refl })
-    (λ trap is. handled_keeps k (seat_after state.seat trap) state.shared kept.shared.valid rests live trap) in
+    (λ trap is. handled_keeps k (seat_after state.seat trap) state.shared kept.valid rests live trap) in
     let kept_slot = keeps passes stays in
-    record {
-      spared = record { slot = kept_slot.slot; bytes = λ byte own. not_changed state k byte kept rests stays own; context = kept_slot.context };
-      seat = seat_spared k state kept rests;
-    }
+    record { slot = kept_slot.slot; bytes = λ byte own. not_changed state k byte kept rests stays own; context = kept_slot.context }
+
+pub integrity : IntegrityLaw
+integrity hart machine kept k rests live passes stays = record {
+  spared = by_hart hart machine
+      (λ after. enters k after.outcome.entered ≡ false → is_live after.state.shared.table k ≡ true → IsSpared k machine.shared after.state.shared)
+      (λ passes stays. record { slot = refl; bytes = λ byte own. refl; context = refl })
+      (λ has. integrity_in (seen_by hart machine) (own_kept hart machine kept has) k rests live) passes stays;
+  seat = seat_spared k hart machine kept rests;
+}

@@ -1,9 +1,8 @@
 -- In every kept state the entries permit S and U exactly what is in reach.
 use Rattle.std.proofs.Common.{◌≡◌, ◌≢◌, true, false, refl, sym, ◌∙◌, subst}
 use Rattle.rv_enclaves.specs.Reach.{in_reach}
-use Rattle.rv_enclaves.proofs.Reaches.{reach_law}
 use Rattle.rv_monitor.specs.Access.{KeptReachLaw}
-use Rattle.rv_monitor.proofs.Prelude.{Entries, Hart, bytes_from, bytes_in, data_mode, is_machine, permits, verdict}
+use Rattle.rv_monitor.proofs.Prelude.{Entries, Hart, bytes_from, bytes_in, data_mode, is_machine, permits, reach_law, verdict}
 use Rattle.rv_monitor.proofs.Types.{M, Mode}
 
 pub kept_reach : KeptReachLaw
@@ -11,7 +10,7 @@ kept_reach state mode access address width kept below inside =
     subst (λ (entries : Entries). permits (verdict entries mode access (bytes_from address (bytes_in width)))
     ≡ in_reach state.shared.memory state.shared.table state.seat.world access (bytes_from address (bytes_in width)))
     (sym kept.layout.entries)
-    (reach_law state.shared.memory state.shared.table state.seat.world mode access address width kept.shared.valid below inside)
+    (reach_law state.shared.memory state.shared.table state.seat.world mode access address width kept.valid below inside)
 
 pub below_M : (mode : Mode) → is_machine mode ≡ false → mode ≢ M
 below_M mode below same = let machine : is_machine mode ≡ true = rw same refl in let never : true ≡ false = sym machine ∙ below in cc

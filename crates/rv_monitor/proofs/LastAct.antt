@@ -1,8 +1,9 @@
 -- The last act after a trap, which sets the entries and mie: where it changes nothing, and that nothing before it writes an entry.
-use Rattle.std.proofs.Common.{◌≡◌, Option, Some, None, IfSome, refl, ap}
+use Rattle.std.proofs.Common.{◌≡◌, ◌<◌, ℕ, suc, List, [], ◌∷◌, length, refl, ◌∙◌, ap, arith}
+use Rattle.std.specs.Prelude.{map, slice_index_or}
 use Rattle.rv_enclaves.proofs.Prelude.{Slots}
-use Rattle.rv_monitor.specs.Step.{forwarded_csrs}
-use Rattle.rv_monitor.proofs.Prelude.{Entries, Handled, IsSeated, entered_slot, forwarded, handled_cause, left_slot, seated, seated_beside, with_layout}
+use Rattle.rv_monitor.proofs.Prelude.{Entries, Handled, IsSeated, entered_slot, forwarded, forwarded_csrs, handled_cause, left_slot, seat_at_start}
+use Rattle.rv_monitor.proofs.Prelude.{seated, with_layout}
 use Rattle.rv_monitor.proofs.Types.{Seat, Shared, Trap}
 use Rattle.rv_monitor.proofs.Ready.{IsLaidOut}
 use Rattle.rv_monitor.proofs.Works.{by_pieces}
@@ -15,11 +16,15 @@ laid_out_as_is slots seat laid =
     let mie = laid.mie in
     rw (← entries, ← mie) refl
 
-pub beside_as_is : (slots : Slots) (other : Option Seat) → IfSome other (IsSeated slots) → seated_beside slots other ≡ other
-beside_as_is slots None is = refl
-beside_as_is slots (Some other) is =
-    let layout = is.layout in
-    ap Some (laid_out_as_is slots other (record { entries = layout.entries; mie = layout.mie }))
+pub as_is : (slots : Slots) (seat : Seat) → IsSeated slots seat → seated slots seat ≡ seat
+as_is slots seat is = let layout = is.layout in laid_out_as_is slots seat (record { entries = layout.entries; mie = layout.mie })
+
+pub all_as_are : (slots : Slots) (seats : List Seat) → ((j : ℕ) → j < length seats → IsSeated slots (slice_index_or seats j (seat_at_start 0)))
+    → map (seated slots) seats ≡ seats
+all_as_are slots [] each = refl
+all_as_are slots (seat ∷ seats) each =
+    let rest = all_as_are slots seats (λ j has. each (suc j) (omega (arith, has))) in
+    ap (λ (s : Seat). s ∷ map (seated slots) seats) (as_is slots seat (each 0 (omega arith))) ∙ ap (λ (ss : List Seat). seat ∷ ss) rest
 
 pub forwarded_laid_out : (seat : Seat) (shared : Shared) (trap : Trap) → seated shared.table seat ≡ seat
     → with_layout (forwarded seat shared trap) ≡ forwarded seat shared trap

@@ -1,12 +1,13 @@
 -- What an enclave leaves behind when it leaves: either it goes on, or the state is the one that leaving leaves.
 use Rattle.std.proofs.Common.{◌≡◌, ℕ, ◌⊎◌, true, Option, Some, None, IfSome, refl, sym, ◌∙◌, ap, subst, inl, inr}
-use Rattle.rv_word.specs.BitFields.{is_set}
 use Rattle.rv_state.specs.declared.cause.Cause.TheVariants as causes
 use Rattle.rv_enclaves.proofs.Prelude.{can_go_on}
-use Rattle.rv_monitor.specs.Leaving.{LeaveLaw, kept_after, left_state}
-use Rattle.rv_monitor.proofs.Prelude.{Handled, IsKept, MonitoredState, MonitoredStepped, bare, handled, left_slot, reason, returned, state_after, step, value}
-use Rattle.rv_monitor.proofs.Prelude.{with_layout}
-use Rattle.rv_monitor.proofs.Types.{Cause, Context, Enclave, Host, Seat, StepOutcome, Trap}
+use Rattle.rv_monitor.specs.Leaving.{LeaveLaw, kept_after, left_hart, left_shared}
+use Rattle.rv_monitor.proofs.Prelude.{Handled, IsOwn, MonitoredState, MonitoredStepped, bare, handled, is_set, left_slot, monitored_step, reason}
+use Rattle.rv_monitor.proofs.Prelude.{returned, seen_by, state_after, step, value, with_layout}
+use Rattle.rv_monitor.proofs.Types.{Cause, Context, Enclave, Host, Outcome, Seat, StepOutcome, Trap}
+use Rattle.rv_monitor.proofs.Kept.{own_kept}
+use Rattle.rv_monitor.proofs.Places.{is_trapping, laid_by, step_seen}
 use Rattle.rv_monitor.proofs.Refused.{or_none}
 use Rattle.rv_monitor.proofs.Switched.{aligned_again}
 use Rattle.rv_monitor.proofs.TrapSteps.{seat_after, trapped_step}
@@ -63,10 +64,15 @@ module _ (before : MonitoredState) (k : ℕ) (host : Context) (runs : before.sea
 
   -- ---- the step
 
-  abbrev Left : MonitoredStepped → Type 0
-  Left after = (after.state ≡ left_state before k trap host) × (after.outcome.entered ≡ None)
+  abbrev left_state : MonitoredState
+  left_state =
+      let shared = left_shared before.shared k trap.cause before.seat.hart in
+      record { seat = record { hart = left_hart before.seat.hart shared.table trap host; host_context = None; world = Host }; shared = shared }
 
-  returned_left : (outcome : StepOutcome) → IsKept before → Left (returned before.other outcome (with_layout leaving_now))
+  abbrev Left : MonitoredStepped → Type 0
+  Left after = (after.state ≡ left_state) × (after.outcome.entered ≡ None)
+
+  returned_left : (outcome : StepOutcome) → IsOwn before → Left (returned outcome (with_layout leaving_now))
   unfolding left_slot
   returned_left outcome all =
       let P : Option Context → Type 0 = λ o. IfSome o (λ c. can_go_on c ≡ true) in
@@ -74,13 +80,20 @@ module _ (before : MonitoredState) (k : ℕ) (host : Context) (runs : before.sea
       let mprv = all.layout.mprv in
       (rw (aligned, or_none (is_set before.seat.hart.csrs.mcountinhibit 0), mprv) refl, refl)
 
-  left_or_not : (outcome : StepOutcome) (h : Handled) → IsKept before → Goes h → h.seat.world ≡ Host → Left (returned before.other outcome h)
+  left_or_not : (outcome : StepOutcome) (h : Handled) → IsOwn before → Goes h → h.seat.world ≡ Host → Left (returned outcome h)
   left_or_not outcome h all (inl stays) gone = let never : Enclave k ≡ Host = sym stays ∙ gone in cc
-  left_or_not outcome h all (inr same) gone = subst (λ (x : Handled). Left (returned before.other outcome x)) (sym same) (returned_left outcome all)
+  left_or_not outcome h all (inr same) gone = subst (λ (x : Handled). Left (returned outcome x)) (sym same) (returned_left outcome all)
+
+  left_one : IsOwn before → (monitored_step before).outcome.step.trap ≡ Some trap → (monitored_step before).state.seat.world ≡ Host
+      → Left (monitored_step before)
+  left_one all is gone =
+      let step_is = trapped_step before trap is in
+      let there = subst (λ (after : MonitoredStepped). after.state.seat.world ≡ Host) step_is gone in
+      subst Left (sym step_is) (left_or_not (step (bare before)).outcome _ all work_goes there)
 
 pub leave_law : LeaveLaw
-leave_law state all k host trap runs kept is gone =
-    let step_is = trapped_step state trap is in
-    let there = subst (λ (after : MonitoredStepped). after.state.seat.world ≡ Host) step_is gone in
-    subst (Left state k host runs kept trap) (sym step_is)
-    (left_or_not state k host runs kept trap (step (bare state)).outcome _ all (work_goes state k host runs kept trap) there)
+leave_law hart machine kept k host trap runs kept_host is gone =
+    let trapping = is_trapping hart machine trap is in
+    let there = sym (ap (λ (after : MonitoredStepped). after.state.seat.world) (step_seen hart machine trapping.has)) ∙ gone in
+    let one = left_one (seen_by hart machine) k host runs kept_host trap (own_kept hart machine kept trapping.has) trapping.trapped there in
+    (trapping.state ∙ ap (laid_by hart machine) one.0, ap (λ (outcome : Outcome). outcome.entered) trapping.outcome ∙ one.1)

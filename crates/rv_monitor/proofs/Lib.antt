@@ -4,6 +4,7 @@ pub mod Concluded
 pub mod Works
 pub mod Ready
 pub mod StepKept
+pub mod Others
 pub mod LastAct
 pub mod Start
 pub mod HandledAlike
@@ -14,7 +15,6 @@ pub mod KeptReaches
 pub mod BlindSteps
 pub mod Kept
 pub mod Beside
-pub mod Turned
 pub mod HartsAlike
 pub mod HartsSpare
 pub mod Asked
@@ -29,3 +29,4 @@ pub mod Changes
 pub mod Scrambled
 pub mod Touched
 pub mod StepLaws
+pub mod Held

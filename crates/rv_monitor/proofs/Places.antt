@@ -1,117 +1,162 @@
--- The seats, each at its place: one read, and one put back.
-use Rattle.std.proofs.Common.{◌≡◌, ◌<◌, ℕ, zero, suc, ◌-◌, Bool, true, false, List, Option, Some, None, length, slice_set, ◌≢◌, refl, sym, ◌∙◌, ap, subst}
-use Rattle.std.proofs.Common.{arith}
-use Rattle.std.specs.Prelude.{slice_index_or, if◌then◌else◌}
-use Rattle.std.proofs.lemmas.List.{get_or_default, get_or-set_same, get_or-set_other}
+-- Where each seat is behind a step: that of the hart that steps, and those beside it.
+use Rattle.std.proofs.Common.{◌≡◌, ◌≢◌, ◌<◌, ◌≤◌, ℕ, false, List, length, slice_set, Option, Some, None, refl, sym, ◌∙◌, ap, subst, inl, inr, arith}
+use Rattle.std.specs.Prelude.{map, nat_lt, slice_index_or}
+use Rattle.std.proofs.lemmas.Bool.{cases_lt, lt-ltb}
+use Rattle.std.proofs.lemmas.Bool.Decides.{nat_tests}
+use Rattle.std.proofs.lemmas.Grind.{get_or-set_at}
+use Rattle.std.proofs.lemmas.List.{get_or-map, get_or-set_other, get_or_past, length-map, length-set}
 use Rattle.rv_enclaves.proofs.Prelude.{Slots}
-use Rattle.rv_monitor.specs.State.{seat_at_start}
-use Rattle.rv_monitor.specs.Turns.{seat_at, beside, count_in, over}
-use Rattle.rv_monitor.specs.declared.seat.Seats.{Seats}
-use Rattle.rv_monitor.proofs.Prelude.{IsKept, MonitoredState, MonitoredStepped, OnTurn, as_seen, count_of, monitored_step, on_turn, option_case}
-use Rattle.rv_monitor.proofs.Prelude.{seated_beside, seen_by}
-use Rattle.rv_monitor.proofs.Types.{Seat, Shared}
+use Rattle.rv_monitor.specs.Step.{not_stepped}
+use Rattle.rv_monitor.proofs.Prelude.{IsKept, IsSeated, Machine, MachineStepped, MonitoredState, MonitoredStepped, count_of, monitored_step}
+use Rattle.rv_monitor.proofs.Prelude.{seat_at_start, seat_of, seated, seats_behind, seen_after, seen_by, step_of, stepped_by}
+use Rattle.rv_monitor.proofs.Types.{Seat, Trap}
+use Rattle.rv_monitor.proofs.LastAct.{as_is}
+use Rattle.rv_monitor.proofs.TrapSteps.{by_step}
 
--- a seat is what is read at its place, whatever is past the end
-pub seat_read : (seats : List Seat) (hart : ℕ) (past : Seat) → length seats ≡ 2 → hart < 2 → seat_at seats hart ≡ slice_index_or seats hart past
-seat_read seats hart past two has = get_or_default seats hart (seat_at_start 0) past (omega (arith, two, has))
+abbrev pub seat_in : List Seat → ℕ → Seat
+seat_in seats hart = slice_index_or seats hart (seat_at_start 0)
 
-same_place : (seats : List Seat) (hart : ℕ) (seat : Seat) → length seats ≡ 2 → hart < 2 → seat_at (slice_set seats hart seat) hart ≡ seat
-same_place seats hart seat two has = get_or-set_same seats hart seat (seat_at_start 0) (omega (arith, two, has))
+pub past_seat : (seats : List Seat) (j : ℕ) → length seats ≤ j → seat_in seats j ≡ seat_at_start 0
+past_seat seats j past = get_or_past {X = Seat} seats j (seat_at_start 0) past
 
-other_place : (seats : List Seat) (hart other : ℕ) (seat : Seat) → other ≢ hart → seat_at (slice_set seats hart seat) other ≡ seat_at seats other
-other_place seats hart other seat apart = get_or-set_other seats hart other seat (seat_at_start 0) apart
+-- ---- the seats behind the monitor's work, before that of the hart is put in
 
--- the state with the seat of the hart on turn as it was read
-abbrev pub with_own : Seats → Seat → Shared → MonitoredState
-with_own seats own shared = record { seat = own; other = beside seats; shared = shared }
+abbrev pub seat_behind : Option Trap → Slots → Seat → Seat
+seat_behind None slots seat = seat
+seat_behind (Some trap) slots seat = seated slots seat
 
-pub own_kept : (seats : Seats) (own : Seat) (shared : Shared) → seat_at seats.by_hart seats.turn ≡ own → IsKept (over seats shared)
-    → IsKept (with_own seats own shared)
-own_kept seats own shared read kept = subst (λ (seat : Seat). IsKept (with_own seats seat shared)) read kept
+pub behind_count : (o : Option Trap) (slots : Slots) (seats : List Seat) → length (seats_behind o slots seats) ≡ length seats
+behind_count None slots seats = refl
+behind_count (Some trap) slots seats = length-map seats (seated slots)
 
--- the seat of the hart on turn put back
-pub put_back : (seats : Seats) (seat : Seat) (shared : Shared) → length seats.by_hart ≡ 2 → seats.turn < 2
-    → over (record seats { by_hart = slice_set seats.by_hart seats.turn seat }) shared ≡ with_own seats seat shared
-put_back seats seat shared two has =
-    let at = same_place seats.by_hart seats.turn seat two has in
-    let past = other_place seats.by_hart seats.turn (1 - seats.turn) seat (λ same. omega (arith, same, has)) in
-    rw (at, past) refl
+behind_at : (o : Option Trap) (slots : Slots) (seats : List Seat) (j : ℕ) → j < length seats
+    → seat_in (seats_behind o slots seats) j ≡ seat_behind o slots (seat_in seats j)
+behind_at None slots seats j has = refl
+behind_at (Some trap) slots seats j has = get_or-map (seated slots) seats j (seat_at_start 0) (seat_at_start 0) has
 
--- and the entries and mie of the other hart set
-pub laid_beside : (seats after : Seats) (own : Seat) (shared : Shared) (table : Slots) → length seats.by_hart ≡ 2 → seats.turn < 2
-    → (let mid : Seats = record seats { by_hart = slice_set seats.by_hart seats.turn own } in
-    over after shared ≡ record (over mid shared) { other = seated_beside table (beside mid) })
-    → over after shared ≡ record (with_own seats own shared) { other = seated_beside table (beside seats) }
-laid_beside seats after own shared table two has laid =
-    laid ∙ ap (λ (state : MonitoredState). let last : MonitoredState =
-    record state { other = seated_beside table state.other } in last) (put_back seats own shared two has)
+-- ---- the step of a hart that there is
 
--- ---- another hart put on turn
+module _ (hart : ℕ) (machine : Machine) (after : MonitoredStepped) where
+  abbrev o : Option Trap
+  o = after.outcome.step.trap
 
-abbrev seats_of : List Seat → Bool → ℕ → Seats
-seats_of by_hart are_two turn = record { by_hart = by_hart; are_two = are_two; turn = turn }
+  abbrev slots : Slots
+  slots = after.state.shared.table
 
-turned_from : (by_hart : List Seat) (are_two : Bool) (turn hart : ℕ) (shared : Shared)
-    → (let seats = seats_of by_hart are_two turn in turn < count_in seats → hart < count_in seats
-    → over (seats_of by_hart are_two hart) shared ≡ seen_by hart (as_seen seats shared))
-turned_from by_hart false zero zero shared has named = refl
-turned_from by_hart false zero (suc hart) shared has named = absurd (omega (arith, named))
-turned_from by_hart false (suc turn) hart shared has named = absurd (omega (arith, has))
-turned_from by_hart true zero zero shared has named = refl
-turned_from by_hart true zero (suc zero) shared has named = refl
-turned_from by_hart true (suc zero) zero shared has named = refl
-turned_from by_hart true (suc zero) (suc zero) shared has named = refl
-turned_from by_hart true (suc (suc turn)) hart shared has named = absurd (omega (arith, has))
-turned_from by_hart true turn (suc (suc hart)) shared has named = absurd (omega (arith, named))
+  pub count_behind : count_of (stepped_by hart machine after).state ≡ count_of machine
+  count_behind = length-set (seats_behind o slots machine.seats) hart after.state.seat ∙ behind_count o slots machine.seats
 
-pub turned_seats : (seats : Seats) (hart : ℕ) (shared : Shared) → seats.turn < count_in seats → hart < count_in seats
-    → over (record seats { turn = hart }) shared ≡ seen_by hart (as_seen seats shared)
-turned_seats seats hart shared has named = turned_from seats.by_hart seats.are_two seats.turn hart shared has named
+  pub own_seat : (j : ℕ) → j ≡ hart → hart < count_of machine → seat_of j (stepped_by hart machine after).state ≡ after.state.seat
+  own_seat j same has =
+      let size = behind_count o slots machine.seats in
+      get_or-set_at (seats_behind o slots machine.seats) hart j after.state.seat (seat_at_start 0) same (omega (arith, size, has))
 
--- the seat of a hart is that which it sees as its own
-pub seat_seen : (seats : Seats) (hart : ℕ) (shared : Shared) → seats.turn < count_in seats → hart < count_in seats
-    → seat_at seats.by_hart hart ≡ (seen_by hart (as_seen seats shared)).seat
-seat_seen seats hart shared has named = ap (λ (state : MonitoredState). state.seat) (turned_seats seats hart shared has named)
+  pub other_seat : (j : ℕ) → j ≢ hart → j < count_of machine
+      → seat_of j (stepped_by hart machine after).state ≡ seat_behind o slots (seat_of j machine)
+  other_seat j apart has =
+      get_or-set_other (seats_behind o slots machine.seats) hart j after.state.seat (seat_at_start 0) apart ∙ behind_at o slots machine.seats j has
 
--- a machine has so many harts
-abbrev count_by_option : Option Seat → ℕ
-count_by_option other = option_case other 1 (λ seat. 2)
+-- ---- any step
 
-count_by : (are_two : Bool) (seat : Seat) → count_by_option (if are_two then Some seat else None) ≡ (if are_two then 2 else 1)
-count_by true seat = refl
-count_by false seat = refl
+pub inside : (hart : ℕ) (machine : Machine) → hart < count_of machine
+    → step_of hart machine ≡ stepped_by hart machine (monitored_step (seen_by hart machine))
+unfolding step_of
+inside hart machine has = rw (lt-ltb hart (count_of machine) has) refl
 
-pub count_is : (seats : Seats) (shared : Shared) → count_of (over seats shared) ≡ count_in seats
-count_is seats shared = count_by seats.are_two (seat_at seats.by_hart (1 - seats.turn))
+pub outside : (hart : ℕ) (machine : Machine) → count_of machine ≤ hart → step_of hart machine ≡ not_stepped machine
+unfolding step_of
+outside hart machine past =
+    let none : nat_lt hart (count_of machine) ≡ false = grind (arith, nat_tests, past) in rw none refl
 
-pub few_by : (are_two : Bool) (turn : ℕ) → turn < (if are_two then 2 else 1) → turn < 2
-few_by true turn has = has
-few_by false turn has = omega (arith, has)
+pub by_hart : (hart : ℕ) (machine : Machine) (P : MachineStepped → Type 0) → P (not_stepped machine)
+    → (hart < count_of machine → P (stepped_by hart machine (monitored_step (seen_by hart machine)))) → P (step_of hart machine)
+by_hart hart machine P none goes = elim (cases_lt hart (count_of machine)) [
+  | inl has ↦ subst P (sym (inside hart machine has)) (goes has)
+  | inr past ↦ subst P (sym (outside hart machine past)) none
+]
 
-pub few : (seats : Seats) → seats.turn < count_in seats → seats.turn < 2
-few seats has = few_by seats.are_two seats.turn has
+pub step_count : (hart : ℕ) (machine : Machine) → count_of (step_of hart machine).state ≡ count_of machine
+step_count hart machine = by_hart hart machine (λ after. count_of after.state ≡ count_of machine) refl
+    (λ has. count_behind hart machine (monitored_step (seen_by hart machine)))
 
--- the hart on turn stays, and is one that the machine has
-pub stays : (before after : Seats) → after.turn ≡ before.turn → count_in after ≡ count_in before → before.turn < count_in before
-    → after.turn < count_in after
-stays before after turn harts has = subst (λ (n : ℕ). n < count_in after) (sym turn) (subst (λ (n : ℕ). before.turn < n) (sym harts) has)
+pub step_seen : (hart : ℕ) (machine : Machine) → hart < count_of machine → seen_after hart (step_of hart machine) ≡ monitored_step (seen_by hart machine)
+step_seen hart machine has =
+    let after = monitored_step (seen_by hart machine) in
+    ap (seen_after hart) (inside hart machine has)
+    ∙ ap (λ (seat : Seat). let seen : MonitoredStepped = record { state = record { seat = seat; shared = after.state.shared }; outcome = after.outcome } in seen)
+    (own_seat hart machine after hart refl has)
 
-pub on_turn_is : (seats : Seats) (shared : Shared) (hart : ℕ) (state : MonitoredState) → seats.turn ≡ hart → over seats shared ≡ state
-    → (let machine : OnTurn = record { hart = hart; state = state } in on_turn seats shared ≡ machine)
-on_turn_is seats shared hart state turn is =
-    ap (λ (h : ℕ). let machine : OnTurn = record { hart = h; state = over seats shared } in machine) turn
-    ∙ ap (λ (s : MonitoredState). let machine : OnTurn = record { hart = hart; state = s } in machine) is
+-- what a step leaves of the seats beside, in what knows nothing of the entries and mie
+pub step_beside : {X : Type 0} (of : Seat → X) → ((slots : Slots) (seat : Seat) → of (seated slots seat) ≡ of seat) → (hart j : ℕ) (machine : Machine)
+    → j ≢ hart → of (seat_of j (step_of hart machine).state) ≡ of (seat_of j machine)
+step_beside of same hart j machine apart = by_hart hart machine (λ after. of (seat_of j after.state) ≡ of (seat_of j machine)) refl
+    (λ has.
+    let after = monitored_step (seen_by hart machine) in
+    let size = count_behind hart machine after in
+    elim (cases_lt j (count_of machine)) [
+      | inl here ↦ ap of (other_seat hart machine after j apart here) ∙ by_trap after.outcome.step.trap after.state.shared.table
+      | inr past ↦ ap of (past_seat (stepped_by hart machine after).state.seats j (omega (arith, size, past)) ∙ sym (past_seat machine.seats j past))
+    ]) where
+      by_trap : (o : Option Trap) (slots : Slots) → of (seat_behind o slots (seat_of j machine)) ≡ of (seat_of j machine)
+      by_trap None slots = refl
+      by_trap (Some trap) slots = same slots (seat_of j machine)
 
--- every machine has hart 0
-first_by : (are_two : Bool) (turn : ℕ) → turn ≡ 0 → turn < (if are_two then 2 else 1)
-first_by true turn is = omega (arith, is)
-first_by false turn is = omega (arith, is)
+-- without a trap the table is as it was
+pub quiet_table : (state : MonitoredState) → (monitored_step state).outcome.step.trap ≡ None
+    → (monitored_step state).state.shared.table ≡ state.shared.table
+quiet_table state = by_step state (λ after. after.outcome.step.trap ≡ None → after.state.shared.table ≡ state.shared.table) (λ none is. refl)
+    (λ trap traps is. let never : None ≡ Some trap = sym is ∙ traps in cc)
 
-pub first_has : (seats : Seats) → seats.turn ≡ 0 → seats.turn < count_in seats
-first_has seats is = first_by seats.are_two seats.turn is
+behind_is : (o : Option Trap) (before after : Slots) (seat : Seat) → (o ≡ None → after ≡ before) → IsSeated before seat
+    → seat_behind o after seat ≡ seated after seat
+behind_is None before after seat same is = sym (ap (λ (slots : Slots). seated slots seat) (same refl) ∙ as_is before seat is)
+behind_is (Some trap) before after seat same is = refl
 
--- ---- a law of a step, said of the machine that stepped
+-- so they are laid out
+pub behind_seated : (hart j : ℕ) (machine : Machine) → IsKept machine → j < count_of machine
+    → (let after = monitored_step (seen_by hart machine) in
+    seat_behind after.outcome.step.trap after.state.shared.table (seat_of j machine) ≡ seated after.state.shared.table (seat_of j machine))
+behind_seated hart j machine kept here =
+    let after = monitored_step (seen_by hart machine) in
+    behind_is after.outcome.step.trap machine.shared.table after.state.shared.table (seat_of j machine) (quiet_table (seen_by hart machine))
+    (kept.seats j here)
 
-pub carried : (Law : MonitoredState → MonitoredStepped → Type 0) (seen machine : OnTurn) (after : MonitoredStepped) → seen ≡ machine
-    → monitored_step seen.state ≡ after → Law seen.state (monitored_step seen.state) → Law machine.state after
-carried Law seen machine after view means law = subst (λ (m : OnTurn). Law m.state after) view (subst (Law seen.state) means law)
+pub step_laid : (hart j : ℕ) (machine : Machine) → IsKept machine → j ≢ hart → j < count_of machine
+    → seat_of j (step_of hart machine).state ≡ seated (step_of hart machine).state.shared.table (seat_of j machine)
+step_laid hart j machine kept apart here =
+    by_hart hart machine (λ after. seat_of j after.state ≡ seated after.state.shared.table (seat_of j machine))
+    (sym (as_is machine.shared.table (seat_of j machine) (kept.seats j here)))
+    (λ has. other_seat hart machine (monitored_step (seen_by hart machine)) j apart here ∙ behind_seated hart j machine kept here)
+
+-- ---- a step that traps
+
+abbrev pub laid_by : ℕ → Machine → MonitoredState → Machine
+laid_by hart machine after = record { seats = slice_set (map (seated after.shared.table) machine.seats) hart after.seat; shared = after.shared }
+
+-- it is of a hart that there is, and the monitor has worked
+pub record IsTrapping (hart : ℕ) (machine : Machine) (trap : Trap) : Type 0 where
+  pub has : hart < count_of machine
+  pub trapped : (monitored_step (seen_by hart machine)).outcome.step.trap ≡ Some trap
+  pub state : (step_of hart machine).state ≡ laid_by hart machine (monitored_step (seen_by hart machine)).state
+  pub outcome : (step_of hart machine).outcome ≡ (monitored_step (seen_by hart machine)).outcome
+
+pub is_trapping : (hart : ℕ) (machine : Machine) (trap : Trap) → (step_of hart machine).outcome.step.trap ≡ Some trap → IsTrapping hart machine trap
+is_trapping hart machine trap is = elim (cases_lt hart (count_of machine)) [
+  | inr past ↦
+      let never : None ≡ Some trap = sym (ap (λ (after : MachineStepped). after.outcome.step.trap) (outside hart machine past)) ∙ is in
+      cc
+  | inl has ↦
+      let after = monitored_step (seen_by hart machine) in
+      let here = inside hart machine has in
+      let trapped : after.outcome.step.trap ≡ Some trap = sym (ap (λ (a : MachineStepped). a.outcome.step.trap) here) ∙ is in
+      let put : Option Trap → Machine = λ o. record {
+        seats = slice_set (seats_behind o after.state.shared.table machine.seats) hart after.state.seat;
+        shared = after.state.shared;
+      } in
+      record {
+        has = has;
+        trapped = trapped;
+        state = ap (λ (a : MachineStepped). a.state) here ∙ ap put trapped;
+        outcome = ap (λ (a : MachineStepped). a.outcome) here;
+      }
+]

@@ -1,18 +1,16 @@
 -- A call that is refused changes nothing but a0, a1, pc, and what every trap and return change.
-use Rattle.std.proofs.Common.{◌≡◌, ℕ, Bool, true, false, Option, Some, None, refl, sym, ap, subst, arith}
+use Rattle.std.proofs.Common.{◌≡◌, ℕ, Bool, true, false, List, slice_set, Option, Some, None, refl, sym, ◌∙◌, ap, subst, arith}
 use Rattle.std.specs.Prelude.{◌||◌}
-use Rattle.rv_word.specs.BitFields.{is_set}
 use Rattle.rv_state.specs.declared.cause.Cause.TheVariants as causes
-use Rattle.rv_hart.specs.Arithmetic.{sum_of}
-use Rattle.rv_enclaves.specs.declared.refusal.Refusal.TheVariants.{NotSupported}
 use Rattle.rv_enclaves.proofs.Prelude.{first_refusal}
-use Rattle.rv_monitor.specs.CallRefusals.{call_refusals}
-use Rattle.rv_monitor.specs.Refused.{refusal_of, refused_state, RefusalLaw}
-use Rattle.rv_monitor.specs.Step.{called, call_handled}
-use Rattle.rv_monitor.proofs.Prelude.{IsKept, MonitoredState, MonitoredStepped, aligned_to_4, asked_in, bare, handled, handled_cause, option_case, refused}
-use Rattle.rv_monitor.proofs.Prelude.{returned, step, with_layout}
-use Rattle.rv_monitor.proofs.Types.{Call, Cause, EnvironmentCallFromS, Refusal, Seat, Shared, StepOutcome, Trap}
-use Rattle.rv_monitor.proofs.LastAct.{beside_as_is}
+use Rattle.rv_monitor.specs.Refused.{refusal_of, refused_hart, RefusalLaw}
+use Rattle.rv_monitor.proofs.Prelude.{IsOwn, Machine, MonitoredState, MonitoredStepped, aligned_to_4, asked_in, bare, call_handled, call_refusals}
+use Rattle.rv_monitor.proofs.Prelude.{called, handled, handled_cause, is_set, monitored_step, option_case, refused, returned, seen_by, step, sum_of}
+use Rattle.rv_monitor.proofs.Prelude.{with_layout}
+use Rattle.rv_monitor.proofs.Types.{Call, Cause, EnvironmentCallFromS, NotSupported, Outcome, Refusal, Seat, Shared, StepOutcome, Trap}
+use Rattle.rv_monitor.proofs.Kept.{own_kept}
+use Rattle.rv_monitor.proofs.LastAct.{all_as_are}
+use Rattle.rv_monitor.proofs.Places.{is_trapping, laid_by}
 use Rattle.rv_monitor.proofs.TrapSteps.{seat_after, trapped_step}
 
 -- ---- the call
@@ -41,27 +39,42 @@ or_none false = refl
 again_aligned : (pc : ℕ) → aligned_to_4 (sum_of (aligned_to_4 pc) 4) ≡ sum_of (aligned_to_4 pc) 4
 again_aligned pc = omega arith
 
-module _ (state : MonitoredState) (kept : IsKept state) (trap : Trap) (refusal : Refusal) where
+module _ (state : MonitoredState) (kept : IsOwn state) (trap : Trap) (refusal : Refusal) where
+  abbrev refused_state : MonitoredState
+  refused_state = record state { seat = record state.seat { hart = refused_hart state.seat.hart trap refusal } }
+
   returned_refused : (outcome : StepOutcome)
-      → (returned state.other outcome (with_layout (refused (seat_after state.seat trap) state.shared refusal))).state ≡ refused_state state trap refusal
+      → (returned outcome (with_layout (refused (seat_after state.seat trap) state.shared refusal))).state ≡ refused_state
   returned_refused outcome =
       let hart = state.seat.hart in
       let mprv = kept.layout.mprv in
       let entries = kept.layout.entries in
       let mie = kept.layout.mie in
-      let beside = beside_as_is state.shared.table state.other kept.other in
-      rw (again_aligned hart.pc, or_none (is_set hart.csrs.mcountinhibit 0), mprv, ← entries, ← mie, beside) refl
+      rw (again_aligned hart.pc, or_none (is_set hart.csrs.mcountinhibit 0), mprv, ← entries, ← mie) refl
 
   abbrev Refused : MonitoredStepped → Type 0
-  Refused after = (after.state ≡ refused_state state trap refusal) × (after.outcome.entered ≡ None)
+  Refused after = (after.state ≡ refused_state) × (after.outcome.entered ≡ None)
 
   refused_at : (outcome : StepOutcome) → trap.cause ≡ causes.Exception EnvironmentCallFromS → refusal_of state.seat state.shared ≡ Some refusal
-      → Refused (returned state.other outcome (handled (seat_after state.seat trap) state.shared trap))
+      → Refused (returned outcome (handled (seat_after state.seat trap) state.shared trap))
   unfolding handled refusal_of
   refused_at outcome by_ecall is =
       let told = refused_handled (seat_after state.seat trap) state.shared refusal trap trap.cause by_ecall is in
       rw told (returned_refused outcome, refl)
 
+  refused_one : (monitored_step state).outcome.step.trap ≡ Some trap → trap.cause ≡ causes.Exception EnvironmentCallFromS
+      → refusal_of state.seat state.shared ≡ Some refusal → Refused (monitored_step state)
+  refused_one is by_ecall refused = subst Refused (sym (trapped_step state trap is)) (refused_at (step (bare state)).outcome by_ecall refused)
+
 pub refusal_law : RefusalLaw
-refusal_law state kept trap refusal is by_ecall refused =
-    subst (Refused state kept trap refusal) (sym (trapped_step state trap is)) (refused_at state kept trap refusal (step (bare state)).outcome by_ecall refused)
+refusal_law hart machine kept trap refusal is by_ecall refused =
+    let trapping = is_trapping hart machine trap is in
+    let state = seen_by hart machine in
+    let one = refused_one state (own_kept hart machine kept trapping.has) trap refusal trapping.trapped by_ecall refused in
+    let left : Seat = record state.seat { hart = refused_hart state.seat.hart trap refusal } in (
+      trapping.state ∙ ap (laid_by hart machine) one.0
+          ∙ ap (λ (seats : List Seat). let after : Machine =
+          record { seats = slice_set seats hart left; shared = machine.shared } in after)
+          (all_as_are machine.shared.table machine.seats kept.seats),
+      ap (λ (outcome : Outcome). outcome.entered) trapping.outcome ∙ one.1,
+    )

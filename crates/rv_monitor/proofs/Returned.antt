@@ -1,22 +1,19 @@
 -- From the step with which the host of a hart enters an enclave to the one with which the enclave leaves, whatever steps of the harts lie
 -- between.
-use Rattle.std.proofs.Common.{◌≡◌, ℕ, zero, suc, true, false, List, [], ◌∷◌, Option, Some, None, IfSome, refl, sym, ap, ◌∙◌, subst, inl, inr}
+use Rattle.std.proofs.Common.{◌≡◌, ◌<◌, ℕ, true, false, List, [], ◌∷◌, Option, Some, None, IfSome, refl, sym, ap, ◌∙◌, subst, inl, inr}
 use Rattle.std.specs.Prelude.{not, is_some}
-use Rattle.std.proofs.lemmas.Bool.{both_ways}
-use Rattle.rv_enclaves.specs.Contexts.{with_answer, IsStored}
+use Rattle.std.proofs.lemmas.Bool.{both_ways, cases_eq, cases_lt}
 use Rattle.rv_enclaves.proofs.Prelude.{is_host}
-use Rattle.rv_monitor.specs.HartLaws.{sched}
 use Rattle.rv_monitor.specs.Refused.{past_ecall}
 use Rattle.rv_monitor.specs.Returns.{RunsThrough, HostComesBack, ReturnLaw}
-use Rattle.rv_monitor.proofs.Prelude.{HostIsStored, IsKept, MonitoredState, MonitoredStepped, StaysOrSwitches, monitored_step, reason, saved, seat_of}
-use Rattle.rv_monitor.proofs.Prelude.{seated_beside, seen_by, step_of, turned, value}
+use Rattle.rv_monitor.proofs.Prelude.{HostIsStored, IsKept, IsStored, KeepsHost, Machine, MonitoredState, MonitoredStepped, StaysOrSwitches, count_of}
+use Rattle.rv_monitor.proofs.Prelude.{monitored_step, reason, saved, sched, seat_of, seen_by, step_of, value, with_answer}
 use Rattle.rv_monitor.proofs.Types.{Context, S, Seat}
-use Rattle.rv_monitor.proofs.Beside.{seated_after}
-use Rattle.rv_monitor.proofs.HartsAlike.{sched_kept, step_kept}
+use Rattle.rv_monitor.proofs.Kept.{kept_law, sched_kept}
+use Rattle.rv_monitor.proofs.Places.{past_seat, step_beside, step_count, step_seen}
 use Rattle.rv_monitor.proofs.Switched.{kept_between, switch_law}
-use Rattle.rv_monitor.proofs.Turned.{seen_kept, seen_twice}
 
-abbrev KeptStored : Option Context → Type 0
+abbrev pub KeptStored : Option Context → Type 0
 KeptStored o = IfSome o (λ context. IsStored context.supervisor)
 
 -- while the host runs nothing is kept of it
@@ -24,8 +21,8 @@ nothing_kept : (o : Option Context) → is_some o ≡ false → KeptStored o
 nothing_kept None is = tt
 nothing_kept (Some context) is = cc
 
-pub host_stored : (state : MonitoredState) → IsKept state → is_host state.seat.world ≡ true → HostIsStored state.seat
-host_stored state kept host = nothing_kept state.seat.host_context (kept.host.kept ∙ ap not host)
+pub host_stored : (seat : Seat) → KeepsHost seat → is_host seat.world ≡ true → HostIsStored seat
+host_stored seat keeps host = nothing_kept seat.host_context (keeps.kept ∙ ap not host)
 
 -- the step that enters keeps the host as it was
 pub entered_from : (state : MonitoredState) (after : MonitoredStepped) → StaysOrSwitches state after → is_host state.seat.world ≡ true
@@ -53,97 +50,89 @@ back_from before state after (inr (inr leaves)) kept other host =
     }
 
 -- what is kept of the host of a hart
-abbrev pub host_on : ℕ → MonitoredState → Option Context
-host_on hart machine = (seen_by hart machine).seat.host_context
+abbrev pub host_on : ℕ → Machine → Option Context
+host_on hart machine = (seat_of hart machine).host_context
 
--- ---- a step of the hart beside
+-- a hart on which an enclave runs is one that there is
+pub runs_there : (hart : ℕ) (machine : Machine) → is_host (seat_of hart machine).world ≡ false → hart < count_of machine
+runs_there hart machine runs = elim (cases_lt hart (count_of machine)) [
+  | inl inside ↦ inside
+  | inr past ↦
+      let never : true ≡ false = sym (ap (λ (s : Seat). is_host s.world) (past_seat machine.seats hart past)) ∙ runs in
+      cc
+]
 
-abbrev pub next : MonitoredState → MonitoredState
-next machine = (monitored_step machine).state
+-- ---- a step of a hart
 
-turned_none : (machine : MonitoredState) → machine.other ≡ None → turned machine ≡ machine
-turned_none machine is = rw is refl
-
-turned_some : (machine : MonitoredState) (seat : Seat) → machine.other ≡ Some seat → (turned machine).seat ≡ seat
-turned_some machine seat is = rw is refl
-
-beside_by : (machine : MonitoredState) (o : Option Seat) → machine.other ≡ o → IsKept machine → is_host (turned machine).seat.world ≡ false
-    → is_host (turned (next machine)).seat.world ≡ false → (turned (next machine)).seat.host_context ≡ (turned machine).seat.host_context
-beside_by machine None is kept runs still =
-    let here = turned_none machine is in
-    let after : (next machine).other ≡ None = seated_after machine kept ∙ ap (seated_beside (next machine).shared.table) is in
-    let there = turned_none (next machine) after in
-    ap (λ (m : MonitoredState). m.seat.host_context) there
-    ∙ kept_between machine
-    (ap (λ (m : MonitoredState). is_host m.seat.world) (sym here) ∙ runs) (ap (λ (m : MonitoredState). is_host m.seat.world) (sym there) ∙ still)
-    ∙ ap (λ (m : MonitoredState). m.seat.host_context) (sym here)
-beside_by machine (Some seat) is kept runs still =
-    let after = seated_after machine kept ∙ ap (seated_beside (next machine).shared.table) is in
-    ap (λ (s : Seat). s.host_context) (turned_some (next machine) _ after) ∙ ap (λ (s : Seat). s.host_context) (sym (turned_some machine seat is))
-
-beside_keeps : (machine : MonitoredState) → IsKept machine → is_host (turned machine).seat.world ≡ false
-    → is_host (turned (next machine)).seat.world ≡ false
-    → (turned (next machine)).seat.host_context ≡ (turned machine).seat.host_context
-beside_keeps machine = beside_by machine machine.other refl
-
--- ---- a step of either hart
-
-own_keeps : (hart : ℕ) (machine : MonitoredState) → is_host (seen_by hart machine).seat.world ≡ false
-    → is_host (seen_by hart (step_of hart machine).state).seat.world ≡ false
-    → host_on hart (step_of hart machine).state ≡ host_on hart machine
-unfolding step_of
+own_keeps : (hart : ℕ) (machine : Machine) → is_host (seat_of hart machine).world ≡ false
+    → is_host (seat_of hart (step_of hart machine).state).world ≡ false → host_on hart (step_of hart machine).state ≡ host_on hart machine
 own_keeps hart machine runs still =
-    let seen = seen_by hart machine in
-    let twice = seen_twice hart (next seen) in
-    ap (λ (m : MonitoredState). m.seat.host_context) twice
-    ∙ kept_between seen runs (ap (λ (m : MonitoredState). is_host m.seat.world) (sym twice) ∙ still)
+    let seen = step_seen hart machine (runs_there hart machine runs) in
+    ap (λ (after : MonitoredStepped). after.state.seat.host_context) seen
+    ∙ kept_between (seen_by hart machine) runs (sym (ap (λ (after : MonitoredStepped). is_host after.state.seat.world) seen) ∙ still)
 
-step_keeps : (hart named : ℕ) (machine : MonitoredState) → IsKept machine → is_host (seen_by hart machine).seat.world ≡ false
-    → is_host (seen_by hart (step_of named machine).state).seat.world ≡ false
-    → host_on hart (step_of named machine).state ≡ host_on hart machine
-unfolding step_of
-step_keeps zero zero machine kept runs still = own_keeps zero machine runs still
-step_keeps (suc n) (suc i) machine kept runs still = own_keeps (suc n) machine runs still
-step_keeps (suc n) zero machine kept runs still = beside_keeps machine kept runs still
-step_keeps zero (suc i) machine kept runs still =
-    let twice = seen_twice 1 machine in
-    beside_keeps (turned machine) (seen_kept 1 machine kept) (ap (λ (m : MonitoredState). is_host m.seat.world) twice ∙ runs) still
-    ∙ ap (λ (m : MonitoredState). m.seat.host_context) twice
+step_keeps : (hart named : ℕ) (machine : Machine) → is_host (seat_of hart machine).world ≡ false
+    → is_host (seat_of hart (step_of named machine).state).world ≡ false → host_on hart (step_of named machine).state ≡ host_on hart machine
+step_keeps hart named machine runs still = elim (cases_eq hart named) [
+  | inl same ↦
+      subst (λ (h : ℕ). is_host (seat_of hart (step_of h machine).state).world ≡ false → host_on hart (step_of h machine).state ≡ host_on hart machine)
+      same (own_keeps hart machine runs) still
+  | inr other ↦ step_beside (λ (seat : Seat). seat.host_context) (λ slots seat. refl) named hart machine other
+]
 
 -- ---- steps of harts in their order
 
-pub first_runs : (hart : ℕ) (harts : List ℕ) (machine : MonitoredState) → RunsThrough hart harts machine → is_host (seat_of hart machine).world ≡ false
+pub first_runs : (hart : ℕ) (harts : List ℕ) (machine : Machine) → RunsThrough hart harts machine → is_host (seat_of hart machine).world ≡ false
 first_runs hart [] machine runs = runs
 first_runs hart (named ∷ harts) machine runs = runs.0
 
-pub steps_keep : (hart : ℕ) (harts : List ℕ) (machine : MonitoredState) → IsKept machine → RunsThrough hart harts machine
+pub steps_keep : (hart : ℕ) (harts : List ℕ) (machine : Machine) → RunsThrough hart harts machine
     → host_on hart (sched harts machine).state ≡ host_on hart machine
-steps_keep hart [] machine kept runs = refl
-steps_keep hart (named ∷ harts) machine kept runs =
+steps_keep hart [] machine runs = refl
+steps_keep hart (named ∷ harts) machine runs =
     let after = (step_of named machine).state in
-    steps_keep hart harts after (step_kept named machine kept) runs.1 ∙ step_keeps hart named machine kept runs.0 (first_runs hart harts after runs.1)
+    steps_keep hart harts after runs.1 ∙ step_keeps hart named machine runs.0 (first_runs hart harts after runs.1)
 
-pub last_runs : (hart : ℕ) (harts : List ℕ) (machine : MonitoredState) → RunsThrough hart harts machine
+pub last_runs : (hart : ℕ) (harts : List ℕ) (machine : Machine) → RunsThrough hart harts machine
     → is_host (seat_of hart (sched harts machine).state).world ≡ false
 last_runs hart [] machine runs = runs
 last_runs hart (named ∷ harts) machine runs = last_runs hart harts (step_of named machine).state runs.1
 
-pub step_seen : (hart : ℕ) (machine : MonitoredState) → seen_by hart (step_of hart machine).state ≡ next (seen_by hart machine)
-unfolding step_of
-step_seen hart machine = seen_twice hart (next (seen_by hart machine))
+-- ---- from the step that enters to the one that leaves
+
+-- a hart that runs the host and then an enclave is one that there is
+enters_there : (hart : ℕ) (machine : Machine) → is_host (seat_of hart (step_of hart machine).state).world ≡ false → hart < count_of machine
+enters_there hart machine runs =
+    let after = (step_of hart machine).state in
+    let has = runs_there hart after runs in
+    subst (λ (n : ℕ). hart < n) (step_count hart machine) has
+
+-- the host is kept as it was
+pub entered_is : (hart : ℕ) (machine : Machine) → IsKept machine → is_host (seat_of hart machine).world ≡ true
+    → is_host (seat_of hart (step_of hart machine).state).world ≡ false
+    → host_on hart (step_of hart machine).state ≡ Some (saved (seat_of hart machine).hart (past_ecall (seat_of hart machine).hart) S)
+entered_is hart machine kept host other =
+    let has = enters_there hart machine other in
+    let seen = step_seen hart machine has in
+    let own = seen_by hart machine in
+    let keeps = (kept.seats hart has).host in
+    ap (λ (after : MonitoredStepped). after.state.seat.host_context) seen
+    ∙ entered_from own (monitored_step own) (switch_law own keeps (host_stored own.seat keeps host)) host
+    (sym (ap (λ (after : MonitoredStepped). is_host after.state.seat.world) seen) ∙ other)
+
+-- and comes back
+pub comes_back : (hart : ℕ) (before : MonitoredState) (machine : Machine) → IsKept machine → HostIsStored (seat_of hart machine)
+    → host_on hart machine ≡ Some (saved before.seat.hart (past_ecall before.seat.hart) S) → is_host (seat_of hart machine).world ≡ false
+    → is_host (monitored_step (seen_by hart machine)).state.seat.world ≡ true
+    → HostComesBack before (seen_by hart machine) (monitored_step (seen_by hart machine))
+comes_back hart before machine kept stored is runs host =
+    let own = seen_by hart machine in
+    back_from before own (monitored_step own) (switch_law own (kept.seats hart (runs_there hart machine runs)).host stored) is runs host
 
 pub return_law : ReturnLaw
-return_law hart harts state kept stored host runs again =
-    let seen = seen_by hart state in
-    let seen_is = seen_kept hart state kept in
-    let first = (step_of hart state).state in
-    let here = step_seen hart state in
-    let still : is_host (next seen).seat.world ≡ false =
-    ap (λ (m : MonitoredState). is_host m.seat.world) (sym here) ∙ first_runs hart harts first runs in
-    let saved_is = entered_from seen (monitored_step seen) (switch_law seen seen_is (host_stored seen seen_is host)) host still in
-    let first_kept = step_kept hart state kept in
+return_law hart harts machine kept stored host runs again =
+    let first = (step_of hart machine).state in
     let last = (sched harts first).state in
-    let same = steps_keep hart harts first first_kept runs in
-    let last_is = seen_kept hart last (sched_kept harts first first_kept) in
-    back_from seen (seen_by hart last) (monitored_step (seen_by hart last)) (switch_law (seen_by hart last) last_is (subst KeptStored (sym same) stored))
-    (same ∙ ap (λ (m : MonitoredState). m.seat.host_context) here ∙ saved_is) (last_runs hart harts first runs) again
+    let same = steps_keep hart harts first runs in
+    comes_back hart (seen_by hart machine) last (sched_kept harts first (kept_law hart machine kept)) (subst KeptStored (sym same) stored)
+    (same ∙ entered_is hart machine kept host (first_runs hart harts first runs)) (last_runs hart harts first runs) again

@@ -1,21 +1,23 @@
--- Every step of the monitored machine keeps what is true in every state.
+-- A step of one hart keeps what is true in every state, of it and of what it shares.
 use Rattle.std.proofs.Common.{◌≡◌, ℕ, false, List, ◌∷◌, Option, Some, None, IfSome, length, refl, sym, ap, ◌∙◌, subst, inl, inr, arith}
 use Rattle.std.specs.Prelude.{◌%◌, IfNone}
 use Rattle.std.proofs.lemmas.Bool.{cases_lt}
 use Rattle.std.proofs.lemmas.List.{get_or_past}
 use Rattle.std.proofs.lemmas.List.FromFn.{get_or-map-range_with_len}
 use Rattle.rv_state.specs.MachineParts.{machine_parts}
-use Rattle.rv_hart.specs.Confinement.{IsConfined, SameIn}
-use Rattle.rv_hart.specs.StepLaws.{TrapKeeps, KeepsMprvClear, KeepsMachineParts, StaysBelow}
+use Rattle.rv_hart.specs.StepLaws.{TrapKeeps, StaysBelow}
 use Rattle.rv_enclaves.proofs.Kept.{entry_is_plain}
-use Rattle.rv_enclaves.proofs.Sound.{sound_by_size}
 use Rattle.rv_enclaves.proofs.Prelude.{IsSound, Slots, entry_at, layout}
-use Rattle.rv_monitor.specs.State.{worlds}
-use Rattle.rv_monitor.proofs.Prelude.{AgreeOn, CsrState, Entries, Handled, Hart, HasNoLock, HostIsStored, IsKept, IsSeated, MonitoredState, State, Stepped}
-use Rattle.rv_monitor.proofs.Prelude.{Stores, aligned_to_4, cfg_of, handled, length-write, monitored_step, returned_to, seated, seated_beside, step}
-use Rattle.rv_monitor.proofs.Prelude.{step_counted, trapped, worlds_beside}
-use Rattle.rv_monitor.proofs.Types.{Seat, Shared, Span, Trap, World}
-use Rattle.rv_monitor.proofs.Ready.{IsTrapped, IsDone, IsLaidOut}
+use Rattle.rv_hart.proofs.StepLaws.{keeps_mprv_clear, keeps_machine_parts}
+use Rattle.rv_monitor.specs.State.{HasLayout}
+use Rattle.rv_pmp.specs.Entries.{cfg_of}
+use Rattle.rv_memory.proofs.MemoryLaws.{length-write}
+use Rattle.rv_monitor.proofs.Prelude.{AgreeOn, CsrState, Handled, Hart, HasNoLock, IsConfined, IsOwn, IsSeated, KeepsHost, MonitoredState}
+use Rattle.rv_monitor.proofs.Prelude.{MonitoredStepped, SameIn, State, Stepped, Stores, aligned_to_4, bare, confined, handled, monitored_step}
+use Rattle.rv_monitor.proofs.Prelude.{returned, returned_to, seated, sound_by_size, step, unhandled}
+use Rattle.rv_monitor.proofs.Types.{Seat, Shared, Span, StepOutcome, Trap, World}
+use Rattle.rv_monitor.proofs.Ready.{IsTrapped, IsDone, IsLaidOut, handled_done, handled_laid_out}
+use Rattle.rv_monitor.proofs.TrapSteps.{by_step, hart_after, seat_after}
 
 -- ---- no entry of a layout is locked
 
@@ -31,8 +33,20 @@ layout_unlocked slots world i = elim (cases_lt i 16) [
       rw is refl
 ]
 
-pub unlocked_from : (state : MonitoredState) (entries : Entries) → entries ≡ state.seat.hart.csrs.pmp → IsKept state → HasNoLock entries
-unlocked_from state entries is kept = subst HasNoLock (sym (is ∙ kept.layout.entries)) (layout_unlocked state.shared.table state.seat.world)
+pub seat_unlocked : (slots : Slots) (seat : Seat) → IsSeated slots seat → HasNoLock seat.hart.csrs.pmp
+seat_unlocked slots seat is = let layout = is.layout in subst HasNoLock (sym layout.entries) (layout_unlocked slots seat.world)
+
+-- nor is one of a hart that is laid out, also behind a trap
+unlocked_if : (slots : Slots) (seat : Seat) (o : Option Trap) (hart : Hart) (memory left : List ℕ) (trap : Trap) → o ≡ Some trap → IsSeated slots seat
+    → IfSome o (λ t. (hart ≡ hart_after seat.hart t) × (left ≡ memory)) → HasNoLock hart.csrs.pmp
+unlocked_if slots seat None hart memory left trap is seated keeps = cc
+unlocked_if slots seat (Some t) hart memory left trap is seated keeps =
+    subst (λ (h : Hart). HasNoLock h.csrs.pmp) (sym keeps.0) (seat_unlocked slots seat seated)
+
+pub unlocked_after : (seat : Seat) (shared : Shared) (after : Stepped) (trap : Trap) → after.outcome.trap ≡ Some trap → IsSeated shared.table seat
+    → TrapKeeps (record { hart = seat.hart; memory = shared.memory }) after → HasNoLock after.state.hart.csrs.pmp
+unlocked_after seat shared after trap is seated keeps =
+    unlocked_if shared.table seat after.outcome.trap after.state.hart shared.memory after.state.memory trap is seated keeps
 
 -- ---- the bare step
 
@@ -53,50 +67,6 @@ step_size before after confined =
 multiple : (n : ℕ) → aligned_to_4 n % 4 ≡ 0
 multiple n = omega arith
 
--- a seat and what is shared after the bare step
-abbrev seat_after : MonitoredState → Hart → Seat
-seat_after state hart = record state.seat { hart = hart }
-
-abbrev shared_after : MonitoredState → List ℕ → Shared
-shared_after state memory = record state.shared { memory = memory }
-
-trapped_at : (state : MonitoredState) (trap : Trap) (memory : List ℕ) → IsKept state → length state.shared.memory ≡ length memory
-    → IsTrapped (worlds_beside state.other)
-    (seat_after state (step_counted (trapped state.seat.hart trap) false state.seat.hart.csrs.mcountinhibit None)) (shared_after state memory)
-trapped_at state trap memory kept size = record {
-  ready = record {
-    sound = sound_by_size state.shared (worlds state) memory kept.shared size;
-    host = record { kept = kept.host.kept; held = kept.host.held };
-    quiet = record { mpie = kept.layout.mstatus_mie; mprv = kept.layout.mprv; tvm = kept.layout.tvm; tw = kept.layout.tw; tsr = kept.layout.tsr };
-  };
-  layout = record { entries = kept.layout.entries; mie = kept.layout.mie };
-  mode = kept.layout.mode;
-  pc = multiple state.seat.hart.pc;
-}
-
--- after the trap itself
-pub trapped_here : (state : MonitoredState) (trap : Trap) → IsKept state
-    → IsTrapped (worlds_beside state.other)
-    (seat_after state (step_counted (trapped state.seat.hart trap) false state.seat.hart.csrs.mcountinhibit None)) state.shared
-trapped_here state trap kept = trapped_at state trap state.shared.memory kept refl
-
-trapped_if : (state : MonitoredState) (o : Option Trap) (trap : Trap) (hart : Hart) (memory : List ℕ) → o ≡ Some trap → IsKept state
-    → length state.shared.memory ≡ length memory
-    → IfSome o (λ t. (hart ≡ step_counted (trapped state.seat.hart t) false state.seat.hart.csrs.mcountinhibit None) × (memory ≡ state.shared.memory))
-    → IsTrapped (worlds_beside state.other) (seat_after state hart) (shared_after state memory)
-trapped_if state None trap hart memory is kept size keeps = cc
-trapped_if state (Some t) trap hart memory is kept size keeps =
-    subst (λ (h : Hart). IsTrapped (worlds_beside state.other) (seat_after state h) (shared_after state memory)) (sym keeps.0)
-    (trapped_at state t memory kept size)
-
-pub after_trap : (state : MonitoredState) (after : Stepped) (trap : Trap) → after.outcome.trap ≡ Some trap → IsKept state
-    → TrapKeeps (record { hart = state.seat.hart; memory = state.shared.memory }) after
-    → IsConfined (record { hart = state.seat.hart; memory = state.shared.memory }) after
-    → IsTrapped (worlds_beside state.other) (seat_after state after.state.hart) (shared_after state after.state.memory)
-after_trap state after trap is kept keeps confined =
-    trapped_if state after.outcome.trap trap after.state.hart after.state.memory is kept
-    (step_size (record { hart = state.seat.hart; memory = state.shared.memory }) after confined) keeps
-
 same_pmp : (a b : CsrState) → machine_parts a ≡ machine_parts b → a.pmp ≡ b.pmp
 unfolding machine_parts
 same_pmp a b is = ap (λ (c : CsrState). c.pmp) is
@@ -115,46 +85,15 @@ same_status a b is = (
   ap (λ (c : CsrState). c.mstatus.tsr) is,
 )
 
-kept_at : (state : MonitoredState) (hart : Hart) (memory : List ℕ) → IsKept state → StaysBelow state.seat.hart hart → hart.csrs.mstatus.mprv ≡ false
-    → length state.shared.memory ≡ length memory
-    → IsKept (record { seat = seat_after state hart; other = state.other; shared = shared_after state memory })
-kept_at state hart memory kept below mprv size =
-    let status = same_status hart.csrs state.seat.hart.csrs below.0 in
-    record {
-      shared = sound_by_size state.shared (worlds state) memory kept.shared size;
-      other = kept.other;
-      host = record { kept = kept.host.kept; held = kept.host.held };
-      layout = record {
-        entries = same_pmp hart.csrs state.seat.hart.csrs below.0 ∙ kept.layout.entries;
-        mie = same_mie hart.csrs state.seat.hart.csrs below.0 ∙ kept.layout.mie;
-        mode = below.1;
-        mstatus_mie = status.0 ∙ kept.layout.mstatus_mie;
-        mprv = mprv;
-        tvm = status.1 ∙ kept.layout.tvm;
-        tw = status.2 ∙ kept.layout.tw;
-        tsr = status.3 ∙ kept.layout.tsr;
-      };
-    }
-
 stays_if : (o : Option Trap) (P : Type 0) → o ≡ None → IfNone o P → P
 stays_if None P is p = p
 stays_if (Some t) P is p = cc
 
-pub after_none : (state : MonitoredState) (after : Stepped) → after.outcome.trap ≡ None → IsKept state
-    → KeepsMachineParts (record { hart = state.seat.hart; memory = state.shared.memory }) after
-    → KeepsMprvClear (record { hart = state.seat.hart; memory = state.shared.memory }) after
-    → IsConfined (record { hart = state.seat.hart; memory = state.shared.memory }) after
-    → IsKept (record { seat = seat_after state after.state.hart; other = state.other; shared = shared_after state after.state.memory })
-after_none state after is kept parts mprv confined =
-    let below = stays_if after.outcome.trap (StaysBelow state.seat.hart after.state.hart) is (parts kept.layout.mode kept.layout.mprv) in
-    kept_at state after.state.hart after.state.memory kept below (mprv (λ b. kept.layout.mprv) below.1)
-    (step_size (record { hart = state.seat.hart; memory = state.shared.memory }) after confined)
+-- ---- a seat
 
--- ---- the return
-
--- the other hart's seat stays as every seat is, laid out by another table
-other_seated : (before after : Slots) (other : Seat) → IsSeated before other → IsSeated after (seated after other)
-other_seated before after other is =
+-- laid out by another table
+pub laid_seated : (before after : Slots) (seat : Seat) → IsSeated before seat → IsSeated after (seated after seat)
+laid_seated before after seat is =
     let host = is.host in
     let layout = is.layout in
     record {
@@ -171,74 +110,85 @@ other_seated before after other is =
       };
     }
 
-pub beside_seated : (before after : Slots) (other : Option Seat) → IfSome other (IsSeated before) → IfSome (seated_beside after other) (IsSeated after)
-beside_seated before after None is = tt
-beside_seated before after (Some other) is = other_seated before after other is
+-- with another hart, of which the entries, mie, the mode and mstatus are so
+hart_seated : (slots : Slots) (seat : Seat) (hart : Hart) → KeepsHost seat → HasLayout slots (record seat { hart = hart })
+    → IsSeated slots (record seat { hart = hart })
+hart_seated slots seat hart host layout = record { host = record { kept = host.kept; held = host.held }; layout = layout }
 
-pub worlds_stay : (slots : Slots) (other : Option Seat) → worlds_beside (seated_beside slots other) ≡ worlds_beside other
-worlds_stay slots None = refl
-worlds_stay slots (Some other) = refl
+-- ---- a step of one hart, by who runs on the others
 
-pub returned_kept : (before : Slots) (other : Option Seat) (h : Handled) → IsDone (worlds_beside other) h → IsLaidOut h.shared.table h.seat
-    → IfSome other (IsSeated before)
-    → IsKept (record {
-      seat =
-          record h.seat { hart = returned_to h.seat.hart h.next.pc h.next.mode };
-      other = seated_beside h.shared.table other;
-      shared = h.shared;
-    })
-returned_kept before other h done laid seated =
-    let ready = done.ready in
-    record {
-      shared = subst (λ (ws : List World). IsSound h.shared (h.seat.world ∷ ws)) (sym (worlds_stay h.shared.table other)) ready.sound;
-      other = beside_seated before h.shared.table other seated;
-      host = record { kept = ready.host.kept; held = ready.host.held };
-      layout = record {
-        entries = laid.entries;
-        mie = laid.mie;
-        mode = done.mode;
-        mstatus_mie = ready.quiet.mpie;
-        mprv = rw ready.quiet.mprv refl;
-        tvm = ready.quiet.tvm;
-        tw = ready.quiet.tw;
-        tsr = ready.quiet.tsr;
-      };
-    }
+pub own_of : (seat : Seat) (shared : Shared) (worlds : List World) → IsSound shared worlds → IsSeated shared.table seat
+    → IsOwn (record { seat = seat; shared = shared })
+own_of seat shared worlds sound is = record { valid = sound.valid; host = is.host; layout = is.layout }
 
--- after a trap no entry is locked
-pub trapped_unlocked : (beside : List World) (seat : Seat) (shared : Shared) → IsTrapped beside seat shared → HasNoLock seat.hart.csrs.pmp
-trapped_unlocked beside seat shared trapped = subst HasNoLock (sym trapped.layout.entries) (layout_unlocked shared.table seat.world)
+abbrev pub KeptBeside : List World → MonitoredStepped → Type 0
+KeptBeside beside after =
+    IsSound after.state.shared (after.state.seat.world ∷ beside) × IsSeated after.state.shared.table after.state.seat
 
--- ---- a debugger's write of memory
+module _ (beside : List World) (seat : Seat) (shared : Shared) (sound : IsSound shared (seat.world ∷ beside)) (is : IsSeated shared.table seat) where
+  abbrev state : MonitoredState
+  state = record { seat = seat; shared = shared }
 
-pub kept_by_size : (state : MonitoredState) (memory : List ℕ) → IsKept state → length state.shared.memory ≡ length memory
-    → IsKept (record { seat = state.seat; other = state.other; shared = record state.shared { memory = memory } })
-kept_by_size state memory kept size = record {
-  shared = sound_by_size state.shared (worlds state) memory kept.shared size;
-  other = kept.other;
-  host = kept.host;
-  layout = kept.layout;
-}
+  trapped_seat : (trap : Trap) → IsTrapped beside (seat_after seat trap) shared
+  trapped_seat trap =
+      let host = is.host in
+      let layout = is.layout in
+      record {
+        ready = record {
+          sound = sound;
+          host = record { kept = host.kept; held = host.held };
+          quiet = record { mpie = layout.mstatus_mie; mprv = layout.mprv; tvm = layout.tvm; tw = layout.tw; tsr = layout.tsr };
+        };
+        layout = record { entries = layout.entries; mie = layout.mie };
+        mode = layout.mode;
+        pc = multiple seat.hart.pc;
+      }
 
--- no entry of the other hart is locked
-pub beside_unlocked : (slots : Slots) (other : Option Seat) → IfSome other (IsSeated slots) → IfSome other (λ seat. HasNoLock seat.hart.csrs.pmp)
-beside_unlocked slots None is = tt
-beside_unlocked slots (Some other) is = let layout = is.layout in subst HasNoLock (sym layout.entries) (layout_unlocked slots other.world)
+  -- without a trap
+  quiet_kept : (after : Stepped) → IsConfined (bare state) after → StaysBelow seat.hart after.state.hart → after.state.hart.csrs.mstatus.mprv ≡ false
+      → KeptBeside beside (unhandled after.outcome (record seat { hart = after.state.hart }) (record shared { memory = after.state.memory }))
+  quiet_kept after confined below mprv =
+      let hart = after.state.hart in
+      let status = same_status hart.csrs seat.hart.csrs below.0 in
+      let layout = is.layout in (
+        sound_by_size shared (seat.world ∷ beside) after.state.memory sound (step_size (bare state) after confined),
+        hart_seated shared.table seat hart is.host (record {
+          entries = same_pmp hart.csrs seat.hart.csrs below.0 ∙ layout.entries;
+          mie = same_mie hart.csrs seat.hart.csrs below.0 ∙ layout.mie;
+          mode = below.1;
+          mstatus_mie = status.0 ∙ layout.mstatus_mie;
+          mprv = mprv;
+          tvm = status.1 ∙ layout.tvm;
+          tw = status.2 ∙ layout.tw;
+          tsr = status.3 ∙ layout.tsr;
+        }),
+      )
 
--- what it keeps of its host is as it was
-pub beside_stored : (slots : Slots) (other : Option Seat) → IfSome other HostIsStored → IfSome (seated_beside slots other) HostIsStored
-beside_stored slots None stored = tt
-beside_stored slots (Some other) stored = stored
+  -- with one, and the monitor's work behind it
+  worked_kept : (outcome : StepOutcome) (h : Handled) → IsDone beside h → IsLaidOut h.shared.table h.seat → KeptBeside beside (returned outcome h)
+  worked_kept outcome h done laid =
+      let ready = done.ready in (
+        ready.sound,
+        hart_seated h.shared.table h.seat (returned_to h.seat.hart h.next.pc h.next.mode) ready.host (record {
+          entries = laid.entries;
+          mie = laid.mie;
+          mode = done.mode;
+          mstatus_mie = ready.quiet.mpie;
+          mprv = rw ready.quiet.mprv refl;
+          tvm = ready.quiet.tvm;
+          tw = ready.quiet.tw;
+          tsr = ready.quiet.tsr;
+        }),
+      )
 
--- ---- the parts of a step that traps, put together
-
-pub trapping_is : (before : MonitoredState) (after : Stepped) (trap : Trap) (work : Handled) (hart : Hart)
-    → step (record { hart = before.seat.hart; memory = before.shared.memory }) ≡ after → after.outcome.trap ≡ Some trap
-    → handled (record before.seat { hart = after.state.hart }) (record before.shared { memory = after.state.memory }) trap ≡ work
-    → hart ≡ returned_to work.seat.hart work.next.pc work.next.mode
-    → monitored_step before ≡ record {
-      state = record { seat = record work.seat { hart = hart }; other = seated_beside work.shared.table before.other; shared = work.shared };
-      outcome = record { step = after.outcome; entered = work.next.entered };
-    }
-unfolding monitored_step
-trapping_is before after trap work hart steps traps works returns = rw (steps, traps, works, returns) refl
+  pub step_kept : KeptBeside beside (monitored_step state)
+  step_kept =
+      let after = step (bare state) in
+      let layout = is.layout in
+      by_step state (KeptBeside beside)
+      (λ none.
+      let below = stays_if after.outcome.trap (StaysBelow seat.hart after.state.hart) none (keeps_machine_parts (bare state) layout.mode layout.mprv) in
+      quiet_kept after (confined (bare state)) below (keeps_mprv_clear (bare state) (λ b. layout.mprv) below.1))
+      (λ trap traps.
+      let last = seat_after seat trap in
+      worked_kept after.outcome (handled last shared trap) (handled_done beside last shared trap (trapped_seat trap)) (handled_laid_out last shared trap))

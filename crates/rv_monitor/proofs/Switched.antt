@@ -3,13 +3,13 @@ use Rattle.std.proofs.Common.{◌≡◌, ℕ, ◌==◌, ◌⊎◌, true, false, 
 use Rattle.std.specs.Prelude.{◌%◌, ◌&&◌, not}
 use Rattle.std.proofs.lemmas.Bool.{and_parts, both_ways}
 use Rattle.std.proofs.lemmas.Bool.Decides.{nat_tests}
-use Rattle.rv_state.specs.SContexts.{s_context, with_s_context, KeepsOwn}
+use Rattle.rv_state.specs.SContexts.{s_context, with_s_context}
 use Rattle.rv_state.specs.declared.s_context.SContext.{SContext}
-use Rattle.rv_enclaves.specs.Contexts.{IsStored, with_answer}
 use Rattle.rv_enclaves.proofs.Prelude.{can_go_on, is_host}
 use Rattle.rv_monitor.specs.SwitchLaws.{SwitchLaw}
-use Rattle.rv_monitor.proofs.Prelude.{CsrState, Handled, HostIsStored, IsKept, MonitoredState, StaysOrSwitches, a0, aligned_to_4, bare, entered_slot, handled}
-use Rattle.rv_monitor.proofs.Prelude.{is_machine, left_slot, monitored_step, past_call, reason, returned, saved, step, value}
+use Rattle.rv_monitor.proofs.Prelude.{CsrState, Handled, HostIsStored, IsStored, KeepsHost, KeepsOwn, MonitoredState, StaysOrSwitches, a0}
+use Rattle.rv_monitor.proofs.Prelude.{aligned_to_4, bare, entered_slot, handled, is_machine, left_slot, monitored_step, past_call, reason, returned}
+use Rattle.rv_monitor.proofs.Prelude.{saved, step, value, with_answer}
 use Rattle.rv_monitor.proofs.Types.{Context, Enclave, Host, Mode, S, Seat, Shared, StepOutcome, Trap}
 use Rattle.rv_monitor.proofs.TrapSteps.{by_step, seat_after}
 use Rattle.rv_monitor.proofs.Works.{by_work}
@@ -123,17 +123,17 @@ same_context : (host : Context) (regs : List ℕ) (pc : ℕ) (mode : Mode) (supe
     → (let made : Context = record { regs = regs; pc = pc; mode = mode; supervisor = supervisor } in made) ≡ record host { regs = told_regs }
 same_context host regs pc mode supervisor told_regs regs_is pc_is mode_is supervisor_is = rw (regs_is, pc_is, mode_is, supervisor_is) refl
 
-module _ (state : MonitoredState) (kept : IsKept state) (stored : HostIsStored state.seat) (trap : Trap) where
+module _ (state : MonitoredState) (kept : KeepsHost state.seat) (stored : HostIsStored state.seat) (trap : Trap) where
   returned_turns : (outcome : StepOutcome) (h : Handled) → outcome.trap ≡ Some trap
       → Turns (seat_after state.seat trap) (reason trap.cause state.seat.hart.regs) (value trap.cause state.seat.hart.regs) h
-      → StaysOrSwitches state (returned state.other outcome h)
+      → StaysOrSwitches state (returned outcome h)
   returned_turns outcome h trapped_is (inl stays) = inl (record { world = stays.world; host = stays.host; entered = stays.entered })
   returned_turns outcome h trapped_is (inr (inl enters)) =
       inr (inl (record { slot = enters.slot; from_host = enters.from_host; world = enters.world; host = enters.host; entered = enters.entered }))
   returned_turns outcome h trapped_is (inr (inr leaves)) =
       let host = leaves.host in
       let P : Option Context → Type 0 = λ o. IfSome o (λ c. can_go_on c ≡ true) in
-      let held : can_go_on host ≡ true = subst P leaves.kept kept.host.held in
+      let held : can_go_on host ≡ true = subst P leaves.kept kept.held in
       let host_stored : IsStored host.supervisor = subst KeptStored leaves.kept stored in
       inr (inr (record {
         slot = leaves.slot;

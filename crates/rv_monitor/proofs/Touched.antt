@@ -1,12 +1,11 @@
 -- What a step's instruction touches is in the reach of the world that runs.
 use Rattle.std.proofs.Common.{◌≡◌, ◌≢◌, ◌⊎◌, ℕ, false, Option, Some, None, Result, Ok, Err, refl, sym, ◌∙◌, subst, inl, inr}
 use Rattle.rv_word.specs.declared.width.Width.TheVariants.{Word}
-use Rattle.rv_memory.specs.declared.touched.Touched.{Touched}
 use Rattle.rv_hart.specs.Step.{retired_or_trapped, span}
 use Rattle.rv_hart.proofs.StepCases.{by_ways}
 use Rattle.rv_monitor.specs.Touches.{executes, IsReached, IsTouchedInReach, TouchLaw}
-use Rattle.rv_monitor.proofs.Prelude.{Hart, IsKept, MayTouch, MonitoredState, State, Stepped, bare, data_mode, step, touches_permitted}
-use Rattle.rv_monitor.proofs.Types.{Access, Fetch, M, Mode, Read, Span, Trap, Write}
+use Rattle.rv_monitor.proofs.Prelude.{Hart, IsOwn, MayTouch, MonitoredState, State, Stepped, bare, data_mode, step, touches_permitted}
+use Rattle.rv_monitor.proofs.Types.{Access, Fetch, M, Mode, Read, Span, Touched, Trap, Write}
 use Rattle.rv_monitor.proofs.KeptReaches.{kept_reach, below_M, clear_mode}
 use Rattle.rv_monitor.proofs.TrapSteps.{same_outcome}
 
@@ -37,7 +36,7 @@ fetches_at_pc state = by_ways state (FetchesAtPc state.hart.pc) (record {
 
 -- ---- what is touched
 
-module _ (state : MonitoredState) (kept : IsKept state) where
+module _ (state : MonitoredState) (kept : IsOwn state) where
   reached : (mode : Mode) (access : Access) (o : Option Span) → mode ≢ M → MayTouch (bare state) mode access o → IsReached state access o
   reached mode access None below may = tt
   reached mode access (Some span) below may = sym (kept_reach state mode access span.addr span.len kept below may.0) ∙ may.1

@@ -1,7 +1,9 @@
 -- A step that traps: the hart's own step is the trap alone, and the monitor's work follows it.
 use Rattle.std.proofs.Common.{◌≡◌, ℕ, false, List, Option, Some, None, IfSome, refl, sym, ap, ◌∙◌}
-use Rattle.rv_monitor.proofs.Prelude.{Hart, MonitoredState, MonitoredStepped, bare, handled, monitored_step, option_case, returned, step, step_counted}
-use Rattle.rv_monitor.proofs.Prelude.{trap_keeps, trapped, unhandled}
+use Rattle.rv_hart.specs.Hart.{step_counted}
+use Rattle.rv_hart.proofs.StepLaws.{trap_keeps}
+use Rattle.rv_hart.specs.Hart.{trapped}
+use Rattle.rv_monitor.proofs.Prelude.{Hart, MonitoredState, MonitoredStepped, bare, handled, monitored_step, option_case, returned, step, unhandled}
 use Rattle.rv_monitor.proofs.Types.{Seat, StepOutcome, Trap}
 
 -- a hart after a trap that was counted
@@ -17,19 +19,19 @@ seat_after seat trap = record seat { hart = hart_after seat.hart trap }
 abbrev pub untrapped : MonitoredState → MonitoredStepped
 untrapped state =
     let after = step (bare state) in
-    unhandled state.other after.outcome (record state.seat { hart = after.state.hart }) (record state.shared { memory = after.state.memory })
+    unhandled after.outcome (record state.seat { hart = after.state.hart }) (record state.shared { memory = after.state.memory })
 
 -- with one, which the monitor handles
 abbrev pub trapped_to : MonitoredState → Trap → MonitoredStepped
-trapped_to state trap = returned state.other (step (bare state)).outcome (handled (seat_after state.seat trap) state.shared trap)
+trapped_to state trap = returned (step (bare state)).outcome (handled (seat_after state.seat trap) state.shared trap)
 
 by-end : (state : MonitoredState) (P : MonitoredStepped → Type 0) (o : Option Trap) (outcome : StepOutcome) (hart : Hart) (memory : List ℕ)
     → IfSome o (λ t. (hart ≡ hart_after state.seat.hart t) × (memory ≡ state.shared.memory))
     → (let seat = record state.seat { hart = hart } in
     let shared = record state.shared { memory = memory } in
-    (o ≡ None → P (unhandled state.other outcome seat shared))
-    → ((trap : Trap) → o ≡ Some trap → P (returned state.other outcome (handled (seat_after state.seat trap) state.shared trap)))
-    → P (option_case o (unhandled state.other outcome seat shared) (λ t. returned state.other outcome (handled seat shared t))))
+    (o ≡ None → P (unhandled outcome seat shared))
+    → ((trap : Trap) → o ≡ Some trap → P (returned outcome (handled (seat_after state.seat trap) state.shared trap)))
+    → P (option_case o (unhandled outcome seat shared) (λ t. returned outcome (handled seat shared t))))
 by-end state P None outcome hart memory keeps quiet traps = quiet refl
 by-end state P (Some trap) outcome hart memory keeps quiet traps =
     let hart_is = keeps.0 in

@@ -7,20 +7,18 @@ use Rattle.std.proofs.lemmas.Bool.{cases_Bool, cond-true, cond-false, and_parts}
 use Rattle.std.proofs.lemmas.Bool.Decides.{nat_tests}
 use Rattle.rv_state.specs.declared.cause.Cause.TheVariants as causes
 use Rattle.rv_state.specs.declared.cause.Exception.{Exception}
-use Rattle.rv_enclaves.specs.Calls.{asked_call, is_offered, call_number, calls, call_key}
+use Rattle.rv_enclaves.specs.Calls.{asked_call, is_offered, calls, call_key}
 use Rattle.rv_enclaves.specs.declared.call.Call.TheVariants.{Run, Resume, Stop}
-use Rattle.rv_enclaves.specs.declared.refusal.Refusal.TheVariants.{NotSupported}
-use Rattle.rv_enclaves.proofs.Refusals.{MayCreate, IsTaken, MayMeasure, may_create, may_take, may_measure, same_create_refusals, same_measure_refusals}
+use Rattle.rv_enclaves.proofs.Refusals.{MayMeasure, may_create, may_take, may_measure, same_create_refusals, same_measure_refusals}
 use Rattle.rv_enclaves.proofs.Prelude.{Contexts, Slots, created, destroyed, first_refusal, kept_context, measured, new_slot}
-use Rattle.rv_monitor.specs.Asked.{is_entering}
-use Rattle.rv_monitor.specs.CallRefusals.{call_refusals}
 use Rattle.rv_monitor.specs.Leaving.{line_after}
-use Rattle.rv_monitor.specs.Step.{performed, called, call_handled, timer_stopped, handled_exception, stopped_context, trapped_pc, trapped_mode}
+use Rattle.rv_monitor.specs.Step.{performed, timer_stopped, handled_exception, trapped_pc, trapped_mode}
 use Rattle.rv_monitor.specs.Switches.{left, left_by}
-use Rattle.rv_monitor.proofs.Prelude.{Handled, a0, a1, answered, asked_in, entered_slot, exited_context, forwarded, handled, handled_cause, measured_slot}
-use Rattle.rv_monitor.proofs.Prelude.{option_case, past_call, proposed, reason, refused, register, saved, state_after, value, with_layout}
-use Rattle.rv_monitor.proofs.Types.{Call, Cause, Context, Create, Destroy, Enclave, EnvironmentCallFromS, Exit, Host, Measure, Refusal, Seat, Shared, Trap}
-use Rattle.rv_monitor.proofs.Types.{World}
+use Rattle.rv_monitor.proofs.Prelude.{Handled, IsTaken, MayCreate, a0, a1, answered, asked_in, call_handled, call_number, call_refusals, called}
+use Rattle.rv_monitor.proofs.Prelude.{entered_slot, exited_context, forwarded, handled, handled_cause, is_entering, measured_slot, option_case}
+use Rattle.rv_monitor.proofs.Prelude.{past_call, proposed, reason, refused, register, saved, state_after, stopped_context, value, with_layout}
+use Rattle.rv_monitor.proofs.Types.{Call, Cause, Context, Create, Destroy, Enclave, EnvironmentCallFromS, Exit, Host, Measure, NotSupported, Refusal}
+use Rattle.rv_monitor.proofs.Types.{Seat, Shared, Trap, World}
 
 -- ---- the call that is asked for
 

@@ -1,4 +1,4 @@
--- What the entries permit in every state of the machine, and that it lies in no region but the world's own: the law of Reach with
+-- What the entries of a hart permit in every state of the machine, and that it lies in no region but the world's own: the law of Reach with
 -- the entries as they stand. (A law of the monitor's definitions; Keystone, EuroSys 2020, in this project's profile.)
 use Rattle.std.specs.Prelude.{ℕ, ◌≡◌, ◌≢◌, true}
 use Rattle.rv_word.specs.Widths.{bytes_in}
@@ -9,12 +9,12 @@ use Rattle.rv_pmp.specs.declared.mode.Mode.{Mode}
 use Rattle.rv_pmp.specs.declared.mode.Mode.TheVariants.{M}
 use Rattle.rv_memory.specs.Memory.{is_inside}
 use Rattle.rv_enclaves.specs.Reach.{in_reach}
-use Rattle.rv_monitor.specs.State.{MonitoredState, IsKept}
+use Rattle.rv_monitor.specs.State.{MonitoredState, IsOwn}
 
--- in every kept state the entries permit S and U exactly what is in reach
+-- in every such state the entries permit S and U exactly what is in reach
 abbrev pub KeptReachLaw : Type 0
 KeptReachLaw =
     (state : MonitoredState) (mode : Mode) (access : Access) (address : ℕ) (width : Width)
-    → IsKept state → mode ≢ M → is_inside state.shared.memory address (bytes_in width) ≡ true
+    → IsOwn state → mode ≢ M → is_inside state.shared.memory address (bytes_in width) ≡ true
     → permits (verdict state.seat.hart.csrs.pmp mode access (bytes_from address (bytes_in width)))
     ≡ in_reach state.shared.memory state.shared.table state.seat.world access (bytes_from address (bytes_in width))

@@ -1,18 +1,14 @@
--- Two states of the monitored machine that agree but for what is private to one enclave: the bytes of its region, its context, and the hart
+-- Two monitored machines that agree but for what is private to one enclave: the bytes of its region, its context, and the hart
 -- on which it runs, if it runs. (No rule of a standard: what the laws of confidentiality speak of.)
 use Rattle.std.specs.Prelude.{◌≡◌, ℕ, Bool, false}
 use Rattle.rv_enclaves.specs.SharedButFor.{SharedButFor}
 use Rattle.rv_enclaves.specs.Table.{is_world_of}
-use Rattle.rv_monitor.specs.State.{MonitoredState, count_of, seen_by}
+use Rattle.rv_monitor.specs.State.{Machine, count_of, seat_of}
 use Rattle.rv_monitor.specs.declared.seat.Seat.{Seat}
 
--- the seat of a hart
-abbrev pub seat_of : ℕ → MonitoredState → Seat
-seat_of hart state = (seen_by hart state).seat
-
 -- whether the enclave of slot e runs on a hart
-abbrev pub runs_on : ℕ → ℕ → MonitoredState → Bool
-runs_on e hart state = is_world_of e (seat_of hart state).world
+abbrev pub runs_on : ℕ → ℕ → Machine → Bool
+runs_on e hart machine = is_world_of e (seat_of hart machine).world
 
 -- two seats of one world; and where that is not the enclave of slot e, they are equal
 pub record SeatsAgreeBut (e : ℕ) (one other : Seat) : Type 0 where
@@ -20,7 +16,7 @@ pub record SeatsAgreeBut (e : ℕ) (one other : Seat) : Type 0 where
   pub same : is_world_of e one.world ≡ false → one ≡ other
 
 -- as many harts, whose seats agree, and what they share
-pub record AgreeBut (e : ℕ) (one other : MonitoredState) : Type 0 where
+pub record AgreeBut (e : ℕ) (one other : Machine) : Type 0 where
   pub harts : count_of one ≡ count_of other
   pub seats : (hart : ℕ) → SeatsAgreeBut e (seat_of hart one) (seat_of hart other)
   pub shared : SharedButFor e one.shared other.shared

@@ -13,8 +13,8 @@ use Rattle.rv_enclaves.specs.declared.call.Call.{Call}
 use Rattle.rv_enclaves.specs.declared.call.Call.TheVariants.{Create, Run, Resume}
 use Rattle.rv_enclaves.specs.declared.shared.Shared.{Shared}
 use Rattle.rv_monitor.specs.CallRefusals.{a0}
-use Rattle.rv_monitor.specs.State.{MonitoredState}
-use Rattle.rv_monitor.specs.Step.{MonitoredStepped, handled, monitored_step}
+use Rattle.rv_monitor.specs.State.{Machine, seat_of}
+use Rattle.rv_monitor.specs.Step.{MachineStepped, handled, step_of}
 use Rattle.rv_monitor.specs.Switches.{Handled}
 use Rattle.rv_monitor.specs.declared.seat.Seat.{Seat}
 
@@ -61,18 +61,17 @@ AskedLaw =
 
 -- ---- the step
 
-pub record SameStep (one other : MonitoredState) (one_after other_after : MonitoredStepped) : Type 0 where
-  pub seat : one_after.state.seat ≡ other_after.state.seat
-  pub beside : one_after.state.other ≡ other_after.state.other
+pub record SameStep (one other : Machine) (one_after other_after : MachineStepped) : Type 0 where
+  pub seats : one_after.state.seats ≡ other_after.state.seats
   pub entered : one_after.outcome.entered ≡ other_after.outcome.entered
   pub shared : SameWhereSame one.shared other.shared one_after.state.shared other_after.state.shared
 
--- every state with the same seat that traps alike, and is the same in what the work asks, steps alike
-abbrev pub AsksOnly : MonitoredState → MonitoredStepped → Type 0
-AsksOnly before after =
-    (other : MonitoredState) (trap : Trap) → before.seat ≡ other.seat → before.other ≡ other.other → after.outcome.step.trap ≡ Some trap
-    → (monitored_step other).outcome.step.trap ≡ Some trap → SameAsked before.seat trap.cause before.shared other.shared
-    → SameStep before other after (monitored_step other)
+-- every machine with the same seats whose hart traps alike, and that is the same in what the work asks, steps alike
+abbrev pub AsksOnly : ℕ → Machine → MachineStepped → Type 0
+AsksOnly hart before after =
+    (other : Machine) (trap : Trap) → before.seats ≡ other.seats → after.outcome.step.trap ≡ Some trap
+    → (step_of hart other).outcome.step.trap ≡ Some trap → SameAsked (seat_of hart before) trap.cause before.shared other.shared
+    → SameStep before other after (step_of hart other)
 
 abbrev pub AskedStepLaw : Type 0
-AskedStepLaw = (state : MonitoredState) → AsksOnly state (monitored_step state)
+AskedStepLaw = (hart : ℕ) (machine : Machine) → AsksOnly hart machine (step_of hart machine)

@@ -20,7 +20,7 @@ use Rattle.rv_enclaves.specs.declared.call.Call.TheVariants.{Destroy, Measure}
 use Rattle.rv_enclaves.specs.declared.shared.Shared.{Shared}
 use Rattle.rv_enclaves.specs.declared.world.World.{World}
 use Rattle.rv_monitor.specs.Asked.{is_call}
-use Rattle.rv_monitor.specs.State.{MonitoredState, IsKept}
+use Rattle.rv_monitor.specs.State.{MonitoredState, IsOwn}
 use Rattle.rv_monitor.specs.Step.{MonitoredStepped, monitored_step}
 
 -- the instruction stored the byte, and the store was in its world's reach
@@ -68,4 +68,4 @@ ChangesInReach before after =
     (byte : ℕ) → byte_at after.state.shared.memory byte ≡ byte_at before.shared.memory byte ⊎ IsChanged before after byte
 
 abbrev pub ChangeLaw : Type 0
-ChangeLaw = (state : MonitoredState) → IsKept state → ChangesInReach state (monitored_step state)
+ChangeLaw = (state : MonitoredState) → IsOwn state → ChangesInReach state (monitored_step state)

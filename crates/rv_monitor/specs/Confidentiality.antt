@@ -9,9 +9,9 @@ use Rattle.rv_enclaves.specs.Sound.{IsSound}
 use Rattle.rv_enclaves.specs.Table.{is_world_of}
 use Rattle.rv_enclaves.specs.declared.shared.Shared.{Shared}
 use Rattle.rv_enclaves.specs.declared.world.World.{World}
-use Rattle.rv_monitor.specs.AgreeBut.{AgreeBut, SeatsAgreeBut}
-use Rattle.rv_monitor.specs.State.{MonitoredState, IsKept}
-use Rattle.rv_monitor.specs.Step.{MonitoredStepped, handled, monitored_step, returned_to}
+use Rattle.rv_monitor.specs.AgreeBut.{AgreeBut, SeatsAgreeBut, runs_on}
+use Rattle.rv_monitor.specs.State.{Machine, MonitoredState, IsKept, IsOwn}
+use Rattle.rv_monitor.specs.Step.{MachineStepped, handled, returned_to, step_of}
 use Rattle.rv_monitor.specs.Switches.{Handled}
 use Rattle.rv_monitor.specs.declared.seat.Seat.{Seat}
 
@@ -47,23 +47,22 @@ pub record StepAlike (hidden : ℕ → Bool) (one other : Stepped) : Type 0 wher
 -- a bare step depends on no byte of a region that is not the world's
 abbrev pub BareLaw : Type 0
 BareLaw =
-    (e : ℕ) (state : MonitoredState) (memory : List ℕ) → IsKept state → is_world_of e state.seat.world ≡ false
+    (e : ℕ) (state : MonitoredState) (memory : List ℕ) → IsOwn state → is_world_of e state.seat.world ≡ false
     → AgreeOutside (is_private state.shared.table e) state.shared.memory memory
     → StepAlike (is_private state.shared.table e) (step (bare state)) (step (record (bare state) { memory = memory }))
 
 -- ---- the monitored step
 
 -- they show the same, and agree again
-pub record SteppedAlike (e : ℕ) (one other : MonitoredStepped) : Type 0 where
+pub record SteppedAlike (e : ℕ) (one other : MachineStepped) : Type 0 where
   pub outcome : one.outcome ≡ other.outcome
   pub state : AgreeBut e one.state other.state
 
--- What a step shows and leaves tells nothing of an enclave that is not the world of its hart: every state that agrees but for that enclave
+-- What a step of a hart shows and leaves tells nothing of an enclave that is not its world: every machine that agrees but for that enclave
 -- steps alike. It may be the step that enters it.
-abbrev pub ConcealsOthers : MonitoredState → MonitoredStepped → Type 0
-ConcealsOthers before after =
-    (e : ℕ) (other : MonitoredState) → IsKept other → AgreeBut e before other → is_world_of e before.seat.world ≡ false
-    → SteppedAlike e after (monitored_step other)
+abbrev pub ConcealsOthers : ℕ → Machine → MachineStepped → Type 0
+ConcealsOthers hart before after =
+    (e : ℕ) (other : Machine) → IsKept other → AgreeBut e before other → runs_on e hart before ≡ false → SteppedAlike e after (step_of hart other)
 
 abbrev pub ConfidentialityLaw : Type 0
-ConfidentialityLaw = (state : MonitoredState) → IsKept state → ConcealsOthers state (monitored_step state)
+ConfidentialityLaw = (hart : ℕ) (machine : Machine) → IsKept machine → ConcealsOthers hart machine (step_of hart machine)

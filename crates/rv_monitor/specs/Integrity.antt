@@ -4,11 +4,11 @@ use Rattle.std.specs.Prelude.{ℕ, ◌≡◌, ◌==◌, Bool, true, false, Optio
 use Rattle.rv_memory.specs.Memory.{byte_at}
 use Rattle.rv_enclaves.specs.Blocks.{has}
 use Rattle.rv_enclaves.specs.Contexts.{context_at}
-use Rattle.rv_enclaves.specs.Table.{slot_at, region, is_live, is_world_of}
+use Rattle.rv_enclaves.specs.Table.{slot_at, region, is_live}
 use Rattle.rv_enclaves.specs.declared.shared.Shared.{Shared}
-use Rattle.rv_monitor.specs.AgreeBut.{runs_on, seat_of}
-use Rattle.rv_monitor.specs.State.{MonitoredState, IsKept, seated}
-use Rattle.rv_monitor.specs.Step.{MonitoredStepped, monitored_step}
+use Rattle.rv_monitor.specs.AgreeBut.{runs_on}
+use Rattle.rv_monitor.specs.State.{Machine, IsKept, seat_of, seated}
+use Rattle.rv_monitor.specs.Step.{MachineStepped, step_of}
 
 -- whether the slot that was entered, if there is one, is this
 abbrev pub enters : ℕ → Option ℕ → Bool
@@ -22,28 +22,28 @@ pub record IsSpared (k : ℕ) (before after : Shared) : Type 0 where
   pub context : context_at after.contexts k ≡ context_at before.contexts k
 
 -- and if it runs, its hart keeps its registers, pc and mode, and all but the entries and mie, which are those of the table and its world
-pub record IsUntouched (k : ℕ) (before after : MonitoredState) : Type 0 where
+pub record IsUntouched (k : ℕ) (before after : Machine) : Type 0 where
   pub spared : IsSpared k before.shared after.shared
   pub seat : (hart : ℕ) → runs_on k hart before ≡ true → seat_of hart after ≡ seated after.shared.table (seat_of hart before)
 
 -- every live enclave that is not the world of the hart that steps, is not entered, and is live after the step
-abbrev pub SparesOthers : MonitoredState → MonitoredStepped → Type 0
-SparesOthers before after =
-    (k : ℕ) → is_world_of k before.seat.world ≡ false → is_live before.shared.table k ≡ true
+abbrev pub SparesOthers : ℕ → Machine → MachineStepped → Type 0
+SparesOthers hart before after =
+    (k : ℕ) → runs_on k hart before ≡ false → is_live before.shared.table k ≡ true
     → enters k after.outcome.entered ≡ false → is_live after.state.shared.table k ≡ true
     → IsUntouched k before after.state
 
 abbrev pub IntegrityLaw : Type 0
-IntegrityLaw = (state : MonitoredState) → IsKept state → SparesOthers state (monitored_step state)
+IntegrityLaw = (hart : ℕ) (machine : Machine) → IsKept machine → SparesOthers hart machine (step_of hart machine)
 
 -- it is not entered, and it is live after the step
-pub record GoesOn (k : ℕ) (after : MonitoredStepped) : Type 0 where
+pub record GoesOn (k : ℕ) (after : MachineStepped) : Type 0 where
   pub passes : enters k after.outcome.entered ≡ false
   pub live : is_live after.state.shared.table k ≡ true
 
 -- every enclave that runs on a hart other than the one that steps
-abbrev pub LetsGoOn : MonitoredState → MonitoredStepped → Type 0
-LetsGoOn before after = (k hart : ℕ) → runs_on k hart before ≡ true → is_world_of k before.seat.world ≡ false → GoesOn k after
+abbrev pub LetsGoOn : ℕ → Machine → MachineStepped → Type 0
+LetsGoOn hart before after = (k own : ℕ) → runs_on k own before ≡ true → runs_on k hart before ≡ false → GoesOn k after
 
 abbrev pub GoOnLaw : Type 0
-GoOnLaw = (state : MonitoredState) → IsKept state → LetsGoOn state (monitored_step state)
+GoOnLaw = (hart : ℕ) (machine : Machine) → IsKept machine → LetsGoOn hart machine (step_of hart machine)

@@ -1,7 +1,7 @@
 -- What an enclave leaves behind when it leaves, by exit, by stop or by the timer: its registers go into its kept context, the host's come
 -- back, and of all else only its record's state, the timer's line after the timer, and what every trap and its return change are
 -- different. (A law of the monitor's definitions; Keystone, EuroSys 2020, in this project's profile.)
-use Rattle.std.specs.Prelude.{◌≡◌, ℕ, ◌==◌, Bool, false, List, Some, None, if◌then◌else◌}
+use Rattle.std.specs.Prelude.{◌≡◌, ℕ, ◌==◌, Bool, false, List, map, slice_set, Some, None, if◌then◌else◌}
 use Rattle.rv_pmp.specs.declared.mode.Mode.TheVariants.{S}
 use Rattle.rv_state.specs.Bits.{aligned_to_4}
 use Rattle.rv_state.specs.CsrState.{CsrState}
@@ -23,8 +23,8 @@ use Rattle.rv_enclaves.specs.declared.slot_info.EnclaveState.TheVariants.{Stoppe
 use Rattle.rv_enclaves.specs.declared.world.World.TheVariants.{Host, Enclave}
 use Rattle.rv_monitor.specs.Switches.{saved}
 use Rattle.rv_monitor.specs.Refused.{passed_csrs, past_ecall}
-use Rattle.rv_monitor.specs.State.{MonitoredState, IsKept, seated_beside}
-use Rattle.rv_monitor.specs.Step.{MonitoredStepped, monitored_step}
+use Rattle.rv_monitor.specs.State.{Machine, IsKept, seat_of, seated}
+use Rattle.rv_monitor.specs.Step.{MachineStepped, step_of}
 use Rattle.rv_monitor.specs.SwitchLaws.{reason, value}
 
 -- ---- what is kept of the enclave
@@ -73,24 +73,25 @@ left_hart hart slots trap host = record {
   mode = host.mode;
 }
 
--- ---- the state
+-- ---- the machine
 
--- no byte changes, and of the other hart the entries and mie alone
-abbrev pub left_state : MonitoredState → ℕ → Trap → Context → MonitoredState
-left_state before k trap host =
-    let shared = left_shared before.shared k trap.cause before.seat.hart in
+-- no byte changes, and of every other hart the entries and mie alone
+abbrev pub left_machine : ℕ → Machine → ℕ → Trap → Context → Machine
+left_machine own before k trap host =
+    let hart = (seat_of own before).hart in
+    let shared = left_shared before.shared k trap.cause hart in
     record {
-      seat = record { hart = left_hart before.seat.hart shared.table trap host; host_context = None; world = Host };
-      other = seated_beside shared.table before.other;
+      seats = slice_set (map (seated shared.table) before.seats) own
+          (record { hart = left_hart hart shared.table trap host; host_context = None; world = Host });
       shared = shared;
     }
 
 -- where an enclave runs and the host is kept, and the step traps and leads to the host
-abbrev pub LeavesOnly : MonitoredState → MonitoredStepped → Type 0
-LeavesOnly before after =
-    (k : ℕ) (host : Context) (trap : Trap) → before.seat.world ≡ Enclave k → before.seat.host_context ≡ Some host
-    → after.outcome.step.trap ≡ Some trap → after.state.seat.world ≡ Host
-    → (after.state ≡ left_state before k trap host) × (after.outcome.entered ≡ None)
+abbrev pub LeavesOnly : ℕ → Machine → MachineStepped → Type 0
+LeavesOnly hart before after =
+    (k : ℕ) (host : Context) (trap : Trap) → (seat_of hart before).world ≡ Enclave k → (seat_of hart before).host_context ≡ Some host
+    → after.outcome.step.trap ≡ Some trap → (seat_of hart after.state).world ≡ Host
+    → (after.state ≡ left_machine hart before k trap host) × (after.outcome.entered ≡ None)
 
 abbrev pub LeaveLaw : Type 0
-LeaveLaw = (state : MonitoredState) → IsKept state → LeavesOnly state (monitored_step state)
+LeaveLaw = (hart : ℕ) (machine : Machine) → IsKept machine → LeavesOnly hart machine (step_of hart machine)

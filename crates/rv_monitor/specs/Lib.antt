@@ -1,7 +1,6 @@
 pub mod CallRefusals
 pub mod Refused
 pub mod State
-pub mod Turns
 pub mod HartLaws
 pub mod Step
 pub mod FastSteps

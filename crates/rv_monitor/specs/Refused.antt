@@ -21,8 +21,8 @@ use Rattle.rv_enclaves.specs.declared.refusal.Refusal.{Refusal}
 use Rattle.rv_enclaves.specs.declared.refusal.Refusal.TheVariants.{NotSupported}
 use Rattle.rv_enclaves.specs.declared.shared.Shared.{Shared}
 use Rattle.rv_monitor.specs.CallRefusals.{call_refusals}
-use Rattle.rv_monitor.specs.State.{MonitoredState, IsKept}
-use Rattle.rv_monitor.specs.Step.{MonitoredStepped, monitored_step}
+use Rattle.rv_monitor.specs.State.{Machine, IsKept, seat_of, with_seat}
+use Rattle.rv_monitor.specs.Step.{MachineStepped, step_of}
 use Rattle.rv_monitor.specs.declared.seat.Seat.{Seat}
 
 -- why an ecall from S is refused, if it is: where a7 and a6 ask for no call of the world, or by the table of the call
@@ -56,17 +56,17 @@ refused_hart hart trap refusal = record {
   mode = S;
 }
 
--- its hart is all that a refused call changes of a state
-abbrev pub refused_state : MonitoredState → Trap → Refusal → MonitoredState
-refused_state before trap refusal =
-    record before { seat = record before.seat { hart = refused_hart before.seat.hart trap refusal } }
+-- that hart is all that a refused call changes
+abbrev pub refused_machine : ℕ → Machine → Trap → Refusal → Machine
+refused_machine own before trap refusal =
+    let seat = seat_of own before in with_seat own (record seat { hart = refused_hart seat.hart trap refusal }) before
 
 -- where the step traps by an ecall from S, and the call is refused
-abbrev pub RefusesOnly : MonitoredState → MonitoredStepped → Type 0
-RefusesOnly before after =
+abbrev pub RefusesOnly : ℕ → Machine → MachineStepped → Type 0
+RefusesOnly hart before after =
     (trap : Trap) (refusal : Refusal) → after.outcome.step.trap ≡ Some trap → trap.cause ≡ causes.Exception EnvironmentCallFromS
-    → refusal_of before.seat before.shared ≡ Some refusal
-    → (after.state ≡ refused_state before trap refusal) × (after.outcome.entered ≡ None)
+    → refusal_of (seat_of hart before) before.shared ≡ Some refusal
+    → (after.state ≡ refused_machine hart before trap refusal) × (after.outcome.entered ≡ None)
 
 abbrev pub RefusalLaw : Type 0
-RefusalLaw = (state : MonitoredState) → IsKept state → RefusesOnly state (monitored_step state)
+RefusalLaw = (hart : ℕ) (machine : Machine) → IsKept machine → RefusesOnly hart machine (step_of hart machine)

@@ -6,18 +6,17 @@ use Rattle.rv_pmp.specs.declared.mode.Mode.TheVariants.{S}
 use Rattle.rv_hart.specs.declared.trap.Trap.{Trap}
 use Rattle.rv_enclaves.specs.Contexts.{with_answer}
 use Rattle.rv_enclaves.specs.Table.{is_host}
-use Rattle.rv_monitor.specs.AgreeBut.{seat_of}
 use Rattle.rv_monitor.specs.HartLaws.{sched}
 use Rattle.rv_monitor.specs.Switches.{saved}
 use Rattle.rv_monitor.specs.Refused.{past_ecall}
-use Rattle.rv_monitor.specs.State.{MonitoredState, IsKept, HostIsStored, seen_by}
+use Rattle.rv_monitor.specs.State.{Machine, MonitoredState, IsKept, HostIsStored, seat_of, seen_by}
 use Rattle.rv_monitor.specs.Step.{MonitoredStepped, monitored_step, step_of}
 use Rattle.rv_monitor.specs.SwitchLaws.{going_on, reason, value}
 
 -- on a hart an enclave runs, before, between and after these steps
-abbrev pub RunsThrough : ℕ → List ℕ → MonitoredState → Type 0
-RunsThrough hart [] state = is_host (seat_of hart state).world ≡ false
-RunsThrough hart (named ∷ harts) state = (is_host (seat_of hart state).world ≡ false) × RunsThrough hart harts (step_of named state).state
+abbrev pub RunsThrough : ℕ → List ℕ → Machine → Type 0
+RunsThrough hart [] machine = is_host (seat_of hart machine).world ≡ false
+RunsThrough hart (named ∷ harts) machine = (is_host (seat_of hart machine).world ≡ false) × RunsThrough hart harts (step_of named machine).state
 
 -- the last step ends in a trap, and the host goes on as it was before the first, past its ecall, but for a0 and a1
 pub record HostComesBack (before last : MonitoredState) (after : MonitoredStepped) : Type 0 where
@@ -31,7 +30,7 @@ pub record HostComesBack (before last : MonitoredState) (after : MonitoredSteppe
 -- the hart leaves it. What the first kept of the host is as a hart stores it.
 abbrev pub ReturnLaw : Type 0
 ReturnLaw =
-    (hart : ℕ) (harts : List ℕ) (state : MonitoredState) → IsKept state → HostIsStored (seat_of hart (step_of hart state).state)
-    → is_host (seat_of hart state).world ≡ true → RunsThrough hart harts (step_of hart state).state
-    → (let last = seen_by hart (sched harts (step_of hart state).state).state in
-    is_host (monitored_step last).state.seat.world ≡ true → HostComesBack (seen_by hart state) last (monitored_step last))
+    (hart : ℕ) (harts : List ℕ) (machine : Machine) → IsKept machine → HostIsStored (seat_of hart (step_of hart machine).state)
+    → is_host (seat_of hart machine).world ≡ true → RunsThrough hart harts (step_of hart machine).state
+    → (let last = seen_by hart (sched harts (step_of hart machine).state).state in
+    is_host (monitored_step last).state.seat.world ≡ true → HostComesBack (seen_by hart machine) last (monitored_step last))

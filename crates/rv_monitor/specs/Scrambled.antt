@@ -3,14 +3,14 @@
 use Rattle.std.specs.Prelude.{◌≡◌, ℕ, ◌<◌, ◌^◌, slice_index, IfSome}
 use Rattle.rv_enclaves.specs.Contexts.{context_at}
 use Rattle.rv_enclaves.specs.Scramble.{scrambled_shared}
-use Rattle.rv_monitor.specs.State.{MonitoredState}
+use Rattle.rv_monitor.specs.State.{Machine}
 
-abbrev pub scrambled : MonitoredState → ℕ → MonitoredState
-scrambled state k = record state { shared = scrambled_shared state.shared k }
+abbrev pub scrambled : Machine → ℕ → Machine
+scrambled machine k = record machine { shared = scrambled_shared machine.shared k }
 
 -- what is scrambled twice is as it was, over bytes and words
 abbrev pub ScrambleLaw : Type 0
 ScrambleLaw =
-    (state : MonitoredState) (k : ℕ) → ((i : ℕ) → slice_index state.shared.memory i < 2 ^ 8)
-    → IfSome (context_at state.shared.contexts k) (λ context. (n : ℕ) → slice_index context.regs n < 2 ^ 32)
-    → scrambled (scrambled state k) k ≡ state
+    (machine : Machine) (k : ℕ) → ((i : ℕ) → slice_index machine.shared.memory i < 2 ^ 8)
+    → IfSome (context_at machine.shared.contexts k) (λ context. (n : ℕ) → slice_index context.regs n < 2 ^ 32)
+    → scrambled (scrambled machine k) k ≡ machine

@@ -14,7 +14,7 @@ use Rattle.rv_enclaves.specs.declared.context.Context.{Context}
 use Rattle.rv_enclaves.specs.declared.world.World.TheVariants.{Host, Enclave}
 use Rattle.rv_monitor.specs.Switches.{saved}
 use Rattle.rv_monitor.specs.Refused.{past_ecall}
-use Rattle.rv_monitor.specs.State.{MonitoredState, IsKept, HostIsStored}
+use Rattle.rv_monitor.specs.State.{MonitoredState, KeepsHost, HostIsStored}
 use Rattle.rv_monitor.specs.Step.{MonitoredStepped, monitored_step}
 
 -- the world goes on: it is the same, and what is kept of the host is as it was
@@ -62,4 +62,4 @@ abbrev pub StaysOrSwitches : MonitoredState → MonitoredStepped → Type 0
 StaysOrSwitches before after = Stays before after ⊎ (Enters before after ⊎ Leaves before after)
 
 abbrev pub SwitchLaw : Type 0
-SwitchLaw = (state : MonitoredState) → IsKept state → HostIsStored state.seat → StaysOrSwitches state (monitored_step state)
+SwitchLaw = (state : MonitoredState) → KeepsHost state.seat → HostIsStored state.seat → StaysOrSwitches state (monitored_step state)

@@ -15,7 +15,7 @@ use Rattle.rv_hart.specs.Step.{span}
 use Rattle.rv_hart.specs.declared.trap.StepOutcome.{StepOutcome}
 use Rattle.rv_hart.specs.declared.trap.Trap.{Trap}
 use Rattle.rv_enclaves.specs.Reach.{in_reach}
-use Rattle.rv_monitor.specs.State.{MonitoredState, IsKept}
+use Rattle.rv_monitor.specs.State.{MonitoredState, IsOwn}
 use Rattle.rv_monitor.specs.Step.{MonitoredStepped, monitored_step}
 
 -- whether a step came to an instruction: it took no interrupt, and its fetch was not refused
@@ -48,4 +48,4 @@ abbrev pub TouchesInReach : MonitoredState → MonitoredStepped → Type 0
 TouchesInReach before after = IsTouchedInReach before after.outcome.step
 
 abbrev pub TouchLaw : Type 0
-TouchLaw = (state : MonitoredState) → IsKept state → TouchesInReach state (monitored_step state)
+TouchLaw = (state : MonitoredState) → IsOwn state → TouchesInReach state (monitored_step state)

@@ -1,5 +1,8 @@
 //! How many harts a machine has.
 
+ghost use Rattle.std.specs.Prelude.{◌≡◌};
+ghost use Rattle.rv_monitor.specs.State.{harts_in};
+
 /// How many harts a machine has.
 #[derive(Clone, Copy, Debug, PartialEq, Eq)]
 pub enum Harts {
@@ -7,4 +10,16 @@ pub enum Harts {
     One,
     /// Hart 0 and hart 1, with one memory and one table of enclaves.
     Two,
+}
+
+impl Harts {
+    /// The number of them.
+    pub(crate) const fn count(self) -> u8
+        ensures { result ≡ harts_in self }
+    {
+        match self {
+            Harts::One => 1,
+            Harts::Two => 2,
+        }
+    }
 }

@@ -15,11 +15,13 @@ ghost use Rattle.rv_monitor.specs.SwitchLaws.{SwitchLaw};
 ghost use Rattle.rv_monitor.specs.Touches.{TouchLaw};
 
 /// Reach: in every state of the machine, S and U do an access to bytes in RAM exactly where it is in reach.
+#[tactic(auto, using(crate::proofs::KeptReaches::kept_reach))]
 pub const fn reach_kept()
     ensures { KeptReachLaw }
 {}
 
 /// What the instruction of a step touches lies in its world's reach: the word at pc, which it fetches, and what it loads or stores.
+#[tactic(auto, using(crate::proofs::Touched::touch_law))]
 pub const fn touches()
     ensures { TouchLaw }
 {}
@@ -31,6 +33,7 @@ pub const fn kept()
 
 /// Integrity: a step leaves the record, the region and the context of each live enclave that is not the world of its hart, and that it
 /// neither enters nor ends; and the hart on which that enclave runs, if it runs, but for the entries and mie.
+#[tactic(auto, using(crate::proofs::Integrity::integrity))]
 pub const fn integrity()
     ensures { IntegrityLaw }
 {}
@@ -42,11 +45,13 @@ pub const fn goes_on()
 
 /// A step changes no byte of memory but those that its instruction stored, in its world's reach, the region of the enclave that a destroy
 /// ends, and the 32 bytes that a measure puts, each in the caller's reach.
+#[tactic(auto, using(crate::proofs::Changes::changes))]
 pub const fn changes()
     ensures { ChangeLaw }
 {}
 
 /// The hart's own step depends on no byte of the region of an enclave that is not its world.
+#[tactic(auto, using(crate::proofs::BlindSteps::bare_law))]
 pub const fn bare_step_is_blind()
     ensures { BareLaw }
 {}
@@ -68,6 +73,7 @@ pub const fn refusal()
 
 /// A step lets the world go on, or the host enters an enclave and is kept as it was, or an enclave leaves and the host goes on as it
 /// was kept, but for a0 and a1.
+#[tactic(auto, using(crate::proofs::Switched::switch_law))]
 pub const fn switches()
     ensures { SwitchLaw }
 {}
@@ -80,22 +86,26 @@ pub const fn leaves()
 
 /// From the step with which the host of a hart enters an enclave to the one with which the enclave leaves, whatever steps of the harts lie
 /// between: the host goes on as it was before the first, past its ecall, but for a0 and a1.
+#[tactic(auto, using(crate::proofs::Returned::return_law))]
 pub const fn host_comes_back()
     ensures { ReturnLaw }
 {}
 
 /// The monitor's work after a trap asks of memory the bytes of the region that create measures, and of the kept contexts the one that
 /// run or resume enters; of measure's addresses it asks only whether they may be stored to.
+#[tactic(auto, using(crate::proofs::Asked::asked_law))]
 pub const fn handler_asks()
     ensures { AskedLaw }
 {}
 
 /// So does a step that traps.
+#[tactic(auto, using(crate::proofs::Asked::asked_step_law))]
 pub const fn trapping_step_asks()
     ensures { AskedStepLaw }
 {}
 
 /// What is private to an enclave, scrambled twice, is as it was.
+#[tactic(auto, using(crate::proofs::Scrambled::scramble_law))]
 pub const fn scrambled_twice()
     ensures { ScrambleLaw }
 {}
@@ -127,11 +137,13 @@ pub const fn only_entry_runs()
 {}
 
 /// So steps of harts on which an enclave does not run are not its own, up to and with the one that enters it.
+#[tactic(auto, using(crate::proofs::HartsAlike::not_own))]
 pub const fn not_own_up_to_entry()
     ensures { NotOwnLaw }
 {}
 
 /// Steps of two harts in any order change no byte but those that one of them changes, as a step of its hart may.
+#[tactic(auto, using(crate::proofs::HartsSpare::sched_changes))]
 pub const fn any_order_changes()
     ensures { SchedChangeLaw }
 {}

@@ -392,7 +392,7 @@ fn what_is_private_is_scrambled(rt: HostRuntime) -> Result<(), Fail> {
     run(rt, &[0x73; 4], &SCRAMBLED)
 }
 
-const TWO_HARTS: [Line; 53] = [
+const TWO_HARTS: [Line; 51] = [
     Line::See(Shown::Harts, Some(2)),
     // hart 1 begins as hart 0 does, but with a0 = 1
     Line::See(Shown::X(A0), Some(0)),
@@ -433,13 +433,11 @@ const TWO_HARTS: [Line; 53] = [
     Line::On(0),
     Line::Step,
     Line::See(Shown::Trapped, Some(0)),
-    Line::See(Shown::Turn, Some(0)),
     Line::On(1),
     Line::Step,
     Line::See(Shown::X(A0), Some(0xffff_fff8)),
     Line::Step,
     Line::See(Shown::Trapped, Some(1)),
-    Line::See(Shown::Turn, Some(1)),
     Line::See(Shown::Pc, Some(0)),
     Line::See(Shown::Csr(0x142), Some(5)),
     Line::See(Shown::Csr(0x143), Some(0x8002_0000)),

@@ -62,9 +62,8 @@ pub enum Shown {
     Region(u8),
     /// Whether a slot's enclave has ended, 1 or 0, if it is live.
     Exited(u8),
-    /// How many harts there are, and which is on turn.
+    /// How many harts there are.
     Harts,
-    Turn,
     /// The slot that the last step entered.
     Entered,
     /// Whether the last step trapped, 1 or 0.
@@ -222,12 +221,12 @@ impl Machine {
 
     /// The hart that the lines name, where there is such a hart.
     fn hart(&self) -> u8
-        ensures { result < count_of self.now.monitored.state }
+        ensures { result < count_of self.now.monitored }
     {
         if self.named < self.monitored.harts() {
             self.named
         } else {
-            self.monitored.turn()
+            0
         }
     }
 
@@ -285,7 +284,6 @@ impl Machine {
             Shown::Region(slot) => self.record(slot).map(|info| info.region.base),
             Shown::Exited(slot) => self.exited(slot),
             Shown::Harts => Some(u32::from(self.monitored.harts())),
-            Shown::Turn => Some(u32::from(self.monitored.turn())),
             Shown::Entered => self.entered.map(number),
             Shown::Trapped => Some(u32::from(self.trapped)),
         }

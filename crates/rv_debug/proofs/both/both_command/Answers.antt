@@ -1,6 +1,5 @@
 use Rattle.std.proofs.Common.{subst}
-use Rattle.rv_debug.specs.Confidentiality.{StayAlike}
-use Rattle.rv_debug.specs.BothBenches.{BothAnswered}
+use Rattle.rv_debug.proofs.Prelude.{BothAnswered, StayAlike}
 use Rattle.rv_debug.proofs.BothAlike.{both_alike}
 use Rattle.rv_debug.proofs.both.both_command.Goals as goal
 

@@ -1,6 +1,5 @@
 use Rattle.std.proofs.Common.{sym, subst}
-use Rattle.rv_debug.specs.BenchState.{BenchState}
-use Rattle.rv_debug.specs.Isolation.{IsSparedIn}
+use Rattle.rv_debug.proofs.Prelude.{BenchState, IsSparedIn}
 use Rattle.rv_debug.proofs.AtRest.{rest_all}
 use Rattle.rv_debug.proofs.BothAlike.{Folded, PassEnd, folded, run_alike}
 use Rattle.rv_debug.proofs.Isolation.{integrity}

@@ -1,5 +1,5 @@
 use Rattle.std.proofs.Common.{◌≡◌, drop}
-use Rattle.rv_debug.specs.BothBenches.{both_run}
+use Rattle.rv_debug.proofs.Prelude.{both_run}
 use Rattle.rv_debug.proofs.BothAlike.{later}
 use Rattle.rv_debug.proofs.both.run_commands.Given as goal
 

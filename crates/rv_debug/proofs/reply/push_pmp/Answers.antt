@@ -1,6 +1,6 @@
 use Rattle.std.proofs.Common.{arith}
 use Rattle.std.proofs.lemmas.Grind.{common_steps}
-use Rattle.rv_debug.specs.ReplyText.{pmp_text}
+use Rattle.rv_debug.proofs.Prelude.{pmp_text}
 use Rattle.rv_debug.proofs.RegisterLines.{flat_map-range_more}
 use Rattle.rv_debug.proofs.reply.push_pmp.Goals as goal
 

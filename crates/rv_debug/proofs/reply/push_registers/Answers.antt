@@ -1,6 +1,6 @@
 use Rattle.std.proofs.Common.{arith, length-append}
 use Rattle.std.proofs.lemmas.Grind.{common_steps}
-use Rattle.rv_debug.specs.ReplyText.{registers_text}
+use Rattle.rv_debug.proofs.Prelude.{registers_text}
 use Rattle.rv_debug.proofs.RegisterLines.{flat_map-range_more, length-register_text}
 use Rattle.rv_debug.proofs.reply.push_registers.Goals as goal
 

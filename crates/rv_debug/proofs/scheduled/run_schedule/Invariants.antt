@@ -1,7 +1,5 @@
 use Rattle.std.proofs.Common.{◌≡◌, ◌≤◌, true}
-use Rattle.rv_script.specs.Schedules.{has_all}
-use Rattle.rv_debug.specs.Turns.{no_turns, turns}
-use Rattle.rv_debug.specs.Targets.{harts_of, IsBare, KeepsMonitor}
+use Rattle.rv_debug.proofs.Prelude.{IsBare, KeepsMonitor, harts_of, has_all, no_turns, turns}
 use Rattle.rv_debug.proofs.ScheduleLoop.{rest}
 use Rattle.rv_debug.proofs.Turns.{after_turns}
 use Rattle.rv_debug.proofs.scheduled.run_schedule.Given as goal

@@ -1,5 +1,5 @@
 use Rattle.std.proofs.Common.{◌≡◌, ◌-◌, ◌<◌, length, get_or, arith}
-use Rattle.rv_debug.specs.Addresses.{HasPlace}
+use Rattle.rv_debug.proofs.Prelude.{HasPlace}
 use Rattle.rv_debug.proofs.AddressLemmas.{gap-free}
 use Rattle.rv_debug.proofs.addresses.Addresses.gap.Goals as goal
 use Rattle.rv_debug.proofs.addresses.Addresses.gap.Goals.{then-place-eq0, else-place-eq0}

@@ -1,5 +1,5 @@
 use Rattle.std.proofs.Common.{◌∙◌}
-use Rattle.rv_debug.specs.Stops.{lowest_accessed}
+use Rattle.rv_debug.proofs.Prelude.{lowest_accessed}
 use Rattle.rv_debug.proofs.AddressLemmas.{find-either, lowest-is}
 use Rattle.rv_debug.proofs.addresses.Addresses.lowest_accessed.Goals as goal
 

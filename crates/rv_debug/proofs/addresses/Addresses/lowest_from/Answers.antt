@@ -1,5 +1,5 @@
 use Rattle.std.proofs.Common.{◌<◌, ◌≤◌, ◌+◌, length, get_or, ap, arith}
-use Rattle.rv_debug.specs.Addresses.{HasPlace}
+use Rattle.rv_debug.proofs.Prelude.{HasPlace}
 use Rattle.rv_debug.proofs.AddressLemmas.{find-here, find-near, find-far}
 use Rattle.rv_debug.proofs.addresses.Addresses.lowest_from.Goals as goal
 

@@ -1,12 +1,16 @@
-use Rattle.std.proofs.Common.{subst}
-use Rattle.rv_debug.specs.Answer.{Answered}
-use Rattle.rv_debug.specs.Isolation.{ChangesMemory, SparesOther, SparesResting}
-use Rattle.rv_debug.proofs.Beside.{spares_other}
+use Rattle.std.proofs.Common.{◌<◌, ℕ, ap, subst}
+use Rattle.rv_debug.proofs.Prelude.{Answered, BenchState, ChangesMemory, SparesHarts, SparesResting, chosen_of, harts_of}
+use Rattle.rv_debug.proofs.Types.{Target}
+use Rattle.rv_debug.proofs.Beside.{spares_harts}
 use Rattle.rv_debug.proofs.Isolation.{tells_reach, changes_memory, spares_resting}
 use Rattle.rv_debug.proofs.bench.Bench.command.Goals as goal
 
+has : (c : goal.After-stored) → chosen_of c.args.self.now.target < harts_of c.args.self.now.target
+has c = subst (λ (target : Target). chosen_of target < harts_of target) (ap (λ (bench : BenchState). bench.target) c.self.view_is) (subst (λ (n : ℕ). n < harts_of c.self.inside.target) c.chosen.ensures.chosen c.chosen.ensures.has)
+
 pub returns-clause-reach : goal.returns-clause-reach
-returns-clause-reach c = tells_reach c.args.self.now.target c.args.command.now c.invariant.ensures
+returns-clause-reach c =
+    tells_reach c.args.self.now.target c.args.command.now c.invariant.ensures (has c)
 
 pub returns-clause-changes : goal.returns-clause-changes
 returns-clause-changes c =
@@ -20,5 +24,5 @@ returns-clause-spares c =
 
 pub returns-clause-beside : goal.returns-clause-beside
 returns-clause-beside c =
-    subst (λ (after : Answered). SparesOther c.args.self.now c.args.command.now after.state) c.answer-entered.ensures.answer
-    (spares_other c.args.self.now c.args.command.now c.invariant.ensures)
+    subst (λ (after : Answered). SparesHarts c.args.self.now c.args.command.now after.state) c.answer-entered.ensures.answer
+    (spares_harts c.args.self.now c.args.command.now c.invariant.ensures)
