@@ -22,7 +22,8 @@ finds() {
   fi
 }
 
-fuzz --seed 1 --count 420
+fuzz --seed 1 --count 480
+fuzz --seed 3 --count 120 --kind code
 fuzz --seed 2 --count 20 --kind monitor twin
 finds 's/ sltu / slti /' '' dis '[0-9a-f]{8}\\'
 finds 's/^error csr$/error cst/' '' script '--/csr [0-9a-f]{1,3}\\'

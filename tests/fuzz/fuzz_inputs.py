@@ -1,5 +1,5 @@
-"""Random inputs for the program, of seven kinds: image texts, scripts of a bench alone, ELF files, assembler texts, images to
-disassemble, and scripts of the monitored bench and of two, of one hart and of two. Each is made from a generator of random numbers, and is the program's
+"""Random inputs for the program, of eight kinds: image texts, scripts of a bench alone, programs that write their own code, ELF files,
+assembler texts, images to disassemble, and scripts of the monitored bench and of two, of one hart and of two. Each is made from a generator of random numbers, and is the program's
 words and the bytes of its input. Nothing of the bench that is tested is used.
 """
 import re
@@ -181,6 +181,29 @@ def script(rng):
     lines += [command(rng) for _ in range(rng.randrange(2, 30))] + ["regs", "csr 300", "csr 341", "csr b02", "mem 80000000 64", "pmp"]
     data = joined(text, lines, rng.choice(ENDS))
     return options(rng, is_bare=True)[:3], spoilt(rng, data) if chance(rng, 0.2) else data
+
+
+def code(rng):
+    """A program that stores into its own line of code, the next, and one that is remembered in the same place; and runs of it."""
+    other = START + rng.choice((0x100, 0x3F00, 0x2000, 4 * rng.randrange(32), 0xF8))
+    pool = [lambda: assemble(rng.choice(("sw", "sw", "sh", "sb")), rng.choice((3, 4, 5)), rng.choice((0, 0, 4, -4, 8, 1, 2)), rng.choice((1, 2)))[1],
+            lambda: assemble("addi", rng.choice((1, 5, 5, 0)), rng.choice((1, 5)), rng.choice((4, -4, 1)))[1],
+            lambda: assemble(rng.choice(("xor", "add", "mul")), rng.choice((4, 5, 6)), rng.choice((3, 4, 5)), 5)[1],
+            lambda: assemble("lw", rng.choice((3, 4, 5)), rng.choice((0, 4, -4)), rng.choice((1, 2)))[1],
+            lambda: assemble("beq", rng.choice((3, 5)), rng.choice((4, 5)), 4 * rng.randrange(-6, 7))[1],
+            lambda: assemble("jal", rng.choice((0, 0, 6)), 4 * rng.randrange(-8, 9))[1],
+            lambda: assemble("jalr", rng.choice((0, 6)), 0, rng.choice((2, 2, 7)))[1]]
+    words = [rng.choice(pool)() for _ in range(rng.choice((6, 12, 24, 70)))] + [assemble("jalr", 0, 0, 7)[1]]
+    lines = ["setreg %d %x" % it for it in ((1, START + 4 * rng.randrange(len(words))), (2, other), (3, rng.choice(pool)()),
+                                            (4, rng.choice(pool)()), (5, rng.getrandbits(rng.choice((2, 32)))), (7, START))]
+    lines += ["poke %x %x" % (other + i, byte) for i, byte in enumerate(bytes.fromhex(digits_of([rng.choice(pool)(), words[-1]])))]
+    for _ in range(rng.randrange(2, 8)):
+        lines.append("%s %d" % (rng.choice(("run", "run", "step")), rng.choice((1, 2, 7, 40, 200, 900))))
+        if chance(rng, 0.3):
+            lines.append("poke %x %x" % (START + rng.randrange(4 * len(words)), rng.choice((0x13, 0x93, 0x33, rng.randrange(256)))))
+        if chance(rng, 0.2):
+            lines.append("%s %x" % (rng.choice(("break", "watch")), START + 4 * rng.randrange(len(words))))
+    return ["run", "--ram", "65536"], joined(in_lines(rng, digits_of(words)), [*lines, "regs", "mem 80000000 64", "mem %x 16" % other])
 
 
 def segments_of(rng, size):
@@ -394,7 +417,7 @@ def twin(rng):
     return played(rng, TwinPlay) if chance(rng, 0.3) else staged(rng, True)
 
 
-KINDS = {"image": image, "script": script, "elf": elf_file, "asm": asm, "dis": dis, "monitor": monitor, "twin": twin}
+KINDS = {"image": image, "script": script, "code": code, "elf": elf_file, "asm": asm, "dis": dis, "monitor": monitor, "twin": twin}
 
 
 def drawn(rng, kind):

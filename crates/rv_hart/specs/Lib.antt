@@ -8,6 +8,7 @@ pub mod Hart
 pub mod HartState
 pub mod Instructions
 pub mod Lending
+pub mod Lines
 pub mod Permitted
 pub mod State
 pub mod Step

@@ -18,6 +18,7 @@
 mod arithmetic;
 mod csr_instructions;
 mod decoded;
+mod destination;
 mod fast;
 mod hart;
 mod limits;

@@ -8,6 +8,7 @@ use Rattle.rv_word.specs.Widths.{bytes_in}
 use Rattle.rv_word.specs.declared.width.Width.{Width}
 use Rattle.rv_word.specs.declared.width.Width.TheVariants.{Byte, Half, Word}
 use Rattle.rv_memory.specs.Changes.{ChangesOnly}
+use Rattle.rv_memory.specs.Lending.{with_bytes}
 use Rattle.rv_memory.specs.Memory.{bytes_of, ram_base, is_inside, read, write, write_bytes, byte_at, number_of_bytes}
 
 -- up to four bytes, and zeros after them, are the word that has their number
@@ -107,3 +108,7 @@ store_read_back memory address value width after inside put =
     let written : write memory address bytes ≡ Some after =
     write_at memory address bytes after (rw (length-bytes_of width value) inside) put in
     rw (length-bytes_of width value) at (read-write memory address bytes after written)
+
+-- a memory whose bytes are these, where they are as many, is these
+pub with_as_many : (memory bytes : List ℕ) → length bytes ≡ length memory → with_bytes memory bytes ≡ bytes
+with_as_many memory bytes long = grind (arith, common_steps)

@@ -3,3 +3,4 @@ pub mod Changes
 pub mod Faults
 pub mod Memory
 pub mod Complement
+pub mod Lending

@@ -16,6 +16,6 @@ mod ram_fault;
 mod touched;
 
 pub use access_fault::AccessFault;
-pub use ram::{RAM_BASE, Ram};
+pub use ram::{RAM_BASE, Ram, number_in, put_in};
 pub use ram_fault::RamFault;
 pub use touched::{Span, Touched};

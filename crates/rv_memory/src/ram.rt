@@ -37,6 +37,16 @@ impl Model for Ram {
 }
 
 impl Ram {
+    ghost use Rattle.std.specs.Prelude.{◌≡◌, ℕ, ◌+◌, ◌-◌, ◌%◌, ◌^◌, ◌<◌, ◌*◌, ◌≤◌, List, [], ◌∷◌, length, map, replicate, take, drop, IfOk};
+    ghost use Rattle.std.specs.Prelude.{OnOk, OnErr, MatchResult, Some, None, Ok, Err, true, false, if◌then◌else◌};
+    ghost use Rattle.std.specs.Borrow.{sem};
+    ghost use Rattle.rv_word.specs.Widths.{bytes_in};
+    ghost use Rattle.rv_memory.specs.Memory.{is_ram_size, ram_base, is_inside, read, write, write_bytes, byte_at, number_of_bytes, number_at, bytes_of};
+    ghost use Rattle.rv_memory.specs.Complement.{complement_of, complemented};
+    ghost use Rattle.rv_memory.specs.Accesses.{loaded, stored, fetched, verdict_on};
+    ghost use Rattle.rv_memory.specs.Changes.{ChangesOnly};
+    ghost use Rattle.rv_memory.specs.Lending.{RamLendsBytes};
+
     /// A memory of so many bytes, all 0.
     ///
     /// # Errors
@@ -230,29 +240,13 @@ impl Ram {
         Ok(())
     }
 
-    /// The number that the bytes at an address spell, the lowest first, all of which are in the memory. No entries are asked.
+    /// The bytes, for writing.
     #[inline(always)]
-    #[tactic(auto, unfolding(crate::specs::Memory::read))]
-    pub fn number(&self, addr: u32, width: Width) -> u32
-        requires { is_inside self.now addr (bytes_in width) ≡ true }
-        ensures { number_at self.now addr (bytes_in width) ≡ Some result }
+    pub fn bytes_mut(&mut self) -> &mut [u8]
+        ensures* writes_back { sem 𝓛 (RamLendsBytes self.entry result) }
+        ensures value { result.now ≡ self.old }
     {
-        let start = addr as usize - RAM_BASE as usize;
-        match width {
-            Width::Byte => self.number_at(start, 1),
-            Width::Half => self.number_at(start, 2),
-            Width::Word => self.number_at(start, 4),
-        }
-    }
-
-    /// Puts the lowest bytes of a word at an address, the lowest first, where all of them are in the memory. No entries are asked.
-    #[inline(always)]
-    #[tactic(auto, unfolding(crate::specs::Memory::write))]
-    pub fn put(&mut self, addr: u32, width: Width, value: u32)
-        requires { is_inside self.old addr (bytes_in width) ≡ true }
-        ensures { write self.old addr (bytes_of (bytes_in width) value) ≡ Some self.new }
-    {
-        self.put_number(addr as usize - RAM_BASE as usize, width, value);
+        &mut self.bytes
     }
 
     /// Puts the lowest bytes of a word at an index, the lowest first.
@@ -275,9 +269,7 @@ impl Ram {
         requires inside { start + count ≤ length self.now }
         ensures { result ≡ number_of_bytes (take count (drop start self.now)) }
     {
-        let mut bytes = [0; 4];
-        bytes[..count].copy_from_slice(&self.bytes[start..start + count]);
-        le_word(&bytes)
+        number_from(&self.bytes, start, count)
     }
 
     /// Puts bytes at an index.
@@ -312,8 +304,61 @@ impl Ram {
         requires inside { start + count ≤ length self.old }
         ensures { self.new ≡ write_bytes self.old start (bytes_of count value) }
     {
-        self.put_bytes(start, &le_bytes(value)[..count]);
+        put_from(&mut self.bytes, start, count, value);
     }
+}
+
+/// The number that the bytes at an address spell in a memory of these bytes, the lowest first, all of which are in it. No entries are asked.
+#[inline(always)]
+#[tactic(auto, unfolding(crate::specs::Memory::read))]
+pub fn number_in(bytes: &[u8], addr: u32, width: Width) -> u32
+    requires { is_inside bytes.now addr (bytes_in width) ≡ true }
+    ensures { number_at bytes.now addr (bytes_in width) ≡ Some result }
+{
+    let start = addr as usize - RAM_BASE as usize;
+    match width {
+        Width::Byte => number_from(bytes, start, 1),
+        Width::Half => number_from(bytes, start, 2),
+        Width::Word => number_from(bytes, start, 4),
+    }
+}
+
+/// Puts the lowest bytes of a word at an address in a memory of these bytes, the lowest first, where all of them are in it. No entries are
+/// asked.
+#[inline(always)]
+#[tactic(auto, unfolding(crate::specs::Memory::write))]
+pub fn put_in(bytes: &mut [u8], addr: u32, width: Width, value: u32)
+    requires { is_inside bytes.old addr (bytes_in width) ≡ true }
+    ensures { write bytes.old addr (bytes_of (bytes_in width) value) ≡ Some bytes.new }
+{
+    let start = addr as usize - RAM_BASE as usize;
+    match width {
+        Width::Byte => put_from(bytes, start, 1, value),
+        Width::Half => put_from(bytes, start, 2, value),
+        Width::Word => put_from(bytes, start, 4, value),
+    }
+}
+
+/// The number that so many bytes from an index on spell, the lowest first.
+#[inline(always)]
+fn number_from(bytes: &[u8], start: usize, count: usize) -> u32
+    requires short { count ≤ 4 }
+    requires inside { start + count ≤ length bytes.now }
+    ensures { result ≡ number_of_bytes (take count (drop start bytes.now)) }
+{
+    let mut read = [0; 4];
+    read[..count].copy_from_slice(&bytes[start..start + count]);
+    le_word(&read)
+}
+
+/// Puts so many of the lowest bytes of a word at an index, the lowest first.
+#[inline(always)]
+fn put_from(bytes: &mut [u8], start: usize, count: usize, value: u32)
+    requires short { count ≤ 4 }
+    requires inside { start + count ≤ length bytes.old }
+    ensures { bytes.new ≡ write_bytes bytes.old start (bytes_of count value) }
+{
+    bytes[start..start + count].copy_from_slice(&le_bytes(value)[..count]);
 }
 
 /// Complements each byte.

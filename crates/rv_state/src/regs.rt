@@ -1,6 +1,6 @@
 //! The integer registers.
 
-ghost use Rattle.std.specs.Prelude.{◌≡◌, ℕ, List, length, replicate};
+ghost use Rattle.std.specs.Prelude.{◌≡◌, ℕ, ◌<◌, List, length, replicate};
 ghost use Rattle.rv_state.specs.Registers.{register, with_register};
 
 use rv_word::Reg;
@@ -52,6 +52,15 @@ impl Regs {
         if number != 0 {
             self.words[number as usize] = value;
         }
+    }
+
+    /// Puts a word into a register that is not x0.
+    #[inline(always)]
+    pub fn put(&mut self, reg: Reg, value: u32)
+        requires { 0 < reg }
+        ensures { self.new ≡ with_register self.old reg value }
+    {
+        self.words[reg.number() as usize] = value;
     }
 }
 

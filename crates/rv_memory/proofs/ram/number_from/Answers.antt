@@ -2,7 +2,7 @@ use Rattle.std.proofs.Common.{◌≡◌, ℕ, ◌+◌, ◌-◌, List, [], ◌∷
 use Rattle.std.proofs.lemmas.List.{length-take-le}
 use Rattle.rv_memory.specs.Memory.{number_of_bytes}
 use Rattle.rv_memory.proofs.MemoryLaws.{padded}
-use Rattle.rv_memory.proofs.ram.Ram.number_at.Goals as goal
+use Rattle.rv_memory.proofs.ram.number_from.Goals as goal
 
 -- the bytes are copied over the first of four zeros
 pub returns : goal.returns
@@ -12,5 +12,5 @@ returns c =
     let zeros : List ℕ = 0 ∷ 0 ∷ 0 ∷ 0 ∷ [] in
     let long : length bytes ≡ a.count = c.copy_from_slice.ensures.len ∙ length-take-le a.count zeros (omega arith) in
     let count : a.start + a.count - a.start ≡ a.count = omega arith in
-    let are = rw (count, c.deref.ensures.value, c.self.view_is) at c.copy_from_slice.ensures.after in
+    let are = rw count at c.copy_from_slice.ensures.after in
     c.le_word.ensures.value ∙ padded bytes a.count long c.requires.short ∙ ap number_of_bytes are

@@ -1,0 +1,12 @@
+// What the compiler calls for copies and zeros.
+#include <stddef.h>
+
+void *memcpy(void *to, const void *from, size_t size) {
+  for (size_t i = 0; i < size; i++) ((char *)to)[i] = ((const char *)from)[i];
+  return to;
+}
+
+void *memset(void *to, int byte, size_t size) {
+  for (size_t i = 0; i < size; i++) ((char *)to)[i] = byte;
+  return to;
+}
