@@ -6,7 +6,7 @@ from dataclasses import dataclass
 
 from .races import way_of
 
-OVER, WAITS, GOES_ON, LONG, LEFT = "over", "waits", "goes on", "has not ended", "is left"
+OVER, STAYS, WAITS, GOES_ON, LONG, LEFT = "over", "stays", "waits", "goes on", "has not ended", "is left"
 
 
 @dataclass
@@ -86,12 +86,17 @@ class Ends:
                 return None
         return tuple(harts)
 
+    def over(self, graph, part, hart):
+        """Where a hart is over; one that was to come to an end and does not stays there."""
+        machine = self.machine
+        pc = min(machine.pc(graph.nodes[it].place.state, hart) for it in part if it in graph.nodes)
+        return (STAYS if machine.ends and not machine.limit and pc not in machine.ends else OVER), pc
+
     def end(self, graph, node, harts, part, orders):
         """The end of a part."""
         machine, state = self.machine, node.place.state
         is_told = GOES_ON not in harts and LONG not in harts
-        over = tuple((how, min(machine.pc(graph.nodes[it].place.state, hart) for it in part if it in graph.nodes) if how == OVER else None)
-                     for hart, how in enumerate(harts))
+        over = tuple(self.over(graph, part, hart) if how == OVER else (how, None) for hart, how in enumerate(harts))
         memory = machine.memories[state.memory]
         values = tuple(it.value_in(machine, state, memory) for it in self.outcome) if is_told else ()
         here = moves_inside(graph, part, dict.fromkeys(part, 0))

@@ -228,6 +228,8 @@ def check_endless(folder):
     expect("one that waits for ever", [("over", "over"), ("waits", "over")], how(found))
     found, _ = races(raw(folder, lines_of(WAITS)), "--outcome", "80011000:8", "--forbid", "livelock")
     races(raw(folder, lines_of(WAITS)), "--outcome", "80011000:8", "--forbid", "waits", status=1)
+    found, _ = races(raw(folder, lines_of(WAITS)), "--end", "80010018", "--forbid", "stays", status=1)
+    expect("one that never comes to its end", {("over", "stays"), ("waits", "stays")}, set(how(found)))
     found, last = races(raw(folder, lines_of(ENDLESS)), "--steps", "1000")
     expect("one that has not ended", [("has not ended", "over")], how(found))
     expect("which is no end that is claimed", True, "not what comes behind one hart that has not ended" in last["covered"])
