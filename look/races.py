@@ -278,7 +278,8 @@ class Search:
             if is_met and met:
                 break
             if not is_met and rounds.comes_back(work):
-                if self.to_least(work, way):
+                work, loads = self.at_least(state, work, met.before + 1 if met else 0, way)
+                if loads:
                     self.graph.waits.add((work.kept()._replace(steps=()), hart))
                 break
             if work.done > self.bounds.steps:
@@ -296,18 +297,20 @@ class Search:
             return None
         return Move(found, work.done, met or Met(work.done, None, None, work.own.world, False))
 
-    def to_least(self, work, way):
-        """A hart that goes round by itself is brought to the least place of its round, so that all that come to it are alike; whether it
-        loads on the round."""
-        start, found, loads = (work.pc, tuple(work.registers)), [], False
+    def at_least(self, state, work, first, way):
+        """A hart that goes round by itself, where it first comes to the least place of its round, so that all that come to it are alike; and
+        whether it loads on the round."""
+        machine, found, loads = self.machine, [], False
+        start = work.pc, tuple(work.registers)
         while not found or found[-1] != start:
-            look = self.machine.look(work)
+            look = machine.look(work)
             loads = loads or look.kind == "r"
-            self.machine.step(work, look, lambda: way() + [(work.hart, work.done, "")])
+            machine.step(work, look, lambda: way() + [(work.hart, work.done, "")])
             found.append((work.pc, tuple(work.registers)))
-        while (work.pc, tuple(work.registers)) != min(found):
-            self.machine.step(work, self.machine.look(work), lambda: way() + [(work.hart, work.done, "")])
-        return loads
+        again = Work(machine, state, work.hart)
+        while again.done < first or (again.pc, tuple(again.registers)) != min(found) or again.digest != work.digest:
+            machine.step(again, machine.look(again), way)
+        return again, loads
 
     def is_met(self, work, look):
         """Whether others could be affected by a hart's next step, or it by theirs."""

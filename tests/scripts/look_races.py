@@ -192,6 +192,7 @@ def check_known(folder):
     found, last = count("--outcome", "80011000", lines=COUNTER)
     expect("a counter raised three times on each hart", [2, 3, 4, 5, 6], sorted(it["values"]["80011000"] for it in found))
     expect("its orders are those of six and six accesses", (924, "all 924 of 924 orders"), (last["orders"], last["covered"]))
+    expect("each end has all 17 steps of each hart, and no more", {34}, {it["steps"] for it in found})
     expect("the count 2 needs four preemptions", 4, next(it["preemptions"] for it in found if it["values"]["80011000"] == 2))
     found, last = count("--outcome", "80011000", "--preemptions", "2", lines=COUNTER)
     expect("a counter with two preemptions", [3, 4, 5, 6], sorted(it["values"]["80011000"] for it in found))
