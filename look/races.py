@@ -192,11 +192,9 @@ class Search:
         return not self.grows()
 
     def vertex(self, node):
-        """Where a node is in the graph of orders; who was last does not matter where any number of preemptions is allowed."""
+        """The vertex of a node in the graph of orders; who was last does not matter where any number of preemptions is allowed."""
         place = node.place
-        if self.bounds.preemptions is None:
-            return place.state, place.timers, place.begun
-        return (*place, node.cost[0])
+        return place if self.bounds.preemptions is not None else (place.state, place.timers, place.begun)
 
     def edges_of(self, node):
         """Where the edges from a node are kept; those of a vertex that has them go nowhere."""
@@ -226,7 +224,7 @@ class Search:
                 new = Node(Place(move.state, hart, timers + is_timer, begun or comes),
                            (preemptions, cost[1] + is_timer, cost[2] + is_switch, cost[3] + move.steps), node, move, is_timer,
                            1 if comes else node.alone + 1, cost[3] + move.met.before + 1)
-                edges.append((self.vertex(new), hart, move, is_timer))
+                edges.append((self.vertex(new), hart, move, preemptions - cost[0]))
                 yield new
 
     def is_in_part(self, node, hart):

@@ -196,6 +196,7 @@ def check_known(folder):
     expect("the count 2 needs four preemptions", 4, next(it["preemptions"] for it in found if it["values"]["80011000"] == 2))
     found, last = count("--outcome", "80011000", "--preemptions", "2", lines=COUNTER)
     expect("a counter with two preemptions", [3, 4, 5, 6], sorted(it["values"]["80011000"] for it in found))
+    expect("its orders, counted by hand: 2, 12, 62", "all 62 of 62 orders with at most 2 preemptions", last["covered"])
     lock = lambda one, two: lines_of(LOCK.format(one + ";" + two))
     found, _ = count("--outcome", "8001100c", lines=lock(TAKE_FLAG, GIVE_TURN))
     expect("Peterson's lock", [2], [it["values"]["8001100c"] for it in found])
