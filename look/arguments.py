@@ -275,7 +275,7 @@ def timer_options(parser):
 def races_options(parser):
     parser.add_argument("--outcome", metavar="WHAT", action="append",
                         help="what tells ends apart, more than once: PLACE[:BYTES], HART.REGISTER, enclaves, or one, as e0; else all that both touch")
-    parser.add_argument("--forbid", metavar="CONDITION", action="append", help="status 1 if an end is so: 'left != 2', waits, livelock, unended")
+    parser.add_argument("--forbid", metavar="CONDITION", action="append", help="status 1 if an end is so: 'left != 2', stays, waits, livelock, unended")
     parser.add_argument("--timer", dest="timers", metavar="N", type=count, default=0, help="the timer's line rises so many times at most (0)")
     parser.add_argument("--preemptions", metavar="N", type=count, help="a hart that might go on is left so many times at most (any number)")
     parser.add_argument("--end", metavar="PLACE", action="append", help="a hart is over before this instruction, more than once")

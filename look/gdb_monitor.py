@@ -16,7 +16,7 @@ from .timeline import commands_of
 
 OTHERS = ("measure", "explain")  # words over a file of their own
 WORDS = tuple(it for it in NAMES if it not in (*OTHERS, "gdb"))  # over an image
-FROM_HERE = ("leak", "timer")  # which look at what comes behind what was done
+FROM_HERE = ("leak", "timer", "races")  # which look at what comes behind what was done
 CAUGHT = ("switch", "trap", "call")
 OWN = {
     "catch": "catch [switch | trap | call | none]: a continue stops behind each switch of world, each trap, each call of the monitor",

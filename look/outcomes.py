@@ -11,7 +11,7 @@ from .show import hex8
 
 OPERATORS = {"==": operator.eq, "!=": operator.ne, "<=": operator.le, ">=": operator.ge, "<": operator.lt, ">": operator.gt}
 CONDITION = re.compile(r"\s*([^\s=!<>]+)\s*(==|!=|<=|>=|<|>)\s*([^\s=!<>]+)\s*\Z")
-HOW = {"waits": "waits", "livelock": "goes on", "unended": "has not ended"}
+HOW = {"stays": "stays", "waits": "waits", "livelock": "goes on", "unended": "has not ended"}
 WORD_BYTES = 4
 
 
@@ -107,7 +107,7 @@ def outcome_of(text, symbols, harts):
 
 
 def condition_of(text, symbols):
-    """What --forbid says: comparisons joined by and; or waits, livelock, unended."""
+    """What --forbid says: comparisons joined by and; or stays, waits, livelock, unended."""
     if text.strip() in HOW:
         return Condition(text, (), HOW[text.strip()])
     parts = [CONDITION.match(it) for it in re.split(r"\band\b", text)]

@@ -192,11 +192,9 @@ class Search:
         return not self.grows()
 
     def vertex(self, node):
-        """Where a node is in the graph of orders; who was last does not matter where any number of preemptions is allowed."""
+        """The vertex of a node in the graph of orders; who was last does not matter where any number of preemptions is allowed."""
         place = node.place
-        if self.bounds.preemptions is None:
-            return place.state, place.timers, place.begun
-        return (*place, node.cost[0])
+        return place if self.bounds.preemptions is not None else (place.state, place.timers, place.begun)
 
     def edges_of(self, node):
         """Where the edges from a node are kept; those of a vertex that has them go nowhere."""
@@ -226,7 +224,7 @@ class Search:
                 new = Node(Place(move.state, hart, timers + is_timer, begun or comes),
                            (preemptions, cost[1] + is_timer, cost[2] + is_switch, cost[3] + move.steps), node, move, is_timer,
                            1 if comes else node.alone + 1, cost[3] + move.met.before + 1)
-                edges.append((self.vertex(new), hart, move, is_timer))
+                edges.append((self.vertex(new), hart, move, preemptions - cost[0]))
                 yield new
 
     def is_in_part(self, node, hart):
@@ -278,7 +276,8 @@ class Search:
             if is_met and met:
                 break
             if not is_met and rounds.comes_back(work):
-                if self.to_least(work, way):
+                work, loads = self.at_least(state, work, met.before + 1 if met else 0, way)
+                if loads:
                     self.graph.waits.add((work.kept()._replace(steps=()), hart))
                 break
             if work.done > self.bounds.steps:
@@ -296,18 +295,20 @@ class Search:
             return None
         return Move(found, work.done, met or Met(work.done, None, None, work.own.world, False))
 
-    def to_least(self, work, way):
-        """A hart that goes round by itself is brought to the least place of its round, so that all that come to it are alike; whether it
-        loads on the round."""
-        start, found, loads = (work.pc, tuple(work.registers)), [], False
+    def at_least(self, state, work, first, way):
+        """A hart that goes round by itself, where it first comes to the least place of its round, so that all that come to it are alike; and
+        whether it loads on the round."""
+        machine, found, loads = self.machine, [], False
+        start = work.pc, tuple(work.registers)
         while not found or found[-1] != start:
-            look = self.machine.look(work)
+            look = machine.look(work)
             loads = loads or look.kind == "r"
-            self.machine.step(work, look, lambda: way() + [(work.hart, work.done, "")])
+            machine.step(work, look, lambda: way() + [(work.hart, work.done, "")])
             found.append((work.pc, tuple(work.registers)))
-        while (work.pc, tuple(work.registers)) != min(found):
-            self.machine.step(work, self.machine.look(work), lambda: way() + [(work.hart, work.done, "")])
-        return loads
+        again = Work(machine, state, work.hart)
+        while again.done < first or (again.pc, tuple(again.registers)) != min(found) or again.digest != work.digest:
+            machine.step(again, machine.look(again), way)
+        return again, loads
 
     def is_met(self, work, look):
         """Whether others could be affected by a hart's next step, or it by theirs."""

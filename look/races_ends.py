@@ -4,9 +4,9 @@ orders are counted over these parts: rounds that come back to where they were ar
 from collections import defaultdict, deque
 from dataclasses import dataclass
 
-from .races import way_of
+from .races import Graph, way_of
 
-OVER, WAITS, GOES_ON, LONG, LEFT = "over", "waits", "goes on", "has not ended", "is left"
+OVER, STAYS, WAITS, GOES_ON, LONG, LEFT = "over", "stays", "waits", "goes on", "has not ended", "is left"
 
 
 @dataclass
@@ -52,14 +52,16 @@ class Ends:
 
     def of_graph(self, graph):
         """The ends of one round of the search."""
+        if self.search.bounds.preemptions is not None:
+            graph = counted(graph, self.search.bounds.preemptions)
         found = Parts(graph)
         parts, place_of = found.parts, found.place_of
         ways = ways_of(graph, parts, place_of)
         for place, part in enumerate(parts):
             harts = self.ended(graph, part, place_of)
             if harts:
-                node = min((graph.nodes[it] for it in part if it in graph.nodes), key=lambda it: it.cost)
-                yield self.end(graph, node, harts, set(part), ways[place])
+                vertex = min((it for it in part if it in graph.nodes), key=lambda it: graph.nodes[it].cost)
+                yield self.end(graph, vertex, harts, set(part), ways[place])
 
     def ended(self, graph, part, place_of):
         """How each hart ended in a part of the graph; None where it is no end."""
@@ -86,17 +88,23 @@ class Ends:
                 return None
         return tuple(harts)
 
-    def end(self, graph, node, harts, part, orders):
+    def over(self, graph, part, hart):
+        """Where a hart is over; one that was to come to an end and does not stays there."""
+        machine = self.machine
+        pc = min(machine.pc(graph.nodes[it].place.state, hart) for it in part if it in graph.nodes)
+        return (STAYS if machine.ends and not machine.limit and pc not in machine.ends else OVER), pc
+
+    def end(self, graph, vertex, harts, part, orders):
         """The end of a part."""
+        node = graph.nodes[vertex]
         machine, state = self.machine, node.place.state
         is_told = GOES_ON not in harts and LONG not in harts
-        over = tuple((how, min(machine.pc(graph.nodes[it].place.state, hart) for it in part if it in graph.nodes) if how == OVER else None)
-                     for hart, how in enumerate(harts))
+        over = tuple(self.over(graph, part, hart) if how == OVER else (how, None) for hart, how in enumerate(harts))
         memory = machine.memories[state.memory]
         values = tuple(it.value_in(machine, state, memory) for it in self.outcome) if is_told else ()
         here = moves_inside(graph, part, dict.fromkeys(part, 0))
         moving = [hart for hart, how in enumerate(harts) if how in (WAITS, GOES_ON) and hart in here]
-        return End(over, values, node, round_of(graph, node, moving, part, self.search), orders)
+        return End(over, values, node, round_of(graph, vertex, moving, part), orders)
 
 
 def moves_inside(graph, part, place_of):
@@ -109,9 +117,25 @@ def moves_inside(graph, part, place_of):
     return found
 
 
-def round_of(graph, node, moving, part, search):
-    """Moves from a node through its part and back, in which each of these harts moves."""
-    here = start = search.vertex(node)
+def counted(graph, bound):
+    """A graph whose vertices have the number of preemptions that came, up to the bound."""
+    new, start = Graph(), (next(iter(graph.nodes)), 0)
+    new.moves, new.waits, new.unended, new.alone = graph.moves, graph.waits, graph.unended, graph.alone
+    waiting = [start]
+    while waiting:
+        vertex = waiting.pop()
+        place, came = vertex
+        if place in graph.nodes and vertex not in new.nodes:
+            new.nodes[vertex] = graph.nodes[place]
+            new.edges[vertex] = [((target, came + more), hart, move, more) for target, hart, move, more in graph.edges.get(place, ())
+                                 if came + more <= bound]
+            waiting += [target for target, *_ in new.edges[vertex]]
+    return new
+
+
+def round_of(graph, vertex, moving, part):
+    """Moves from a vertex through its part and back, in which each of these harts moves."""
+    here = start = vertex
     found = []
     for hart in moving:
         here, path = path_to(graph, here, part, lambda edge: edge[1] == hart)

@@ -3,7 +3,7 @@ from .outcomes import Table, condition_of, number_of, outcomes_of, ranges_of, va
 from .faults import Fault
 from .progress import Progress
 from .races import MOST_ALONE, Bounds, Search
-from .races_ends import GOES_ON, LEFT, LONG, OVER, WAITS, Ends
+from .races_ends import GOES_ON, LEFT, LONG, OVER, STAYS, WAITS, Ends
 from .races_machine import Machine, commands_of
 from .races_replay import Replays, write_scripts
 from .show import Style, hex8, place_text, run_object
@@ -28,6 +28,8 @@ class Story:
         for hart, (how, pc) in enumerate(self.end.harts):
             if how == LONG:
                 parts.append("hart %d has not ended in %s" % (hart, self.limit(hart)))
+            elif how == STAYS:
+                parts.append("hart %d never comes to its end, and stays at %s" % (hart, self.place(pc)))
             elif how != OVER:
                 parts.append("hart %d %s" % (hart, HOW_TEXT[how]))
             elif len(self.places[hart]) > 1:
