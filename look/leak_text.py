@@ -73,7 +73,7 @@ def show_tries(leak):
         with Progress() as progress:
             base = leak.seen(own)
             for number, value in values:
-                other = own.with_bytes(value if value != own.bytes else bytes(it ^ 0xFF for it in value))
+                other = own.with_bytes(value if value != own.bytes else bytes(it ^ 0xA5 for it in value))
                 two = leak.seen(other)
                 found = leak.compared(base, two, own)
                 done += 1
