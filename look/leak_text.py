@@ -73,14 +73,14 @@ def show_tries(leak):
         with Progress() as progress:
             base = leak.seen(own)
             for number, value in values:
-                other = own.with_bytes(value)
+                other = own.with_bytes(value if value != own.bytes else bytes(it ^ 0xA5 for it in value))
                 two = leak.seen(other)
                 found = leak.compared(base, two, own)
                 done += 1
                 if found.parts():
                     told[number] = (other, two, found)
                 if printer.as_json:
-                    printer.object("try", number=number, slot=own.slot, at=own.text(), bytes=[own.bytes.hex(), value.hex()],
+                    printer.object("try", number=number, slot=own.slot, at=own.text(), bytes=[own.bytes.hex(), other.bytes.hex()],
                                    parts=found.parts())
                 progress.bar(done, len(values), "%d told" % len(told))
                 if until is not None and time.monotonic() > until:

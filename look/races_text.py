@@ -60,7 +60,7 @@ class Story:
         turns = self.turns()
         for number, turn in enumerate(turns):
             if turn[0].is_timer:
-                yield "the timer stops %s before %s" % (turn[0].move.met.world, self.place(turn[0].move.met.pc))
+                yield "%s before %s" % (timer_text(turn[0].move.met), self.place(turn[0].move.met.pc))
             elif 0 < number < len(turns) - 1:
                 before, behind = turns[number - 1], turns[number + 1]
                 met = [[it.move.met.pc for it in part if it.move.met.pc is not None] for part in (before, turn, behind)]
@@ -76,7 +76,7 @@ class Story:
         """One move by what it touched, and where."""
         move = node.move.met
         if node.is_timer:
-            what = "the timer stops %s" % move.world
+            what = timer_text(move)
         elif move.look.kind in ("r", "w"):
             what = "%s %08x %d  %s" % (move.look.kind, move.look.at, move.look.width, self.symbols.name(move.look.at) or "")
         else:
@@ -114,6 +114,11 @@ class Story:
         look, pc = node.move.met.look, node.move.met.pc
         return dict(kind="timer" if node.is_timer else look.kind or "x", address=hex8(look.at) if look.kind in ("r", "w") else None,
                     symbol=self.symbols.name(look.at) if look.kind in ("r", "w") else None, pc=hex8(pc), source=self.symbols.source(pc))
+
+
+def timer_text(met):
+    """What the timer does where its line rises: on the bare bench it may be masked."""
+    return "the timer rises" if met.world == "bare" else "the timer stops " + met.world
 
 
 def shown(value):

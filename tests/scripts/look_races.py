@@ -3,7 +3,7 @@
 before each step; against random walks on the bench; and against what is known of a program. Each script that it writes is run by the bench
 alone. In its longer form it takes more programs, and all orders on the bench itself:
 
-    RVBENCH=PROGRAM tests/scripts/look_races.py [all | known | orders FROM TO | plain FROM TO | bench FROM TO]
+    RVBENCH=PROGRAM python3 tests/scripts/look_races.py [all | known | orders FROM TO | plain FROM TO | bench FROM TO]
 """
 import itertools
 import json
