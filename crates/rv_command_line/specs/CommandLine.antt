@@ -74,9 +74,12 @@ asm_app = new_app (codes "asm")
 abbrev pub dis_app : App
 dis_app = new_app (codes "dis")
 
--- the program with the subcommands that run benches
+-- the program with the subcommand that runs a bench, and with that of two
+abbrev pub bench : Names → App
+bench names = with_subcommand (new_app (codes "rvbench")) (run_app names).top
+
 abbrev pub benches : Names → App
-benches names = with_subcommand (with_subcommand (new_app (codes "rvbench")) (run_app names).top) (twin_app names).top
+benches names = with_subcommand (bench names) (twin_app names).top
 
 -- the program with all its subcommands
 abbrev pub program : Names → App

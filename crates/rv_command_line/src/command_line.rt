@@ -4,13 +4,13 @@ ghost use Rattle.std.specs.Prelude.{◌≡◌, false, IfOk, List, Some, true};
 ghost use Rattle.clap.specs.Words.{App, Rule, Text, app_of, fault_of, is_simple, is_simple_and_free, new_app, new_rule};
 ghost use Rattle.clap.specs.Words.{rule_of, subcommand_of, with_rule, with_subcommand};
 ghost use Rattle.clap.specs.declared.builder.command.Command.TheViews.{out-Command as fields_of};
-ghost use Rattle.rv_command_line.specs.CommandLine.{asm_app, benches, dis_app, faults_of, harts, kind, monitor, program, ram, run_app, rvbench, slot, twin_app, with_image};
+ghost use Rattle.rv_command_line.specs.CommandLine.{asm_app, bench, benches, dis_app, faults_of, harts, kind, monitor, program, ram, run_app, rvbench, slot, twin_app, with_image};
 
 use crate::image_kind::KIND_NAMES;
 use clap::{Arg, ArgAction, Command, value_parser};
 use std::alloc::{AllocError, Global};
 
-/// A command, or that memory was refused for it. What adds to one takes it so too: then one place asks whether it was made.
+/// A command, or that memory was refused for it.
 type Made<'a> = Result<Command<'a>, AllocError>;
 
 /// What the program does.
@@ -142,33 +142,23 @@ fn told_command<'a>(
 }
 
 /// The command with one more option.
-fn with_option<'a>(command: Made<'a>, option: Arg<'a>) -> Made<'a>
-    requires command { IfOk command (λ command. (fields_of command).has_globals ≡ false) }
+fn with_option<'a>(command: Command<'a>, option: Arg<'a>) -> Made<'a>
+    requires command { (fields_of command).has_globals ≡ false }
     requires option { option.global ≡ false }
-    ensures app { (app : App) (rule : Rule) → IfOk command.entry (λ command. app_of command ≡ app) → rule_of option.entry ≡ rule
+    ensures app { (app : App) (rule : Rule) → app_of command.entry ≡ app → rule_of option.entry ≡ rule
         → IfOk result (λ made. app_of made ≡ with_rule app rule) }
     ensures local { IfOk result (λ made. (fields_of made).has_globals ≡ false) }
 {
-    command?.arg(option)
-}
-
-/// The command with one more subcommand.
-fn with_subcommand<'a>(command: Made<'a>, subcommand: Made<'a>) -> Made<'a>
-    requires { IfOk subcommand (λ subcommand. (fields_of subcommand).has_globals ≡ false) }
-    ensures { (app sub : App) → IfOk command.entry (λ command. app_of command ≡ app)
-        → IfOk subcommand.entry (λ subcommand. app_of subcommand ≡ sub) → IfOk result (λ made. app_of made ≡ with_subcommand app sub.top) }
-{
-    command?.subcommand(subcommand?)
+    command.arg(option)
 }
 
 /// The command with the options that say what image is loaded into which RAM.
-fn with_image_options<'a>(command: Made<'a>, alloc: Global, names: &'a [&'a str]) -> Made<'a>
-    requires { IfOk command (λ command. (fields_of command).has_globals ≡ false) }
-    ensures app { (app : App) → IfOk command.entry (λ command. app_of command ≡ app)
-        → IfOk result (λ made. app_of made ≡ with_image names.entry app) }
+fn with_image_options<'a>(command: Command<'a>, alloc: Global, names: &'a [&'a str]) -> Made<'a>
+    requires { (fields_of command).has_globals ≡ false }
+    ensures app { (app : App) → app_of command.entry ≡ app → IfOk result (λ made. app_of made ≡ with_image names.entry app) }
     ensures local { IfOk result (λ made. (fields_of made).has_globals ≡ false) }
 {
-    let command = with_option(command, kind_option(alloc, names));
+    let command = with_option(command, kind_option(alloc, names))?;
     with_option(command, ram_option(alloc))
 }
 
@@ -178,8 +168,8 @@ fn run_command<'a>(alloc: Global, kind_names: &'a [&'a str]) -> Made<'a>
     ensures local { IfOk result (λ command. (fields_of command).has_globals ≡ false) }
 {
     let command = told_command(alloc, "run", ABOUT_RUN, FIRST_SCRIPT);
-    let command = with_image_options(Ok(command), alloc, kind_names);
-    let command = with_option(command, monitor_flag(alloc));
+    let command = with_image_options(command, alloc, kind_names)?;
+    let command = with_option(command, monitor_flag(alloc))?;
     with_option(command, harts_option(alloc, HARTS_OF_RUN))
 }
 
@@ -189,8 +179,8 @@ fn twin_command<'a>(alloc: Global, names: &'a [&'a str]) -> Made<'a>
     ensures local { IfOk result (λ command. (fields_of command).has_globals ≡ false) }
 {
     let command = told_command(alloc, "twin", ABOUT_TWIN, FIRST_TWIN);
-    let command = with_option(Ok(command), slot_option(alloc));
-    let command = with_image_options(command, alloc, names);
+    let command = with_option(command, slot_option(alloc))?;
+    let command = with_image_options(command, alloc, names)?;
     with_option(command, harts_option(alloc, HARTS_OF_TWIN))
 }
 
@@ -212,22 +202,29 @@ fn dis_command<'a>(alloc: Global) -> Command<'a>
     )
 }
 
+/// The program with the subcommand that runs a bench.
+fn bench_command<'a>(alloc: Global, kind_names: &'a [&'a str]) -> Made<'a>
+    ensures { IfOk result (λ command. app_of command ≡ bench kind_names.entry) }
+{
+    let run = run_command(alloc, kind_names)?;
+    told_command(alloc, "rvbench", ABOUT_PROGRAM, FIRST_EXAMPLE).subcommand(run)
+}
+
 /// The program with the subcommands that run benches.
 fn benches_command<'a>(alloc: Global, kind_names: &'a [&'a str]) -> Made<'a>
     ensures { IfOk result (λ command. app_of command ≡ benches kind_names.entry) }
 {
-    let command = told_command(alloc, "rvbench", ABOUT_PROGRAM, FIRST_EXAMPLE);
-    let command = with_subcommand(Ok(command), run_command(alloc, kind_names));
-    with_subcommand(command, twin_command(alloc, kind_names))
+    let twin = twin_command(alloc, kind_names)?;
+    bench_command(alloc, kind_names)?.subcommand(twin)
 }
 
 /// The program with all its subcommands.
 fn program_command<'a>(alloc: Global, kind_names: &'a [&'a str]) -> Made<'a>
     ensures { IfOk result (λ command. app_of command ≡ program kind_names.entry) }
 {
-    let command = benches_command(alloc, kind_names);
-    let command = with_subcommand(command, Ok(asm_command(alloc)));
-    with_subcommand(command, Ok(dis_command(alloc)))
+    benches_command(alloc, kind_names)?
+        .subcommand(asm_command(alloc))?
+        .subcommand(dis_command(alloc))
 }
 
 /// The command line of the program.
