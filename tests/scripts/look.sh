@@ -23,6 +23,6 @@ look_checked() {
   RVBENCH=$program PYTHONDONTWRITEBYTECODE=1 python3 "$here/$1" > "$scratch/look" 2> "$scratch/errors"
   counted "$1" "it could not be run: $(tail -1 "$scratch/errors")" "$scratch/look"
 }
-for part in scripts/look_{map,trace,symbols,prompt,ends,short,races,finders,campaign,gdb,gdb_ends,gdb_wrong,gdb_sessions} documents/look_docs; do
+for part in scripts/look_{map,trace,models,symbols,prompt,ends,short,races,finders,campaign,gdb,gdb_ends,gdb_wrong,gdb_sessions} documents/look_docs; do
   look_checked "$part.py"
 done
