@@ -1,5 +1,5 @@
 -- Where the fields of an instruction lie in its word: RISC-V Unprivileged ISA 20191213, sections 2.2 and 2.3.
-use Rattle.std.specs.Prelude.{ℕ, ◌+◌, ◌*◌, ◌^◌, List, [], ◌∷◌}
+use Rattle.std.specs.Prelude.{ℕ, ◌+◌, ◌-◌, ◌*◌, ◌^◌, List, [], ◌∷◌}
 use Rattle.rv_word.specs.BitFields.{bits}
 
 -- A run of bits of a field, and the bits of the word that they are: each by its highest and its lowest bit.
@@ -9,8 +9,9 @@ pub record Run : Type 0 where
   pub hi : ℕ
   pub lo : ℕ
 
-abbrev pub run_of_bits : ℕ → ℕ → ℕ → ℕ → Run
-run_of_bits field_hi field_lo hi lo = record { field_hi = field_hi; field_lo = field_lo; hi = hi; lo = lo }
+-- bits hi to lo of a field, from a bit of the word on, which is their lowest
+abbrev pub bits_at : ℕ → ℕ → ℕ → Run
+bits_at hi lo from = record { field_hi = hi; field_lo = lo; hi = from + (hi - lo); lo = from }
 
 -- The runs of a field, from the highest bit of the word on. A bit of the field that is in none is 0.
 abbrev pub Places : Type 0
@@ -19,64 +20,64 @@ Places = List Run
 -- ---- fields of every format
 
 abbrev pub rd_at : Places
-rd_at = run_of_bits 4 0 11 7 ∷ []
+rd_at = bits_at 4 0 7 ∷ []
 
 abbrev pub rs1_at : Places
-rs1_at = run_of_bits 4 0 19 15 ∷ []
+rs1_at = bits_at 4 0 15 ∷ []
 
 abbrev pub rs2_at : Places
-rs2_at = run_of_bits 4 0 24 20 ∷ []
+rs2_at = bits_at 4 0 20 ∷ []
 
 -- ---- immediates
 
 -- imm[11:0]
 abbrev pub i_immediate_at : Places
-i_immediate_at = run_of_bits 11 0 31 20 ∷ []
+i_immediate_at = bits_at 11 0 20 ∷ []
 
 -- imm[11:5], imm[4:0]
 abbrev pub s_immediate_at : Places
-s_immediate_at = run_of_bits 11 5 31 25 ∷ run_of_bits 4 0 11 7 ∷ []
+s_immediate_at = bits_at 11 5 25 ∷ bits_at 4 0 7 ∷ []
 
 -- imm[12], imm[10:5], imm[4:1], imm[11]
 abbrev pub b_immediate_at : Places
-b_immediate_at = run_of_bits 12 12 31 31 ∷ run_of_bits 10 5 30 25 ∷ run_of_bits 4 1 11 8 ∷ run_of_bits 11 11 7 7 ∷ []
+b_immediate_at = bits_at 12 12 31 ∷ bits_at 10 5 25 ∷ bits_at 4 1 8 ∷ bits_at 11 11 7 ∷ []
 
 -- imm[20], imm[10:1], imm[11], imm[19:12]
 abbrev pub j_immediate_at : Places
-j_immediate_at = run_of_bits 20 20 31 31 ∷ run_of_bits 10 1 30 21 ∷ run_of_bits 11 11 20 20 ∷ run_of_bits 19 12 19 12 ∷ []
+j_immediate_at = bits_at 20 20 31 ∷ bits_at 10 1 21 ∷ bits_at 11 11 20 ∷ bits_at 19 12 12 ∷ []
 
 -- imm[31:12]
 abbrev pub u_immediate_at : Places
-u_immediate_at = run_of_bits 31 12 31 12 ∷ []
+u_immediate_at = bits_at 31 12 12 ∷ []
 
 -- ---- fields of single groups: section 2.4 (shamt), 2.7 (fm, pred, succ), 9.1 (csr, uimm)
 
 abbrev pub shamt_at : Places
-shamt_at = run_of_bits 4 0 24 20 ∷ []
+shamt_at = bits_at 4 0 20 ∷ []
 
 abbrev pub fm_at : Places
-fm_at = run_of_bits 3 0 31 28 ∷ []
+fm_at = bits_at 3 0 28 ∷ []
 
 abbrev pub pred_at : Places
-pred_at = run_of_bits 3 0 27 24 ∷ []
+pred_at = bits_at 3 0 24 ∷ []
 
 abbrev pub succ_at : Places
-succ_at = run_of_bits 3 0 23 20 ∷ []
+succ_at = bits_at 3 0 20 ∷ []
 
 abbrev pub csr_at : Places
-csr_at = run_of_bits 11 0 31 20 ∷ []
+csr_at = bits_at 11 0 20 ∷ []
 
 abbrev pub uimm_at : Places
-uimm_at = run_of_bits 4 0 19 15 ∷ []
+uimm_at = bits_at 4 0 15 ∷ []
 
 -- ---- a field and its places
 
 -- A field at its places in a word.
 abbrev pub placed : Places → ℕ → ℕ
 placed [] field = 0
-placed (run_of_bits ∷ runs) field = bits field run_of_bits.field_hi run_of_bits.field_lo * 2 ^ run_of_bits.lo + placed runs field
+placed (run ∷ runs) field = bits field run.field_hi run.field_lo * 2 ^ run.lo + placed runs field
 
 -- The field that lies at these places of a word.
 abbrev pub taken : Places → ℕ → ℕ
 taken [] word = 0
-taken (run_of_bits ∷ runs) word = bits word run_of_bits.hi run_of_bits.lo * 2 ^ run_of_bits.field_lo + taken runs word
+taken (run ∷ runs) word = bits word run.hi run.lo * 2 ^ run.field_lo + taken runs word

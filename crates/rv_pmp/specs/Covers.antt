@@ -6,6 +6,10 @@ use Rattle.rv_pmp.specs.Entries.{Entries, cfg_of, addr_of, addr_before}
 use Rattle.rv_pmp.specs.declared.address_matching.AddressMatching.{AddressMatching}
 use Rattle.rv_pmp.specs.declared.address_matching.AddressMatching.TheVariants.{Off, Tor, Na4, Napot}
 
+-- The granularity is 4 bytes (G = 0): a pmpaddr value is an address in units of it, each of its bits is kept, and NA4 can be chosen.
+abbrev pub granularity : ℕ
+granularity = 4
+
 -- how many ones a number of so many bits ends in
 unfoldable pub ones_at_end : ℕ → ℕ → ℕ
 ones_at_end zero number = 0
@@ -15,12 +19,16 @@ ones_at_end (suc bits) number = if number % 2 == 1 then 1 + ones_at_end bits (nu
 abbrev pub napot_size : ℕ → ℕ
 napot_size addr = 8 * 2 ^ ones_at_end 32 addr
 
+-- whether a byte address is in the naturally aligned block of so many bytes that another one is in
+abbrev pub is_in_block : ℕ → ℕ → ℕ → Bool
+is_in_block size address byte = byte / size == address / size
+
 -- whether a byte address matches, given the pmpaddr value before the entry's own, and its own
 abbrev pub matches : AddressMatching → ℕ → ℕ → ℕ → Bool
 matches Off before addr byte = false
-matches Tor before addr byte = nat_le (4 * before) byte && nat_lt byte (4 * addr)
-matches Na4 before addr byte = byte / 4 == addr
-matches Napot before addr byte = byte / napot_size addr == 4 * addr / napot_size addr
+matches Tor before addr byte = nat_le (granularity * before) byte && nat_lt byte (granularity * addr)
+matches Na4 before addr byte = byte / granularity == addr
+matches Napot before addr byte = is_in_block (napot_size addr) (granularity * addr) byte
 
 -- Whether entry i covers the byte at an address.
 unfoldable pub covers : Entries → ℕ → ℕ → Bool

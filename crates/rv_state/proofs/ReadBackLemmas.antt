@@ -11,7 +11,7 @@ use Rattle.rv_state.specs.Mstatus.{mstatus_word, mstatus_of, mode_of_mpp, sstatu
 use Rattle.rv_state.specs.declared.mstatus.Mstatus.{Mstatus}
 use Rattle.rv_state.specs.Counters.{with_low_half, with_high_half}
 use Rattle.rv_state.specs.CsrState.{CsrState}
-use Rattle.rv_state.specs.CsrTable.{vector_of, reading, written, is_trapped, on_register, csr_numbered, least_mode, is_read_only, read_result, write_result}
+use Rattle.rv_state.specs.CsrTable.{vector_of, csr_of, reading, written, is_trapped, on_register, csr_numbered, least_mode, is_read_only, read_result, write_result}
 use Rattle.rv_state.specs.Laws.{mstatus_mask, kept, kept_at, ReadsBack}
 use Rattle.rv_state.specs.declared.csr_name.CsrName.{CsrName}
 use Rattle.rv_state.specs.declared.csr_name.CsrName.TheVariants.{Sstatus, Stvec, Sscratch, Sepc, Scause, Stval, Satp}
@@ -82,7 +82,7 @@ high-half : (counter word : ℕ) → word < 2 ^ 32 → bits (with_high_half coun
 high-half counter word below = omega arith
 
 reading-written : (name : CsrName) (word : ℕ) (c : CsrState) → word < 2 ^ 32 → reading name (written name word c) ≡ kept name word c
-unfolding reading written
+unfolding csr_of
 reading-written Sstatus word c below = sstatus-kept c.mstatus word
 reading-written Stvec word c below = vector-is word below
 reading-written Sscratch word c below = refl
@@ -110,7 +110,7 @@ reading-written Zero word c below = refl
 
 -- a write does not make satp refused
 trapped-after : (name : CsrName) (word : ℕ) (mode : Mode) (c : CsrState) → is_trapped name mode c ≡ false → is_trapped name mode (written name word c) ≡ false
-unfolding written
+unfolding csr_of
 trapped-after Satp word mode c free = free
 trapped-after Sstatus word mode c free = refl
 trapped-after Stvec word mode c free = refl

@@ -2,8 +2,8 @@
 -- an access is refused. RISC-V Privileged Architecture 20211203, chapter 2: the listing is in the order of tables 2.3, 2.5
 -- and 2.6. What the registers keep: sections 3.1 and 4.1. Which numbers there are, those kept as zero included, is this
 -- machine's profile; any other number is missing.
-use Rattle.std.specs.Prelude.{ℕ, ◌+◌, ◌-◌, ◌*◌, ◌/◌, ◌%◌, ◌^◌, Bool, false, ◌&&◌, nat_lt, nat_le, ◌==◌, if◌then◌else◌}
-use Rattle.std.specs.Prelude.{List, [], ◌∷◌, ◌++◌, sum_by, codes, Option, Some, None, Result, Ok, Err}
+use Rattle.std.specs.Prelude.{ℕ, ◌+◌, ◌-◌, ◌*◌, ◌^◌, Bool, false, nat_lt, ◌==◌, if◌then◌else◌}
+use Rattle.std.specs.Prelude.{List, [], ◌∷◌, sum_by, codes, Option, Some, None, Result, Ok, Err}
 use Rattle.std.specs.Option.{option_map}
 use Rattle.rv_pmp.specs.declared.mode.Mode.{Mode}
 use Rattle.rv_pmp.specs.declared.mode.Mode.TheVariants.{S}
@@ -12,6 +12,7 @@ use Rattle.rv_pmp.specs.Locks.{cfg_word, with_cfg_word, with_addr}
 use Rattle.rv_pmp.specs.Mode.{mode_number}
 use Rattle.rv_word.specs.BitFields.{bits}
 use Rattle.rv_state.specs.Bits.{kept_bits, aligned_to_4}
+use Rattle.rv_state.specs.CsrRows.{CsrRow, csr, csr_range, zeros, row_of_number}
 use Rattle.rv_state.specs.CsrState.{CsrState}
 use Rattle.rv_state.specs.Counters.{with_low_half, with_high_half}
 use Rattle.rv_state.specs.Interrupts.{mip_word, software_pending_of}
@@ -33,41 +34,17 @@ least_mode number = bits number 9 8
 abbrev pub is_read_only : ℕ → Bool
 is_read_only number = bits number 11 10 == 0b11
 
--- ---- the listing (section 2.2)
-
--- a row: the numbers that it is of, and for each of them the register's name and what stands behind it
-pub record CsrRow : Type 0 where
-  pub is_of : ℕ → Bool
-  pub name : ℕ → List ℕ
-  pub register : ℕ → CsrName
-
-abbrev pub csr : ℕ → List ℕ → CsrName → CsrRow
-csr own name register = record { is_of = λ number. number == own; name = λ _. name; register = λ _. register }
-
--- a number below 100 as its digits; 48 is the code of 0
-abbrev pub digits_of : ℕ → List ℕ
-digits_of n = if nat_lt n 10 then (48 + n) ∷ [] else (48 + n / 10) ∷ (48 + n % 10) ∷ []
-
--- registers whose names count on from the first of them: what stands before the count and after it, and the first count
-abbrev pub csr_range : ℕ → ℕ → List ℕ → ℕ → List ℕ → (ℕ → CsrName) → CsrRow
-csr_range first last before from after register = record {
-  is_of = λ number. nat_le first number && nat_le number last;
-  name = λ number. before ++ (digits_of (from + (number - first)) ++ after);
-  register = λ number. register (number - first);
-}
-
--- they read 0
-abbrev pub zeros : ℕ → CsrName
-zeros _ = Zero
+-- ---- the listing (section 2.2): number, name and register; where that is zero, why the manual lets it be
 
 unfoldable pub csr_listing : List CsrRow
 csr_listing =
-    -- table 2.3, Supervisor Trap Setup
+    -- table 2.3, Supervisor Trap Setup; no interrupt is delegated, and of sie and sip what is not is 0 (section 3.1.9)
     csr 0x100 (codes "sstatus") Sstatus
     ∷ csr 0x104 (codes "sie") Zero
     ∷ csr 0x105 (codes "stvec") Stvec
+    -- mode U is shown no counter: any bit may be 0 (section 4.1.5)
     ∷ csr 0x106 (codes "scounteren") Zero
-    -- Supervisor Configuration
+    -- Supervisor Configuration: satp is always Bare, so that FIOM may be 0 (section 4.1.10)
     ∷ csr 0x10A (codes "senvcfg") Zero
     -- Supervisor Trap Handling
     ∷ csr 0x140 (codes "sscratch") Sscratch
@@ -77,20 +54,24 @@ csr_listing =
     ∷ csr 0x144 (codes "sip") Zero
     -- Supervisor Protection and Translation
     ∷ csr 0x180 (codes "satp") Satp
-    -- table 2.5, Machine Information Registers
+    -- table 2.5, Machine Information Registers: not implemented, or not commercial (sections 3.1.2 to 3.1.4)
     ∷ csr 0xF11 (codes "mvendorid") Zero
     ∷ csr 0xF12 (codes "marchid") Zero
     ∷ csr 0xF13 (codes "mimpid") Zero
+    -- one hart has the number 0 (section 3.1.5), and here each reads so
     ∷ csr 0xF14 (codes "mhartid") Zero
+    -- there is no configuration data structure (section 3.1.17)
     ∷ csr 0xF15 (codes "mconfigptr") Zero
-    -- Machine Trap Setup
+    -- Machine Trap Setup; no trap is delegated (section 3.1.8)
     ∷ csr 0x300 (codes "mstatus") Mstatus
     ∷ csr 0x301 (codes "misa") Misa
     ∷ csr 0x302 (codes "medeleg") Zero
     ∷ csr 0x303 (codes "mideleg") Zero
     ∷ csr 0x304 (codes "mie") Mie
     ∷ csr 0x305 (codes "mtvec") Mtvec
+    -- the modes below are shown no counter: any bit may be 0 (section 3.1.11)
     ∷ csr 0x306 (codes "mcounteren") Zero
+    -- memory is little-endian: MBE and SBE may be 0 (section 3.1.6.4)
     ∷ csr 0x310 (codes "mstatush") Zero
     -- Machine Trap Handling
     ∷ csr 0x340 (codes "mscratch") Mscratch
@@ -98,13 +79,13 @@ csr_listing =
     ∷ csr 0x342 (codes "mcause") Mcause
     ∷ csr 0x343 (codes "mtval") Mtval
     ∷ csr 0x344 (codes "mip") Mip
-    -- Machine Configuration
+    -- Machine Configuration: FIOM as in senvcfg (section 3.1.18)
     ∷ csr 0x30A (codes "menvcfg") Zero
     ∷ csr 0x31A (codes "menvcfgh") Zero
     -- Machine Memory Protection
     ∷ csr_range 0x3A0 0x3A3 (codes "pmpcfg") 0 [] Pmpcfg
     ∷ csr_range 0x3B0 0x3BF (codes "pmpaddr") 0 [] Pmpaddr
-    -- table 2.6, Machine Counter/Timers
+    -- table 2.6, Machine Counter/Timers; counters of events and what they count may be 0 (section 3.1.10)
     ∷ csr 0xB00 (codes "mcycle") Mcycle
     ∷ csr 0xB02 (codes "minstret") Minstret
     ∷ csr_range 0xB03 0xB1F (codes "mhpmcounter") 3 [] zeros
@@ -116,10 +97,6 @@ csr_listing =
     ∷ csr_range 0x323 0x33F (codes "mhpmevent") 3 [] zeros
     ∷ []
 
-abbrev pub row_of_number : List CsrRow → ℕ → Option CsrRow
-row_of_number [] number = None
-row_of_number (row ∷ rows) number = if row.is_of number then Some row else row_of_number rows number
-
 -- the register of a number, if there is one, and its name
 unfoldable pub csr_numbered : ℕ → Option CsrName
 csr_numbered number = option_map (λ (row : CsrRow). row.register number) (row_of_number csr_listing number)
@@ -127,40 +104,12 @@ csr_numbered number = option_map (λ (row : CsrRow). row.register number) (row_o
 abbrev pub name_of_number : ℕ → Option (List ℕ)
 name_of_number number = option_map (λ (row : CsrRow). row.name number) (row_of_number csr_listing number)
 
--- ---- what each reads
+-- ---- what each keeps and shows
 
 -- misa (section 3.1.1): MXL in bits 31:30, where 1 says that a register has 32 bits, and in Extensions the bit of each letter, that of A
 -- the lowest (65 is the code of A)
 abbrev pub misa_word : ℕ
 misa_word = 1 * 2 ^ 30 + sum_by (λ letter. 2 ^ (letter - 65)) (codes "IMSU")
-
-unfoldable pub reading : CsrName → CsrState → ℕ
-reading Sstatus c = sstatus_word c.mstatus
-reading Stvec c = c.stvec
-reading Sscratch c = c.sscratch
-reading Sepc c = c.sepc
-reading Scause c = c.scause
-reading Stval c = c.stval
-reading Satp c = 0
-reading Mstatus c = mstatus_word c.mstatus
-reading Misa c = misa_word
-reading Mie c = c.mie
-reading Mtvec c = c.mtvec
-reading Mscratch c = c.mscratch
-reading Mepc c = c.mepc
-reading Mcause c = c.mcause
-reading Mtval c = c.mtval
-reading Mip c = mip_word c
-reading (Pmpcfg k) c = cfg_word c.pmp k
-reading (Pmpaddr i) c = addr_of c.pmp i
-reading Mcycle c = bits c.mcycle 31 0
-reading Minstret c = bits c.minstret 31 0
-reading Mcycleh c = bits c.mcycle 63 32
-reading Minstreth c = bits c.minstret 63 32
-reading Mcountinhibit c = c.mcountinhibit
-reading Zero c = 0
-
--- ---- what a write leaves
 
 -- a trap vector (sections 3.1.7 and 4.1.2): BASE in bits 31:2, MODE in bits 1:0, of which 0 (Direct) and 1 (Vectored) are legal, so that
 -- bit 1 reads 0
@@ -175,31 +124,46 @@ enabled_of word = kept_bits (1 ∷ 3 ∷ 5 ∷ 7 ∷ 9 ∷ 11 ∷ []) word
 abbrev pub inhibited_of : ℕ → ℕ
 inhibited_of word = kept_bits (0 ∷ 2 ∷ []) word
 
-unfoldable pub written : CsrName → ℕ → CsrState → CsrState
-written Sstatus word c = record c { mstatus = with_sstatus c.mstatus word }
-written Stvec word c = record c { stvec = vector_of word }
-written Sscratch word c = record c { sscratch = word }
-written Sepc word c = record c { sepc = aligned_to_4 word }
-written Scause word c = record c { scause = word }
-written Stval word c = record c { stval = word }
-written Satp word c = c
-written Mstatus word c = record c { mstatus = mstatus_of word }
-written Misa word c = c
-written Mie word c = record c { mie = enabled_of word }
-written Mtvec word c = record c { mtvec = vector_of word }
-written Mscratch word c = record c { mscratch = word }
-written Mepc word c = record c { mepc = aligned_to_4 word }
-written Mcause word c = record c { mcause = word }
-written Mtval word c = record c { mtval = word }
-written Mip word c = record c { software_pending = software_pending_of word }
-written (Pmpcfg k) word c = record c { pmp = with_cfg_word c.pmp k word }
-written (Pmpaddr i) word c = record c { pmp = with_addr c.pmp i word }
-written Mcycle word c = record c { mcycle = with_low_half c.mcycle word }
-written Minstret word c = record c { minstret = with_low_half c.minstret word }
-written Mcycleh word c = record c { mcycle = with_high_half c.mcycle word }
-written Minstreth word c = record c { minstret = with_high_half c.minstret word }
-written Mcountinhibit word c = record c { mcountinhibit = inhibited_of word }
-written Zero word c = c
+-- what a register reads, and what a write of a word leaves
+pub record Csr : Type 0 where
+  pub reads : CsrState → ℕ
+  pub leaves : ℕ → CsrState → CsrState
+
+-- it reads always the same, and ignores what is written
+abbrev pub constant : ℕ → Csr
+constant value = record { reads = λ _. value; leaves = λ _ c. c }
+
+unfoldable pub csr_of : CsrName → Csr
+csr_of Sstatus = record { reads = λ c. sstatus_word c.mstatus; leaves = λ word c. record c { mstatus = with_sstatus c.mstatus word } }
+csr_of Stvec = record { reads = λ c. c.stvec; leaves = λ word c. record c { stvec = vector_of word } }
+csr_of Sscratch = record { reads = λ c. c.sscratch; leaves = λ word c. record c { sscratch = word } }
+csr_of Sepc = record { reads = λ c. c.sepc; leaves = λ word c. record c { sepc = aligned_to_4 word } }
+csr_of Scause = record { reads = λ c. c.scause; leaves = λ word c. record c { scause = word } }
+csr_of Stval = record { reads = λ c. c.stval; leaves = λ word c. record c { stval = word } }
+csr_of Satp = constant 0
+csr_of Mstatus = record { reads = λ c. mstatus_word c.mstatus; leaves = λ word c. record c { mstatus = mstatus_of word } }
+csr_of Misa = constant misa_word
+csr_of Mie = record { reads = λ c. c.mie; leaves = λ word c. record c { mie = enabled_of word } }
+csr_of Mtvec = record { reads = λ c. c.mtvec; leaves = λ word c. record c { mtvec = vector_of word } }
+csr_of Mscratch = record { reads = λ c. c.mscratch; leaves = λ word c. record c { mscratch = word } }
+csr_of Mepc = record { reads = λ c. c.mepc; leaves = λ word c. record c { mepc = aligned_to_4 word } }
+csr_of Mcause = record { reads = λ c. c.mcause; leaves = λ word c. record c { mcause = word } }
+csr_of Mtval = record { reads = λ c. c.mtval; leaves = λ word c. record c { mtval = word } }
+csr_of Mip = record { reads = λ c. mip_word c; leaves = λ word c. record c { software_pending = software_pending_of word } }
+csr_of (Pmpcfg k) = record { reads = λ c. cfg_word c.pmp k; leaves = λ word c. record c { pmp = with_cfg_word c.pmp k word } }
+csr_of (Pmpaddr i) = record { reads = λ c. addr_of c.pmp i; leaves = λ word c. record c { pmp = with_addr c.pmp i word } }
+csr_of Mcycle = record { reads = λ c. bits c.mcycle 31 0; leaves = λ word c. record c { mcycle = with_low_half c.mcycle word } }
+csr_of Minstret = record { reads = λ c. bits c.minstret 31 0; leaves = λ word c. record c { minstret = with_low_half c.minstret word } }
+csr_of Mcycleh = record { reads = λ c. bits c.mcycle 63 32; leaves = λ word c. record c { mcycle = with_high_half c.mcycle word } }
+csr_of Minstreth = record { reads = λ c. bits c.minstret 63 32; leaves = λ word c. record c { minstret = with_high_half c.minstret word } }
+csr_of Mcountinhibit = record { reads = λ c. c.mcountinhibit; leaves = λ word c. record c { mcountinhibit = inhibited_of word } }
+csr_of Zero = constant 0
+
+abbrev pub reading : CsrName → CsrState → ℕ
+reading name c = (csr_of name).reads c
+
+abbrev pub written : CsrName → ℕ → CsrState → CsrState
+written name word c = (csr_of name).leaves word c
 
 -- ---- access, with its refusals in the order in which they are asked
 

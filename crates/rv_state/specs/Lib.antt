@@ -8,6 +8,7 @@ pub mod Counters
 pub mod Interrupts
 pub mod Kept
 pub mod Traps
+pub mod CsrRows
 pub mod CsrTable
 pub mod Laws
 pub mod SContexts

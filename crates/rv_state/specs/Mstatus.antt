@@ -7,11 +7,48 @@ use Rattle.rv_pmp.specs.Mode.{mode_number}
 use Rattle.rv_word.specs.BitFields.{bits, is_set, flag}
 use Rattle.rv_state.specs.declared.mstatus.Mstatus.{Mstatus}
 
+-- ---- the bit of each field (figure 3.6), of MPP the lower one of its two
+
+abbrev pub sie_bit : ℕ
+sie_bit = 1
+
+abbrev pub mie_bit : ℕ
+mie_bit = 3
+
+abbrev pub spie_bit : ℕ
+spie_bit = 5
+
+abbrev pub mpie_bit : ℕ
+mpie_bit = 7
+
+abbrev pub spp_bit : ℕ
+spp_bit = 8
+
+abbrev pub mpp_bit : ℕ
+mpp_bit = 11
+
+abbrev pub mprv_bit : ℕ
+mprv_bit = 17
+
+abbrev pub mxr_bit : ℕ
+mxr_bit = 19
+
+abbrev pub tvm_bit : ℕ
+tvm_bit = 20
+
+abbrev pub tw_bit : ℕ
+tw_bit = 21
+
+abbrev pub tsr_bit : ℕ
+tsr_bit = 22
+
+-- ---- mstatus
+
 -- what mstatus reads
 abbrev pub mstatus_word : Mstatus → ℕ
 mstatus_word s =
-    flag 1 s.sie + flag 3 s.mie + flag 5 s.spie + flag 7 s.mpie + flag 8 s.spp + mode_number s.mpp * 2 ^ 11
-    + flag 17 s.mprv + flag 19 s.mxr + flag 20 s.tvm + flag 21 s.tw + flag 22 s.tsr
+    flag sie_bit s.sie + flag mie_bit s.mie + flag spie_bit s.spie + flag mpie_bit s.mpie + flag spp_bit s.spp
+    + mode_number s.mpp * 2 ^ mpp_bit + flag mprv_bit s.mprv + flag mxr_bit s.mxr + flag tvm_bit s.tvm + flag tw_bit s.tw + flag tsr_bit s.tsr
 
 -- the mode that a write to MPP leaves: 2 names no mode, and is stored as 0
 abbrev pub mode_of_mpp : ℕ → Mode
@@ -20,17 +57,17 @@ mode_of_mpp two_bits = if two_bits == 3 then M else (if two_bits == 1 then S els
 -- what a write to mstatus leaves
 abbrev pub mstatus_of : ℕ → Mstatus
 mstatus_of word = record {
-  sie = is_set word 1;
-  mie = is_set word 3;
-  spie = is_set word 5;
-  mpie = is_set word 7;
-  spp = is_set word 8;
-  mpp = mode_of_mpp (bits word 12 11);
-  mprv = is_set word 17;
-  mxr = is_set word 19;
-  tvm = is_set word 20;
-  tw = is_set word 21;
-  tsr = is_set word 22;
+  sie = is_set word sie_bit;
+  mie = is_set word mie_bit;
+  spie = is_set word spie_bit;
+  mpie = is_set word mpie_bit;
+  spp = is_set word spp_bit;
+  mpp = mode_of_mpp (bits word (mpp_bit + 1) mpp_bit);
+  mprv = is_set word mprv_bit;
+  mxr = is_set word mxr_bit;
+  tvm = is_set word tvm_bit;
+  tw = is_set word tw_bit;
+  tsr = is_set word tsr_bit;
 }
 
 -- all fields 0
@@ -49,11 +86,13 @@ mstatus_at_reset = record {
   tsr = false;
 }
 
+-- ---- sstatus
+
 -- what sstatus reads: four of the fields
 abbrev pub sstatus_word : Mstatus → ℕ
-sstatus_word s = flag 1 s.sie + flag 5 s.spie + flag 8 s.spp + flag 19 s.mxr
+sstatus_word s = flag sie_bit s.sie + flag spie_bit s.spie + flag spp_bit s.spp + flag mxr_bit s.mxr
 
 -- what a write to sstatus leaves: those four, and the others as they were
 abbrev pub with_sstatus : Mstatus → ℕ → Mstatus
 with_sstatus s word =
-    record s { sie = is_set word 1; spie = is_set word 5; spp = is_set word 8; mxr = is_set word 19 }
+    record s { sie = is_set word sie_bit; spie = is_set word spie_bit; spp = is_set word spp_bit; mxr = is_set word mxr_bit }

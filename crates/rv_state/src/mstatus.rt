@@ -3,6 +3,29 @@
 use crate::bits::{flag, is_set};
 use rv_pmp::Mode;
 
+/// The bit of each field, of MPP the lower one of its two.
+const SIE: u32 = 1;
+
+const MIE: u32 = 3;
+
+const SPIE: u32 = 5;
+
+const MPIE: u32 = 7;
+
+const SPP: u32 = 8;
+
+const MPP: u32 = 11;
+
+const MPRV: u32 = 17;
+
+const MXR: u32 = 19;
+
+const TVM: u32 = 20;
+
+const TW: u32 = 21;
+
+const TSR: u32 = 22;
+
 /// The fields of mstatus that this machine has (Privileged Architecture, section 3.1.6).
 #[derive(Clone, Copy, Debug, PartialEq, Eq)]
 pub struct Mstatus {
@@ -60,17 +83,17 @@ impl Mstatus {
         ensures value { result ≡ mstatus_word self }
         ensures within_mask { and_by_bits result 0x007A19AA ≡ result }
     {
-        flag(1, self.sie)
-            + flag(3, self.mie)
-            + flag(5, self.spie)
-            + flag(7, self.mpie)
-            + flag(8, self.spp)
-            + self.mpp.number() * 0x800
-            + flag(17, self.mprv)
-            + flag(19, self.mxr)
-            + flag(20, self.tvm)
-            + flag(21, self.tw)
-            + flag(22, self.tsr)
+        flag(SIE, self.sie)
+            + flag(MIE, self.mie)
+            + flag(SPIE, self.spie)
+            + flag(MPIE, self.mpie)
+            + flag(SPP, self.spp)
+            + (self.mpp.number() << MPP)
+            + flag(MPRV, self.mprv)
+            + flag(MXR, self.mxr)
+            + flag(TVM, self.tvm)
+            + flag(TW, self.tw)
+            + flag(TSR, self.tsr)
     }
 
     /// The fields that a word written to mstatus leaves.
@@ -78,17 +101,17 @@ impl Mstatus {
         ensures { result ≡ mstatus_of word }
     {
         Mstatus {
-            sie: is_set(word, 1),
-            mie: is_set(word, 3),
-            spie: is_set(word, 5),
-            mpie: is_set(word, 7),
-            spp: is_set(word, 8),
-            mpp: mode_of_mpp((word >> 11) % 4),
-            mprv: is_set(word, 17),
-            mxr: is_set(word, 19),
-            tvm: is_set(word, 20),
-            tw: is_set(word, 21),
-            tsr: is_set(word, 22),
+            sie: is_set(word, SIE),
+            mie: is_set(word, MIE),
+            spie: is_set(word, SPIE),
+            mpie: is_set(word, MPIE),
+            spp: is_set(word, SPP),
+            mpp: mode_of_mpp((word >> MPP) % 4),
+            mprv: is_set(word, MPRV),
+            mxr: is_set(word, MXR),
+            tvm: is_set(word, TVM),
+            tw: is_set(word, TW),
+            tsr: is_set(word, TSR),
         }
     }
 
@@ -98,7 +121,7 @@ impl Mstatus {
         ensures value { result ≡ sstatus_word self }
         ensures under_mask { result ≡ and_by_bits (mstatus_word self) 0x00080122 }
     {
-        flag(1, self.sie) + flag(5, self.spie) + flag(8, self.spp) + flag(19, self.mxr)
+        flag(SIE, self.sie) + flag(SPIE, self.spie) + flag(SPP, self.spp) + flag(MXR, self.mxr)
     }
 
     /// The fields after a word was written to sstatus.
@@ -106,10 +129,10 @@ impl Mstatus {
         ensures { result ≡ with_sstatus self word }
     {
         Mstatus {
-            sie: is_set(word, 1),
-            spie: is_set(word, 5),
-            spp: is_set(word, 8),
-            mxr: is_set(word, 19),
+            sie: is_set(word, SIE),
+            spie: is_set(word, SPIE),
+            spp: is_set(word, SPP),
+            mxr: is_set(word, MXR),
             ..self
         }
     }

@@ -1,5 +1,5 @@
 -- std's division meets the equations of a division, and nothing else does.
-use Rattle.std.proofs.Common.{◌≡◌, ℕ, zero, suc, ◌+◌, ◌*◌, ◌/◌, ◌%◌, ◌^◌, ◌<◌, ℤ, pos, negsuc, sym, ap, ◌∙◌, arith}
+use Rattle.std.proofs.Common.{◌≡◌, ℕ, zero, suc, ◌+◌, ◌-◌, ◌*◌, ◌/◌, ◌%◌, ◌^◌, ◌<◌, ℤ, pos, negsuc, sym, ap, ◌∙◌, arith}
 use Rattle.std.specs.Prelude.{unsigned_abs, int_div, int_rem, ◌≤ℤ◌, ◌≢◌}
 use Rattle.std.proofs.lemmas.Nat.{div-add-mod', div-mul-add, mod-mul-add, mod_below}
 use Rattle.std.proofs.lemmas.Int.{ints, quot-rem, rem_below}
@@ -27,13 +27,27 @@ division a d nonzero = record {
 signed-nonzero : (n : ℕ) → n < 2 ^ 32 → n ≢ 0 → 0 < unsigned_abs (signed n)
 signed-nonzero n fits nonzero = grind (arith, ints)
 
+-- ---- the row of signed overflow has the words of the division
+
+overflow-quotient : (a d : ℕ) → a ≡ 2 ^ 31 → d ≡ 2 ^ 32 - 1 → a ≡ low_word (int_div (signed a) (signed d))
+overflow-quotient a d least minus_one = rw (least, minus_one)
+
+overflow-remainder : (a d : ℕ) → a ≡ 2 ^ 31 → d ≡ 2 ^ 32 - 1 → 0 ≡ low_word (int_rem (signed a) (signed d))
+overflow-remainder a d least minus_one = rw (least, minus_one)
+
+pub quotient-word : (dividend divisor : ℕ) → divisor ≢ 0 → quotient dividend divisor ≡ low_word (int_div (signed dividend) (signed divisor))
+quotient-word dividend divisor nonzero = grind (arith, overflow-quotient dividend divisor)
+
+pub remainder-word : (dividend divisor : ℕ) → divisor ≢ 0 → remainder dividend divisor ≡ low_word (int_rem (signed dividend) (signed divisor))
+remainder-word dividend divisor nonzero = grind (arith, overflow-remainder dividend divisor)
+
 pub quotient-equation : (dividend divisor word : ℕ) → divisor < 2 ^ 32 → word ≡ quotient dividend divisor → divisor ≢ 0
     → IsQuotient (signed dividend) (signed divisor) word
 quotient-equation dividend divisor word fits is nonzero = (
   int_div (signed dividend) (signed divisor),
   int_rem (signed dividend) (signed divisor),
   division (signed dividend) (signed divisor) (signed-nonzero divisor fits nonzero),
-  grind arith,
+  is ∙ quotient-word dividend divisor nonzero,
 )
 
 pub remainder-equation : (dividend divisor word : ℕ) → divisor < 2 ^ 32 → word ≡ remainder dividend divisor → divisor ≢ 0
@@ -42,7 +56,7 @@ remainder-equation dividend divisor word fits is nonzero = (
   int_div (signed dividend) (signed divisor),
   int_rem (signed dividend) (signed divisor),
   division (signed dividend) (signed divisor) (signed-nonzero divisor fits nonzero),
-  grind arith,
+  is ∙ remainder-word dividend divisor nonzero,
 )
 
 -- ---- no other numbers are
@@ -99,15 +113,13 @@ pub quotient-unique : (dividend divisor word : ℕ) → word ≡ quotient divide
     → IsQuotient (signed dividend) (signed divisor) other → other ≡ word
 quotient-unique dividend divisor word is nonzero other solves =
     let unique = division-unique (signed dividend) (signed divisor) solves.0 solves.1 solves.2 in
-    let whole : quotient dividend divisor ≡ low_word (int_div (signed dividend) (signed divisor)) = grind arith in
-    solves.3 ∙ ap low_word unique.quotient_is ∙ sym whole ∙ sym is
+    solves.3 ∙ ap low_word unique.quotient_is ∙ sym (quotient-word dividend divisor nonzero) ∙ sym is
 
 pub remainder-unique : (dividend divisor word : ℕ) → word ≡ remainder dividend divisor → divisor ≢ 0 → (other : ℕ)
     → IsRemainder (signed dividend) (signed divisor) other → other ≡ word
 remainder-unique dividend divisor word is nonzero other solves =
     let unique = division-unique (signed dividend) (signed divisor) solves.0 solves.1 solves.2 in
-    let whole : remainder dividend divisor ≡ low_word (int_rem (signed dividend) (signed divisor)) = grind arith in
-    solves.3 ∙ ap low_word unique.remainder_is ∙ sym whole ∙ sym is
+    solves.3 ∙ ap low_word unique.remainder_is ∙ sym (remainder-word dividend divisor nonzero) ∙ sym is
 
 -- ---- unsigned words
 

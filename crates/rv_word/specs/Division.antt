@@ -1,5 +1,5 @@
 -- Quotients and remainders: RISC-V Unprivileged ISA 20191213, section 7.2 and its table 7.1.
-use Rattle.std.specs.Prelude.{◌≡◌, ℕ, ◌+◌, ◌-◌, ◌*◌, ◌/◌, ◌%◌, ◌^◌, ◌<◌, ℤ, pos, ◌+ℤ◌, ◌*ℤ◌, ◌≤ℤ◌, unsigned_abs, int_div, int_rem, ◌==◌, if◌then◌else◌}
+use Rattle.std.specs.Prelude.{◌≡◌, ℕ, ◌+◌, ◌-◌, ◌*◌, ◌/◌, ◌%◌, ◌^◌, ◌<◌, Bool, ◌&&◌, ℤ, pos, ◌+ℤ◌, ◌*ℤ◌, ◌≤ℤ◌, unsigned_abs, int_div, int_rem, ◌==◌, if◌then◌else◌}
 use Rattle.rv_word.specs.Word.{signed, low_word}
 
 -- Signed division: dividend = quotient * divisor + remainder, where the remainder is nearer to 0 than the divisor, and
@@ -17,14 +17,24 @@ IsQuotient dividend divisor word = (q : ℤ) × (r : ℤ) × IsDivision dividend
 abbrev pub IsRemainder : ℤ → ℤ → ℕ → Type 0
 IsRemainder dividend divisor word = (q : ℤ) × (r : ℤ) × IsDivision dividend divisor q r × (word ≡ low_word r)
 
--- Those words, and what stands for them where the divisor is 0: all ones, and the dividend.
+-- Signed overflow: -2 ^ 31 by -1, whose quotient fits no word.
+abbrev pub overflows : ℕ → ℕ → Bool
+overflows dividend divisor = dividend == 2 ^ 31 && divisor == 2 ^ 32 - 1
+
+-- The signed columns of table 7.1: by 0 all ones, and the dividend; where the quotient overflows the dividend, and 0; else those words.
 abbrev pub quotient : ℕ → ℕ → ℕ
-quotient dividend divisor = if divisor == 0 then 2 ^ 32 - 1 else low_word (int_div (signed dividend) (signed divisor))
+quotient dividend divisor =
+    if divisor == 0 then 2 ^ 32 - 1
+    else (if overflows dividend divisor then dividend
+    else low_word (int_div (signed dividend) (signed divisor)))
 
 abbrev pub remainder : ℕ → ℕ → ℕ
-remainder dividend divisor = if divisor == 0 then dividend else low_word (int_rem (signed dividend) (signed divisor))
+remainder dividend divisor =
+    if divisor == 0 then dividend
+    else (if overflows dividend divisor then 0
+    else low_word (int_rem (signed dividend) (signed divisor)))
 
--- Unsigned division: dividend = quotient * divisor + remainder, where the remainder is below the divisor.
+-- Unsigned division: dividend = quotient * divisor + remainder, where the remainder is below the divisor; by 0 all ones, and the dividend.
 abbrev pub IsUnsignedQuotient : ℕ → ℕ → ℕ → Type 0
 IsUnsignedQuotient dividend divisor word = (r : ℕ) × (r < divisor) × (word * divisor + r ≡ dividend)
 

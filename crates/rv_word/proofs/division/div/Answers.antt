@@ -1,11 +1,13 @@
-use Rattle.std.proofs.Common.{◌≡◌, rules}
-use Rattle.rv_word.specs.Division.{quotient}
-use Rattle.rv_word.proofs.DivisionLemmas.{quotient-equation, quotient-unique}
+use Rattle.std.proofs.Common.{◌≡◌, ◌∙◌, sym, rules}
+use Rattle.std.specs.Prelude.{int_div}
+use Rattle.rv_word.specs.Word.{signed, low_word}
+use Rattle.rv_word.proofs.DivisionLemmas.{quotient-equation, quotient-unique, quotient-word}
 use Rattle.rv_word.proofs.division.div.Goals as goal
 
 pub returns-else-divisor-eq0 : goal.returns-else-divisor-eq0
 returns-else-divisor-eq0 c =
-    let value : c.cast_unsigned.result ≡ quotient c.args.dividend c.args.divisor = search rules in
+    let word : c.cast_unsigned.result ≡ low_word (int_div (signed c.args.dividend) (signed c.args.divisor)) = search rules in
+    let value = word ∙ sym (quotient-word c.args.dividend c.args.divisor c.if-divisor-eq0.false) in
     record {
       value = value;
       equation = quotient-equation c.args.dividend c.args.divisor c.cast_unsigned.result c.ranges.divisor.fits value;

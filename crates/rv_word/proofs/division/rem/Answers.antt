@@ -1,11 +1,13 @@
-use Rattle.std.proofs.Common.{◌≡◌, rules}
-use Rattle.rv_word.specs.Division.{remainder}
-use Rattle.rv_word.proofs.DivisionLemmas.{remainder-equation, remainder-unique}
+use Rattle.std.proofs.Common.{◌≡◌, ◌∙◌, sym, rules}
+use Rattle.std.specs.Prelude.{int_rem}
+use Rattle.rv_word.specs.Word.{signed, low_word}
+use Rattle.rv_word.proofs.DivisionLemmas.{remainder-equation, remainder-unique, remainder-word}
 use Rattle.rv_word.proofs.division.rem.Goals as goal
 
 pub returns-else-divisor-eq0 : goal.returns-else-divisor-eq0
 returns-else-divisor-eq0 c =
-    let value : c.cast_unsigned.result ≡ remainder c.args.dividend c.args.divisor = search rules in
+    let word : c.cast_unsigned.result ≡ low_word (int_rem (signed c.args.dividend) (signed c.args.divisor)) = search rules in
+    let value = word ∙ sym (remainder-word c.args.dividend c.args.divisor c.if-divisor-eq0.false) in
     record {
       value = value;
       equation = remainder-equation c.args.dividend c.args.divisor c.cast_unsigned.result c.ranges.divisor.fits value;
