@@ -19,7 +19,7 @@ use Rattle.rv_hart.specs.HartState.{Hart}
 use Rattle.rv_hart.specs.Instructions.{request, executed}
 use Rattle.rv_hart.specs.Permitted.{MayTouchAll}
 use Rattle.rv_hart.specs.State.{State, Ended, Stepped, over}
-use Rattle.rv_hart.specs.Step.{step, from_fetch, from_decode, from_access, retired_or_trapped, data_mode, from_execute}
+use Rattle.rv_hart.specs.Step.{step, unless_interrupted, from_fetch, from_decode, from_access, retired_or_trapped, data_mode, from_execute}
 use Rattle.rv_hart.specs.Step.{trap_end, retired_end, fetch_of, load_of, store_of, nothing}
 use Rattle.rv_hart.specs.declared.request.Request.{Request}
 use Rattle.rv_hart.specs.declared.request.Request.TheVariants.{Nothing, Load, Store}
@@ -109,14 +109,18 @@ unfolding from_fetch
 by-interrupt state P ways None is = by-fetch state P ways _ (record { pending = is; fetched = refl })
 by-interrupt state P ways (Some interrupt) is = ways.interrupt interrupt is
 
+-- the step by its parts
+pub step_is : (state : State) → step state ≡ unless_interrupted state.hart state.memory (from_fetch state.hart state.memory)
+unfolding step from_fetch from_decode from_access
+step_is state = refl
+
 pub by_ways : (state : State) (P : Stepped → Type 0) → Ways state P → P (step state)
-unfolding step
-by_ways state P ways = by-interrupt state P ways _ refl
+by_ways state P ways = rw (step_is state) (by-interrupt state P ways _ refl)
 
 -- the step of an instruction that asks for an access
 pub asked_step : (state : State) (word : ℕ) (instr : Instr) (access : Request) → Asks state word instr access
     → step state ≡ from_access state.hart state.memory word instr access
-unfolding step from_fetch from_decode
+unfolding step from_access
 asked_step state word instr access here = rw (here.decode.fetch.pending, here.decode.fetch.fetched, here.decode.decoded, here.request) refl
 
 -- ---- in four cases

@@ -13,7 +13,7 @@ use Rattle.rv_hart.specs.State.{State}
 use Rattle.rv_hart.specs.Step.{step, from_fetch, from_decode, from_access, retired_or_trapped, fetch_of}
 use Rattle.rv_hart.specs.CsrInstructions.{csr_changed, written_csr}
 use Rattle.rv_state.specs.CsrState.{at_reset as csrs_at_reset}
-use Rattle.rv_state.specs.CsrTable.{csr_listing, csr_numbered, write_result, written}
+use Rattle.rv_state.specs.CsrTable.{csr_listing, csr_numbered, write_result, csr_of}
 use Rattle.rv_state.specs.Mstatus.{mstatus_at_reset}
 use Rattle.rv_pmp.specs.declared.mode.Mode.TheVariants.{M}
 use Rattle.rv_hart.specs.Exceptions.{misaligned, illegal}
@@ -43,7 +43,7 @@ step-addi : step (over_bytes (0x93 ∷ 0x00 ∷ 0xf0 ∷ 0xff ∷ []) reset) ≡
   });
   outcome = record { trap = None; touched = fetch_of reset };
 }
-unfolding step from_fetch from_decode from_access request executed retired_or_trapped written_csr decoded by_bits read verdict decider covers
+unfolding step request executed retired_or_trapped written_csr decoded by_bits read verdict decider covers
 step-addi = refl
 
 -- csrrw x0, mepc, x0, which reads nothing
@@ -51,8 +51,8 @@ step-csrrw : step (over_bytes (0x73 ∷ 0x10 ∷ 0x10 ∷ 0x34 ∷ []) reset) �
   state = over_bytes (0x73 ∷ 0x10 ∷ 0x10 ∷ 0x34 ∷ []) (record reset { csrs = record csrs_at_reset { mcycle = 1; minstret = 1 }; pc = 0x80000004 });
   outcome = record { trap = None; touched = fetch_of reset };
 }
-unfolding step from_fetch from_decode from_access request executed retired_or_trapped written_csr csr_changed write_result csr_numbered csr_listing
-    written decoded by_bits read verdict decider covers
+unfolding step request executed retired_or_trapped written_csr csr_changed write_result csr_numbered csr_listing
+    csr_of decoded by_bits read verdict decider covers
 step-csrrw = refl
 
 -- jal x1, 2: rd is not written
@@ -60,7 +60,7 @@ step-jal_misaligned : step (over_bytes (0xef ∷ 0x00 ∷ 0x20 ∷ 0x00 ∷ []) 
   state = over_bytes (0xef ∷ 0x00 ∷ 0x20 ∷ 0x00 ∷ []) (trapped_once 0 0x80000002);
   outcome = record { trap = Some (misaligned 0x80000002); touched = fetch_of reset };
 }
-unfolding step from_fetch from_decode from_access request executed retired_or_trapped decoded by_bits read verdict decider covers
+unfolding step request executed retired_or_trapped decoded by_bits read verdict decider covers
 step-jal_misaligned = refl
 
 -- no row spells the word 0
@@ -68,5 +68,5 @@ step-illegal : step (over_bytes (0 ∷ 0 ∷ 0 ∷ 0 ∷ []) reset) ≡ record {
   state = over_bytes (0 ∷ 0 ∷ 0 ∷ 0 ∷ []) (trapped_once 2 0);
   outcome = record { trap = Some (illegal 0); touched = fetch_of reset };
 }
-unfolding step from_fetch from_decode from_access request executed retired_or_trapped decoded by_bits read verdict decider covers
+unfolding step request executed retired_or_trapped decoded by_bits read verdict decider covers
 step-illegal = refl

@@ -46,9 +46,8 @@ where_allowed allowed word after = if allowed then Ok after else Err (illegal wo
 abbrev pub unless_illegal : ℕ → Result Hart CsrFault → Result Hart Trap
 unless_illegal word change = result_case change Ok (λ _. Err (illegal word))
 
--- ---- the instructions
+-- ---- the returns from traps
 
--- the returns from traps
 abbrev pub returned_from_machine : Hart → Hart
 returned_from_machine hart =
     record hart { csrs = after_mret hart.csrs; pc = hart.csrs.mepc; mode = hart.csrs.mstatus.mpp }
@@ -57,39 +56,50 @@ abbrev pub returned_from_supervisor : Hart → Hart
 returned_from_supervisor hart =
     record hart { csrs = after_sret hart.csrs; pc = hart.csrs.sepc; mode = mode_of_spp hart.csrs.mstatus.spp }
 
+-- ---- the short forms of the listing
+
+-- the value of a register
+abbrev pub x : Hart → ℕ → ℕ
+x hart rs = register hart.regs rs
+
+-- the next instruction comes next, and nothing else changes
+abbrev pub proceeds : Hart → Result Hart Trap
+proceeds hart = Ok (advanced hart)
+
+-- and a register is written
+abbrev pub writes : Hart → ℕ → ℕ → Result Hart Trap
+writes hart rd value = Ok (with_result hart rd value)
+
+-- pc and an offset of so many bits
+abbrev pub relative : Hart → ℕ → ℕ → ℕ
+relative hart offset width = sum_of hart.pc (sign_extended offset width)
+
+-- ---- the listing
+
 -- the one access of an instruction
 unfoldable pub request : Instr → Hart → Request
 request (Load kind rd rs1 offset) hart = requests.Load (address_of hart rs1 offset) (load_width kind)
-request (Store kind rs1 rs2 offset) hart =
-    requests.Store (address_of hart rs1 offset) (store_width kind) (register hart.regs rs2)
+request (Store kind rs1 rs2 offset) hart = requests.Store (address_of hart rs1 offset) (store_width kind) (x hart rs2)
 request _ hart = requests.Nothing
 
 -- the hart after the instruction that the word spells is executed, with the number that its load gave, or its exception
 unfoldable pub executed : Instr → Hart → ℕ → ℕ → Result Hart Trap
-executed (Lui rd imm) hart word loaded = Ok (with_result hart rd imm)
-executed (Auipc rd imm) hart word loaded = Ok (with_result hart rd (sum_of hart.pc imm))
-executed (Jal rd offset) hart word loaded = jumped hart rd (sum_of hart.pc (sign_extended offset 21))
+executed (Lui rd imm) hart word loaded = writes hart rd imm
+executed (Auipc rd imm) hart word loaded = writes hart rd (sum_of hart.pc imm)
+executed (Jal rd offset) hart word loaded = jumped hart rd (relative hart offset 21)
 executed (Jalr rd rs1 offset) hart word loaded = jumped hart rd (made_even (address_of hart rs1 offset))
-executed (Branch kind rs1 rs2 offset) hart word loaded =
-    branched hart (is_taken kind (register hart.regs rs1) (register hart.regs rs2)) (sum_of hart.pc (sign_extended offset 13))
-executed (Load kind rd rs1 offset) hart word loaded = Ok (with_result hart rd (load_value kind loaded))
-executed (Store kind rs1 rs2 offset) hart word loaded = Ok (advanced hart)
-executed (OpImm kind rd rs1 imm) hart word loaded =
-    Ok (with_result hart rd (op_imm_value kind (register hart.regs rs1) (sign_extended imm 12)))
-executed (ShiftImm kind rd rs1 shamt) hart word loaded =
-    Ok (with_result hart rd (shift_value kind (register hart.regs rs1) shamt))
-executed (Op kind rd rs1 rs2) hart word loaded =
-    Ok (with_result hart rd (op_value kind (register hart.regs rs1) (register hart.regs rs2)))
-executed (Fence fm pred succ rd rs1) hart word loaded = Ok (advanced hart)
-executed (Csr kind rd rs1 csr) hart word loaded =
-    unless_illegal word (csr_changed hart kind rd rs1 (register hart.regs rs1) csr)
-executed (CsrImm kind rd uimm csr) hart word loaded =
-    unless_illegal word (csr_changed hart kind rd uimm uimm csr)
+executed (Branch kind rs1 rs2 offset) hart word loaded = branched hart (is_taken kind (x hart rs1) (x hart rs2)) (relative hart offset 13)
+executed (Load kind rd rs1 offset) hart word loaded = writes hart rd (load_value kind loaded)
+executed (Store kind rs1 rs2 offset) hart word loaded = proceeds hart
+executed (OpImm kind rd rs1 imm) hart word loaded = writes hart rd (op_imm_value kind (x hart rs1) (sign_extended imm 12))
+executed (ShiftImm kind rd rs1 shamt) hart word loaded = writes hart rd (shift_value kind (x hart rs1) shamt)
+executed (Op kind rd rs1 rs2) hart word loaded = writes hart rd (op_value kind (x hart rs1) (x hart rs2))
+executed (Fence fm pred succ rd rs1) hart word loaded = proceeds hart
+executed (Csr kind rd rs1 csr) hart word loaded = unless_illegal word (csr_changed hart kind rd rs1 (x hart rs1) csr)
+executed (CsrImm kind rd uimm csr) hart word loaded = unless_illegal word (csr_changed hart kind rd uimm uimm csr)
 executed Ecall hart word loaded = Err (environment_call hart.mode)
 executed Ebreak hart word loaded = Err (breakpoint hart.pc)
-executed Sret hart word loaded =
-    where_allowed (unless_refused hart.mode hart.csrs.mstatus.tsr) word (returned_from_supervisor hart)
+executed Sret hart word loaded = where_allowed (unless_refused hart.mode hart.csrs.mstatus.tsr) word (returned_from_supervisor hart)
 executed Mret hart word loaded = where_allowed (is_machine hart.mode) word (returned_from_machine hart)
 executed Wfi hart word loaded = where_allowed (unless_refused hart.mode hart.csrs.mstatus.tw) word (advanced hart)
-executed (SfenceVma rs1 rs2) hart word loaded =
-    where_allowed (unless_refused hart.mode hart.csrs.mstatus.tvm) word (advanced hart)
+executed (SfenceVma rs1 rs2) hart word loaded = where_allowed (unless_refused hart.mode hart.csrs.mstatus.tvm) word (advanced hart)

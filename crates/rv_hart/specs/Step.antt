@@ -61,43 +61,61 @@ retired_end hart touched written after = record {
 unfoldable pub retired_or_trapped : Hart → Touched → Option ℕ → Result Hart Trap → Ended
 retired_or_trapped hart touched written after = result_case after (retired_end hart touched written) (trap_end hart touched)
 
--- ---- the step, from its last part to its first
+-- ---- the parts of a step, each with what it refuses, and then as what follows says
+
+-- An interrupt that is pending is taken in the place of the instruction.
+abbrev pub unless_interrupted : Hart → List ℕ → Stepped → Stepped
+unless_interrupted hart memory instruction =
+    option_case (pending hart.csrs hart.mode) instruction (λ interrupt. over memory (trap_end hart nothing (interrupted interrupt)))
+
+-- Fetch: the word at pc.
+abbrev pub fetch_then : Hart → List ℕ → (ℕ → Stepped) → Stepped
+fetch_then hart memory follows =
+    result_case (fetched memory hart.csrs.pmp hart.mode hart.pc) follows
+    (λ _. over memory (trap_end hart nothing (access_fault InstructionAccessFault hart.pc)))
+
+-- Decode: the instruction that the word spells, if it is one.
+abbrev pub decode_then : Hart → List ℕ → ℕ → (Instr → Stepped) → Stepped
+decode_then hart memory word follows =
+    option_case (decoded word) (over memory (trap_end hart (fetch_of hart) (illegal word))) follows
 
 -- the mode in which loads and stores are judged: that of MPP where MPRV is set (section 3.1.6.3)
 abbrev pub data_mode : Hart → Mode
 data_mode hart = if hart.csrs.mstatus.mprv then hart.csrs.mstatus.mpp else hart.mode
+
+-- Access: what the instruction asks for is done; the memory after it, what is touched, and the number that was loaded.
+abbrev pub access_then : Hart → List ℕ → Request → (List ℕ → Touched → ℕ → Stepped) → Stepped
+access_then hart memory Nothing follows = follows memory (fetch_of hart) 0
+access_then hart memory (Load address width) follows =
+    result_case (loaded memory hart.csrs.pmp (data_mode hart) address width) (λ number. follows memory (load_of hart address width) number)
+    (λ _. over memory (trap_end hart (fetch_of hart) (access_fault LoadAccessFault address)))
+access_then hart memory (Store address width value) follows =
+    result_case (stored memory hart.csrs.pmp (data_mode hart) address width value) (λ after. follows after (store_of hart address width) 0)
+    (λ _. over memory (trap_end hart (fetch_of hart) (access_fault StoreAccessFault address)))
 
 -- Execute: the instruction, whose access is done, retires, or ends in its exception.
 abbrev pub from_execute : Hart → Touched → ℕ → Instr → ℕ → Ended
 from_execute hart touched word instr loaded =
     retired_or_trapped hart touched (written_csr instr) (executed instr hart word loaded)
 
--- Access: what the instruction asks for is done, or refused as an exception.
-unfoldable pub from_access : Hart → List ℕ → ℕ → Instr → Request → Stepped
-from_access hart memory word instr Nothing = over memory (from_execute hart (fetch_of hart) word instr 0)
-from_access hart memory word instr (Load address width) =
-    result_case (loaded memory hart.csrs.pmp (data_mode hart) address width)
-    (λ number. over memory (from_execute hart (load_of hart address width) word instr number))
-    (λ _. over memory (trap_end hart (fetch_of hart) (access_fault LoadAccessFault address)))
-from_access hart memory word instr (Store address width value) =
-    result_case (stored memory hart.csrs.pmp (data_mode hart) address width value)
-    (λ after. over after (from_execute hart (store_of hart address width) word instr 0))
-    (λ _. over memory (trap_end hart (fetch_of hart) (access_fault StoreAccessFault address)))
+-- ---- the step
 
--- Decode: the fetched word is an instruction, or illegal.
-unfoldable pub from_decode : Hart → List ℕ → ℕ → Stepped
-from_decode hart memory word =
-    option_case (decoded word) (over memory (trap_end hart (fetch_of hart) (illegal word)))
-    (λ instr. from_access hart memory word instr (request instr hart))
-
--- Fetch: the word at pc is fetched, or the fetch refused as an exception.
-unfoldable pub from_fetch : Hart → List ℕ → Stepped
-from_fetch hart memory =
-    result_case (fetched memory hart.csrs.pmp hart.mode hart.pc) (from_decode hart memory)
-    (λ _. over memory (trap_end hart nothing (access_fault InstructionAccessFault hart.pc)))
-
--- One step: an interrupt is taken, or the instruction at pc is fetched, decoded and executed.
 unfoldable pub step : State → Stepped
 step state =
-    option_case (pending state.hart.csrs state.hart.mode) (from_fetch state.hart state.memory)
-    (λ interrupt. over state.memory (trap_end state.hart nothing (interrupted interrupt)))
+    let hart = state.hart in
+    unless_interrupted hart state.memory (
+    fetch_then hart state.memory (λ word.
+    decode_then hart state.memory word (λ instr.
+    access_then hart state.memory (request instr hart) (λ memory touched loaded.
+    over memory (from_execute hart touched word instr loaded)))))
+
+-- the same from its access, its decoding and its fetch on
+unfoldable pub from_access : Hart → List ℕ → ℕ → Instr → Request → Stepped
+from_access hart memory word instr asked =
+    access_then hart memory asked (λ after touched loaded. over after (from_execute hart touched word instr loaded))
+
+unfoldable pub from_decode : Hart → List ℕ → ℕ → Stepped
+from_decode hart memory word = decode_then hart memory word (λ instr. from_access hart memory word instr (request instr hart))
+
+unfoldable pub from_fetch : Hart → List ℕ → Stepped
+from_fetch hart memory = fetch_then hart memory (from_decode hart memory)

@@ -173,7 +173,7 @@ impl Hart {
 
     /// Takes an interrupt, or does the instruction at pc, or its trap.
     #[inline(always)]
-    #[tactic(auto, unfolding(crate::specs::Step::step, crate::specs::Step::from_fetch))]
+    #[tactic(auto, unfolding(crate::specs::Step::from_fetch), using(crate::proofs::StepCases::step_is))]
     fn step_once<Site>(&mut self, ram: &mut Ram) -> StepOutcome
         ensures { step (state_of self.old ram.old) ≡ stepped self.new ram.new result }
     {

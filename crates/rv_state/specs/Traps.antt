@@ -11,16 +11,17 @@ use Rattle.rv_state.specs.Interrupts.{is_machine}
 use Rattle.rv_state.specs.declared.cause.Cause.{Cause}
 use Rattle.rv_state.specs.declared.cause.Cause.TheVariants as causes
 
--- the registers after a trap from this mode at pc; every trap is taken in mode M
+-- Every trap is taken in mode M. When one is taken from a mode at pc, MPIE is set to the value of MIE, MIE to 0 and MPP to the mode (section
+-- 3.1.6.1); mepc is written with pc, mcause with the cause, and mtval with its value (3.1.14 to 3.1.16);
 abbrev pub after_trap : CsrState → Mode → ℕ → Cause → ℕ → CsrState
 after_trap c mode pc cause tval = record c {
+  mstatus = record c.mstatus { mpie = c.mstatus.mie; mie = false; mpp = mode };
   mepc = aligned_to_4 pc;
   mcause = cause_code cause;
   mtval = tval;
-  mstatus = record c.mstatus { mpie = c.mstatus.mie; mie = false; mpp = mode };
 }
 
--- where a trap goes on: at mtvec's base, and for an interrupt in mtvec's mode Vectored (1) four times its number further
+-- and pc is set to mtvec's base, for an interrupt in mtvec's mode Vectored (1) to four times its number further (3.1.7).
 abbrev pub trap_target : ℕ → Cause → ℕ
 trap_target mtvec (causes.Exception exception) = aligned_to_4 mtvec
 trap_target mtvec (causes.Interrupt interrupt) =

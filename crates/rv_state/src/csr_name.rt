@@ -1,6 +1,6 @@
 //! Which register a number is.
 
-ghost use Rattle.std.specs.Prelude.{◌≡◌};
+ghost use Rattle.std.specs.Prelude.{◌≡◌, ◌≤◌, ◌<◌};
 ghost use Rattle.rv_state.specs.CsrTable.{csr_numbered, is_read_only, least_mode};
 
 use rv_pmp::{PmpIndex, PmpRegister};
@@ -59,6 +59,22 @@ impl CsrName {
         ensures { result ≡ csr_numbered number }
     {
         match number {
+            0x100..=0x1FF => CsrName::of_supervisor(number),
+            0x300..=0x3FF => CsrName::of_machine(number),
+            0xB00..=0xBFF => CsrName::of_counter(number),
+            0xF11..=0xF15 => Some(CsrName::Zero),
+            _ => None,
+        }
+    }
+
+    /// Those of table 2.3.
+    #[tactic(auto, unfolding(crate::specs::CsrTable::csr_numbered, crate::specs::CsrTable::csr_listing))]
+    const fn of_supervisor(number: u16) -> Option<Self>
+        requires from { 0x100 ≤ number }
+        requires to { number < 0x200 }
+        ensures { result ≡ csr_numbered number }
+    {
+        match number {
             0x100 => Some(CsrName::Sstatus),
             0x105 => Some(CsrName::Stvec),
             0x140 => Some(CsrName::Sscratch),
@@ -66,6 +82,19 @@ impl CsrName {
             0x142 => Some(CsrName::Scause),
             0x143 => Some(CsrName::Stval),
             0x180 => Some(CsrName::Satp),
+            0x104 | 0x106 | 0x10A | 0x144 => Some(CsrName::Zero),
+            _ => None,
+        }
+    }
+
+    /// Those of tables 2.5 and 2.6 that are set up in mode M.
+    #[tactic(auto, unfolding(crate::specs::CsrTable::csr_numbered, crate::specs::CsrTable::csr_listing))]
+    const fn of_machine(number: u16) -> Option<Self>
+        requires from { 0x300 ≤ number }
+        requires to { number < 0x400 }
+        ensures { result ≡ csr_numbered number }
+    {
+        match number {
             0x300 => Some(CsrName::Mstatus),
             0x301 => Some(CsrName::Misa),
             0x304 => Some(CsrName::Mie),
@@ -77,16 +106,27 @@ impl CsrName {
             0x344 => Some(CsrName::Mip),
             0x3A0..=0x3A3 => Some(CsrName::Pmpcfg(PmpRegister::new((number - 0x3A0) as u8))),
             0x3B0..=0x3BF => Some(CsrName::Pmpaddr(PmpIndex::new((number - 0x3B0) as u8))),
+            0x320 => Some(CsrName::Mcountinhibit),
+            0x302 | 0x303 => Some(CsrName::Zero),
+            0x306 | 0x30A | 0x310 | 0x31A => Some(CsrName::Zero),
+            0x323..=0x33F => Some(CsrName::Zero),
+            _ => None,
+        }
+    }
+
+    /// The counters of table 2.6.
+    #[tactic(auto, unfolding(crate::specs::CsrTable::csr_numbered, crate::specs::CsrTable::csr_listing))]
+    const fn of_counter(number: u16) -> Option<Self>
+        requires from { 0xB00 ≤ number }
+        requires to { number < 0xC00 }
+        ensures { result ≡ csr_numbered number }
+    {
+        match number {
             0xB00 => Some(CsrName::Mcycle),
             0xB02 => Some(CsrName::Minstret),
             0xB80 => Some(CsrName::Mcycleh),
             0xB82 => Some(CsrName::Minstreth),
-            0x320 => Some(CsrName::Mcountinhibit),
-            0x104 | 0x106 | 0x10A | 0x144 | 0x306 | 0x30A | 0x310 | 0x31A => Some(CsrName::Zero),
-            0x302 | 0x303 => Some(CsrName::Zero),
-            0x323..=0x33F => Some(CsrName::Zero),
             0xB03..=0xB1F | 0xB83..=0xB9F => Some(CsrName::Zero),
-            0xF11..=0xF15 => Some(CsrName::Zero),
             _ => None,
         }
     }
