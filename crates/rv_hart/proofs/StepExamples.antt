@@ -10,7 +10,7 @@ use Rattle.rv_hart.specs.Hart.{at_reset}
 use Rattle.rv_hart.specs.HartState.{Hart}
 use Rattle.rv_hart.specs.Instructions.{request, executed}
 use Rattle.rv_hart.specs.State.{State}
-use Rattle.rv_hart.specs.Step.{step, from_fetch, from_decode, from_access, retired_or_trapped, fetch_of}
+use Rattle.rv_hart.specs.Step.{step, retired_or_trapped, fetch_of}
 use Rattle.rv_hart.specs.CsrInstructions.{csr_changed, written_csr}
 use Rattle.rv_state.specs.CsrState.{at_reset as csrs_at_reset}
 use Rattle.rv_state.specs.CsrTable.{csr_listing, csr_numbered, write_result, csr_of}
