@@ -6,7 +6,7 @@ use Rattle.std.proofs.lemmas.Bool.Decides.{nat_tests}
 use Rattle.std.proofs.lemmas.Fmt.{decimal_digit, decimal_step}
 use Rattle.rv_state.specs.Bits.{kept_bits}
 use Rattle.rv_state.specs.CsrState.{CsrState, at_reset}
-use Rattle.rv_state.specs.CsrTable.{csr_numbered, csr_listing, reading}
+use Rattle.rv_state.specs.CsrTable.{csr_numbered, csr_listing, csr_of}
 use Rattle.rv_debug.specs.Answer.{csr_reply, dis_reply}
 use Rattle.rv_pmp.specs.Covers.{covers}
 use Rattle.rv_pmp.specs.Verdicts.{decider, verdict}
@@ -115,10 +115,10 @@ pub csr_reply-examples :
     csr_reply (alone at_reset) 0x301 ++ csr_reply (alone at_reset) 0xb00 ++ csr_reply (alone at_reset) 0x41 ++ csr_reply (alone at_reset) 0xf14
     ++ csr_reply (alone (record at_reset { timer = true })) 0x344 ≡
     codes "csr 301=40141100\ncsr b00=00000000\nerror csr\ncsr f14=00000000\ncsr 344=00000080\n"
-unfolding csr_text no_csr_text hex_digits read_result csr_numbered csr_listing reading kept_bits
+unfolding csr_text no_csr_text hex_digits read_result csr_numbered csr_listing csr_of kept_bits
 csr_reply-examples = refl
 
--- four bytes from 80000100 on, for reading and executing
+-- four bytes from 80000100 on, for csr_of and executing
 abbrev four_bytes : Entries
 four_bytes = record { cfgs = 0x15 ∷ replicate 15 0; addrs = 0x20000040 ∷ replicate 15 0 }
 
