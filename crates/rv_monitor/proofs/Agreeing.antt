@@ -1,12 +1,9 @@
 -- Two machines that agree but for an enclave, once one part of each is changed.
 use Rattle.std.proofs.Common.{◌≡◌, ◌<◌, ℕ, refl, sym, ◌∙◌, ap, subst, inl, inr, arith}
-use Rattle.std.proofs.lemmas.Bool.{cases_eq, cases_lt}
-use Rattle.std.proofs.lemmas.Grind.{get_or-set_at}
-use Rattle.std.proofs.lemmas.List.{get_or-set_other, length-set}
-use Rattle.rv_enclaves.proofs.Prelude.{SharedButFor, is_world_of}
-use Rattle.rv_monitor.proofs.Prelude.{AgreeBut, Machine, SeatsAgreeBut, changed, count_of, seat_at_start, seat_of}
-use Rattle.rv_monitor.proofs.Types.{Seat, Shared}
+use Rattle.rv_monitor.specs.Prelude.{Seat, Shared, SharedButFor, is_world_of}
+use Rattle.rv_monitor.proofs.Prelude.{AgreeBut, Machine, SeatsAgreeBut, cases_lt, changed, count_of, length-set, seat_of}
 use Rattle.rv_monitor.proofs.Kept.{past_as_is}
+use Rattle.rv_monitor.proofs.Places.{by_places}
 
 pub seats_agree : (e : ℕ) (a b c d : Seat) → a ≡ b → c ≡ d → SeatsAgreeBut e b d → SeatsAgreeBut e a c
 seats_agree e a b c d left right agree =
@@ -33,17 +30,10 @@ changed_in e hart change one other keeps has agree =
     let own = agree.seats hart in
     record {
       harts = length-set one.seats hart a ∙ agree.harts ∙ sym (length-set other.seats hart b);
-      seats = λ j. elim (cases_eq j hart) [
-        | inl at ↦
-            seats_agree e _ _ _ _ (get_or-set_at one.seats hart j a (seat_at_start 0) at has)
-            (get_or-set_at other.seats hart j b (seat_at_start 0) at (omega (arith, size, has))) (record {
-              world = keeps (seat_of hart one) ∙ own.world ∙ sym (keeps (seat_of hart other));
-              same = λ rests. ap change (own.same (sym (ap (is_world_of e) (keeps (seat_of hart one))) ∙ rests));
-            })
-        | inr apart ↦
-            seats_agree e _ _ _ _ (get_or-set_other one.seats hart j a (seat_at_start 0) apart)
-            (get_or-set_other other.seats hart j b (seat_at_start 0) apart) (agree.seats j)
-      ];
+      seats = by_places one.seats other.seats hart a b (λ j s t. SeatsAgreeBut e s t) size has (record {
+        world = keeps (seat_of hart one) ∙ own.world ∙ sym (keeps (seat_of hart other));
+        same = λ rests. ap change (own.same (sym (ap (is_world_of e) (keeps (seat_of hart one))) ∙ rests));
+      }) (λ j apart. agree.seats j);
       shared = agree.shared;
     }
 

@@ -1,18 +1,18 @@
 -- What the monitor's work after a trap asks of memory and of the kept contexts.
 use Rattle.std.proofs.Common.{◌≡◌, ℕ, ◌+◌, ◌==◌, Bool, true, false, List, length, replicate, Option, Some, None, refl, sym, ◌∙◌, ap, ap₂, subst, inl, inr, arith}
 use Rattle.std.specs.Prelude.{map, not, slice_index, slice_index_or, slice_set}
-use Rattle.std.proofs.lemmas.Bool.{cases_eq, eq-eqb, both_ways, ne_eqb}
-use Rattle.rv_enclaves.specs.Create.{bytes_of_block}
 use Rattle.rv_enclaves.proofs.Agreement.{or_same, write-alike}
-use Rattle.rv_enclaves.proofs.Prelude.{AgreeOutside, Contexts, Slots, context_at, created, destroyed, first_context, kept_context, measured, measurement_at}
-use Rattle.rv_enclaves.proofs.Prelude.{measurement_of, new_slot, recorded, region, with_context, with_slot, with_state}
-use Rattle.rv_monitor.specs.Asked.{asked_by, SameAsked, SameWhereSame, SameWork, AskedLaw, AskedStepLaw}
+use Rattle.rv_enclaves.proofs.SavedLists.{same_after_set}
+use Rattle.rv_enclaves.specs.declared.proposal.Proposal.{Proposal}
+use Rattle.rv_monitor.specs.Prelude.{AgreeOutside, Call, Cause, Context, Contexts, Create, Outcome, Running, Seat, Shared, Slots}
+use Rattle.rv_monitor.specs.Prelude.{StepOutcome, Trap, bytes_of_block, context_at, created, destroyed, exited_context, first_context}
+use Rattle.rv_monitor.specs.Prelude.{kept_context, measured, measured_slot, measurement_at, measurement_of, new_slot, option_case}
+use Rattle.rv_monitor.specs.Prelude.{proposed, ram_base, recorded, region, status_of, step, with_context, with_slot, with_state, write}
 use Rattle.rv_monitor.specs.declared.next.Next.{Next}
-use Rattle.rv_monitor.proofs.Prelude.{Handled, Machine, MonitoredState, MonitoredStepped, a0, a1, answered, bare, entered_slot, exited_context}
-use Rattle.rv_monitor.proofs.Prelude.{handled, is_entering, left_slot, measured_slot, monitored_step, option_case, proposed, ram_base, returned}
-use Rattle.rv_monitor.proofs.Prelude.{returned_to, same_after_set, seat_at_start, seated, seen_by, state_after, status_of, step, step_of, with_layout}
-use Rattle.rv_monitor.proofs.Prelude.{write}
-use Rattle.rv_monitor.proofs.Types.{Call, Cause, Context, Create, Outcome, Proposal, Running, Seat, Shared, StepOutcome, Trap}
+use Rattle.rv_monitor.proofs.Prelude.{AskedLaw, AskedStepLaw, Handled, Machine, MonitoredState, MonitoredStepped, SameAsked, SameWhereSame}
+use Rattle.rv_monitor.proofs.Prelude.{SameWork, a0, a1, answered, asked_by, bare, both_ways, cases_eq, entered_slot, eq-eqb, handled}
+use Rattle.rv_monitor.proofs.Prelude.{is_entering, left_slot, monitored_step, ne_eqb, returned, returned_to, seat_at_start, seated}
+use Rattle.rv_monitor.proofs.Prelude.{seen_by, state_after, step_of, with_layout}
 use Rattle.rv_monitor.proofs.Places.{is_trapping}
 use Rattle.rv_monitor.proofs.TrapSteps.{seat_after, trapped_step}
 use Rattle.rv_monitor.proofs.Works.{AsksFor, by_work_of_both, entering, kept_by, over}

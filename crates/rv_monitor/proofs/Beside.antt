@@ -1,12 +1,10 @@
 -- An enclave that runs on a hart: it is live, and a step of another hart goes on beside it.
 use Rattle.std.proofs.Common.{◌≡◌, ◌≢◌, ◌<◌, ℕ, Bool, true, false, Option, Some, None, refl, sym, ◌∙◌, ap, inl, inr}
 use Rattle.std.specs.Prelude.{◌||◌, is_some}
-use Rattle.std.specs.List.{list_any}
 use Rattle.std.proofs.lemmas.List.Folds.{list_any_at}
-use Rattle.std.proofs.lemmas.Bool.{both_ways, cases_lt}
-use Rattle.rv_enclaves.proofs.Prelude.{is_live, is_running, is_world_of, slot_at}
-use Rattle.rv_monitor.proofs.Prelude.{IsKept, Machine, count_of, option_case, runs_on, seat_of, seated, step_of, worlds}
-use Rattle.rv_monitor.proofs.Types.{Host, Seat, SlotInfo}
+use Rattle.rv_monitor.specs.Prelude.{Host, Seat, is_live, is_running, is_world_of, option_case, slot_at}
+use Rattle.rv_monitor.proofs.Prelude.{IsKept, Machine, SlotInfo, both_ways, cases_lt, count_of, list_any, runs_on, seat_of, seated}
+use Rattle.rv_monitor.proofs.Prelude.{step_of, worlds}
 use Rattle.rv_monitor.proofs.Others.{any_front}
 use Rattle.rv_monitor.proofs.Kept.{beside, has_world, world_at, worlds_are}
 use Rattle.rv_monitor.proofs.Places.{past_seat, step_laid}

@@ -1,14 +1,12 @@
 -- A bare step of a kept state neither depends on a region that is not the world's nor changes it.
 use Rattle.std.proofs.Common.{◌≡◌, ℕ, Bool, false, List, Option, Some, None}
-use Rattle.rv_hart.specs.Permitted.{MayTouchAll}
 use Rattle.rv_enclaves.proofs.Agreement.{IsSeen, same_read, same_write}
-use Rattle.rv_enclaves.proofs.Reaches.{permitted_apart, small_ram, inside_is, some_bytes}
-use Rattle.rv_enclaves.proofs.Prelude.{AgreeOutside, is_private, is_world_of}
-use Rattle.rv_monitor.specs.Confidentiality.{BareLaw, StepAlike}
-use Rattle.rv_monitor.proofs.Prelude.{AgreeOn, IsOwn, MayTouch, MonitoredState, SameIn, State, Stores, bare, bytes_in, confined, data_mode}
-use Rattle.rv_monitor.proofs.Prelude.{is_machine, step, touches_permitted}
-use Rattle.rv_monitor.proofs.Types.{Access, Fetch, Mode, Read, Span, Touched}
-use Rattle.rv_monitor.proofs.KeptReaches.{below_M, clear_mode}
+use Rattle.rv_memory.specs.declared.touched.Touched.{Touched}
+use Rattle.rv_monitor.specs.Prelude.{Access, AgreeOutside, Fetch, Mode, Read, Span, State, bytes_in, data_mode, is_machine, is_private}
+use Rattle.rv_monitor.specs.Prelude.{is_world_of, step}
+use Rattle.rv_monitor.proofs.Prelude.{AgreeOn, BareLaw, IsOwn, MayTouch, MayTouchAll, MonitoredState, SameIn, StepAlike, Stores, bare}
+use Rattle.rv_monitor.proofs.Prelude.{confined, inside_is, permitted_apart, small_ram, some_bytes, touches_permitted}
+use Rattle.rv_monitor.proofs.KeptReaches.{below_M, data_below}
 
 module _ (e : ℕ) (state : MonitoredState) (kept : IsOwn state) (other : is_world_of e state.seat.world ≡ false) where
   abbrev before : State
@@ -32,14 +30,11 @@ module _ (e : ℕ) (state : MonitoredState) (kept : IsOwn state) (other : is_wor
   same_in mode access (Some span) n below may agree =
       same_read hidden before.memory n span.addr (bytes_in span.len) agree may.0 (seen mode access span below may)
 
-  data_below : is_machine (data_mode before.hart) ≡ false
-  data_below = rw (clear_mode before.hart kept.layout.mprv) kept.layout.mode
-
   agree_on : (touched : Touched) (n : List ℕ) → MayTouchAll before touched → AgreeOutside hidden before.memory n → AgreeOn before.memory n touched
   agree_on touched n may agree = record {
     size = agree.size;
     fetched = same_in before.hart.mode Fetch touched.fetched n kept.layout.mode may.fetched agree;
-    loaded = same_in (data_mode before.hart) Read touched.loaded n data_below may.loaded agree;
+    loaded = same_in (data_mode before.hart) Read touched.loaded n (data_below state kept) may.loaded agree;
   }
 
   same_stores : (stored : Option Span) (n bytes one two : List ℕ) → AgreeOutside hidden before.memory n → Stores bytes before.memory one stored

@@ -2,24 +2,19 @@
 use Rattle.std.proofs.Common.{◌≡◌, ◌≢◌, ℕ, ◌+◌, ◌<◌, ◌≤◌, ◌⊎◌, true, false, List, [], length, replicate, Option, Some, None, IfSome, refl, sym}
 use Rattle.std.proofs.Common.{◌∙◌, ap, subst, inl, inr, arith}
 use Rattle.std.specs.Prelude.{is_some}
-use Rattle.std.proofs.lemmas.Bool.{both_ways, cases_lt, cases_Bool, and_from, and_parts, le-leb, lt-ltb}
-use Rattle.std.proofs.lemmas.List.{length-replicate}
-use Rattle.rv_word.specs.declared.width.Width.TheVariants.{Byte}
 use Rattle.rv_pmp.proofs.VerdictLemmas.{each_from_all}
 use Rattle.rv_memory.proofs.MemoryLaws.{byte_at-write}
-use Rattle.rv_hart.specs.Permitted.{TouchesPermitted}
-use Rattle.rv_enclaves.specs.Measure.{measure_refusals, may_store, may_store_all}
-use Rattle.rv_enclaves.proofs.Prelude.{IsLawfulSlot, IsValid, created, destroyed, first_refusal, has, is_live, layout, measured, region, slot_at, with_bytes}
-use Rattle.rv_enclaves.proofs.Prelude.{with_slot, zeroed}
-use Rattle.rv_monitor.specs.Asked.{is_call}
-use Rattle.rv_monitor.specs.Changes.{IsStoredInReach, IsMeasured, ByMonitor, ChangeLaw}
-use Rattle.rv_memory.specs.Memory.{is_inside}
-use Rattle.rv_monitor.proofs.Prelude.{AgreeOn, Entries, IsChanged, IsConfined, IsOwn, IsTaken, MayTouch, MonitoredState, Stepped, Stores, a0, a1}
-use Rattle.rv_monitor.proofs.Prelude.{asked_in, at_same, bare, byte_at, bytes_from, bytes_in, confined, data_mode, entered_slot, handled, left_slot}
-use Rattle.rv_monitor.proofs.Prelude.{live_in_range, measured_slot, option_case, permits, reach_law, step, touches_permitted, verdict, write}
-use Rattle.rv_monitor.proofs.Types.{Block, Call, Destroy, M, Measure, S, Seat, Shared, SlotInfo, Span, Trap, World, Write}
-use Rattle.rv_monitor.proofs.KeptReaches.{kept_reach, below_M, clear_mode}
-use Rattle.rv_monitor.proofs.StepKept.{same_in}
+use Rattle.rv_enclaves.specs.declared.block.Block.{Block}
+use Rattle.rv_monitor.specs.Prelude.{Byte, Call, Destroy, IsLawfulSlot, IsValid, Measure, S, Seat, Shared, Span, Stepped, Trap, World}
+use Rattle.rv_monitor.specs.Prelude.{Write, asked_in, byte_at, bytes_from, bytes_in, created, data_mode, destroyed, first_refusal, has}
+use Rattle.rv_monitor.specs.Prelude.{is_inside, is_live, layout, may_store, may_store_all, measure_refusals, measured, measured_slot}
+use Rattle.rv_monitor.specs.Prelude.{option_case, permits, region, slot_at, step, verdict, with_bytes, with_slot, write, zeroed}
+use Rattle.rv_monitor.proofs.Prelude.{ByMonitor, ChangeLaw, Entries, IsChanged, IsConfined, IsMeasured, IsOwn, IsStoredInReach, IsTaken}
+use Rattle.rv_monitor.proofs.Prelude.{MayTouch, MonitoredState, SlotInfo, Stores, TouchesPermitted, a0, a1, and_from, and_parts, at_same}
+use Rattle.rv_monitor.proofs.Prelude.{bare, both_ways, cases_Bool, cases_lt, confined, entered_slot, handled, is_call, le-leb, left_slot}
+use Rattle.rv_monitor.proofs.Prelude.{length-replicate, live_in_range, lt-ltb, reach_law, touches_permitted}
+use Rattle.rv_monitor.proofs.KeptReaches.{below_M, data_below, kept_reach}
+use Rattle.rv_monitor.proofs.StepKept.{agrees_itself}
 use Rattle.rv_monitor.proofs.TrapSteps.{by_step, seat_after}
 use Rattle.rv_monitor.proofs.Works.{AsksFor, by_work}
 
@@ -146,14 +141,12 @@ module _ (state : MonitoredState) (kept : IsOwn state) (byte : ℕ) where
   abbrev Stored : Option Span → List ℕ → Type 0
   Stored stored memory = byte_at memory byte ≡ byte_at state.shared.memory byte ⊎ IsStoredInReach state.seat.world state.shared stored byte
 
-  data_below : data_mode state.seat.hart ≢ M
-  data_below = below_M (data_mode state.seat.hart) (rw (clear_mode state.seat.hart kept.layout.mprv) kept.layout.mode)
-
   stored_by : (stored : Option Span) (bytes after : List ℕ) → MayTouch (bare state) (data_mode state.seat.hart) Write stored
       → Stores bytes state.shared.memory after stored → Stored stored after
   stored_by None bytes after may is = inl (ap (λ (memory : List ℕ). byte_at memory byte) is)
   stored_by (Some span) bytes after may stores =
       let count = stores.0 in
+      let below = below_M (data_mode state.seat.hart) (data_below state kept) in
       elim (cases_lt byte span.addr) [
         | inl below ↦ inl (byte_at-write state.shared.memory span.addr bytes after byte stores.1 (inl below))
         | inr low ↦ elim (cases_lt byte (span.addr + bytes_in span.len)) [
@@ -163,7 +156,7 @@ module _ (state : MonitoredState) (kept : IsOwn state) (byte : ℕ) where
                 is = refl;
                 low = low;
                 high = high;
-                reach = sym (kept_reach state (data_mode state.seat.hart) Write span.addr span.len kept data_below may.0) ∙ may.1;
+                reach = sym (kept_reach state (data_mode state.seat.hart) Write span.addr span.len kept below may.0) ∙ may.1;
               })
           | inr past ↦ inl (byte_at-write state.shared.memory span.addr bytes after byte stores.1 (inr (rw count past)))
         ]
@@ -172,12 +165,7 @@ module _ (state : MonitoredState) (kept : IsOwn state) (byte : ℕ) where
   bare_changes : (after : Stepped) → IsConfined (bare state) after → TouchesPermitted (bare state) after
       → Stored after.outcome.touched.stored after.state.memory
   bare_changes after is may =
-      let agree : AgreeOn state.shared.memory state.shared.memory after.outcome.touched =
-      record {
-        size = refl;
-        fetched = same_in state.shared.memory after.outcome.touched.fetched;
-        loaded = same_in state.shared.memory after.outcome.touched.loaded;
-      } in
+      let agree = agrees_itself state.shared.memory after.outcome.touched in
       stored_by after.outcome.touched.stored is.bytes after.state.memory may.stored (is.alike state.shared.memory agree).here
 
 pub changes : ChangeLaw

@@ -1,8 +1,7 @@
 -- What a call that switches no world tells its caller.
 use Rattle.std.proofs.Common.{◌≡◌, ℕ, Option, Some, None, Result, Ok, Err, MatchResult, refl}
-use Rattle.rv_word.specs.Cases.{result_case}
-use Rattle.rv_monitor.proofs.Prelude.{answered, option_case, refused}
-use Rattle.rv_monitor.proofs.Types.{Refusal, Seat, Shared}
+use Rattle.rv_monitor.specs.Prelude.{Refusal, Seat, Shared, option_case, result_case}
+use Rattle.rv_monitor.proofs.Prelude.{answered, refused}
 
 -- the first row that holds, or what is done where none does, by the result and by what is shared after it
 pub concluded : (seat : Seat) (rows : Option Refusal) (r : Result ℕ Refusal) (before after done : Shared) (value : ℕ)

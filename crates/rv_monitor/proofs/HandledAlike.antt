@@ -2,16 +2,16 @@
 -- enclave they agree too, but for the hart on which it runs then.
 use Rattle.std.proofs.Common.{◌≡◌, ℕ, ◌+◌, ◌==◌, false, List, length, Option, Some, None, refl, sym, ◌∙◌, ap, subst, inl, inr, arith}
 use Rattle.std.specs.Prelude.{is_some}
-use Rattle.std.proofs.lemmas.Bool.{cases_eq, both_ways, eq-eqb}
 use Rattle.rv_enclaves.specs.declared.slot_info.EnclaveState.TheVariants as states
 use Rattle.rv_enclaves.proofs.SavedLists.{length_after}
 use Rattle.rv_enclaves.proofs.WorksAlike.{WorksAlike, works_alike}
-use Rattle.rv_enclaves.proofs.Prelude.{Contexts, SharedButFor, Slots, has, is_world_of, new_slot, region, region_of}
-use Rattle.rv_enclaves.proofs.Prelude.{slot_at, with_context, with_slot, with_state}
-use Rattle.rv_monitor.specs.Confidentiality.{HandledAlike, HandlerLaw, going_on_from}
-use Rattle.rv_monitor.proofs.Prelude.{IsTaken, a0, a1, answered, at_same, entered_slot, handled, left_slot, live_in_range, measured_slot, option_case}
-use Rattle.rv_monitor.proofs.Prelude.{proposed, ram_base, same_after_set, state_after, status_of, with_layout}
-use Rattle.rv_monitor.proofs.Types.{Block, Call, Context, Enclave, Running, Seat, Shared, SlotInfo, Trap}
+use Rattle.rv_enclaves.proofs.SavedLists.{same_after_set}
+use Rattle.rv_enclaves.specs.declared.block.Block.{Block}
+use Rattle.rv_monitor.specs.Prelude.{Call, Context, Contexts, Enclave, Running, Seat, Shared, SharedButFor, Slots, Trap, has, is_world_of}
+use Rattle.rv_monitor.specs.Prelude.{measured_slot, new_slot, option_case, proposed, ram_base, region, region_of, slot_at, status_of}
+use Rattle.rv_monitor.specs.Prelude.{with_context, with_slot, with_state}
+use Rattle.rv_monitor.proofs.Prelude.{HandledAlike, HandlerLaw, IsTaken, SlotInfo, a0, a1, answered, at_same, both_ways, cases_eq}
+use Rattle.rv_monitor.proofs.Prelude.{entered_slot, eq-eqb, going_on_from, handled, left_slot, live_in_range, state_after, with_layout}
 use Rattle.rv_monitor.proofs.Works.{by_work_of_both, entering, kept_by, leaving, over}
 
 -- ---- the slot's own switch

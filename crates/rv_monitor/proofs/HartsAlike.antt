@@ -1,15 +1,13 @@
 -- The harts, whose steps take turns in any order, by the laws of one step.
 use Rattle.std.proofs.Common.{◌≡◌, ℕ, ◌⊎◌, ◌==◌, true, false, List, [], ◌∷◌, Option, Some, None, refl, sym, ◌∙◌, ap, ap₂, subst, inl, inr}
-use Rattle.std.proofs.lemmas.Bool.{cases_Bool, cases_eq, cases_lt, eq-eqb, eqb-true}
-use Rattle.rv_enclaves.proofs.Prelude.{is_world_of}
-use Rattle.rv_monitor.specs.HartLaws.{EntryLaw, NotOwnLaw, SchedLaw}
-use Rattle.rv_monitor.proofs.Prelude.{Handled, Machine, MachineStepped, MonitoredState, MonitoredStepped, RunsOnNone, count_of, enters, handled}
-use Rattle.rv_monitor.proofs.Prelude.{monitored_step, reason, runs_on, seen_by, step_of, value}
-use Rattle.rv_monitor.proofs.Types.{Outcome, Seat}
+use Rattle.rv_monitor.specs.Prelude.{Outcome, Seat, Trap, is_world_of}
+use Rattle.rv_monitor.proofs.Prelude.{EntryLaw, Handled, Machine, MachineStepped, MonitoredState, MonitoredStepped, NotOwnLaw, RunsOnNone}
+use Rattle.rv_monitor.proofs.Prelude.{SchedLaw, cases_Bool, cases_eq, cases_lt, count_of, enters, eq-eqb, eqb-true, handled}
+use Rattle.rv_monitor.proofs.Prelude.{monitored_step, runs_on, seen_by, step_of}
 use Rattle.rv_monitor.proofs.Kept.{kept_law}
 use Rattle.rv_monitor.proofs.MonitoredAlike.{confidentiality}
 use Rattle.rv_monitor.proofs.Places.{outside, step_beside, step_seen}
-use Rattle.rv_monitor.proofs.Switched.{StaysIn, EntersFrom, LeavesFor, handled_turns}
+use Rattle.rv_monitor.proofs.Switched.{Turns, handled_turns}
 use Rattle.rv_monitor.proofs.TrapSteps.{by_step, seat_after}
 
 -- ---- steps in any order of two machines that agree
@@ -29,14 +27,14 @@ sched_law e (hart ∷ harts) one other here there agree not_own =
 
 -- ---- where the enclave runs behind a step
 
-entered_world : (e : ℕ) (seat : Seat) (x y : ℕ) (h : Handled) → StaysIn seat h ⊎ (EntersFrom seat h ⊎ LeavesFor seat x y h)
+entered_world : (e : ℕ) (seat : Seat) (trap : Trap) (h : Handled) → Turns seat trap h
     → h.next.entered ≡ Some e → is_world_of e h.seat.world ≡ true
-entered_world e seat x y h (inl stays) is = let none : None ≡ Some e = sym stays.entered ∙ is in cc
-entered_world e seat x y h (inr (inl enter)) is =
+entered_world e seat trap h (inl stays) is = let none : None ≡ Some e = sym stays.entered ∙ is in cc
+entered_world e seat trap h (inr (inl enter)) is =
     let same : Some enter.slot ≡ Some e = sym enter.entered ∙ is in
     let slot : enter.slot ≡ e = cc in
     ap (is_world_of e) enter.world ∙ eq-eqb enter.slot e slot
-entered_world e seat x y h (inr (inr leaves)) is = let none : None ≡ Some e = sym leaves.entered ∙ is in cc
+entered_world e seat trap h (inr (inr leaves)) is = let none : None ≡ Some e = sym leaves.entered ∙ is in cc
 
 pub is_entered : (e : ℕ) (state : MonitoredState) → (monitored_step state).outcome.entered ≡ Some e
     → is_world_of e (monitored_step state).state.seat.world ≡ true
@@ -44,8 +42,7 @@ is_entered e state = by_step state (λ after. after.outcome.entered ≡ Some e �
     (λ none is. cc)
     (λ trap traps is.
     let seat = seat_after state.seat trap in
-    entered_world e seat (reason trap.cause seat.hart.regs) (value trap.cause seat.hart.regs) (handled seat state.shared trap)
-    (handled_turns seat state.shared trap) is)
+    entered_world e seat trap (handled seat state.shared trap) (handled_turns seat state.shared trap) is)
 
 pub entered_by : (k : ℕ) (o : Option ℕ) → (o ≡ Some k → ⊥) → enters k o ≡ false
 entered_by k None never = refl
@@ -59,11 +56,11 @@ entered_some k None is = cc
 entered_some k (Some j) is = ap Some (eqb-true j k is)
 
 -- a hart on which it did not run, and whose step did not enter it
-other_world : (e : ℕ) (seat : Seat) (x y : ℕ) (h : Handled) → StaysIn seat h ⊎ (EntersFrom seat h ⊎ LeavesFor seat x y h)
+other_world : (e : ℕ) (seat : Seat) (trap : Trap) (h : Handled) → Turns seat trap h
     → is_world_of e seat.world ≡ false → enters e h.next.entered ≡ false → is_world_of e h.seat.world ≡ false
-other_world e seat x y h (inl stays) rests none = ap (is_world_of e) stays.world ∙ rests
-other_world e seat x y h (inr (inl enter)) rests none = ap (is_world_of e) enter.world ∙ sym (ap (enters e) enter.entered) ∙ none
-other_world e seat x y h (inr (inr leaves)) rests none = ap (is_world_of e) leaves.world
+other_world e seat trap h (inl stays) rests none = ap (is_world_of e) stays.world ∙ rests
+other_world e seat trap h (inr (inl enter)) rests none = ap (is_world_of e) enter.world ∙ sym (ap (enters e) enter.entered) ∙ none
+other_world e seat trap h (inr (inr leaves)) rests none = ap (is_world_of e) leaves.world
 
 pub own_apart : (e : ℕ) (state : MonitoredState) → is_world_of e state.seat.world ≡ false → enters e (monitored_step state).outcome.entered ≡ false
     → is_world_of e (monitored_step state).state.seat.world ≡ false
@@ -71,8 +68,7 @@ own_apart e state rests = by_step state (λ after. enters e after.outcome.entere
     (λ none passes. rests)
     (λ trap traps passes.
     let seat = seat_after state.seat trap in
-    other_world e seat (reason trap.cause seat.hart.regs) (value trap.cause seat.hart.regs) (handled seat state.shared trap)
-    (handled_turns seat state.shared trap) rests passes)
+    other_world e seat trap (handled seat state.shared trap) (handled_turns seat state.shared trap) rests passes)
 
 -- the hart that steps, and each beside it
 own_still : (e hart : ℕ) (machine : Machine) → runs_on e hart machine ≡ false → enters e (step_of hart machine).outcome.entered ≡ false

@@ -1,15 +1,12 @@
 -- An enclave that steps of the harts do not step: what it keeps of each, and of steps in any order.
-use Rattle.std.proofs.Common.{◌≡◌, ◌⊎◌, ℕ, true, false, List, [], ◌∷◌, refl, sym, ◌∙◌, ap, subst, inl, inr}
-use Rattle.std.proofs.lemmas.Bool.{both_ways, cases_lt}
-use Rattle.rv_enclaves.proofs.Prelude.{has, is_live, is_world_of, region_of, slot_at}
-use Rattle.rv_monitor.specs.HartLaws.{IsLeftAlone, RunningLaw, SchedSparesLaw, SchedChangeLaw}
-use Rattle.rv_monitor.specs.Integrity.{GoesOn, GoOnLaw, IsUntouched}
-use Rattle.rv_monitor.proofs.Prelude.{IsChanged, IsKept, IsSpared, Machine, MachineStepped, MonitoredStepped, RunsOnNone, byte_at, count_of, enters}
+use Rattle.std.proofs.Common.{◌≡◌, ◌⊎◌, ℕ, true, List, [], ◌∷◌, refl, sym, ◌∙◌, ap, subst, inl, inr}
+use Rattle.rv_monitor.specs.Prelude.{Seat, Shared, byte_at, has, is_live, is_world_of, region_of, slot_at}
+use Rattle.rv_monitor.proofs.Prelude.{GoOnLaw, GoesOn, IsChanged, IsKept, IsLeftAlone, IsSpared, IsUntouched, Machine, MachineStepped}
+use Rattle.rv_monitor.proofs.Prelude.{MonitoredStepped, RunningLaw, SchedChangeLaw, SchedSparesLaw, both_ways, cases_lt, count_of}
 use Rattle.rv_monitor.proofs.Prelude.{monitored_step, runs_on, sched, seat_of, seated, seen_after, seen_by, step_of}
-use Rattle.rv_monitor.proofs.Types.{Seat, Shared}
 use Rattle.rv_monitor.proofs.Beside.{live_by, runs_beside, runs_inside, running_is_live}
 use Rattle.rv_monitor.proofs.Changes.{changes}
-use Rattle.rv_monitor.proofs.HartsAlike.{entered_by, entry_law, is_entered}
+use Rattle.rv_monitor.proofs.HartsAlike.{entered_by, is_entered, none_again}
 use Rattle.rv_monitor.proofs.Others.{or_second}
 use Rattle.rv_monitor.proofs.Integrity.{integrity}
 use Rattle.rv_monitor.proofs.Kept.{kept_beside, kept_law, own_kept}
@@ -70,12 +67,6 @@ go_on_law hart machine kept k own runs rests = by_hart hart machine (GoesOn k)
       live = live_by (slot_at after.state.shared.table k) (sound.running k ∙ or_second (is_world_of k after.state.seat.world) _ others);
     })
 
-none_after : (k hart : ℕ) (harts : List ℕ) (machine : Machine) → enters k (step_of hart machine).outcome.entered ≡ false → RunsOnNone k harts machine
-    → RunsOnNone k harts (step_of hart machine).state
-none_after k hart [] machine passes none = tt
-none_after k hart (next ∷ harts) machine passes none =
-    (entry_law k hart next machine none.0 passes, none_after k hart harts machine passes none.1)
-
 pub running_law : RunningLaw
 running_law k own [] machine kept runs none = running_is_live k own machine kept runs
 running_law k own (hart ∷ harts) machine kept runs none =
@@ -87,7 +78,7 @@ running_law k own (hart ∷ harts) machine kept runs none =
       live,
       none.0,
       goes.passes,
-      running_law k own harts after (kept_law hart machine kept) still (none_after k hart harts machine goes.passes none.1),
+      running_law k own harts after (kept_law hart machine kept) still (none_again k hart harts machine none.1 goes.passes),
     )
 
 -- ---- which bytes they change

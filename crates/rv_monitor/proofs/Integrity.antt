@@ -1,19 +1,14 @@
 -- A step leaves what is private to an enclave that is not the world of its hart, where it neither enters nor ends it.
-use Rattle.std.proofs.Common.{◌≡◌, ◌≢◌, ℕ, ◌==◌, true, false, List, Option, Some, None, refl, sym, ◌∙◌, ap, inl, inr, arith}
+use Rattle.std.proofs.Common.{◌≡◌, ◌≢◌, ℕ, ◌==◌, true, false, Option, Some, None, refl, sym, ◌∙◌, ap, inl, inr, arith}
 use Rattle.std.specs.Prelude.{is_some}
-use Rattle.std.proofs.lemmas.Bool.{both_ways, cases_eq, eq-eqb}
 use Rattle.rv_enclaves.proofs.Owners.{apart_at}
-use Rattle.rv_enclaves.proofs.Reaches.{reached_apart}
-use Rattle.rv_enclaves.proofs.Slots.{at_other}
-use Rattle.rv_enclaves.proofs.Sound.{free_slot_from}
-use Rattle.rv_enclaves.proofs.Prelude.{IsValid, Slots, context_at, created, destroyed, first_context, has, is_live, is_world_of, measured, new_slot, recorded}
-use Rattle.rv_enclaves.proofs.Prelude.{region, slot_at, with_context, with_slot, with_state}
-use Rattle.rv_monitor.specs.Integrity.{IntegrityLaw}
-use Rattle.rv_enclaves.specs.declared.slot_info.EnclaveState.{EnclaveState}
-use Rattle.rv_monitor.proofs.Prelude.{Handled, IsOwn, IsSpared, IsTaken, MayCreate, MonitoredState, a0, at_same, byte_at, bytes_in, entered_slot}
-use Rattle.rv_monitor.proofs.Prelude.{enters, handled, left_slot, live_in_range, monitored_step, option_case, proposed, register, seen_by}
-use Rattle.rv_monitor.proofs.Prelude.{state_after}
-use Rattle.rv_monitor.proofs.Types.{Context, Destroy, Proposal, Running, Seat, Shared, SlotInfo, Trap, Write}
+use Rattle.rv_enclaves.specs.declared.proposal.Proposal.{Proposal}
+use Rattle.rv_monitor.specs.Prelude.{Context, Destroy, EnclaveState, IsValid, Running, Seat, Shared, Slots, Trap, Write, byte_at, bytes_in}
+use Rattle.rv_monitor.specs.Prelude.{context_at, created, destroyed, first_context, has, is_live, is_world_of, measured, new_slot}
+use Rattle.rv_monitor.specs.Prelude.{option_case, proposed, recorded, region, register, slot_at, with_context, with_slot, with_state}
+use Rattle.rv_monitor.proofs.Prelude.{Handled, IntegrityLaw, IsOwn, IsSpared, IsTaken, MayCreate, MonitoredState, SlotInfo, a0, at_other}
+use Rattle.rv_monitor.proofs.Prelude.{at_same, both_ways, cases_eq, entered_slot, enters, eq-eqb, free_slot_from, handled, left_slot}
+use Rattle.rv_monitor.proofs.Prelude.{live_in_range, monitored_step, reached_apart, seen_by, state_after}
 use Rattle.rv_monitor.proofs.Beside.{seat_spared}
 use Rattle.rv_monitor.proofs.Changes.{changes}
 use Rattle.rv_monitor.proofs.Kept.{own_kept}
@@ -26,13 +21,6 @@ use Rattle.rv_monitor.proofs.Works.{by_work, kept_by}
 record KeepsSlot (k : ℕ) (before after : Shared) : Type 0 where
   pub slot : slot_at after.table k ≡ slot_at before.table k
   pub context : context_at after.contexts k ≡ context_at before.contexts k
-
-other_slot : (k j : ℕ) (shared after : Shared) (o : Option SlotInfo) (c : Option Context) → k ≢ j → after.table ≡ with_slot shared.table j o
-    → after.contexts ≡ with_context shared.contexts j c → KeepsSlot k shared after
-other_slot k j shared after o c other table contexts = record {
-  slot = ap (λ (slots : Slots). slot_at slots k) table ∙ at_other shared.table j k o other;
-  context = ap (λ (all : List (Option Context)). context_at all k) contexts ∙ at_other shared.contexts j k c other;
-}
 
 state_by : (slots : Slots) (k j : ℕ) (o : Option SlotInfo) (state : EnclaveState) → k ≢ j
     → slot_at (option_case o slots (λ info. with_slot slots j (Some (record info { state = state })))) k ≡ slot_at slots k
@@ -57,7 +45,10 @@ module _ (k : ℕ) (seat : Seat) (shared : Shared) (valid : IsValid shared.memor
       let free = (free_slot_from shared.table (new_slot shared.table) may.free).free in
       let other : k ≢ new_slot shared.table = λ same. both_ways _ (ap (λ (o : Option SlotInfo). is_some o) free) (rw (← same) live) in
       let info = recorded shared.memory new in
-      other_slot k (new_slot shared.table) shared _ (Some info) (Some (first_context info)) other refl refl
+      record {
+        slot = at_other shared.table (new_slot shared.table) k (Some info) other;
+        context = at_other shared.contexts (new_slot shared.table) k (Some (first_context info)) other;
+      }
 
   destroyed_keeps : (j : ℕ) → IsTaken shared.table Destroy j → is_live (destroyed shared j).table k ≡ true → KeepsSlot k shared (destroyed shared j)
   unfolding destroyed
@@ -66,7 +57,7 @@ module _ (k : ℕ) (seat : Seat) (shared : Shared) (valid : IsValid shared.memor
         let inside = live_in_range shared.table j taken.info valid.count taken.is in
         let gone : slot_at (with_slot shared.table j None) j ≡ None = at_same shared.table j None (omega (arith, valid.count)) in
         absurd (both_ways _ (ap (λ (o : Option SlotInfo). is_some o) gone) (rw same at stays))
-    | inr other ↦ other_slot k j shared _ None None other refl refl
+    | inr other ↦ record { slot = at_other shared.table j k None other; context = at_other shared.contexts j k None other }
   ]
 
   handled_keeps : (trap : Trap) → Keeps k shared (handled seat shared trap)

@@ -1,17 +1,15 @@
 -- Every step of a hart keeps what is true in every state.
 use Rattle.std.proofs.Common.{◌≡◌, ◌<◌, ◌≤◌, ℕ, Bool, List, [], ◌∷◌, length, slice_set, Option, Some, None, refl, sym, ◌∙◌, ap, subst, inl, inr, arith}
 use Rattle.std.specs.Prelude.{map, slice_index_or}
-use Rattle.std.proofs.lemmas.Bool.{cases_eq, cases_lt}
-use Rattle.std.proofs.lemmas.List.{get_or-map, get_or-set_other, length-map, length-set, map-set, set-get_or, set_past}
-use Rattle.std.proofs.lemmas.Grind.{get_or-set_at}
-use Rattle.rv_enclaves.proofs.Prelude.{IsSound, Slots}
-use Rattle.rv_monitor.specs.HartLaws.{KeptLaw, SchedKeptLaw}
-use Rattle.rv_monitor.proofs.Prelude.{AreStored, HostIsStored, IsKept, IsOwn, IsSeated, Machine, changed, count_of, monitored_step, seat_at_start}
-use Rattle.rv_monitor.proofs.Prelude.{seat_of, seated, seats_behind, seen_by, sound_by_size, step_of, stepped_by, with_seat, worlds}
-use Rattle.rv_monitor.proofs.Types.{Host, Seat, Trap, World}
+use Rattle.std.proofs.lemmas.Simd.{map-map}
+use Rattle.rv_monitor.specs.Prelude.{Host, IsSound, Seat, Slots, Trap, World}
+use Rattle.rv_monitor.proofs.Prelude.{AreStored, HostIsStored, IsKept, IsOwn, IsSeated, KeptLaw, Machine, SchedKeptLaw, cases_eq, cases_lt}
+use Rattle.rv_monitor.proofs.Prelude.{changed, count_of, get_or-map, length-map, length-set, map-set, monitored_step, seat_at_start}
+use Rattle.rv_monitor.proofs.Prelude.{seat_of, seated, seats_behind, seen_by, set-get_or, set_past, sound_by_size, step_of, stepped_by}
+use Rattle.rv_monitor.proofs.Prelude.{with_seat, worlds}
 use Rattle.rv_monitor.proofs.Others.{sound_back, sound_front, without}
-use Rattle.rv_monitor.proofs.Places.{behind_seated, by_hart, count_behind, other_seat, own_seat}
-use Rattle.rv_monitor.proofs.StepKept.{KeptBeside, laid_seated, own_of, step_kept}
+use Rattle.rv_monitor.proofs.Places.{behind_seated, by_hart, by_place, count_behind, other_seat, own_seat}
+use Rattle.rv_monitor.proofs.StepKept.{KeptBeside, laid_seated, own_of, seated_by, step_kept}
 
 -- ---- who runs on a hart, and beside it
 
@@ -49,13 +47,9 @@ kept_beside hart machine kept has =
 
 -- ---- the machine
 
-laid_worlds : (slots : Slots) (seats : List Seat) → map world_of (map (seated slots) seats) ≡ map world_of seats
-laid_worlds slots [] = refl
-laid_worlds slots (seat ∷ seats) = ap (λ (ws : List World). seat.world ∷ ws) (laid_worlds slots seats)
-
 worlds_behind : (o : Option Trap) (slots : Slots) (seats : List Seat) → map world_of (seats_behind o slots seats) ≡ map world_of seats
 worlds_behind None slots seats = refl
-worlds_behind (Some trap) slots seats = laid_worlds slots seats
+worlds_behind (Some trap) slots seats = map-map world_of (seated slots) seats
 
 stepped_kept : (hart : ℕ) (machine : Machine) → IsKept machine → hart < count_of machine
     → IsKept (stepped_by hart machine (monitored_step (seen_by hart machine))).state
@@ -95,21 +89,7 @@ written regs raised seat = record seat { hart = record seat.hart { regs = regs; 
 
 written_seated : (slots : Slots) (regs : List ℕ) (raised : Bool) (seat : Seat) → IsSeated slots seat → IsSeated slots (written regs raised seat)
 written_seated slots regs raised seat is =
-    let host = is.host in
-    let layout = is.layout in
-    record {
-      host = record { kept = host.kept; held = host.held };
-      layout = record {
-        entries = layout.entries;
-        mie = layout.mie;
-        mode = layout.mode;
-        mstatus_mie = layout.mstatus_mie;
-        mprv = layout.mprv;
-        tvm = layout.tvm;
-        tw = layout.tw;
-        tsr = layout.tsr;
-      };
-    }
+    let layout = is.layout in seated_by slots slots seat (written regs raised seat).hart is layout.entries layout.mie refl refl
 
 written_in : (hart : ℕ) (regs : List ℕ) (raised : Bool) (machine : Machine) → IsKept machine → hart < count_of machine
     → IsKept (with_seat hart (written regs raised (seat_of hart machine)) machine)
@@ -120,14 +100,8 @@ written_in hart regs raised machine kept has =
     record {
       shared = subst (IsSound machine.shared) (sym (map-set world_of machine.seats hart new ∙ worlds_are hart machine has)) kept.shared;
       seats = λ j inside.
-          let here : j < count_of machine = omega (arith, size, inside) in
-          elim (cases_eq j hart) [
-            | inl same ↦
-                subst (IsSeated machine.shared.table) (sym (get_or-set_at machine.seats hart j new (seat_at_start 0) same has))
-                (written_seated machine.shared.table regs raised seat (kept.seats hart has))
-            | inr other ↦
-                subst (IsSeated machine.shared.table) (sym (get_or-set_other machine.seats hart j new (seat_at_start 0) other)) (kept.seats j here)
-          ];
+          by_place machine.seats hart new (λ i s. i < count_of machine → IsSeated machine.shared.table s) has
+          (λ here. written_seated machine.shared.table regs raised seat (kept.seats hart has)) (λ i other. kept.seats i) j (omega (arith, size, inside));
     }
 
 -- of a hart that there is not nothing is written
@@ -144,22 +118,17 @@ written_kept hart regs raised machine kept = elim (cases_lt hart (count_of machi
 
 pub seat_stored : (hart : ℕ) (seat : Seat) (machine : Machine) → AreStored machine → hart < count_of machine → HostIsStored seat
     → AreStored (with_seat hart seat machine)
-seat_stored hart seat machine stored has own j = elim (cases_eq j hart) [
-  | inl same ↦ subst HostIsStored (sym (get_or-set_at machine.seats hart j seat (seat_at_start 0) same has)) own
-  | inr other ↦ subst HostIsStored (sym (get_or-set_other machine.seats hart j seat (seat_at_start 0) other)) (stored j)
-]
+seat_stored hart seat machine stored has own =
+    by_place machine.seats hart seat (λ j s. HostIsStored s) has own (λ j other. stored j)
 
 -- what a write of a hart leaves of each seat
 pub changed_of : {X : Type 0} (of : Seat → X) (change : Seat → Seat) → ((seat : Seat) → of (change seat) ≡ of seat) → (hart j : ℕ) (machine : Machine)
     → of (seat_of j (changed hart change machine)) ≡ of (seat_of j machine)
 changed_of of change same hart j machine = elim (cases_lt hart (count_of machine)) [
   | inr past ↦ ap (λ (m : Machine). of (seat_of j m)) (past_as_is hart (change (seat_of hart machine)) machine past)
-  | inl has ↦ elim (cases_eq j hart) [
-    | inl at ↦
-        ap of (get_or-set_at machine.seats hart j (change (seat_of hart machine)) (seat_at_start 0) at has) ∙ same (seat_of hart machine)
-        ∙ ap (λ (h : ℕ). of (seat_of h machine)) (sym at)
-    | inr other ↦ ap of (get_or-set_other machine.seats hart j (change (seat_of hart machine)) (seat_at_start 0) other)
-  ]
+  | inl has ↦
+      by_place machine.seats hart (change (seat_of hart machine)) (λ i s. of s ≡ of (seat_of i machine)) has (same (seat_of hart machine))
+      (λ i other. refl) j
 ]
 
 -- of memory

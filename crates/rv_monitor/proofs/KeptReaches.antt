@@ -1,9 +1,8 @@
 -- In every kept state the entries permit S and U exactly what is in reach.
 use Rattle.std.proofs.Common.{◌≡◌, ◌≢◌, true, false, refl, sym, ◌∙◌, subst}
-use Rattle.rv_enclaves.specs.Reach.{in_reach}
+use Rattle.rv_monitor.specs.Prelude.{M, Mode, bytes_from, bytes_in, data_mode, in_reach, is_machine, permits, verdict}
 use Rattle.rv_monitor.specs.Access.{KeptReachLaw}
-use Rattle.rv_monitor.proofs.Prelude.{Entries, Hart, bytes_from, bytes_in, data_mode, is_machine, permits, reach_law, verdict}
-use Rattle.rv_monitor.proofs.Types.{M, Mode}
+use Rattle.rv_monitor.proofs.Prelude.{Entries, IsOwn, MonitoredState, reach_law}
 
 pub kept_reach : KeptReachLaw
 kept_reach state mode access address width kept below inside =
@@ -16,5 +15,5 @@ pub below_M : (mode : Mode) → is_machine mode ≡ false → mode ≢ M
 below_M mode below same = let machine : is_machine mode ≡ true = rw same refl in let never : true ≡ false = sym machine ∙ below in cc
 
 -- where MPRV is 0, loads and stores go in the hart's own mode
-pub clear_mode : (hart : Hart) → hart.csrs.mstatus.mprv ≡ false → data_mode hart ≡ hart.mode
-clear_mode hart clear = rw clear refl
+pub data_below : (state : MonitoredState) → IsOwn state → is_machine (data_mode state.seat.hart) ≡ false
+data_below state kept = let clear = kept.layout.mprv in rw clear kept.layout.mode

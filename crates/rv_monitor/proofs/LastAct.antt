@@ -1,23 +1,18 @@
 -- The last act after a trap, which sets the entries and mie: where it changes nothing, and that nothing before it writes an entry.
-use Rattle.std.proofs.Common.{◌≡◌, ◌<◌, ℕ, suc, List, [], ◌∷◌, length, refl, ◌∙◌, ap, arith}
+use Rattle.std.proofs.Common.{◌≡◌, ◌<◌, ℕ, suc, List, [], ◌∷◌, length, refl, ◌∙◌, ap, arith, sym, subst}
 use Rattle.std.specs.Prelude.{map, slice_index_or}
-use Rattle.rv_enclaves.proofs.Prelude.{Slots}
-use Rattle.rv_monitor.proofs.Prelude.{Entries, Handled, IsSeated, entered_slot, forwarded, forwarded_csrs, handled_cause, left_slot, seat_at_start}
-use Rattle.rv_monitor.proofs.Prelude.{seated, with_layout}
-use Rattle.rv_monitor.proofs.Types.{Seat, Shared, Trap}
-use Rattle.rv_monitor.proofs.Ready.{IsLaidOut}
+use Rattle.rv_monitor.specs.Prelude.{Cause, Seat, Shared, Slots, Trap}
+use Rattle.rv_monitor.proofs.Prelude.{Entries, Handled, HasNoLock, IsSeated, entered_slot, forwarded, forwarded_csrs, handled_cause}
+use Rattle.rv_monitor.proofs.Prelude.{left_slot, seat_at_start, seated, with_layout}
 use Rattle.rv_monitor.proofs.Works.{by_pieces}
 
 -- ---- where they are set already
 
-pub laid_out_as_is : (slots : Slots) (seat : Seat) → IsLaidOut slots seat → seated slots seat ≡ seat
-laid_out_as_is slots seat laid =
-    let entries = laid.entries in
-    let mie = laid.mie in
-    rw (← entries, ← mie) refl
-
 pub as_is : (slots : Slots) (seat : Seat) → IsSeated slots seat → seated slots seat ≡ seat
-as_is slots seat is = let layout = is.layout in laid_out_as_is slots seat (record { entries = layout.entries; mie = layout.mie })
+as_is slots seat is =
+    let entries = is.layout.entries in
+    let mie = is.layout.mie in
+    rw (← entries, ← mie) refl
 
 pub all_as_are : (slots : Slots) (seats : List Seat) → ((j : ℕ) → j < length seats → IsSeated slots (slice_index_or seats j (seat_at_start 0)))
     → map (seated slots) seats ≡ seats
@@ -52,3 +47,10 @@ work_entries seat shared trap =
       stays = refl;
       forwards = refl;
     }) refl
+
+-- so where no entry was locked none is, whatever caused the trap
+pub work_unlocked : (seat : Seat) (shared : Shared) (cause : Cause) (left : Handled)
+    → (let trap : Trap = record { cause = cause; tval = 0 } in handled_cause seat shared trap cause ≡ left)
+    → HasNoLock seat.hart.csrs.pmp → HasNoLock left.seat.hart.csrs.pmp
+work_unlocked seat shared cause left is unlocked =
+    subst HasNoLock (sym (work_entries seat shared (record { cause = cause; tval = 0 })) ∙ ap entries_of is) unlocked

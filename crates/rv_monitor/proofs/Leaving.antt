@@ -1,14 +1,12 @@
 -- What an enclave leaves behind when it leaves: either it goes on, or the state is the one that leaving leaves.
 use Rattle.std.proofs.Common.{◌≡◌, ℕ, ◌⊎◌, true, Option, Some, None, IfSome, refl, sym, ◌∙◌, ap, subst, inl, inr}
+use Rattle.std.proofs.Math.Bool.{or-false}
 use Rattle.rv_state.specs.declared.cause.Cause.TheVariants as causes
-use Rattle.rv_enclaves.proofs.Prelude.{can_go_on}
-use Rattle.rv_monitor.specs.Leaving.{LeaveLaw, kept_after, left_hart, left_shared}
-use Rattle.rv_monitor.proofs.Prelude.{Handled, IsOwn, MonitoredState, MonitoredStepped, bare, handled, is_set, left_slot, monitored_step, reason}
-use Rattle.rv_monitor.proofs.Prelude.{returned, seen_by, state_after, step, value, with_layout}
-use Rattle.rv_monitor.proofs.Types.{Cause, Context, Enclave, Host, Outcome, Seat, StepOutcome, Trap}
+use Rattle.rv_monitor.specs.Prelude.{Cause, Context, Enclave, Host, Outcome, Seat, StepOutcome, Trap, can_go_on, is_set, step}
+use Rattle.rv_monitor.proofs.Prelude.{Handled, IsOwn, LeaveLaw, MonitoredState, MonitoredStepped, bare, handled, kept_after, left_hart}
+use Rattle.rv_monitor.proofs.Prelude.{left_shared, left_slot, monitored_step, reason, returned, seen_by, state_after, value, with_layout}
 use Rattle.rv_monitor.proofs.Kept.{own_kept}
 use Rattle.rv_monitor.proofs.Places.{is_trapping, laid_by, step_seen}
-use Rattle.rv_monitor.proofs.Refused.{or_none}
 use Rattle.rv_monitor.proofs.Switched.{aligned_again}
 use Rattle.rv_monitor.proofs.TrapSteps.{seat_after, trapped_step}
 use Rattle.rv_monitor.proofs.Works.{by_work, kept_by, leaving, lowered_by}
@@ -78,7 +76,7 @@ module _ (before : MonitoredState) (k : ℕ) (host : Context) (runs : before.sea
       let P : Option Context → Type 0 = λ o. IfSome o (λ c. can_go_on c ≡ true) in
       let aligned = aligned_again host.mode host.pc (subst P kept all.host.held) in
       let mprv = all.layout.mprv in
-      (rw (aligned, or_none (is_set before.seat.hart.csrs.mcountinhibit 0), mprv) refl, refl)
+      (rw (aligned, or-false (is_set before.seat.hart.csrs.mcountinhibit 0), mprv) refl, refl)
 
   left_or_not : (outcome : StepOutcome) (h : Handled) → IsOwn before → Goes h → h.seat.world ≡ Host → Left (returned outcome h)
   left_or_not outcome h all (inl stays) gone = let never : Enclave k ≡ Host = sym stays ∙ gone in cc

@@ -1,5 +1,4 @@
 pub mod Prelude
-pub mod Types
 pub mod Concluded
 pub mod Works
 pub mod Ready

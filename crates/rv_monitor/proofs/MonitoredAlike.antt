@@ -1,13 +1,11 @@
 -- A step of the same hart of two monitored machines that agree but for what is private to an enclave that is not its world.
 use Rattle.std.proofs.Common.{◌≡◌, ◌<◌, ℕ, false, List, Option, Some, None, refl, sym, ◌∙◌, ap, ap₂, subst, inl, inr, arith}
-use Rattle.std.proofs.lemmas.Bool.{both_ways, cases_Bool, cases_eq, cases_lt}
-use Rattle.std.proofs.lemmas.List.{get_or_default, get_or-map, length-map, same_lists}
-use Rattle.rv_enclaves.proofs.Prelude.{IsSound, SharedButFor, Slots, is_live, is_world_of}
-use Rattle.rv_monitor.specs.Confidentiality.{ConfidentialityLaw}
-use Rattle.rv_monitor.proofs.Prelude.{AgreeBut, Hart, IsKept, IsOwn, Machine, MonitoredState, MonitoredStepped, SeatsAgreeBut, State, Stepped}
-use Rattle.rv_monitor.proofs.Prelude.{confined, count_of, handled, monitored_step, option_case, returned, runs_on, seat_at_start, seat_of, seated}
-use Rattle.rv_monitor.proofs.Prelude.{seen_by, sound_by_size, step, stepped_by, unhandled, worlds}
-use Rattle.rv_monitor.proofs.Types.{Outcome, Seat, Shared, StepOutcome, Trap, World}
+use Rattle.rv_monitor.specs.Prelude.{Hart, IsSound, Outcome, Seat, Shared, SharedButFor, Slots, State, StepOutcome, Stepped, Trap, World}
+use Rattle.rv_monitor.specs.Prelude.{is_live, is_world_of, option_case, step}
+use Rattle.rv_monitor.proofs.Prelude.{AgreeBut, ConfidentialityLaw, IsKept, IsOwn, Machine, MonitoredState, MonitoredStepped}
+use Rattle.rv_monitor.proofs.Prelude.{SeatsAgreeBut, both_ways, cases_Bool, cases_eq, cases_lt, confined, count_of, get_or-map}
+use Rattle.rv_monitor.proofs.Prelude.{get_or_default, handled, length-map, monitored_step, returned, runs_on, same_lists, seat_at_start}
+use Rattle.rv_monitor.proofs.Prelude.{seat_of, seated, seen_by, sound_by_size, stepped_by, unhandled, worlds}
 use Rattle.rv_monitor.proofs.Agreeing.{same_seats, seats_agree}
 use Rattle.rv_monitor.proofs.Beside.{running_is_live}
 use Rattle.rv_monitor.proofs.BlindSteps.{bare_law}

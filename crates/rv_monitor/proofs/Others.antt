@@ -1,19 +1,14 @@
 -- Who runs on one hart, and on the others: a list of worlds with one of them put first.
 use Rattle.std.proofs.Common.{◌≡◌, ℕ, zero, suc, ◌<◌, Bool, true, false, List, [], ◌∷◌, length, slice_set, refl, sym, ◌∙◌, ap, inl, inr, arith}
 use Rattle.std.specs.Prelude.{◌||◌}
-use Rattle.std.specs.List.{list_any}
-use Rattle.std.proofs.lemmas.Bool.{both_ways, cases_Bool}
-use Rattle.rv_enclaves.proofs.Slots.{or-first, or-second}
-use Rattle.rv_enclaves.proofs.Prelude.{AreApart, IsSound, is_world_of}
-use Rattle.rv_monitor.proofs.Types.{Shared, World}
+use Rattle.std.proofs.lemmas.Bool.{or_from}
+use Rattle.rv_monitor.specs.Prelude.{AreApart, IsSound, Shared, World, is_world_of}
+use Rattle.rv_monitor.proofs.Prelude.{both_ways, cases_Bool, list_any, or-first, or-second}
 
 or_swap : (a b c : Bool) → (a || (b || c)) ≡ (b || (a || c))
 or_swap true true c = refl
 or_swap true false c = refl
 or_swap false b c = refl
-
-or_none : (a b : Bool) → a ≡ false → b ≡ false → (a || b) ≡ false
-or_none a b left right = rw (left, right) refl
 
 pub or_second : (a b : Bool) → b ≡ true → (a || b) ≡ true
 or_second true b is = refl
@@ -42,7 +37,7 @@ apart_front (x ∷ xs) (suc i) w has apart =
     λ k own. let none = sym (any_front (is_world_of k) xs i w has') ∙ apart.0 k own in (or-first _ _ none, or-second _ _ none) in (
       λ k own. elim (cases_Bool (is_world_of k x)) [
         | inl here ↦ absurd (both_ways _ (both k here).0 own)
-        | inr none ↦ or_none (is_world_of k x) _ none (rest.0 k own)
+        | inr none ↦ or_from (is_world_of k x) _ none (rest.0 k own)
       ],
       (λ k own. (both k own).1, rest.1),
     )
@@ -54,7 +49,7 @@ apart_back (x ∷ xs) (suc i) w has apart =
     let has' : i < length xs = omega (arith, has) in (
       λ k own. any_front (is_world_of k) xs i w has' ∙ elim (cases_Bool (is_world_of k w)) [
         | inl here ↦ absurd (both_ways _ (or-first _ _ (apart.0 k here)) own)
-        | inr none ↦ or_none (is_world_of k w) _ none (apart.1.0 k own)
+        | inr none ↦ or_from (is_world_of k w) _ none (apart.1.0 k own)
       ],
       apart_back xs i w has' (λ k own. or-second _ _ (apart.0 k own), apart.1.1),
     )

@@ -1,15 +1,11 @@
 -- Where each seat is behind a step: that of the hart that steps, and those beside it.
 use Rattle.std.proofs.Common.{◌≡◌, ◌≢◌, ◌<◌, ◌≤◌, ℕ, false, List, length, slice_set, Option, Some, None, refl, sym, ◌∙◌, ap, subst, inl, inr, arith}
 use Rattle.std.specs.Prelude.{map, nat_lt, slice_index_or}
-use Rattle.std.proofs.lemmas.Bool.{cases_lt, lt-ltb}
-use Rattle.std.proofs.lemmas.Bool.Decides.{nat_tests}
-use Rattle.std.proofs.lemmas.Grind.{get_or-set_at}
-use Rattle.std.proofs.lemmas.List.{get_or-map, get_or-set_other, get_or_past, length-map, length-set}
-use Rattle.rv_enclaves.proofs.Prelude.{Slots}
-use Rattle.rv_monitor.specs.Step.{not_stepped}
-use Rattle.rv_monitor.proofs.Prelude.{IsKept, IsSeated, Machine, MachineStepped, MonitoredState, MonitoredStepped, count_of, monitored_step}
-use Rattle.rv_monitor.proofs.Prelude.{seat_at_start, seat_of, seated, seats_behind, seen_after, seen_by, step_of, stepped_by}
-use Rattle.rv_monitor.proofs.Types.{Seat, Trap}
+use Rattle.rv_monitor.specs.Prelude.{Seat, Slots, Trap}
+use Rattle.rv_monitor.proofs.Prelude.{IsKept, IsSeated, Machine, MachineStepped, MonitoredState, MonitoredStepped, cases_eq, cases_lt}
+use Rattle.rv_monitor.proofs.Prelude.{count_of, get_or-map, get_or-set_at, get_or-set_other, get_or_past, length-map, length-set, lt-ltb}
+use Rattle.rv_monitor.proofs.Prelude.{monitored_step, nat_tests, not_stepped, seat_at_start, seat_of, seated, seats_behind, seen_after}
+use Rattle.rv_monitor.proofs.Prelude.{seen_by, step_of, stepped_by}
 use Rattle.rv_monitor.proofs.LastAct.{as_is}
 use Rattle.rv_monitor.proofs.TrapSteps.{by_step}
 
@@ -18,6 +14,23 @@ seat_in seats hart = slice_index_or seats hart (seat_at_start 0)
 
 pub past_seat : (seats : List Seat) (j : ℕ) → length seats ≤ j → seat_in seats j ≡ seat_at_start 0
 past_seat seats j past = get_or_past {X = Seat} seats j (seat_at_start 0) past
+
+-- one seat put in: what holds of it, and of those beside it, holds of each; in two lists side by side,
+pub by_places : (xs ys : List Seat) (hart : ℕ) (x y : Seat) (P : ℕ → Seat → Seat → Type 0) → length xs ≡ length ys → hart < length xs → P hart x y
+    → ((j : ℕ) → j ≢ hart → P j (seat_in xs j) (seat_in ys j)) → (j : ℕ) → P j (seat_in (slice_set xs hart x) j) (seat_in (slice_set ys hart y) j)
+by_places xs ys hart x y P size has own others j = elim (cases_eq j hart) [
+  | inl at ↦
+      subst (λ (s : Seat). P j s (seat_in (slice_set ys hart y) j)) (sym (get_or-set_at xs hart j x (seat_at_start 0) at has))
+      (subst (P j x) (sym (get_or-set_at ys hart j y (seat_at_start 0) at (omega (arith, size, has)))) (subst (λ (i : ℕ). P i x y) (sym at) own))
+  | inr apart ↦
+      subst (λ (s : Seat). P j s (seat_in (slice_set ys hart y) j)) (sym (get_or-set_other xs hart j x (seat_at_start 0) apart))
+      (subst (P j (seat_in xs j)) (sym (get_or-set_other ys hart j y (seat_at_start 0) apart)) (others j apart))
+]
+
+-- and in one
+pub by_place : (seats : List Seat) (hart : ℕ) (seat : Seat) (P : ℕ → Seat → Type 0) → hart < length seats → P hart seat
+    → ((j : ℕ) → j ≢ hart → P j (seat_in seats j)) → (j : ℕ) → P j (seat_in (slice_set seats hart seat) j)
+by_place seats hart seat P has own others = by_places seats seats hart seat seat (λ j s _. P j s) refl has own others
 
 -- ---- the seats behind the monitor's work, before that of the hart is put in
 

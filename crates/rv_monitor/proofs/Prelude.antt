@@ -1,51 +1,42 @@
--- The names that most proofs of this crate cite, passed on from one place. Declares nothing.
-pub use Rattle.rv_enclaves.proofs.Reaches.{reach_law}
-pub use Rattle.rv_enclaves.proofs.Refusals.{IsTaken, MayCreate}
-pub use Rattle.rv_enclaves.proofs.SavedLists.{same_after_set}
-pub use Rattle.rv_enclaves.proofs.Slots.{at_same}
-pub use Rattle.rv_enclaves.proofs.Sound.{live_in_range, sound_by_size}
-pub use Rattle.rv_enclaves.specs.Calls.{asked_in, call_number, status_of}
-pub use Rattle.rv_enclaves.specs.Contexts.{IsStored, exited_context, with_answer}
-pub use Rattle.rv_enclaves.specs.Create.{proposed}
-pub use Rattle.rv_enclaves.specs.Measure.{measured_slot}
+-- The names that the proofs cite beside those of specs/Prelude, passed on from one place. Declares nothing.
+pub use Rattle.rv_enclaves.proofs.Reaches.{inside_is, permitted_apart, reach_law, reached_apart, small_ram, some_bytes}
+pub use Rattle.rv_enclaves.proofs.Refusals.{IsTaken, MayCreate, MayMeasure, may_create, may_measure, may_take, same_create_refusals}
+pub use Rattle.rv_enclaves.proofs.Refusals.{same_measure_refusals, takes_rests}
+pub use Rattle.rv_enclaves.proofs.Slots.{at_other, at_same, or-first, or-second}
+pub use Rattle.rv_enclaves.proofs.Sound.{created_sound, destroyed_sound, entered_sound, free_slot_from, left_sound, live_in_range}
+pub use Rattle.rv_enclaves.proofs.Sound.{measured_sound, sound_by_size}
 pub use Rattle.rv_enclaves.specs.Unlocked.{HasNoLock}
+pub use Rattle.rv_enclaves.specs.declared.slot_info.SlotInfo.{SlotInfo}
 pub use Rattle.rv_hart.proofs.Confined.{confined}
-pub use Rattle.rv_hart.proofs.StepLaws.{touches_permitted}
-pub use Rattle.rv_hart.specs.Arithmetic.{sum_of}
+pub use Rattle.rv_hart.proofs.StepLaws.{keeps_machine_parts, keeps_mprv_clear, touches_permitted, trap_keeps}
 pub use Rattle.rv_hart.specs.Confinement.{AgreeOn, IsConfined, SameIn, Stores}
-pub use Rattle.rv_hart.specs.HartState.{Hart}
-pub use Rattle.rv_hart.specs.Permitted.{MayTouch}
-pub use Rattle.rv_hart.specs.State.{State, Stepped}
-pub use Rattle.rv_hart.specs.Step.{data_mode}
-unfoldable pub use Rattle.rv_hart.specs.Step.{step}
-pub use Rattle.rv_memory.specs.Memory.{byte_at, ram_base}
-unfoldable pub use Rattle.rv_memory.specs.Memory.{write}
+pub use Rattle.rv_hart.specs.Permitted.{MayTouch, MayTouchAll, TouchesPermitted}
 pub use Rattle.rv_monitor.specs.AgreeBut.{AgreeBut, SeatsAgreeBut, runs_on}
-pub use Rattle.rv_monitor.specs.Asked.{is_entering}
+pub use Rattle.rv_monitor.specs.Asked.{AskedLaw, AskedStepLaw, SameAsked, SameWhereSame, SameWork, asked_by, is_call, is_entering}
 pub use Rattle.rv_monitor.specs.CallRefusals.{a0, a1, call_refusals}
-pub use Rattle.rv_monitor.specs.Changes.{IsChanged}
-pub use Rattle.rv_monitor.specs.Confidentiality.{bare}
-pub use Rattle.rv_monitor.specs.Debugger.{changed}
-pub use Rattle.rv_monitor.specs.HartLaws.{RunsOnNone, sched}
-pub use Rattle.rv_monitor.specs.Integrity.{IsSpared, enters}
-pub use Rattle.rv_monitor.specs.Leaving.{state_after}
-pub use Rattle.rv_monitor.specs.State.{AreStored, HostIsStored, IsKept, IsOwn, IsSeated, KeepsHost, Machine, MonitoredState, count_of, held}
-pub use Rattle.rv_monitor.specs.State.{seat_at_start, seat_of, seated, seen_by, with_seat, worlds}
-pub use Rattle.rv_monitor.specs.Step.{MachineStepped, MonitoredStepped, answered, forwarded, handled_cause, past_call, refused, returned, returned_to}
-pub use Rattle.rv_monitor.specs.Step.{seats_behind, seen_after, stepped_by, stopped_context, unhandled, with_layout}
-unfoldable pub use Rattle.rv_monitor.specs.Step.{call_handled, called, forwarded_csrs, handled, monitored_step, step_of}
-pub use Rattle.rv_monitor.specs.StepLaws.{ObeysStepLaws}
-pub use Rattle.rv_monitor.specs.SwitchLaws.{StaysOrSwitches, reason, value}
-pub use Rattle.rv_monitor.specs.Switches.{Handled, saved}
-unfoldable pub use Rattle.rv_monitor.specs.Switches.{entered_slot, left_slot}
-pub use Rattle.rv_pmp.specs.Entries.{Entries}
-pub use Rattle.rv_pmp.specs.Verdicts.{bytes_from, permits}
-unfoldable pub use Rattle.rv_pmp.specs.Verdicts.{verdict}
-pub use Rattle.rv_state.specs.Bits.{aligned_to_4}
-pub use Rattle.rv_state.specs.CsrState.{CsrState}
-pub use Rattle.rv_state.specs.Interrupts.{is_machine}
-pub use Rattle.rv_state.specs.Registers.{register}
-pub use Rattle.rv_state.specs.SContexts.{KeepsOwn}
-pub use Rattle.rv_word.specs.BitFields.{is_set}
-pub use Rattle.rv_word.specs.Cases.{option_case}
-pub use Rattle.rv_word.specs.Widths.{bytes_in}
+pub use Rattle.rv_monitor.specs.Changes.{ByMonitor, ChangeLaw, ChangesInReach, IsChanged, IsMeasured, IsStoredInReach}
+pub use Rattle.rv_monitor.specs.Confidentiality.{BareLaw, ConfidentialityLaw, HandledAlike, HandlerLaw, StepAlike, bare, going_on_from}
+pub use Rattle.rv_monitor.specs.Debugger.{changed, reg_set, timer_set}
+pub use Rattle.rv_monitor.specs.HartLaws.{EntryLaw, IsLeftAlone, KeptLaw, NotOwnLaw, RunningLaw, RunsOnNone, SchedChangeLaw, SchedKeptLaw}
+pub use Rattle.rv_monitor.specs.HartLaws.{SchedLaw, SchedSparesLaw, sched}
+pub use Rattle.rv_monitor.specs.Integrity.{GoOnLaw, GoesOn, IntegrityLaw, IsSpared, IsUntouched, enters}
+pub use Rattle.rv_monitor.specs.Leaving.{LeaveLaw, kept_after, left_hart, left_shared, line_after, state_after}
+pub use Rattle.rv_monitor.specs.State.{AreStored, HasLayout, HostIsStored, IsKept, IsOwn, IsSeated, KeepsHost, Machine, MonitoredState}
+pub use Rattle.rv_monitor.specs.State.{count_of, held, seat_at_start, seat_of, seated, seats_at_start, seen_by, with_seat, worlds}
+unfoldable pub use Rattle.rv_monitor.specs.State.{at_start}
+pub use Rattle.rv_monitor.specs.Step.{MachineStepped, MonitoredStepped, answered, forwarded, handled_cause, handled_exception, not_stepped}
+pub use Rattle.rv_monitor.specs.Step.{past_call, refused, returned, returned_to, seats_behind, seen_after, stepped_by, stopped_context}
+pub use Rattle.rv_monitor.specs.Step.{trapped_mode, trapped_pc, unhandled, with_layout}
+unfoldable pub use Rattle.rv_monitor.specs.Step.{call_handled, called, forwarded_csrs, handled, monitored_step, performed, step_of}
+unfoldable pub use Rattle.rv_monitor.specs.Step.{timer_stopped}
+pub use Rattle.rv_monitor.specs.SwitchLaws.{StaysOrSwitches, SwitchLaw, reason, value}
+pub use Rattle.rv_monitor.specs.Switches.{Handled, left_by, saved}
+unfoldable pub use Rattle.rv_monitor.specs.Switches.{entered_slot, left, left_slot}
+pub use Rattle.rv_pmp.specs.Entries.{Entries, cfg_of}
+pub use Rattle.std.proofs.lemmas.Bool.{and_from, and_parts, both_ways, cases_Bool, cases_eq, cases_lt, cond-false, cond-true, eq-eqb}
+pub use Rattle.std.proofs.lemmas.Bool.{eqb-true, false≢true, le-leb, lt-ltb, ne_eqb}
+pub use Rattle.std.proofs.lemmas.Bool.Decides.{nat_tests}
+pub use Rattle.std.proofs.lemmas.Grind.{get_or-set_at}
+pub use Rattle.std.proofs.lemmas.List.{get_or-map, get_or-set_other, get_or-set_same, get_or-take, get_or_default, get_or_past, length-map}
+pub use Rattle.std.proofs.lemmas.List.{length-replicate, length-set, map-set, same_lists, set-get_or, set-set, set_past}
+pub use Rattle.std.specs.List.{find, list_any}

@@ -1,13 +1,13 @@
 -- A call that is refused changes nothing but a0, a1, pc, and what every trap and return change.
-use Rattle.std.proofs.Common.{◌≡◌, ℕ, Bool, true, false, List, slice_set, Option, Some, None, refl, sym, ◌∙◌, ap, subst, arith}
+use Rattle.std.proofs.Common.{◌≡◌, ℕ, List, slice_set, Option, Some, None, refl, sym, ◌∙◌, ap, subst, arith}
 use Rattle.std.specs.Prelude.{◌||◌}
+use Rattle.std.proofs.Math.Bool.{or-false}
 use Rattle.rv_state.specs.declared.cause.Cause.TheVariants as causes
-use Rattle.rv_enclaves.proofs.Prelude.{first_refusal}
+use Rattle.rv_monitor.specs.Prelude.{Call, Cause, EnvironmentCallFromS, NotSupported, Outcome, Refusal, Seat, Shared, StepOutcome, Trap}
+use Rattle.rv_monitor.specs.Prelude.{aligned_to_4, asked_in, first_refusal, is_set, option_case, step, sum_of}
 use Rattle.rv_monitor.specs.Refused.{refusal_of, refused_hart, RefusalLaw}
-use Rattle.rv_monitor.proofs.Prelude.{IsOwn, Machine, MonitoredState, MonitoredStepped, aligned_to_4, asked_in, bare, call_handled, call_refusals}
-use Rattle.rv_monitor.proofs.Prelude.{called, handled, handled_cause, is_set, monitored_step, option_case, refused, returned, seen_by, step, sum_of}
-use Rattle.rv_monitor.proofs.Prelude.{with_layout}
-use Rattle.rv_monitor.proofs.Types.{Call, Cause, EnvironmentCallFromS, NotSupported, Outcome, Refusal, Seat, Shared, StepOutcome, Trap}
+use Rattle.rv_monitor.proofs.Prelude.{IsOwn, Machine, MonitoredState, MonitoredStepped, bare, call_handled, call_refusals, called, handled}
+use Rattle.rv_monitor.proofs.Prelude.{handled_cause, monitored_step, refused, returned, seen_by, with_layout}
 use Rattle.rv_monitor.proofs.Kept.{own_kept}
 use Rattle.rv_monitor.proofs.LastAct.{all_as_are}
 use Rattle.rv_monitor.proofs.Places.{is_trapping, laid_by}
@@ -32,10 +32,6 @@ module _ (seat : Seat) (shared : Shared) (refusal : Refusal) where
 
 -- ---- the step
 
-pub or_none : (b : Bool) → (b || false) ≡ b
-or_none true = refl
-or_none false = refl
-
 again_aligned : (pc : ℕ) → aligned_to_4 (sum_of (aligned_to_4 pc) 4) ≡ sum_of (aligned_to_4 pc) 4
 again_aligned pc = omega arith
 
@@ -50,7 +46,7 @@ module _ (state : MonitoredState) (kept : IsOwn state) (trap : Trap) (refusal : 
       let mprv = kept.layout.mprv in
       let entries = kept.layout.entries in
       let mie = kept.layout.mie in
-      rw (again_aligned hart.pc, or_none (is_set hart.csrs.mcountinhibit 0), mprv, ← entries, ← mie) refl
+      rw (again_aligned hart.pc, or-false (is_set hart.csrs.mcountinhibit 0), mprv, ← entries, ← mie) refl
 
   abbrev Refused : MonitoredStepped → Type 0
   Refused after = (after.state ≡ refused_state) × (after.outcome.entered ≡ None)

@@ -1,20 +1,16 @@
 -- From the step with which the host of a hart enters an enclave to the one with which the enclave leaves, whatever steps of the harts lie
 -- between.
-use Rattle.std.proofs.Common.{◌≡◌, ◌<◌, ℕ, true, false, List, [], ◌∷◌, Option, Some, None, IfSome, refl, sym, ap, ◌∙◌, subst, inl, inr}
+use Rattle.std.proofs.Common.{◌≡◌, ◌<◌, ℕ, true, false, List, [], ◌∷◌, Option, Some, None, refl, sym, ap, ◌∙◌, subst, inl, inr}
 use Rattle.std.specs.Prelude.{not, is_some}
-use Rattle.std.proofs.lemmas.Bool.{both_ways, cases_eq, cases_lt}
-use Rattle.rv_enclaves.proofs.Prelude.{is_host}
+use Rattle.rv_monitor.specs.Prelude.{Context, S, Seat, is_host, with_answer}
 use Rattle.rv_monitor.specs.Refused.{past_ecall}
 use Rattle.rv_monitor.specs.Returns.{RunsThrough, HostComesBack, ReturnLaw}
-use Rattle.rv_monitor.proofs.Prelude.{HostIsStored, IsKept, IsStored, KeepsHost, Machine, MonitoredState, MonitoredStepped, StaysOrSwitches, count_of}
-use Rattle.rv_monitor.proofs.Prelude.{monitored_step, reason, saved, sched, seat_of, seen_by, step_of, value, with_answer}
-use Rattle.rv_monitor.proofs.Types.{Context, S, Seat}
+use Rattle.rv_monitor.proofs.Prelude.{HostIsStored, IsKept, KeepsHost, Machine, MonitoredState, MonitoredStepped, StaysOrSwitches}
+use Rattle.rv_monitor.proofs.Prelude.{both_ways, cases_eq, cases_lt, count_of, monitored_step, reason, saved, sched, seat_of, seen_by}
+use Rattle.rv_monitor.proofs.Prelude.{step_of, value}
 use Rattle.rv_monitor.proofs.Kept.{kept_law, sched_kept}
 use Rattle.rv_monitor.proofs.Places.{past_seat, step_beside, step_count, step_seen}
-use Rattle.rv_monitor.proofs.Switched.{kept_between, switch_law}
-
-abbrev pub KeptStored : Option Context → Type 0
-KeptStored o = IfSome o (λ context. IsStored context.supervisor)
+use Rattle.rv_monitor.proofs.Switched.{KeptStored, kept_between, switch_law}
 
 -- while the host runs nothing is kept of it
 nothing_kept : (o : Option Context) → is_some o ≡ false → KeptStored o

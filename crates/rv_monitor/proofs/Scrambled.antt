@@ -5,9 +5,9 @@ use Rattle.rv_enclaves.specs.Scramble.{can_scramble, scrambled_shared}
 use Rattle.rv_enclaves.proofs.Scrambled.{scrambled_sound, scrambled_agrees}
 use Rattle.rv_enclaves.proofs.ScrambledTwice.{shared_twice}
 use Rattle.rv_enclaves.proofs.Alike.{itself}
+use Rattle.rv_monitor.specs.Prelude.{Shared}
 use Rattle.rv_monitor.specs.Scrambled.{scrambled, ScrambleLaw}
 use Rattle.rv_monitor.proofs.Prelude.{AgreeBut, IsKept, Machine, worlds}
-use Rattle.rv_monitor.proofs.Types.{Shared}
 use Rattle.rv_monitor.proofs.Agreeing.{agrees_itself, shared_agree}
 
 -- ---- the machine

@@ -1,21 +1,20 @@
 -- A step of one hart keeps what is true in every state, of it and of what it shares.
 use Rattle.std.proofs.Common.{◌≡◌, ℕ, false, List, ◌∷◌, Option, Some, None, IfSome, length, refl, sym, ap, ◌∙◌, subst, inl, inr, arith}
 use Rattle.std.specs.Prelude.{◌%◌, IfNone}
-use Rattle.std.proofs.lemmas.Bool.{cases_lt}
-use Rattle.std.proofs.lemmas.List.{get_or_past}
 use Rattle.std.proofs.lemmas.List.FromFn.{get_or-map-range_with_len}
 use Rattle.rv_state.specs.MachineParts.{machine_parts}
 use Rattle.rv_hart.specs.StepLaws.{TrapKeeps, StaysBelow}
 use Rattle.rv_enclaves.proofs.Kept.{entry_is_plain}
-use Rattle.rv_enclaves.proofs.Prelude.{IsSound, Slots, entry_at, layout}
-use Rattle.rv_hart.proofs.StepLaws.{keeps_mprv_clear, keeps_machine_parts}
-use Rattle.rv_monitor.specs.State.{HasLayout}
-use Rattle.rv_pmp.specs.Entries.{cfg_of}
 use Rattle.rv_memory.proofs.MemoryLaws.{length-write}
-use Rattle.rv_monitor.proofs.Prelude.{AgreeOn, CsrState, Handled, Hart, HasNoLock, IsConfined, IsOwn, IsSeated, KeepsHost, MonitoredState}
-use Rattle.rv_monitor.proofs.Prelude.{MonitoredStepped, SameIn, State, Stepped, Stores, aligned_to_4, bare, confined, handled, monitored_step}
-use Rattle.rv_monitor.proofs.Prelude.{returned, returned_to, seated, sound_by_size, step, unhandled}
-use Rattle.rv_monitor.proofs.Types.{Seat, Shared, Span, StepOutcome, Trap, World}
+use Rattle.rv_memory.specs.declared.touched.Touched.{Touched}
+use Rattle.rv_state.specs.declared.mstatus.Mstatus.{Mstatus}
+use Rattle.rv_monitor.specs.Prelude.{CsrState, Hart, IsSound, Seat, Shared, Slots, Span, State, StepOutcome, Stepped, Trap, World}
+use Rattle.rv_monitor.specs.Prelude.{aligned_to_4, entry_at, is_machine, layout, mie_of, step}
+use Rattle.rv_monitor.specs.State.{laid_out}
+use Rattle.rv_monitor.proofs.Prelude.{AgreeOn, Handled, HasLayout, HasNoLock, IsConfined, IsOwn, IsSeated, KeepsHost, MonitoredState}
+use Rattle.rv_monitor.proofs.Prelude.{MonitoredStepped, SameIn, Stores, bare, cases_lt, cfg_of, confined, get_or_past, handled}
+use Rattle.rv_monitor.proofs.Prelude.{keeps_machine_parts, keeps_mprv_clear, monitored_step, returned, returned_to, seated, sound_by_size}
+use Rattle.rv_monitor.proofs.Prelude.{unhandled}
 use Rattle.rv_monitor.proofs.Ready.{IsTrapped, IsDone, IsLaidOut, handled_done, handled_laid_out}
 use Rattle.rv_monitor.proofs.TrapSteps.{by_step, hart_after, seat_after}
 
@@ -54,31 +53,28 @@ stored_size : (bytes old new : List ℕ) (span : Option Span) → Stores bytes o
 stored_size bytes old new None stores = sym (ap length stores)
 stored_size bytes old new (Some span) stores = sym (length-write old span.addr bytes new stores.1)
 
-pub same_in : (m : List ℕ) (span : Option Span) → SameIn m m span
+same_in : (m : List ℕ) (span : Option Span) → SameIn m m span
 same_in m None = tt
 same_in m (Some span) = refl
 
+pub agrees_itself : (m : List ℕ) (touched : Touched) → AgreeOn m m touched
+agrees_itself m touched = record { size = refl; fetched = same_in m touched.fetched; loaded = same_in m touched.loaded }
+
 pub step_size : (before : State) (after : Stepped) → IsConfined before after → length before.memory ≡ length after.state.memory
 step_size before after confined =
-    let agree : AgreeOn before.memory before.memory after.outcome.touched =
-    record { size = refl; fetched = same_in before.memory after.outcome.touched.fetched; loaded = same_in before.memory after.outcome.touched.loaded } in
+    let agree = agrees_itself before.memory after.outcome.touched in
     stored_size confined.bytes before.memory after.state.memory after.outcome.touched.stored (confined.alike before.memory agree).here
 
 multiple : (n : ℕ) → aligned_to_4 n % 4 ≡ 0
 multiple n = omega arith
 
-same_pmp : (a b : CsrState) → machine_parts a ≡ machine_parts b → a.pmp ≡ b.pmp
+same_parts : (a b : CsrState) → machine_parts a ≡ machine_parts b
+    → (a.pmp ≡ b.pmp) × (a.mie ≡ b.mie) × (a.mstatus.mie ≡ b.mstatus.mie) × (a.mstatus.tvm ≡ b.mstatus.tvm) × (a.mstatus.tw ≡ b.mstatus.tw)
+    × (a.mstatus.tsr ≡ b.mstatus.tsr)
 unfolding machine_parts
-same_pmp a b is = ap (λ (c : CsrState). c.pmp) is
-
-same_mie : (a b : CsrState) → machine_parts a ≡ machine_parts b → a.mie ≡ b.mie
-unfolding machine_parts
-same_mie a b is = ap (λ (c : CsrState). c.mie) is
-
-same_status : (a b : CsrState) → machine_parts a ≡ machine_parts b
-    → (a.mstatus.mie ≡ b.mstatus.mie) × (a.mstatus.tvm ≡ b.mstatus.tvm) × (a.mstatus.tw ≡ b.mstatus.tw) × (a.mstatus.tsr ≡ b.mstatus.tsr)
-unfolding machine_parts
-same_status a b is = (
+same_parts a b is = (
+  ap (λ (c : CsrState). c.pmp) is,
+  ap (λ (c : CsrState). c.mie) is,
   ap (λ (c : CsrState). c.mstatus.mie) is,
   ap (λ (c : CsrState). c.mstatus.tvm) is,
   ap (λ (c : CsrState). c.mstatus.tw) is,
@@ -91,29 +87,31 @@ stays_if (Some t) P is p = cc
 
 -- ---- a seat
 
--- laid out by another table
-pub laid_seated : (before after : Slots) (seat : Seat) → IsSeated before seat → IsSeated after (seated after seat)
-laid_seated before after seat is =
-    let host = is.host in
-    let layout = is.layout in
-    record {
-      host = record { kept = host.kept; held = host.held };
-      layout = record {
-        entries = refl;
-        mie = refl;
-        mode = layout.mode;
-        mstatus_mie = layout.mstatus_mie;
-        mprv = layout.mprv;
-        tvm = layout.tvm;
-        tw = layout.tw;
-        tsr = layout.tsr;
-      };
-    }
-
 -- with another hart, of which the entries, mie, the mode and mstatus are so
 hart_seated : (slots : Slots) (seat : Seat) (hart : Hart) → KeepsHost seat → HasLayout slots (record seat { hart = hart })
     → IsSeated slots (record seat { hart = hart })
 hart_seated slots seat hart host layout = record { host = record { kept = host.kept; held = host.held }; layout = layout }
+
+-- with one that keeps the mode and mstatus, and has the entries and mie of a table, which may be another
+pub seated_by : (before after : Slots) (seat : Seat) (hart : Hart) → IsSeated before seat → hart.csrs.pmp ≡ layout after seat.world
+    → hart.csrs.mie ≡ mie_of seat.world → hart.mode ≡ seat.hart.mode → hart.csrs.mstatus ≡ seat.hart.csrs.mstatus
+    → IsSeated after (record seat { hart = hart })
+seated_by before after seat hart is entries mie mode status =
+    let own = is.layout in
+    hart_seated after seat hart is.host (record {
+      entries = entries;
+      mie = mie;
+      mode = ap is_machine mode ∙ own.mode;
+      mstatus_mie = ap (λ (s : Mstatus). s.mie) status ∙ own.mstatus_mie;
+      mprv = ap (λ (s : Mstatus). s.mprv) status ∙ own.mprv;
+      tvm = ap (λ (s : Mstatus). s.tvm) status ∙ own.tvm;
+      tw = ap (λ (s : Mstatus). s.tw) status ∙ own.tw;
+      tsr = ap (λ (s : Mstatus). s.tsr) status ∙ own.tsr;
+    })
+
+-- laid out by another table
+pub laid_seated : (before after : Slots) (seat : Seat) → IsSeated before seat → IsSeated after (seated after seat)
+laid_seated before after seat is = seated_by before after seat (laid_out after seat.world seat.hart) is refl refl refl refl
 
 -- ---- a step of one hart, by who runs on the others
 
@@ -149,18 +147,18 @@ module _ (beside : List World) (seat : Seat) (shared : Shared) (sound : IsSound 
       → KeptBeside beside (unhandled after.outcome (record seat { hart = after.state.hart }) (record shared { memory = after.state.memory }))
   quiet_kept after confined below mprv =
       let hart = after.state.hart in
-      let status = same_status hart.csrs seat.hart.csrs below.0 in
+      let parts = same_parts hart.csrs seat.hart.csrs below.0 in
       let layout = is.layout in (
         sound_by_size shared (seat.world ∷ beside) after.state.memory sound (step_size (bare state) after confined),
         hart_seated shared.table seat hart is.host (record {
-          entries = same_pmp hart.csrs seat.hart.csrs below.0 ∙ layout.entries;
-          mie = same_mie hart.csrs seat.hart.csrs below.0 ∙ layout.mie;
+          entries = parts.0 ∙ layout.entries;
+          mie = parts.1 ∙ layout.mie;
           mode = below.1;
-          mstatus_mie = status.0 ∙ layout.mstatus_mie;
+          mstatus_mie = parts.2 ∙ layout.mstatus_mie;
           mprv = mprv;
-          tvm = status.1 ∙ layout.tvm;
-          tw = status.2 ∙ layout.tw;
-          tsr = status.3 ∙ layout.tsr;
+          tvm = parts.3 ∙ layout.tvm;
+          tw = parts.4 ∙ layout.tw;
+          tsr = parts.5 ∙ layout.tsr;
         }),
       )
 

@@ -1,16 +1,12 @@
 -- What a step does to the world and to what is kept of the host.
 use Rattle.std.proofs.Common.{◌≡◌, ℕ, ◌==◌, ◌⊎◌, true, false, List, Option, Some, None, IfSome, refl, sym, ap, ◌∙◌, subst, inl, inr, arith}
 use Rattle.std.specs.Prelude.{◌%◌, ◌&&◌, not}
-use Rattle.std.proofs.lemmas.Bool.{and_parts, both_ways}
-use Rattle.std.proofs.lemmas.Bool.Decides.{nat_tests}
-use Rattle.rv_state.specs.SContexts.{s_context, with_s_context}
 use Rattle.rv_state.specs.declared.s_context.SContext.{SContext}
-use Rattle.rv_enclaves.proofs.Prelude.{can_go_on, is_host}
-use Rattle.rv_monitor.specs.SwitchLaws.{SwitchLaw}
-use Rattle.rv_monitor.proofs.Prelude.{CsrState, Handled, HostIsStored, IsStored, KeepsHost, KeepsOwn, MonitoredState, StaysOrSwitches, a0}
-use Rattle.rv_monitor.proofs.Prelude.{aligned_to_4, bare, entered_slot, handled, is_machine, left_slot, monitored_step, past_call, reason, returned}
-use Rattle.rv_monitor.proofs.Prelude.{saved, step, value, with_answer}
-use Rattle.rv_monitor.proofs.Types.{Context, Enclave, Host, Mode, S, Seat, Shared, StepOutcome, Trap}
+use Rattle.rv_monitor.specs.Prelude.{Context, CsrState, Enclave, Host, IsStored, KeepsOwn, Mode, S, Seat, Shared, StepOutcome, Trap}
+use Rattle.rv_monitor.specs.Prelude.{aligned_to_4, can_go_on, is_host, is_machine, s_context, step, with_answer, with_s_context}
+use Rattle.rv_monitor.proofs.Prelude.{Handled, HostIsStored, KeepsHost, MonitoredState, StaysOrSwitches, SwitchLaw, a0, and_parts, bare}
+use Rattle.rv_monitor.proofs.Prelude.{both_ways, entered_slot, handled, left_slot, monitored_step, nat_tests, past_call, reason, returned}
+use Rattle.rv_monitor.proofs.Prelude.{saved, value}
 use Rattle.rv_monitor.proofs.TrapSteps.{by_step, seat_after}
 use Rattle.rv_monitor.proofs.Works.{by_work}
 
@@ -29,26 +25,25 @@ pub record EntersFrom (seat : Seat) (h : Handled) : Type 0 where
   pub entered : h.next.entered ≡ Some slot
 
 -- the host is told two words
-pub record LeavesFor (seat : Seat) (x y : ℕ) (h : Handled) : Type 0 where
+pub record LeavesFor (seat : Seat) (trap : Trap) (h : Handled) : Type 0 where
   pub slot : ℕ
   pub host : Context
   pub from_enclave : seat.world ≡ Enclave slot
   pub kept : seat.host_context ≡ Some host
   pub world : h.seat.world ≡ Host
-  pub regs : h.seat.hart.regs ≡ with_answer host.regs x y
+  pub regs : h.seat.hart.regs ≡ with_answer host.regs (reason trap.cause seat.hart.regs) (value trap.cause seat.hart.regs)
   pub pc : h.next.pc ≡ host.pc
   pub mode : h.next.mode ≡ host.mode
   pub supervisor : s_context h.seat.hart.csrs ≡ s_context (with_s_context seat.hart.csrs host.supervisor)
   pub forgotten : h.seat.host_context ≡ None
   pub entered : h.next.entered ≡ None
 
-abbrev Turns : Seat → ℕ → ℕ → Handled → Type 0
-Turns seat x y h = StaysIn seat h ⊎ (EntersFrom seat h ⊎ LeavesFor seat x y h)
+abbrev pub Turns : Seat → Trap → Handled → Type 0
+Turns seat trap h = StaysIn seat h ⊎ (EntersFrom seat h ⊎ LeavesFor seat trap h)
 
-pub handled_turns : (seat : Seat) (shared : Shared) (trap : Trap)
-    → Turns seat (reason trap.cause seat.hart.regs) (value trap.cause seat.hart.regs) (handled seat shared trap)
+pub handled_turns : (seat : Seat) (shared : Shared) (trap : Trap) → Turns seat trap (handled seat shared trap)
 unfolding entered_slot left_slot
-handled_turns seat shared trap = by_work seat trap shared (Turns seat (reason trap.cause seat.hart.regs) (value trap.cause seat.hart.regs)) (record {
+handled_turns seat shared trap = by_work seat trap shared (Turns seat trap) (record {
   refuses = λ refusal. inl (record { world = refl; host = refl; entered = refl });
   creates = λ asks may. inl (record { world = refl; host = refl; entered = refl });
   destroys = λ asks taken. inl (record { world = refl; host = refl; entered = refl });
@@ -76,26 +71,26 @@ handled_turns seat shared trap = by_work seat trap shared (Turns seat (reason tr
 pub own_stored : (c : CsrState) → KeepsOwn c → IsStored (s_context c)
 own_stored c own = record { stvec = ap (λ (x : CsrState). x.stvec) own; sepc = ap (λ (x : CsrState). x.sepc) own }
 
-abbrev KeptStored : Option Context → Type 0
+abbrev pub KeptStored : Option Context → Type 0
 KeptStored o = IfSome o (λ context. IsStored context.supervisor)
 
-stored_by : (seat : Seat) (x y : ℕ) (h : Handled) → Turns seat x y h → HostIsStored seat → KeepsOwn seat.hart.csrs → HostIsStored h.seat
-stored_by seat x y h (inl stays) stored own = subst KeptStored (sym stays.host) stored
-stored_by seat x y h (inr (inl enters)) stored own = subst KeptStored (sym enters.host) (own_stored seat.hart.csrs own)
-stored_by seat x y h (inr (inr leaves)) stored own = subst KeptStored (sym leaves.forgotten) tt
+stored_by : (seat : Seat) (trap : Trap) (h : Handled) → Turns seat trap h → HostIsStored seat → KeepsOwn seat.hart.csrs → HostIsStored h.seat
+stored_by seat trap h (inl stays) stored own = subst KeptStored (sym stays.host) stored
+stored_by seat trap h (inr (inl enters)) stored own = subst KeptStored (sym enters.host) (own_stored seat.hart.csrs own)
+stored_by seat trap h (inr (inr leaves)) stored own = subst KeptStored (sym leaves.forgotten) tt
 
 pub handled_stored : (seat : Seat) (shared : Shared) (trap : Trap) → HostIsStored seat → KeepsOwn seat.hart.csrs
     → HostIsStored (handled seat shared trap).seat
 handled_stored seat shared trap stored own =
-    stored_by seat (reason trap.cause seat.hart.regs) (value trap.cause seat.hart.regs) (handled seat shared trap) (handled_turns seat shared trap) stored own
+    stored_by seat trap (handled seat shared trap) (handled_turns seat shared trap) stored own
 
 -- ---- an enclave that runs before and after leaves it
 
-runs_on : (seat : Seat) (x y : ℕ) (h : Handled) → Turns seat x y h → is_host seat.world ≡ false → is_host h.seat.world ≡ false
+runs_on : (seat : Seat) (trap : Trap) (h : Handled) → Turns seat trap h → is_host seat.world ≡ false → is_host h.seat.world ≡ false
     → h.seat.host_context ≡ seat.host_context
-runs_on seat x y h (inl stays) before after = stays.host
-runs_on seat x y h (inr (inl enters)) before after = absurd (both_ways _ before (ap is_host enters.from_host))
-runs_on seat x y h (inr (inr leaves)) before after = absurd (both_ways _ after (ap is_host leaves.world))
+runs_on seat trap h (inl stays) before after = stays.host
+runs_on seat trap h (inr (inl enters)) before after = absurd (both_ways _ before (ap is_host enters.from_host))
+runs_on seat trap h (inr (inr leaves)) before after = absurd (both_ways _ after (ap is_host leaves.world))
 
 pub kept_between : (state : MonitoredState) → is_host state.seat.world ≡ false → is_host (monitored_step state).state.seat.world ≡ false
     → (monitored_step state).state.seat.host_context ≡ state.seat.host_context
@@ -103,8 +98,7 @@ kept_between state before = by_step state (λ after. is_host after.state.seat.wo
     (λ none after. refl)
     (λ trap is after.
     let seat = seat_after state.seat trap in
-    runs_on seat (reason trap.cause seat.hart.regs) (value trap.cause seat.hart.regs) (handled seat state.shared trap)
-    (handled_turns seat state.shared trap) before after)
+    runs_on seat trap (handled seat state.shared trap) (handled_turns seat state.shared trap) before after)
 
 -- ---- the step
 
@@ -125,8 +119,7 @@ same_context host regs pc mode supervisor told_regs regs_is pc_is mode_is superv
 
 module _ (state : MonitoredState) (kept : KeepsHost state.seat) (stored : HostIsStored state.seat) (trap : Trap) where
   returned_turns : (outcome : StepOutcome) (h : Handled) → outcome.trap ≡ Some trap
-      → Turns (seat_after state.seat trap) (reason trap.cause state.seat.hart.regs) (value trap.cause state.seat.hart.regs) h
-      → StaysOrSwitches state (returned outcome h)
+      → Turns (seat_after state.seat trap) trap h → StaysOrSwitches state (returned outcome h)
   returned_turns outcome h trapped_is (inl stays) = inl (record { world = stays.world; host = stays.host; entered = stays.entered })
   returned_turns outcome h trapped_is (inr (inl enters)) =
       inr (inl (record { slot = enters.slot; from_host = enters.from_host; world = enters.world; host = enters.host; entered = enters.entered }))

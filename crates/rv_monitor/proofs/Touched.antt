@@ -1,12 +1,12 @@
 -- What a step's instruction touches is in the reach of the world that runs.
 use Rattle.std.proofs.Common.{◌≡◌, ◌≢◌, ◌⊎◌, ℕ, false, Option, Some, None, Result, Ok, Err, refl, sym, ◌∙◌, subst, inl, inr}
-use Rattle.rv_word.specs.declared.width.Width.TheVariants.{Word}
-use Rattle.rv_hart.specs.Step.{retired_or_trapped, span}
 use Rattle.rv_hart.proofs.StepCases.{by_ways}
+use Rattle.rv_memory.specs.declared.touched.Touched.{Touched}
+use Rattle.rv_monitor.specs.Prelude.{Access, Fetch, Hart, Mode, Read, Span, State, Stepped, Trap, Word, Write, data_mode, is_machine}
+use Rattle.rv_monitor.specs.Prelude.{retired_or_trapped, span, step}
 use Rattle.rv_monitor.specs.Touches.{executes, IsReached, IsTouchedInReach, TouchLaw}
-use Rattle.rv_monitor.proofs.Prelude.{Hart, IsOwn, MayTouch, MonitoredState, State, Stepped, bare, data_mode, step, touches_permitted}
-use Rattle.rv_monitor.proofs.Types.{Access, Fetch, M, Mode, Read, Span, Touched, Trap, Write}
-use Rattle.rv_monitor.proofs.KeptReaches.{kept_reach, below_M, clear_mode}
+use Rattle.rv_monitor.proofs.Prelude.{IsOwn, MayTouch, MonitoredState, bare, touches_permitted}
+use Rattle.rv_monitor.proofs.KeptReaches.{below_M, data_below, kept_reach}
 use Rattle.rv_monitor.proofs.TrapSteps.{same_outcome}
 
 -- ---- what is fetched
@@ -37,25 +37,20 @@ fetches_at_pc state = by_ways state (FetchesAtPc state.hart.pc) (record {
 -- ---- what is touched
 
 module _ (state : MonitoredState) (kept : IsOwn state) where
-  reached : (mode : Mode) (access : Access) (o : Option Span) → mode ≢ M → MayTouch (bare state) mode access o → IsReached state access o
+  reached : (mode : Mode) (access : Access) (o : Option Span) → is_machine mode ≡ false → MayTouch (bare state) mode access o → IsReached state access o
   reached mode access None below may = tt
-  reached mode access (Some span) below may = sym (kept_reach state mode access span.addr span.len kept below may.0) ∙ may.1
-
-  own_below : state.seat.hart.mode ≢ M
-  own_below = below_M state.seat.hart.mode kept.layout.mode
-
-  data_below : data_mode state.seat.hart ≢ M
-  data_below = below_M (data_mode state.seat.hart) (rw (clear_mode state.seat.hart kept.layout.mprv) kept.layout.mode)
+  reached mode access (Some span) below may = sym (kept_reach state mode access span.addr span.len kept (below_M mode below) may.0) ∙ may.1
 
   touched_in_reach : IsTouchedInReach state (step (bare state)).outcome
   touched_in_reach =
       let may = touches_permitted (bare state) in
+      let below = data_below state kept in
       let touched = (step (bare state)).outcome.touched in
       record {
         at_pc = fetches_at_pc (bare state);
-        fetched = reached state.seat.hart.mode Fetch touched.fetched own_below may.fetched;
-        loaded = reached (data_mode state.seat.hart) Read touched.loaded data_below may.loaded;
-        stored = reached (data_mode state.seat.hart) Write touched.stored data_below may.stored;
+        fetched = reached state.seat.hart.mode Fetch touched.fetched kept.layout.mode may.fetched;
+        loaded = reached (data_mode state.seat.hart) Read touched.loaded below may.loaded;
+        stored = reached (data_mode state.seat.hart) Write touched.stored below may.stored;
       }
 
 pub touch_law : TouchLaw

@@ -1,10 +1,9 @@
 -- A step that traps: the hart's own step is the trap alone, and the monitor's work follows it.
 use Rattle.std.proofs.Common.{◌≡◌, ℕ, false, List, Option, Some, None, IfSome, refl, sym, ap, ◌∙◌}
 use Rattle.rv_hart.specs.Hart.{step_counted}
-use Rattle.rv_hart.proofs.StepLaws.{trap_keeps}
 use Rattle.rv_hart.specs.Hart.{trapped}
-use Rattle.rv_monitor.proofs.Prelude.{Hart, MonitoredState, MonitoredStepped, bare, handled, monitored_step, option_case, returned, step, unhandled}
-use Rattle.rv_monitor.proofs.Types.{Seat, StepOutcome, Trap}
+use Rattle.rv_monitor.specs.Prelude.{Hart, Seat, StepOutcome, Trap, option_case, step}
+use Rattle.rv_monitor.proofs.Prelude.{MonitoredState, MonitoredStepped, bare, handled, monitored_step, returned, trap_keeps, unhandled}
 
 -- a hart after a trap that was counted
 abbrev pub hart_after : Hart → Trap → Hart

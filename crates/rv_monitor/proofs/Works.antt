@@ -2,23 +2,16 @@
 -- side, over one table and one size of memory, which have the same call, the same refusals and the same slot.
 use Rattle.std.proofs.Common.{◌≡◌, ℕ, Bool, true, false, List, [], ◌∷◌, length, Option, Some, None, refl, sym, ◌∙◌, subst, inl, inr, arith}
 use Rattle.std.specs.Prelude.{◌&&◌, ◌==◌, if◌then◌else◌}
-use Rattle.std.specs.List.{find}
-use Rattle.std.proofs.lemmas.Bool.{cases_Bool, cond-true, cond-false, and_parts}
-use Rattle.std.proofs.lemmas.Bool.Decides.{nat_tests}
 use Rattle.rv_state.specs.declared.cause.Cause.TheVariants as causes
-use Rattle.rv_state.specs.declared.cause.Exception.{Exception}
-use Rattle.rv_enclaves.specs.Calls.{asked_call, is_offered, calls, call_key}
-use Rattle.rv_enclaves.specs.declared.call.Call.TheVariants.{Run, Resume, Stop}
-use Rattle.rv_enclaves.proofs.Refusals.{MayMeasure, may_create, may_take, may_measure, same_create_refusals, same_measure_refusals}
-use Rattle.rv_enclaves.proofs.Prelude.{Contexts, Slots, created, destroyed, first_refusal, kept_context, measured, new_slot}
-use Rattle.rv_monitor.specs.Leaving.{line_after}
-use Rattle.rv_monitor.specs.Step.{performed, timer_stopped, handled_exception, trapped_pc, trapped_mode}
-use Rattle.rv_monitor.specs.Switches.{left, left_by}
-use Rattle.rv_monitor.proofs.Prelude.{Handled, IsTaken, MayCreate, a0, a1, answered, asked_in, call_handled, call_number, call_refusals, called}
-use Rattle.rv_monitor.proofs.Prelude.{entered_slot, exited_context, forwarded, handled, handled_cause, is_entering, measured_slot, option_case}
-use Rattle.rv_monitor.proofs.Prelude.{past_call, proposed, reason, refused, register, saved, state_after, stopped_context, value, with_layout}
-use Rattle.rv_monitor.proofs.Types.{Call, Cause, Context, Create, Destroy, Enclave, EnvironmentCallFromS, Exit, Host, Measure, NotSupported, Refusal}
-use Rattle.rv_monitor.proofs.Types.{Seat, Shared, Trap, World}
+use Rattle.rv_monitor.specs.Prelude.{Call, Cause, Context, Contexts, Create, Destroy, Enclave, EnvironmentCallFromS, Exception, Exit, Host}
+use Rattle.rv_monitor.specs.Prelude.{Measure, NotSupported, Refusal, Resume, Run, Seat, Shared, Slots, Stop, Trap, World, asked_call}
+use Rattle.rv_monitor.specs.Prelude.{asked_in, call_key, call_number, calls, created, destroyed, exited_context, first_refusal, is_offered}
+use Rattle.rv_monitor.specs.Prelude.{kept_context, measured, measured_slot, new_slot, option_case, proposed, register}
+use Rattle.rv_monitor.proofs.Prelude.{Handled, IsTaken, MayCreate, MayMeasure, a0, a1, and_parts, answered, call_handled, call_refusals}
+use Rattle.rv_monitor.proofs.Prelude.{called, cases_Bool, cond-false, cond-true, entered_slot, find, forwarded, handled, handled_cause}
+use Rattle.rv_monitor.proofs.Prelude.{handled_exception, is_entering, left, left_by, line_after, may_create, may_measure, may_take}
+use Rattle.rv_monitor.proofs.Prelude.{nat_tests, past_call, performed, reason, refused, same_create_refusals, same_measure_refusals, saved}
+use Rattle.rv_monitor.proofs.Prelude.{state_after, stopped_context, timer_stopped, trapped_mode, trapped_pc, value, with_layout}
 
 -- ---- the call that is asked for
 
@@ -51,11 +44,7 @@ entered-by-host : (world : World) (call : Call) → is_entering (Some call) ≡ 
 entered-by-host Host call enters offered = refl
 entered-by-host (Enclave k) Run enters offered = cc
 entered-by-host (Enclave k) Resume enters offered = cc
-entered-by-host (Enclave k) Create enters offered = cc
-entered-by-host (Enclave k) Destroy enters offered = cc
-entered-by-host (Enclave k) Measure enters offered = cc
-entered-by-host (Enclave k) Stop enters offered = cc
-entered-by-host (Enclave k) Exit enters offered = cc
+entered-by-host (Enclave k) _ enters offered = cc
 
 not_exit : (a6 : ℕ) → (call_number Stop == a6) ≡ true → (a6 == call_number Exit) ≡ false
 not_exit a6 is = grind (arith, nat_tests)
@@ -149,12 +138,8 @@ module _ (seat : Seat) (trap : Trap) (table : Slots) (m n : List ℕ) (cs ds : C
 
     same-rows : (call : Call) → call_refusals seat here call ≡ call_refusals seat there call
     same-rows Create = same_create_refusals table m n cs ds (proposed seat.hart.regs) size
-    same-rows Destroy = refl
-    same-rows Run = refl
-    same-rows Resume = refl
     same-rows Measure = same_measure_refusals table m n cs ds seat.hart.csrs.pmp (measured_slot seat.world (a0 seat)) (a1 seat) size
-    same-rows Stop = refl
-    same-rows Exit = refl
+    same-rows _ = refl
 
     by-rows : (o : Option Refusal) (one other : Handled) → (o ≡ None → P one other)
         → P (option_case o one (refused seat here)) (option_case o other (refused seat there))

@@ -1,14 +1,8 @@
 -- What the entries of a hart permit in every state of the machine, and that it lies in no region but the world's own: the law of Reach with
 -- the entries as they stand. (A law of the monitor's definitions; Keystone, EuroSys 2020, in this project's profile.)
 use Rattle.std.specs.Prelude.{ℕ, ◌≡◌, ◌≢◌, true}
-use Rattle.rv_word.specs.Widths.{bytes_in}
 use Rattle.rv_word.specs.declared.width.Width.{Width}
-use Rattle.rv_pmp.specs.Verdicts.{bytes_from, permits, verdict}
-use Rattle.rv_pmp.specs.declared.access.Access.{Access}
-use Rattle.rv_pmp.specs.declared.mode.Mode.{Mode}
-use Rattle.rv_pmp.specs.declared.mode.Mode.TheVariants.{M}
-use Rattle.rv_memory.specs.Memory.{is_inside}
-use Rattle.rv_enclaves.specs.Reach.{in_reach}
+use Rattle.rv_monitor.specs.Prelude.{Access, M, Mode, bytes_from, bytes_in, in_reach, is_inside, permits, verdict}
 use Rattle.rv_monitor.specs.State.{MonitoredState, IsOwn}
 
 -- in every such state the entries permit S and U exactly what is in reach

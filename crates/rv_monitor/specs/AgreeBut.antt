@@ -1,10 +1,8 @@
 -- Two monitored machines that agree but for what is private to one enclave: the bytes of its region, its context, and the hart
 -- on which it runs, if it runs. (No rule of a standard: what the laws of confidentiality speak of.)
 use Rattle.std.specs.Prelude.{◌≡◌, ℕ, Bool, false}
-use Rattle.rv_enclaves.specs.SharedButFor.{SharedButFor}
-use Rattle.rv_enclaves.specs.Table.{is_world_of}
+use Rattle.rv_monitor.specs.Prelude.{Seat, SharedButFor, is_world_of}
 use Rattle.rv_monitor.specs.State.{Machine, count_of, seat_of}
-use Rattle.rv_monitor.specs.declared.seat.Seat.{Seat}
 
 -- whether the enclave of slot e runs on a hart
 abbrev pub runs_on : ℕ → ℕ → Machine → Bool

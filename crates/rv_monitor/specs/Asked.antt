@@ -2,21 +2,13 @@
 -- context of the slot; of measure no byte, since its addresses alone decide. (A law of the monitor's definitions, no rule of a
 -- standard.)
 use Rattle.std.specs.Prelude.{◌≡◌, ℕ, Bool, true, false, length, slice_index, Option, Some, None, if◌then◌else◌}
-use Rattle.rv_state.specs.declared.cause.Cause.{Cause}
 use Rattle.rv_state.specs.declared.cause.Cause.TheVariants as causes
-use Rattle.rv_state.specs.declared.cause.Exception.TheVariants.{EnvironmentCallFromS}
-use Rattle.rv_hart.specs.declared.trap.Trap.{Trap}
-use Rattle.rv_enclaves.specs.Calls.{asked_in}
-use Rattle.rv_enclaves.specs.Contexts.{context_at}
-use Rattle.rv_enclaves.specs.Create.{bytes_of_block, proposed}
-use Rattle.rv_enclaves.specs.declared.call.Call.{Call}
-use Rattle.rv_enclaves.specs.declared.call.Call.TheVariants.{Create, Run, Resume}
-use Rattle.rv_enclaves.specs.declared.shared.Shared.{Shared}
+use Rattle.rv_monitor.specs.Prelude.{Call, Cause, Create, EnvironmentCallFromS, Resume, Run, Seat, Shared, Trap, asked_in, bytes_of_block}
+use Rattle.rv_monitor.specs.Prelude.{context_at, proposed}
 use Rattle.rv_monitor.specs.CallRefusals.{a0}
 use Rattle.rv_monitor.specs.State.{Machine, seat_of}
 use Rattle.rv_monitor.specs.Step.{MachineStepped, handled, step_of}
 use Rattle.rv_monitor.specs.Switches.{Handled}
-use Rattle.rv_monitor.specs.declared.seat.Seat.{Seat}
 
 -- the call that a trap asks for, if it is an ecall from S
 abbrev pub is_call : Cause → Bool

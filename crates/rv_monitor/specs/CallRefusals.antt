@@ -1,14 +1,7 @@
 -- Why a call is refused, call by call, and the words that its arguments stand in. (Keystone, EuroSys 2020, in this project's profile.)
 use Rattle.std.specs.Prelude.{ℕ, Bool, List, []}
-use Rattle.rv_state.specs.Registers.{register}
-use Rattle.rv_enclaves.specs.Create.{create_refusals, proposed}
-use Rattle.rv_enclaves.specs.Measure.{measure_refusals, measured_slot}
-use Rattle.rv_enclaves.specs.Refusals.{state_refusals}
-use Rattle.rv_enclaves.specs.declared.call.Call.{Call}
-use Rattle.rv_enclaves.specs.declared.call.Call.TheVariants.{Create, Destroy, Run, Resume, Measure, Stop, Exit}
-use Rattle.rv_enclaves.specs.declared.refusal.Refusal.{Refusal}
-use Rattle.rv_enclaves.specs.declared.shared.Shared.{Shared}
-use Rattle.rv_monitor.specs.declared.seat.Seat.{Seat}
+use Rattle.rv_monitor.specs.Prelude.{Call, Create, Destroy, Exit, Measure, Refusal, Resume, Run, Seat, Shared, Stop, create_refusals}
+use Rattle.rv_monitor.specs.Prelude.{measure_refusals, measured_slot, proposed, register, state_refusals}
 
 abbrev pub a0 : Seat → ℕ
 a0 seat = register seat.hart.regs 10

@@ -2,23 +2,8 @@
 -- that a destroy ends; and 32 bytes that a measure puts, each in the caller's reach. (A law of the monitor's definitions, no rule of a
 -- standard.)
 use Rattle.std.specs.Prelude.{◌≡◌, ◌⊎◌, ℕ, ◌+◌, ◌<◌, ◌≤◌, true, false, List, Option, Some, None}
-use Rattle.rv_word.specs.Widths.{bytes_in}
-use Rattle.rv_pmp.specs.Verdicts.{bytes_from}
-use Rattle.rv_pmp.specs.declared.access.Access.TheVariants.{Write}
-use Rattle.rv_memory.specs.Memory.{byte_at}
-use Rattle.rv_memory.specs.declared.touched.Span.{Span}
-use Rattle.rv_state.specs.Registers.{register}
-use Rattle.rv_hart.specs.declared.trap.Trap.{Trap}
-use Rattle.rv_enclaves.specs.Blocks.{has}
-use Rattle.rv_enclaves.specs.Calls.{asked_in}
-use Rattle.rv_enclaves.specs.Layout.{layout}
-use Rattle.rv_enclaves.specs.Measure.{measured_slot, measure_refusals}
-use Rattle.rv_enclaves.specs.Reach.{in_reach}
-use Rattle.rv_enclaves.specs.Refusals.{first_refusal}
-use Rattle.rv_enclaves.specs.Table.{Slots, region, is_live}
-use Rattle.rv_enclaves.specs.declared.call.Call.TheVariants.{Destroy, Measure}
-use Rattle.rv_enclaves.specs.declared.shared.Shared.{Shared}
-use Rattle.rv_enclaves.specs.declared.world.World.{World}
+use Rattle.rv_monitor.specs.Prelude.{Destroy, Measure, Shared, Slots, Span, Trap, World, Write, asked_in, byte_at, bytes_from, bytes_in}
+use Rattle.rv_monitor.specs.Prelude.{first_refusal, has, in_reach, is_live, layout, measure_refusals, measured_slot, region, register}
 use Rattle.rv_monitor.specs.Asked.{is_call}
 use Rattle.rv_monitor.specs.State.{MonitoredState, IsOwn}
 use Rattle.rv_monitor.specs.Step.{MonitoredStepped, monitored_step}

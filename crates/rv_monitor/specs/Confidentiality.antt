@@ -1,19 +1,12 @@
 -- A step of a hart depends on nothing that is private to an enclave that is not its world, wherever that enclave runs. (A law of the
 -- monitor's definitions, no rule of a standard.)
 use Rattle.std.specs.Prelude.{◌≡◌, ℕ, Bool, false, List}
-use Rattle.rv_hart.specs.State.{State, Stepped}
-use Rattle.rv_hart.specs.Step.{step}
-use Rattle.rv_hart.specs.declared.trap.Trap.{Trap}
-use Rattle.rv_enclaves.specs.SharedButFor.{AgreeOutside, SharedButFor, is_private}
-use Rattle.rv_enclaves.specs.Sound.{IsSound}
-use Rattle.rv_enclaves.specs.Table.{is_world_of}
-use Rattle.rv_enclaves.specs.declared.shared.Shared.{Shared}
-use Rattle.rv_enclaves.specs.declared.world.World.{World}
+use Rattle.rv_monitor.specs.Prelude.{AgreeOutside, IsSound, Seat, Shared, SharedButFor, State, Stepped, Trap, World, is_private}
+use Rattle.rv_monitor.specs.Prelude.{is_world_of, step}
 use Rattle.rv_monitor.specs.AgreeBut.{AgreeBut, SeatsAgreeBut, runs_on}
 use Rattle.rv_monitor.specs.State.{Machine, MonitoredState, IsKept, IsOwn}
 use Rattle.rv_monitor.specs.Step.{MachineStepped, handled, returned_to, step_of}
 use Rattle.rv_monitor.specs.Switches.{Handled}
-use Rattle.rv_monitor.specs.declared.seat.Seat.{Seat}
 
 -- ---- the monitor's work after a trap
 

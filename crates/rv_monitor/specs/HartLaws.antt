@@ -1,13 +1,11 @@
 -- The harts, whose steps take turns in any order: what is true of every order. (Laws of the monitor's definitions, no rule of a standard.)
 use Rattle.std.specs.Prelude.{◌≡◌, ◌⊎◌, ℕ, false, true, List, [], ◌∷◌}
-use Rattle.rv_memory.specs.Memory.{byte_at}
-use Rattle.rv_enclaves.specs.Table.{is_live}
+use Rattle.rv_monitor.specs.Prelude.{Outcome, byte_at, is_live}
 use Rattle.rv_monitor.specs.AgreeBut.{AgreeBut, runs_on}
 use Rattle.rv_monitor.specs.Changes.{IsChanged}
 use Rattle.rv_monitor.specs.Integrity.{enters, IsUntouched}
 use Rattle.rv_monitor.specs.State.{Machine, IsKept, seen_by}
 use Rattle.rv_monitor.specs.Step.{seen_after, step_of}
-use Rattle.rv_monitor.specs.declared.outcome.Outcome.{Outcome}
 
 -- the state after one step of each of these harts in turn, and what each showed
 pub record Scheduled : Type 0 where

@@ -1,11 +1,7 @@
 -- A step of a hart leaves what is private to an enclave that is not its world, where it neither enters nor ends it: its record, the bytes
 -- of its region, its kept context, and the hart on which it runs, if it runs. (A law of the monitor's definitions, no rule of a standard.)
 use Rattle.std.specs.Prelude.{ℕ, ◌≡◌, ◌==◌, Bool, true, false, Option, Some, None}
-use Rattle.rv_memory.specs.Memory.{byte_at}
-use Rattle.rv_enclaves.specs.Blocks.{has}
-use Rattle.rv_enclaves.specs.Contexts.{context_at}
-use Rattle.rv_enclaves.specs.Table.{slot_at, region, is_live}
-use Rattle.rv_enclaves.specs.declared.shared.Shared.{Shared}
+use Rattle.rv_monitor.specs.Prelude.{Shared, byte_at, context_at, has, is_live, region, slot_at}
 use Rattle.rv_monitor.specs.AgreeBut.{runs_on}
 use Rattle.rv_monitor.specs.State.{Machine, IsKept, seat_of, seated}
 use Rattle.rv_monitor.specs.Step.{MachineStepped, step_of}

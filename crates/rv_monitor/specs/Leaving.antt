@@ -2,25 +2,10 @@
 -- back, and of all else only its record's state, the timer's line after the timer, and what every trap and its return change are
 -- different. (A law of the monitor's definitions; Keystone, EuroSys 2020, in this project's profile.)
 use Rattle.std.specs.Prelude.{◌≡◌, ℕ, ◌==◌, Bool, false, List, map, slice_set, Some, None, if◌then◌else◌}
-use Rattle.rv_pmp.specs.declared.mode.Mode.TheVariants.{S}
-use Rattle.rv_state.specs.Bits.{aligned_to_4}
-use Rattle.rv_state.specs.CsrState.{CsrState}
-use Rattle.rv_state.specs.Registers.{register}
-use Rattle.rv_state.specs.SContexts.{with_s_context}
-use Rattle.rv_state.specs.declared.cause.Cause.{Cause}
 use Rattle.rv_state.specs.declared.cause.Cause.TheVariants as causes
-use Rattle.rv_hart.specs.HartState.{Hart}
-use Rattle.rv_hart.specs.declared.trap.Trap.{Trap}
-use Rattle.rv_enclaves.specs.Calls.{call_number}
-use Rattle.rv_enclaves.specs.Contexts.{exited_context, with_answer, with_context}
-use Rattle.rv_enclaves.specs.Layout.{layout, mie_of}
-use Rattle.rv_enclaves.specs.Table.{Slots, with_state}
-use Rattle.rv_enclaves.specs.declared.call.Call.TheVariants.{Exit}
-use Rattle.rv_enclaves.specs.declared.context.Context.{Context}
-use Rattle.rv_enclaves.specs.declared.shared.Shared.{Shared}
-use Rattle.rv_enclaves.specs.declared.slot_info.EnclaveState.{EnclaveState}
-use Rattle.rv_enclaves.specs.declared.slot_info.EnclaveState.TheVariants.{Stopped, Exited}
-use Rattle.rv_enclaves.specs.declared.world.World.TheVariants.{Host, Enclave}
+use Rattle.rv_monitor.specs.Prelude.{Cause, Context, CsrState, Enclave, EnclaveState, Exit, Exited, Hart, Host, S, Shared, Slots, Stopped}
+use Rattle.rv_monitor.specs.Prelude.{Trap, aligned_to_4, call_number, exited_context, layout, mie_of, register, with_answer, with_context}
+use Rattle.rv_monitor.specs.Prelude.{with_s_context, with_state}
 use Rattle.rv_monitor.specs.Switches.{saved}
 use Rattle.rv_monitor.specs.Refused.{passed_csrs, past_ecall}
 use Rattle.rv_monitor.specs.State.{Machine, IsKept, seat_of, seated}

@@ -1,3 +1,4 @@
+pub mod Prelude
 pub mod CallRefusals
 pub mod Refused
 pub mod State

@@ -2,28 +2,14 @@
 -- project's profile; the trap and the return: RISC-V Privileged Architecture 20211203, sections 3.1.6.1 and 3.1.14 to 3.1.16; the
 -- count of cycles: section 3.1.10.)
 use Rattle.std.specs.Prelude.{◌≡◌, ℕ, true, Option, Some, None}
-use Rattle.rv_word.specs.BitFields.{is_set}
-use Rattle.rv_word.specs.Cases.{option_case}
-use Rattle.rv_pmp.specs.declared.mode.Mode.TheVariants.{U, S}
-use Rattle.rv_state.specs.Bits.{aligned_to_4}
 use Rattle.rv_state.specs.Causes.{cause_code}
 use Rattle.rv_state.specs.Counters.{incremented}
-use Rattle.rv_state.specs.CsrState.{CsrState}
 use Rattle.rv_state.specs.declared.cause.Cause.TheVariants as causes
-use Rattle.rv_state.specs.declared.cause.Exception.TheVariants.{EnvironmentCallFromS}
-use Rattle.rv_hart.specs.Arithmetic.{sum_of}
-use Rattle.rv_hart.specs.HartState.{Hart}
-use Rattle.rv_hart.specs.declared.trap.Trap.{Trap}
-use Rattle.rv_enclaves.specs.Calls.{asked_in, status_of}
-use Rattle.rv_enclaves.specs.Contexts.{with_answer}
-use Rattle.rv_enclaves.specs.Refusals.{first_refusal}
-use Rattle.rv_enclaves.specs.declared.refusal.Refusal.{Refusal}
-use Rattle.rv_enclaves.specs.declared.refusal.Refusal.TheVariants.{NotSupported}
-use Rattle.rv_enclaves.specs.declared.shared.Shared.{Shared}
+use Rattle.rv_monitor.specs.Prelude.{CsrState, EnvironmentCallFromS, Hart, NotSupported, Refusal, S, Seat, Shared, Trap, U, aligned_to_4}
+use Rattle.rv_monitor.specs.Prelude.{asked_in, first_refusal, is_set, option_case, status_of, sum_of, with_answer}
 use Rattle.rv_monitor.specs.CallRefusals.{call_refusals}
 use Rattle.rv_monitor.specs.State.{Machine, IsKept, seat_of, with_seat}
 use Rattle.rv_monitor.specs.Step.{MachineStepped, step_of}
-use Rattle.rv_monitor.specs.declared.seat.Seat.{Seat}
 
 -- why an ecall from S is refused, if it is: where a7 and a6 ask for no call of the world, or by the table of the call
 unfoldable pub refusal_of : Seat → Shared → Option Refusal

@@ -2,10 +2,7 @@
 -- between: the host goes on as it was before the first, past its ecall, but for a0 and a1. (A law of the monitor's definitions; Keystone,
 -- EuroSys 2020, in this project's profile.)
 use Rattle.std.specs.Prelude.{◌≡◌, ℕ, true, false, List, [], ◌∷◌, Some}
-use Rattle.rv_pmp.specs.declared.mode.Mode.TheVariants.{S}
-use Rattle.rv_hart.specs.declared.trap.Trap.{Trap}
-use Rattle.rv_enclaves.specs.Contexts.{with_answer}
-use Rattle.rv_enclaves.specs.Table.{is_host}
+use Rattle.rv_monitor.specs.Prelude.{S, Trap, is_host, with_answer}
 use Rattle.rv_monitor.specs.HartLaws.{sched}
 use Rattle.rv_monitor.specs.Switches.{saved}
 use Rattle.rv_monitor.specs.Refused.{past_ecall}

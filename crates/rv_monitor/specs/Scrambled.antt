@@ -1,8 +1,8 @@
 -- The machine with every byte and register that is private to an enclave complemented: a state that agrees with the one before
 -- in all else. (No rule of a standard: what the second of two benches is made with.)
 use Rattle.std.specs.Prelude.{◌≡◌, ℕ, ◌<◌, ◌^◌, slice_index, IfSome}
-use Rattle.rv_enclaves.specs.Contexts.{context_at}
 use Rattle.rv_enclaves.specs.Scramble.{scrambled_shared}
+use Rattle.rv_monitor.specs.Prelude.{context_at}
 use Rattle.rv_monitor.specs.State.{Machine}
 
 abbrev pub scrambled : Machine → ℕ → Machine

@@ -1,17 +1,8 @@
 -- What a step does to the world and to what is kept of the host: the world goes on, or the host enters an enclave, or an enclave leaves
 -- and the host goes on as it was. (A law of the monitor's definitions; Keystone, EuroSys 2020, in this project's profile.)
 use Rattle.std.specs.Prelude.{◌≡◌, ℕ, ◌==◌, ◌⊎◌, List, Some, None, if◌then◌else◌}
-use Rattle.rv_pmp.specs.declared.mode.Mode.TheVariants.{S}
-use Rattle.rv_state.specs.Registers.{register}
-use Rattle.rv_state.specs.declared.cause.Cause.{Cause}
 use Rattle.rv_state.specs.declared.cause.Cause.TheVariants as causes
-use Rattle.rv_hart.specs.HartState.{Hart}
-use Rattle.rv_hart.specs.declared.trap.Trap.{Trap}
-use Rattle.rv_enclaves.specs.Calls.{call_number}
-use Rattle.rv_enclaves.specs.Contexts.{with_answer}
-use Rattle.rv_enclaves.specs.declared.call.Call.TheVariants.{Exit}
-use Rattle.rv_enclaves.specs.declared.context.Context.{Context}
-use Rattle.rv_enclaves.specs.declared.world.World.TheVariants.{Host, Enclave}
+use Rattle.rv_monitor.specs.Prelude.{Cause, Context, Enclave, Exit, Hart, Host, S, Trap, call_number, register, with_answer}
 use Rattle.rv_monitor.specs.Switches.{saved}
 use Rattle.rv_monitor.specs.Refused.{past_ecall}
 use Rattle.rv_monitor.specs.State.{MonitoredState, KeepsHost, HostIsStored}

@@ -1,20 +1,9 @@
 -- What a step's instruction touches: the word at pc that is fetched, and what it loads or stores, each in the reach of the world that
 -- runs. (A law of the monitor's definitions, no rule of a standard.)
 use Rattle.std.specs.Prelude.{◌≡◌, ◌⊎◌, Bool, true, false, Option, Some, None}
-use Rattle.rv_word.specs.Widths.{bytes_in}
-use Rattle.rv_word.specs.declared.width.Width.TheVariants.{Word}
-use Rattle.rv_pmp.specs.Verdicts.{bytes_from}
-use Rattle.rv_pmp.specs.declared.access.Access.{Access}
-use Rattle.rv_pmp.specs.declared.access.Access.TheVariants.{Fetch, Read, Write}
-use Rattle.rv_memory.specs.declared.touched.Span.{Span}
-use Rattle.rv_state.specs.declared.cause.Cause.{Cause}
 use Rattle.rv_state.specs.declared.cause.Cause.TheVariants as causes
-use Rattle.rv_state.specs.declared.cause.Exception.{Exception}
-use Rattle.rv_state.specs.declared.cause.Exception.TheVariants.{InstructionAccessFault}
-use Rattle.rv_hart.specs.Step.{span}
-use Rattle.rv_hart.specs.declared.trap.StepOutcome.{StepOutcome}
-use Rattle.rv_hart.specs.declared.trap.Trap.{Trap}
-use Rattle.rv_enclaves.specs.Reach.{in_reach}
+use Rattle.rv_monitor.specs.Prelude.{Access, Cause, Exception, Fetch, InstructionAccessFault, Read, Span, StepOutcome, Trap, Word, Write}
+use Rattle.rv_monitor.specs.Prelude.{bytes_from, bytes_in, in_reach, span}
 use Rattle.rv_monitor.specs.State.{MonitoredState, IsOwn}
 use Rattle.rv_monitor.specs.Step.{MonitoredStepped, monitored_step}
 

@@ -1,9 +1,9 @@
-use Rattle.std.proofs.Common.{sym, ap, ◌∙◌, subst}
+use Rattle.std.proofs.Common.{sym, ◌∙◌, subst}
 use Rattle.rv_state.specs.declared.cause.Cause.TheVariants as causes
 use Rattle.rv_state.specs.declared.cause.Interrupt.TheVariants.{MachineTimer}
+use Rattle.rv_monitor.specs.Prelude.{EnvironmentCallFromS, Seat}
 use Rattle.rv_monitor.proofs.Prelude.{HasNoLock}
-use Rattle.rv_monitor.proofs.Types.{EnvironmentCallFromS, Seat}
-use Rattle.rv_monitor.proofs.LastAct.{entries_of, work_entries}
+use Rattle.rv_monitor.proofs.LastAct.{work_unlocked}
 use Rattle.rv_monitor.proofs.handler.handle.Goals as goal
 use Rattle.rv_monitor.proofs.handler.handle.Goals.{in-Interrupt, in-Exception-EnvironmentCallFromS}
 
@@ -15,17 +15,7 @@ lay_out-requires c =
     let shared = c.args.shared.now in
     elim c.match-trap.branch [
       | in-Interrupt w ↦
-          subst P (sym w.seat-is)
-          (subst HasNoLock (sym (work_entries seat shared (record {
-            cause =
-                causes.Interrupt MachineTimer;
-            tval = 0;
-          })) ∙ ap entries_of w.stop_by_timer-next.ensures) c.requires.unlocked)
+          subst P (sym w.seat-is) (work_unlocked seat shared (causes.Interrupt MachineTimer) _ w.stop_by_timer-next.ensures c.requires.unlocked)
       | in-Exception-EnvironmentCallFromS w ↦
-          subst P (sym w.seat-is)
-          (subst HasNoLock (sym (work_entries seat shared (record {
-            cause =
-                causes.Exception EnvironmentCallFromS;
-            tval = 0;
-          })) ∙ ap entries_of w.call-next.ensures) c.requires.unlocked)
+          subst P (sym w.seat-is) (work_unlocked seat shared (causes.Exception EnvironmentCallFromS) _ w.call-next.ensures c.requires.unlocked)
     ]
