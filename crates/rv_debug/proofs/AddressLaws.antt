@@ -1,9 +1,8 @@
 -- What is in a set of addresses once one was put in, or taken out.
 use Rattle.std.proofs.Common.{◌≡◌, ℕ, ◌==◌, ltb, Bool, true, false, not, cond, ◌&&◌, ◌||◌, List, [], ◌∷◌, filter, refl, sym}
 use Rattle.std.proofs.Common.{◌∙◌, ap, arith}
-use Rattle.std.proofs.lemmas.Bool.Decides.{nat_tests}
 use Rattle.std.proofs.lemmas.List.Folds.{list_any-append}
-use Rattle.rv_debug.proofs.Prelude.{is_among, with_address, without_address}
+use Rattle.rv_debug.proofs.Prelude.{is_among, nat_tests, with_address, without_address}
 
 no_and : (b : Bool) → false ≡ (b && false)
 no_and true = refl

@@ -1,19 +1,15 @@
 -- Sets of addresses as lists that rise.
-use Rattle.std.proofs.Common.{◌≡◌, ◌≢◌, ℕ, zero, suc, ◌+◌, ◌-◌, ◌<◌, ◌≤◌, ◌==◌, ltb, Bool, true, false, cond, ◌||◌, List, []}
-use Rattle.std.proofs.Common.{◌∷◌, ◌++◌, length, take, drop, filter, get_or, Option, Some, None, Result, Ok, Err, MatchResult, refl, sym, ◌∙◌}
-use Rattle.std.proofs.Common.{ap, arith, inl, inr}
+use Rattle.std.proofs.Common.{◌≡◌, ◌≢◌, ℕ, zero, suc, ◌+◌, ◌-◌, ◌<◌, ◌≤◌, ◌==◌, ltb, Bool, true, false, cond, ◌||◌, List, [], ◌∷◌, ◌++◌}
+use Rattle.std.proofs.Common.{length, take, drop, filter, get_or, Option, Some, None, Result, Ok, Err, MatchResult, refl, sym, ◌∙◌, ap}
+use Rattle.std.proofs.Common.{arith, inl, inr, ap₂}
 use Rattle.std.specs.Prelude.{min}
-use Rattle.std.proofs.lemmas.Bool.{cases_lt}
-use Rattle.std.proofs.lemmas.Bool.Decides.{nat_tests}
 use Rattle.std.proofs.lemmas.List.Folds.{list_any_at}
 use Rattle.std.proofs.lemmas.List.Sorted.{searched}
 use Rattle.std.specs.List.Sorted.{IsBinarySearchResult}
 use Rattle.std.specs.Ordering.{nat_cmp}
 use Rattle.std.specs.Result.{is_ok}
-use Rattle.std.specs.List.{find, insert, remove}
-use Rattle.rv_debug.specs.Addresses.{RisesAbove, Rises, with_room_for}
-use Rattle.rv_debug.specs.Stops.{is_between, lower, lowest}
-use Rattle.rv_debug.proofs.Prelude.{HasPlace, is_among, is_in, with_address, without_address}
+use Rattle.rv_debug.proofs.Prelude.{HasPlace, Rises, RisesAbove, cases_lt, find, insert, is_among, is_between, is_in, lower, lowest}
+use Rattle.rv_debug.proofs.Prelude.{nat_tests, remove, with_address, with_room_for, without_address}
 
 pub rises_above-weaker : (a b : ℕ) (xs : List ℕ) → a ≤ b → RisesAbove b xs → RisesAbove a xs
 rises_above-weaker a b [] le all = tt
@@ -85,61 +81,55 @@ found-is x xs (Err i) place = sym (among-not x xs i place)
 
 -- ---- an address put in at its place: these below it, those above it
 
-filter_below : (x : ℕ) (xs : List ℕ) (i : ℕ) → i ≤ length xs → ((k : ℕ) → k < i → get_or xs k 0 < x)
-    → ((k : ℕ) → i ≤ k → k < length xs → x < get_or xs k 0) → filter (λ a. ltb a x) xs ≡ take i xs
-filter_below x [] zero within below above = refl
-filter_below x [] (suc i) within below above = absurd (omega arith)
-filter_below x (y ∷ ys) zero within below above =
-    let up : x < y = above 0 (omega arith) (omega arith) in
-    let no : ltb y x ≡ false = grind (arith, nat_tests) in
-    rw no (filter_below x ys zero (omega arith) (λ k lt. absurd (omega arith)) (λ k le inside. above (suc k) (omega arith) (omega arith)))
-filter_below x (y ∷ ys) (suc i) within below above =
-    let down : y < x = below 0 (omega arith) in
-    let yes : ltb y x ≡ true = grind (arith, nat_tests) in
-    rw yes (ap (λ t. y ∷ t) (filter_below x ys i (omega arith) (λ k lt. below (suc k) (omega arith))
-    (λ k le inside. above (suc k) (omega arith) (omega arith))))
+-- its place among all but the first, which is above it or below it
+place_first : (x y : ℕ) (ys : List ℕ) → HasPlace (y ∷ ys) x zero → HasPlace ys x zero
+place_first x y ys place = record {
+  within = omega arith;
+  below = λ k lt. absurd (omega (arith, lt));
+  above = λ k le inside. place.above (suc k) (omega arith) (omega (arith, inside));
+}
 
-filter_above : (x : ℕ) (xs : List ℕ) (i : ℕ) → i ≤ length xs → ((k : ℕ) → k < i → get_or xs k 0 < x)
-    → ((k : ℕ) → i ≤ k → k < length xs → x < get_or xs k 0) → filter (λ a. ltb x a) xs ≡ drop i xs
-filter_above x [] zero within below above = refl
-filter_above x [] (suc i) within below above = absurd (omega arith)
-filter_above x (y ∷ ys) zero within below above =
-    let up : x < y = above 0 (omega arith) (omega arith) in
+place_after : (x y : ℕ) (ys : List ℕ) (i : ℕ) → HasPlace (y ∷ ys) x (suc i) → HasPlace ys x i
+place_after x y ys i place = record {
+  within = let within = place.within in omega (arith, within);
+  below = λ k lt. place.below (suc k) (omega (arith, lt));
+  above = λ k le inside. place.above (suc k) (omega (arith, le)) (omega (arith, inside));
+}
+
+no_place : (x i : ℕ) → HasPlace [] x (suc i) → ⊥
+no_place x i place = let within = place.within in omega (arith, within)
+
+filters : (x : ℕ) (xs : List ℕ) (i : ℕ) → HasPlace xs x i → (filter (λ a. ltb a x) xs ≡ take i xs) × (filter (λ a. ltb x a) xs ≡ drop i xs)
+filters x [] zero place = (refl, refl)
+filters x [] (suc i) place = absurd (no_place x i place)
+filters x (y ∷ ys) zero place =
+    let up : x < y = place.above 0 (omega arith) (omega arith) in
+    let no : ltb y x ≡ false = grind (arith, nat_tests) in
     let yes : ltb x y ≡ true = grind (arith, nat_tests) in
-    rw yes (ap (λ t. y ∷ t) (filter_above x ys zero (omega arith) (λ k lt. absurd (omega arith))
-    (λ k le inside. above (suc k) (omega arith) (omega arith))))
-filter_above x (y ∷ ys) (suc i) within below above =
-    let down : y < x = below 0 (omega arith) in
+    let rest = filters x ys zero (place_first x y ys place) in
+    (rw no rest.0, rw yes (ap (λ t. y ∷ t) rest.1))
+filters x (y ∷ ys) (suc i) place =
+    let down : y < x = place.below 0 (omega arith) in
+    let yes : ltb y x ≡ true = grind (arith, nat_tests) in
     let no : ltb x y ≡ false = grind (arith, nat_tests) in
-    rw no (filter_above x ys i (omega arith) (λ k lt. below (suc k) (omega arith)) (λ k le inside. above (suc k) (omega arith) (omega arith)))
+    let rest = filters x ys i (place_after x y ys i place) in
+    (rw yes (ap (λ t. y ∷ t) rest.0), rw no rest.1)
 
 pub insert-is : (x : ℕ) (xs : List ℕ) (i : ℕ) → HasPlace xs x i → insert xs i x ≡ with_address x xs
-insert-is x xs i place =
-    ap (λ t. t ++ x ∷ drop i xs) (sym (filter_below x xs i place.within place.below place.above))
-    ∙ ap (λ t. filter (λ a. ltb a x) xs ++ x ∷ t) (sym (filter_above x xs i place.within place.below place.above))
+insert-is x xs i place = let parts = filters x xs i place in ap₂ (λ (low high : List ℕ). low ++ x ∷ high) (sym parts.0) (sym parts.1)
 
-rises_above-insert : (low x : ℕ) (xs : List ℕ) (i : ℕ) → RisesAbove low xs → low < x → i ≤ length xs
-    → ((k : ℕ) → k < i → get_or xs k 0 < x) → ((k : ℕ) → i ≤ k → k < length xs → x < get_or xs k 0) → RisesAbove low (insert xs i x)
-rises_above-insert low x [] zero all up within below above = (up, tt)
-rises_above-insert low x [] (suc i) all up within below above = absurd (omega arith)
-rises_above-insert low x (y ∷ ys) zero all up within below above = (up, (above 0 (omega arith) (omega arith), all.1))
-rises_above-insert low x (y ∷ ys) (suc i) all up within below above = (
-  all.0,
-  rises_above-insert y x ys i all.1 (below 0 (omega arith)) (omega arith) (λ k lt. below (suc k) (omega arith))
-      (λ k le inside. above (suc k) (omega arith) (omega arith)),
-)
-
-rises-inserted : (x : ℕ) (xs : List ℕ) (i : ℕ) → Rises xs → i ≤ length xs → ((k : ℕ) → k < i → get_or xs k 0 < x)
-    → ((k : ℕ) → i ≤ k → k < length xs → x < get_or xs k 0) → Rises (insert xs i x)
-rises-inserted x [] zero all within below above = tt
-rises-inserted x [] (suc i) all within below above = absurd (omega arith)
-rises-inserted x (y ∷ ys) zero all within below above = (above 0 (omega arith) (omega arith), all)
-rises-inserted x (y ∷ ys) (suc i) all within below above =
-    rises_above-insert y x ys i all (below 0 (omega arith)) (omega arith) (λ k lt. below (suc k) (omega arith))
-    (λ k le inside. above (suc k) (omega arith) (omega arith))
+rises_above-insert : (low x : ℕ) (xs : List ℕ) (i : ℕ) → RisesAbove low xs → low < x → HasPlace xs x i → RisesAbove low (insert xs i x)
+rises_above-insert low x [] zero all up place = (up, tt)
+rises_above-insert low x [] (suc i) all up place = absurd (no_place x i place)
+rises_above-insert low x (y ∷ ys) zero all up place = (up, (place.above 0 (omega arith) (omega arith), all.1))
+rises_above-insert low x (y ∷ ys) (suc i) all up place =
+    (all.0, rises_above-insert y x ys i all.1 (place.below 0 (omega arith)) (place_after x y ys i place))
 
 pub rises-insert : (x : ℕ) (xs : List ℕ) (i : ℕ) → Rises xs → HasPlace xs x i → Rises (insert xs i x)
-rises-insert x xs i all place = rises-inserted x xs i all place.within place.below place.above
+rises-insert x [] zero all place = tt
+rises-insert x [] (suc i) all place = absurd (no_place x i place)
+rises-insert x (y ∷ ys) zero all place = (place.above 0 (omega arith) (omega arith), all)
+rises-insert x (y ∷ ys) (suc i) all place = rises_above-insert y x ys i all (place.below 0 (omega arith)) (place_after x y ys i place)
 
 pub no_room : (x : ℕ) (xs : List ℕ) (i : ℕ) → HasPlace xs x i → length xs ≡ 32 → None ≡ with_room_for x xs
 unfolding with_room_for

@@ -1,10 +1,8 @@
 -- The answers to lines, of a bench and of two.
 use Rattle.std.proofs.Common.{◌≡◌, ℕ, List, take, ap, sym, ◌∙◌}
-use Rattle.rv_script.specs.Command.{parse_of}
 use Rattle.rv_script.proofs.Commands.{parse_of-cut}
-use Rattle.rv_debug.specs.Answer.{answer_or_fault, line_answer}
-use Rattle.rv_debug.specs.BothBenches.{both_line_answer, both_told}
-use Rattle.rv_debug.proofs.Prelude.{BenchState}
+use Rattle.rv_debug.specs.Prelude.{parse_of}
+use Rattle.rv_debug.proofs.Prelude.{BenchState, answer_or_fault, both_line_answer, both_told, line_answer}
 
 -- 121 bytes of a line say what the whole line says
 line_answer-cut : (bench : BenchState) (line : List ℕ) → line_answer bench (take 121 line) ≡ line_answer bench line

@@ -1,46 +1,34 @@
 -- The law of confidentiality of a command: two benches that agree but for an enclave show and leave the same, where they do not enter it.
 use Rattle.std.proofs.Common.{◌≡◌, ℕ, zero, suc, ◌==◌, ◌+◌, ◌-◌, ◌<◌, ◌≤◌, Bool, true, false, List, [], ◌∷◌, Option, refl, sym, ◌∙◌, ap, ap₂, subst, inl, inr, not}
 use Rattle.std.proofs.Common.{arith}
-use Rattle.std.specs.List.{range_with_len}
-use Rattle.std.specs.Option.{option_map}
-use Rattle.std.proofs.lemmas.Bool.{cases_Bool, cases_eq, cases_lt}
-use Rattle.rv_word.specs.Cases.{result_case}
-use Rattle.rv_word.specs.declared.width.Width.{Width}
-use Rattle.rv_memory.specs.Memory.{number_of_bytes}
-use Rattle.rv_pmp.specs.declared.access.Access.{Access as AccessKind}
-use Rattle.rv_pmp.specs.declared.mode.Mode.{Mode}
 use Rattle.std.specs.Prelude.{nat_lt, ◌++◌, if◌then◌else◌}
-use Rattle.rv_monitor.proofs.Agreeing.{changed_agree}
-use Rattle.rv_monitor.proofs.MonitoredAlike.{gone_equal}
-use Rattle.rv_monitor.proofs.Places.{past_seat}
+use Rattle.rv_pmp.specs.declared.access.Access.{Access as AccessKind}
 use Rattle.rv_enclaves.specs.Layout.{layout}
-use Rattle.rv_enclaves.specs.declared.block.Block.{Block}
 use Rattle.rv_enclaves.specs.declared.shared.Shared.{Shared}
 use Rattle.rv_enclaves.specs.declared.world.World.{World}
 use Rattle.rv_enclaves.proofs.Agreement.{same_read, read-none, write-none, same_write}
-use Rattle.rv_enclaves.proofs.Alike.{seen_block}
-use Rattle.rv_script.specs.Schedules.{harts_in}
-use Rattle.rv_script.specs.declared.command.Command.TheVariants.{Step, Run, Reg, Regs, SetReg, Csr, Mem, Dis, Pmp, Enclaves, Access, Timer, Hart, Sched}
-use Rattle.rv_debug.specs.Answer.{hart_told, harts_told, ran_reply}
-use Rattle.rv_debug.specs.Confidentiality.{AgreeAgain, ConfidentialityLaw}
+use Rattle.rv_enclaves.proofs.Agreement.{write-some}
+use Rattle.rv_enclaves.specs.SharedButFor.{AgreeOutside}
+use Rattle.rv_enclaves.specs.SharedButFor.{is_private}
+use Rattle.rv_debug.specs.Prelude.{Access, AgreeBut, Bare, Block, Command, Csr, Dis, Enclaves, Entries, Hart, HartRan, IsKept, M, Machine}
+use Rattle.rv_debug.specs.Prelude.{Mem, Mode, Monitored, Pmp, Poke, Ran, Reg, Regs, Run, RunsOnNone, Sched, Scheduled, Seat, SetReg, Slots}
+use Rattle.rv_debug.specs.Prelude.{State, Step, Target, Timer, Width, bytes_in, count_of, harts_in, has_all, is_inside, is_world_of, meets}
+use Rattle.rv_debug.specs.Prelude.{number_of_bytes, option_case, ram_base, read, read_result, reg_set, region, register, result_case}
+use Rattle.rv_debug.specs.Prelude.{runs_on, seat_of, timer_set, write, write_bytes}
 use Rattle.rv_debug.specs.EnclaveText.{table_text}
-use Rattle.rv_debug.specs.ReplyText.{hart_text, no_hart_text}
-use Rattle.rv_debug.specs.Targets.{world_name}
-use Rattle.rv_debug.specs.BothBenches.{PassesBy}
-use Rattle.rv_debug.proofs.Prelude.{AfterRun, AfterTurns, AgreeBut, AgreeOutside, Answered, BenchState, BenchesAgreeBut, Chosen, ChosenAgreeBut, Deed}
-use Rattle.rv_debug.proofs.Prelude.{Entries, IsBare, IsKept, KeepsMonitor, Machine, Nothing, RestsIn, RunsOnNone, Slots, State, Steps}
-use Rattle.rv_debug.proofs.Prelude.{TargetsAgreeBut, access_reply, answer, bytes_in, chosen_at, count_of, csr_text, deed, dis_text, done, entered_by}
-use Rattle.rv_debug.proofs.Prelude.{has_all, is_blind, is_entered, is_inside, is_private, is_world_of, meets, memory_text, no_csr_text, no_steps}
-use Rattle.rv_debug.proofs.Prelude.{no_turns, ok_text, option_case, outside_text, over_memory, own_kept, pmp_text, ram_base, ran_text, read}
-use Rattle.rv_debug.proofs.Prelude.{read_result, reg_set, region, register, register_text, registers_text, run, run_deed, runs_on, seat_of}
-use Rattle.rv_debug.proofs.Prelude.{shared_agree, steps_of, timer_set, turns, with_chosen, write, write-some, write_bytes}
-use Rattle.rv_debug.proofs.Types.{Bare, Command, HartRan, M, Monitored, Poke, Ran, Scheduled, Seat, Target}
+use Rattle.rv_debug.proofs.Prelude.{AfterRun, AfterTurns, AgreeAgain, Answered, BenchState, BenchesAgreeBut, Chosen, ChosenAgreeBut}
+use Rattle.rv_debug.proofs.Prelude.{ConfidentialityLaw, Deed, IsBare, KeepsMonitor, Nothing, PassesBy, RestsIn, Steps, TargetsAgreeBut}
+use Rattle.rv_debug.proofs.Prelude.{access_reply, answer, cases_Bool, cases_eq, cases_lt, changed_agree, chosen_at, csr_text, deed}
+use Rattle.rv_debug.proofs.Prelude.{dis_text, done, entered_by, gone_equal, hart_text, hart_told, harts_told, is_blind, is_entered}
+use Rattle.rv_debug.proofs.Prelude.{memory_text, no_csr_text, no_hart_text, no_steps, no_turns, ok_text, option_map, outside_text}
+use Rattle.rv_debug.proofs.Prelude.{over_memory, own_kept, past_seat, pmp_text, ran_reply, ran_text, range_with_len, register_text}
+use Rattle.rv_debug.proofs.Prelude.{registers_text, run, run_deed, seen_block, shared_agree, steps_of, turns, with_chosen, world_name}
 use Rattle.rv_debug.proofs.DeedsKept.{bare_done, keeps_monitor, poke_of}
 use Rattle.rv_debug.proofs.RunTurns.{run_done, run_entered}
 use Rattle.rv_debug.proofs.SchedAlike.{BothPast, turns_alike}
 use Rattle.rv_debug.proofs.StepsAlike.{RunAlike, run-alike}
 use Rattle.rv_debug.proofs.TargetRuns.{hart_pc, hart_stepped, target_of, run_monitored}
-use Rattle.rv_debug.proofs.Turns.{after_turns}
+use Rattle.rv_debug.proofs.Turns.{after_turns, by_bare}
 
 -- ---- what is shown of both, before it is said that they are equal once the enclave is gone
 
@@ -379,24 +367,18 @@ monitored-alike e one other breaks watches command kept kept' agree blind by =
     (alike e one.hart one.state other.state agree.state breaks watches command kept kept' blind by)
 
 -- a machine alone stays one
-bare-itself : (e : ℕ) (target : Target) → IsBare target → TargetsAgreeBut e target target
-bare-itself e (Bare machine) bare = refl
-bare-itself e (Monitored machine) bare = absurd bare
-
 bare-stays : (machine : State) (breaks watches : List ℕ) (command : Command) → IsBare (answer (over (Bare machine) breaks watches) command).state.target
 unfolding answer
 bare-stays machine breaks watches command = bare_done machine (deed (over (Bare machine) breaks watches) command)
 
 -- what is said of itself
 alike-itself : (e : ℕ) (after : Answered) → IsBare after.state.target → Alike e after after
-alike-itself e after bare = record {
-  entered = refl;
-  passed = λ none. record {
-    reply = refl;
-    entered = refl;
-    state = record { target = bare-itself e after.state.target bare; breaks = refl; watches = refl };
-  };
-}
+alike-itself e after bare =
+    let same = by_bare (λ (target : Target). TargetsAgreeBut e target target) (λ alone. refl) after.state.target bare in
+    record {
+      entered = refl;
+      passed = λ none. record { reply = refl; entered = refl; state = record { target = same; breaks = refl; watches = refl } };
+    }
 
 targets-alike : (e : ℕ) (one other : Target) (breaks watches : List ℕ) (command : Command) → KeepsMonitor one → KeepsMonitor other
     → TargetsAgreeBut e one other

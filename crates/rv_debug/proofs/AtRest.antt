@@ -1,17 +1,16 @@
 -- An enclave that runs on no hart: every command passes by it, and behind one that does not enter it, it runs on none.
 use Rattle.std.proofs.Common.{◌≡◌, ℕ, true, false, List, [], ◌∷◌, Option, Some, None, refl, sym, ◌∙◌, ap, subst, inl, inr}
-use Rattle.std.proofs.lemmas.Bool.{both_ways, cases_Bool}
 use Rattle.rv_enclaves.proofs.Scrambled.{slot_rests}
 use Rattle.rv_monitor.proofs.Beside.{runs_among}
-use Rattle.rv_debug.specs.BothBenches.{RunsOnNoneIn, can_scramble_in, harts_shown}
-use Rattle.rv_debug.specs.Confidentiality.{PokesInto, RestLaw}
-use Rattle.rv_debug.proofs.Prelude.{AllPassBy, BenchState, Chosen, ChosenAgreeBut, Deed, IsBare, KeepsMonitor, Machine, Nothing, OneByte, Register}
-use Rattle.rv_debug.proofs.Prelude.{RestsIn, RunsOnNone, Steps, TimerLine, agrees_itself, answer, changed, changed_of, chosen_at, deed, done}
-use Rattle.rv_debug.proofs.Prelude.{entered_by, is_entered, is_world_of, itself, no_turns, reg_set, runs_on, slot_at, timer_set, turns, with_chosen}
-use Rattle.rv_debug.proofs.Prelude.{write}
-use Rattle.rv_debug.proofs.Types.{Bare, Command, Monitored, Poke, Seat, Target}
+use Rattle.rv_debug.specs.Prelude.{Bare, Command, Machine, Monitored, Poke, RunsOnNone, Seat, Target, changed, is_world_of, reg_set}
+use Rattle.rv_debug.specs.Prelude.{runs_on, slot_at, timer_set, write}
+use Rattle.rv_debug.proofs.Prelude.{AllPassBy, BenchState, Chosen, ChosenAgreeBut, Deed, KeepsMonitor, Nothing, OneByte, PokesInto}
+use Rattle.rv_debug.proofs.Prelude.{Register, RestLaw, RestsIn, RunsOnNoneIn, Steps, TimerLine, agrees_itself, answer, both_ways}
+use Rattle.rv_debug.proofs.Prelude.{can_scramble_in, cases_Bool, changed_of, chosen_at, deed, done, entered_by, harts_shown, is_entered}
+use Rattle.rv_debug.proofs.Prelude.{itself, no_turns, turns, with_chosen}
 use Rattle.rv_debug.proofs.DeedsKept.{bare_done, keeps_monitor, poke_of}
 use Rattle.rv_debug.proofs.SchedAlike.{turns_alike}
+use Rattle.rv_debug.proofs.Turns.{by_bare}
 
 -- ---- it is passed by
 
@@ -47,29 +46,22 @@ poke_rests : (e : ℕ) (machine : Chosen) (memory : Option (List ℕ)) → Rests
 poke_rests e machine None rests = rests
 poke_rests e machine (Some memory) rests = rests
 
-deed_rests : (e : ℕ) (machine : Chosen) (d : Deed) → KeepsMonitor (Monitored machine) → RestsIn e (Monitored machine)
-    → is_entered e (entered_by (Monitored machine) d) ≡ false → RestsIn e (done (Monitored machine) d)
-deed_rests e machine Nothing kept rests none = rests
-deed_rests e machine (Steps harts chosen) kept rests none = steps_rest e chosen harts machine kept rests none
-deed_rests e machine (Register number value) kept rests none = written_rests e machine (reg_set number value) (λ seat. refl) rests
-deed_rests e machine (TimerLine raised) kept rests none = written_rests e machine (timer_set raised) (λ seat. refl) rests
-deed_rests e machine (OneByte address byte) kept rests none =
-    poke_rests e machine (write machine.state.shared.memory address (byte ∷ [])) rests
-
-bare_rests : (e : ℕ) (target : Target) → IsBare target → RestsIn e target
-bare_rests e (Bare machine) bare = tt
-bare_rests e (Monitored machine) bare = absurd bare
-
-target_rests : (e : ℕ) (target : Target) (d : Deed) → KeepsMonitor target → RestsIn e target → is_entered e (entered_by target d) ≡ false
+deed_rests : (e : ℕ) (target : Target) (d : Deed) → KeepsMonitor target → RestsIn e target → is_entered e (entered_by target d) ≡ false
     → RestsIn e (done target d)
-target_rests e (Bare machine) d kept rests none = bare_rests e _ (bare_done machine d)
-target_rests e (Monitored machine) d kept rests none = deed_rests e machine d kept rests none
+deed_rests e (Bare machine) d kept rests none = by_bare (RestsIn e) (λ alone. tt) _ (bare_done machine d)
+deed_rests e (Monitored machine) Nothing kept rests none = rests
+deed_rests e (Monitored machine) (Steps harts chosen) kept rests none = steps_rest e chosen harts machine kept rests none
+deed_rests e (Monitored machine) (Register number value) kept rests none =
+    written_rests e machine (reg_set number value) (λ seat. refl) rests
+deed_rests e (Monitored machine) (TimerLine raised) kept rests none = written_rests e machine (timer_set raised) (λ seat. refl) rests
+deed_rests e (Monitored machine) (OneByte address byte) kept rests none =
+    poke_rests e machine (write machine.state.shared.memory address (byte ∷ [])) rests
 
 pub rest_law : RestLaw
 unfolding answer
 rest_law e bench command kept rests = record {
   by = on_none_in e (harts_shown bench.target command) bench.target rests;
-  rests = λ none. target_rests e bench.target (deed bench command) kept rests none;
+  rests = λ none. deed_rests e bench.target (deed bench command) kept rests none;
 }
 
 pub rest_all : (e : ℕ) (bench : BenchState) (commands : List Command) → KeepsMonitor bench.target → RestsIn e bench.target → AllPassBy e bench commands
@@ -84,7 +76,7 @@ pub poked_rests : (e : ℕ) (bench : BenchState) (command : Command) → KeepsMo
 unfolding answer
 poked_rests e bench (Poke address byte) kept rests pokes = written bench.target kept rests where
   written : (target : Target) → KeepsMonitor target → RestsIn e target → RestsIn e (done target (OneByte address byte))
-  written (Bare machine) kept rests = bare_rests e _ (bare_done machine (OneByte address byte))
+  written (Bare machine) kept rests = by_bare (RestsIn e) (λ alone. tt) _ (bare_done machine (OneByte address byte))
   written (Monitored machine) kept rests = poke_rests e machine (write machine.state.shared.memory address (byte ∷ [])) rests
 poked_rests e bench _ kept rests pokes = absurd pokes
 

@@ -1,18 +1,13 @@
 -- A hart to which a command does nothing keeps all but the entries and mie.
 use Rattle.std.proofs.Common.{◌≡◌, ◌≢◌, ◌<◌, ℕ, ◌==◌, true, false, List, [], ◌∷◌, Option, Some, None, sym, ◌∙◌, ap, subst, not}
-use Rattle.std.specs.List.{list_all}
-use Rattle.std.proofs.lemmas.Bool.{and_parts, eq-eqb}
-use Rattle.std.proofs.lemmas.List.{get_or-set_other}
-use Rattle.rv_monitor.specs.State.{seat_at_start, seated}
 use Rattle.rv_monitor.proofs.LastAct.{as_is}
-use Rattle.rv_monitor.proofs.Places.{step_laid}
-use Rattle.rv_debug.specs.Isolation.{KeepsHart, LeavesHart}
-use Rattle.rv_debug.proofs.Prelude.{BenchState, Chosen, Deed, IsBare, IsKept, KeepsMonitor, Machine, Nothing, OneByte, Register, SparesHarts, State}
-use Rattle.rv_debug.proofs.Prelude.{Steps, TimerLine, answer, changed, chosen_at, count_of, deed, done, harts_of, kept_law, reg_set, sched, seat_of}
-use Rattle.rv_debug.proofs.Prelude.{step_count, step_of, timer_set, write}
-use Rattle.rv_debug.proofs.Types.{Bare, Command, Monitored, Seat, Target}
+use Rattle.rv_debug.specs.Prelude.{Bare, Command, IsKept, Machine, Monitored, Seat, Target, changed, count_of, reg_set, sched}
+use Rattle.rv_debug.specs.Prelude.{seat_at_start, seat_of, seated, step_of, timer_set, write}
+use Rattle.rv_debug.proofs.Prelude.{BenchState, Chosen, Deed, KeepsHart, KeepsMonitor, LeavesHart, Nothing, OneByte, Register, SparesHarts}
+use Rattle.rv_debug.proofs.Prelude.{Steps, TimerLine, and_parts, answer, chosen_at, deed, done, eq-eqb, get_or-set_other, harts_of}
+use Rattle.rv_debug.proofs.Prelude.{kept_law, list_all, step_count, step_laid}
 use Rattle.rv_debug.proofs.DeedsKept.{bare_done, poke_of}
-use Rattle.rv_debug.proofs.Turns.{turns_are_sched}
+use Rattle.rv_debug.proofs.Turns.{by_bare, turns_are_sched}
 
 -- ---- steps of the others
 
@@ -48,24 +43,17 @@ write_leaves hart machine change kept has other =
     get_or-set_other machine.state.seats machine.hart hart (change (seat_of machine.hart machine.state)) (seat_at_start 0) other
     ∙ same_as_is hart machine.state kept has
 
-monitored_leaves : (hart : ℕ) (machine : Chosen) (d : Deed) → IsKept machine.state → hart < count_of machine.state
-    → LeavesHart hart (Monitored machine) d → KeepsHart hart (Monitored machine) (done (Monitored machine) d)
-monitored_leaves hart machine Nothing kept has leaves = same_as_is hart machine.state kept has
-monitored_leaves hart machine (Steps harts chosen) kept has leaves =
-    subst (KeepsHart hart (Monitored machine)) (sym (turns_are_sched harts machine _ chosen)) (sched_leaves hart harts machine.state kept has leaves)
-monitored_leaves hart machine (Register number value) kept has leaves = write_leaves hart machine (reg_set number value) kept has leaves
-monitored_leaves hart machine (TimerLine raised) kept has leaves = write_leaves hart machine (timer_set raised) kept has leaves
-monitored_leaves hart machine (OneByte address byte) kept has leaves =
-    poke_leaves hart machine (write machine.state.shared.memory address (byte ∷ [])) kept has
-
-bare_leaves : (hart : ℕ) (before : State) (after : Target) → IsBare after → KeepsHart hart (Bare before) after
-bare_leaves hart before (Bare after) bare = tt
-bare_leaves hart before (Monitored after) bare = absurd bare
-
 leaves : (hart : ℕ) (target : Target) (d : Deed) → KeepsMonitor target → hart < harts_of target → LeavesHart hart target d
     → KeepsHart hart target (done target d)
-leaves hart (Monitored machine) d kept has none = monitored_leaves hart machine d kept has none
-leaves hart (Bare machine) d kept has none = bare_leaves hart machine _ (bare_done machine d)
+leaves hart (Bare machine) d kept has none = by_bare (KeepsHart hart (Bare machine)) (λ alone. tt) _ (bare_done machine d)
+leaves hart (Monitored machine) Nothing kept has none = same_as_is hart machine.state kept has
+leaves hart (Monitored machine) (Steps harts chosen) kept has none =
+    subst (KeepsHart hart (Monitored machine)) (sym (turns_are_sched harts machine _ chosen))
+    (sched_leaves hart harts machine.state kept has none)
+leaves hart (Monitored machine) (Register number value) kept has none = write_leaves hart machine (reg_set number value) kept has none
+leaves hart (Monitored machine) (TimerLine raised) kept has none = write_leaves hart machine (timer_set raised) kept has none
+leaves hart (Monitored machine) (OneByte address byte) kept has none =
+    poke_leaves hart machine (write machine.state.shared.memory address (byte ∷ [])) kept has
 
 pub spares_harts : (bench : BenchState) (command : Command) → KeepsMonitor bench.target → SparesHarts bench command (answer bench command).state
 unfolding answer

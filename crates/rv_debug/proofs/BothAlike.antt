@@ -2,17 +2,10 @@
 use Rattle.std.proofs.Common.{◌≡◌, ℕ, suc, ◌+◌, ◌<◌, Bool, true, false, List, [], ◌∷◌, length, take, drop, get_or, ◌⊎◌, refl, sym}
 use Rattle.std.proofs.Common.{◌∙◌, ap, ap₂, subst, inl, inr, arith, not}
 use Rattle.std.specs.Prelude.{◌&&◌, ◌||◌, if◌then◌else◌}
-use Rattle.std.proofs.lemmas.List.{drop_more, drop_all}
-use Rattle.std.proofs.lemmas.Bool.{cases_Bool, and_parts}
-use Rattle.rv_script.specs.Command.{bytes_named}
-use Rattle.rv_debug.specs.Confidentiality.{AlikeBy, AnswerAlike, PassAll, PassBy}
-use Rattle.rv_debug.specs.BothBenches.{BothRan, both_answer, both_do, go_on}
-use Rattle.rv_debug.specs.BothBenches.{region_of}
-use Rattle.rv_debug.specs.declared.both.BothWhy.{BothWhy}
-use Rattle.rv_debug.specs.declared.both.BothWhy.TheVariants.{All, Entered, NotBlind}
-use Rattle.rv_debug.proofs.Prelude.{AllPassBy, BenchState, BenchesAgreeBut, BothAnswered, KeepsMonitor, Slots, StayAlike, TargetsAgreeBut}
-use Rattle.rv_debug.proofs.Prelude.{after_commands, answer, both_run, is_blind, is_entered, meets, region}
-use Rattle.rv_debug.proofs.Types.{Bare, Command, Monitored, Target}
+use Rattle.rv_debug.specs.Prelude.{All, Bare, BothWhy, Command, Entered, Monitored, NotBlind, Slots, Target, bytes_named, meets, region}
+use Rattle.rv_debug.proofs.Prelude.{AlikeBy, AllPassBy, AnswerAlike, BenchState, BenchesAgreeBut, BothAnswered, BothRan, KeepsMonitor}
+use Rattle.rv_debug.proofs.Prelude.{PassAll, PassBy, StayAlike, TargetsAgreeBut, after_commands, and_parts, answer, both_answer, both_do}
+use Rattle.rv_debug.proofs.Prelude.{both_run, cases_Bool, drop_all, drop_more, go_on, is_blind, is_entered, region_of}
 use Rattle.rv_debug.proofs.AnswersAlike.{agree_again, confidentiality}
 use Rattle.rv_debug.proofs.DeedsKept.{keeps_monitor}
 

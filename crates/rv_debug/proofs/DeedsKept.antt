@@ -1,12 +1,10 @@
 -- What is true in every state of a target is kept by what is done.
 use Rattle.std.proofs.Common.{◌≡◌, ℕ, List, [], ◌∷◌, Option, Some, None, refl, sym, subst}
-use Rattle.std.specs.Option.{option_map}
-use Rattle.rv_state.specs.Registers.{with_register}
-use Rattle.rv_monitor.proofs.Kept.{kept_by_size, written_kept}
-use Rattle.rv_debug.proofs.Prelude.{BenchState, Chosen, Deed, IsBare, IsKept, KeepsMonitor, Nothing, OneByte, Register, State, Steps, TimerLine}
-use Rattle.rv_debug.proofs.Prelude.{answer, chosen_seat, deed, done, length-write, no_turns, option_case, over_memory, sched_kept, write}
-use Rattle.rv_debug.proofs.Types.{Bare, Command, Monitored, Target}
-use Rattle.rv_debug.proofs.Turns.{bare_kept, stays_bare, turned_bare, turns_are_sched}
+use Rattle.rv_debug.specs.Prelude.{Bare, Command, IsKept, Monitored, State, Target, option_case, with_register, write}
+use Rattle.rv_debug.proofs.Prelude.{BenchState, Chosen, Deed, IsBare, KeepsMonitor, Nothing, OneByte, Register, Steps, TimerLine, answer}
+use Rattle.rv_debug.proofs.Prelude.{chosen_seat, deed, done, kept_by_size, length-write, no_turns, option_map, over_memory, sched_kept}
+use Rattle.rv_debug.proofs.Prelude.{written_kept}
+use Rattle.rv_debug.proofs.Turns.{by_bare, stays_bare, turned_bare, turns_are_sched}
 
 -- what is left where a byte is written, or is not in memory
 abbrev pub poke_of : Target → Option (List ℕ) → Target
@@ -31,20 +29,19 @@ poke_keeps machine address byte None is kept = kept
 poke_keeps machine address byte (Some memory) is kept =
     kept_by_size machine.state memory kept (sym (length-write machine.state.shared.memory address (byte ∷ []) memory is))
 
-monitored_keeps : (machine : Chosen) (d : Deed) → IsKept machine.state → KeepsMonitor (done (Monitored machine) d)
-monitored_keeps machine Nothing kept = kept
-monitored_keeps machine (Steps harts chosen) kept = subst KeepsMonitor (sym (turns_are_sched harts machine _ chosen)) (sched_kept harts machine.state kept)
-monitored_keeps machine (Register number value) kept =
-    let hart = (chosen_seat machine).hart in written_kept machine.hart (with_register hart.regs number value) hart.csrs.timer machine.state kept
-monitored_keeps machine (TimerLine raised) kept = written_kept machine.hart (chosen_seat machine).hart.regs raised machine.state kept
-monitored_keeps machine (OneByte address byte) kept =
-    poke_keeps machine address byte (write machine.state.shared.memory address (byte ∷ [])) refl kept
-
 -- ---- any target
 
 pub deed_keeps : (target : Target) (d : Deed) → KeepsMonitor target → KeepsMonitor (done target d)
-deed_keeps (Bare machine) d kept = bare_kept _ (bare_done machine d)
-deed_keeps (Monitored machine) d kept = monitored_keeps machine d kept
+deed_keeps (Bare machine) d kept = by_bare KeepsMonitor (λ alone. tt) _ (bare_done machine d)
+deed_keeps (Monitored machine) Nothing kept = kept
+deed_keeps (Monitored machine) (Steps harts chosen) kept =
+    subst KeepsMonitor (sym (turns_are_sched harts machine _ chosen)) (sched_kept harts machine.state kept)
+deed_keeps (Monitored machine) (Register number value) kept =
+    let hart = (chosen_seat machine).hart in
+    written_kept machine.hart (with_register hart.regs number value) hart.csrs.timer machine.state kept
+deed_keeps (Monitored machine) (TimerLine raised) kept = written_kept machine.hart (chosen_seat machine).hart.regs raised machine.state kept
+deed_keeps (Monitored machine) (OneByte address byte) kept =
+    poke_keeps machine address byte (write machine.state.shared.memory address (byte ∷ [])) refl kept
 
 -- so each command keeps it
 pub keeps_monitor : (bench : BenchState) (command : Command) → KeepsMonitor bench.target → KeepsMonitor (answer bench command).state.target

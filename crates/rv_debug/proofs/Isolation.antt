@@ -1,19 +1,14 @@
 -- The laws of isolation, of what is done, of a command and of a list of commands.
 use Rattle.std.proofs.Common.{◌≡◌, ◌≢◌, ℕ, ◌+◌, ◌<◌, ◌≤◌, ◌⊎◌, true, false, List, [], ◌∷◌, Option, Some, None, refl}
 use Rattle.std.proofs.Common.{sym, ◌∙◌, subst, inl, inr, arith, ap}
-use Rattle.std.proofs.lemmas.Bool.{cases_lt, cases_eq}
-use Rattle.rv_memory.specs.Memory.{byte_at}
-use Rattle.rv_memory.proofs.MemoryLaws.{byte_at-write}
-use Rattle.rv_monitor.specs.HartLaws.{IsLeftAlone}
 use Rattle.rv_monitor.proofs.HartsSpare.{running_law, sched_changes, sched_spares, spared_twice}
 use Rattle.rv_monitor.proofs.KeptReaches.{kept_reach}
-use Rattle.rv_script.specs.declared.command.Command.TheVariants.{Access}
-use Rattle.rv_debug.specs.Isolation.{TellsReach, IntegrityLaw, IsLiveIn, IsMonitored, MayChange, PokesNone, RestsThroughDeed, RunningLaw}
-use Rattle.rv_debug.specs.Targets.{memory_of}
-use Rattle.rv_debug.proofs.Prelude.{BenchState, ChangesMemory, Chosen, Deed, IsKept, IsSparedIn, KeepsMonitor, OneByte, RunsOnNone, SparesResting}
-use Rattle.rv_debug.proofs.Prelude.{State, Steps, after_commands, answer, chosen_of, deed, done, harts_of, harts_stepped, has, own_kept, read, region}
-use Rattle.rv_debug.proofs.Prelude.{runs_on, seen_by, write}
-use Rattle.rv_debug.proofs.Types.{Bare, Command, Monitored, Target}
+use Rattle.rv_debug.specs.Prelude.{Access, Bare, Command, IsKept, Monitored, RunsOnNone, State, Target, byte_at, has, read, region}
+use Rattle.rv_debug.specs.Prelude.{runs_on, seen_by, write}
+use Rattle.rv_debug.proofs.Prelude.{BenchState, ChangesMemory, Chosen, Deed, IntegrityLaw, IsLiveIn, IsMonitored, IsSparedIn, KeepsMonitor}
+use Rattle.rv_debug.proofs.Prelude.{MayChange, OneByte, PokesNone, RestsThroughDeed, RunningLaw, SparesResting, Steps, TellsReach}
+use Rattle.rv_debug.proofs.Prelude.{after_commands, answer, byte_at-write, cases_eq, cases_lt, chosen_of, deed, done, harts_of}
+use Rattle.rv_debug.proofs.Prelude.{harts_stepped, memory_of, own_kept}
 use Rattle.rv_debug.proofs.DeedsKept.{keeps_monitor, poke_of}
 use Rattle.rv_debug.proofs.Turns.{turns_are_sched}
 
@@ -32,11 +27,6 @@ tells_reach _ _ kept has = tt
 itself : (k : ℕ) (chosen : Chosen) → IsSparedIn k (Monitored chosen) (Monitored chosen)
 itself k chosen = record { slot = refl; bytes = λ byte own. refl; context = refl }
 
-steps_spare : (k chosen : ℕ) (harts : List ℕ) (machine : Chosen) → IsKept machine.state → IsLeftAlone k harts machine.state
-    → IsSparedIn k (Monitored machine) (done (Monitored machine) (Steps harts chosen))
-steps_spare k chosen harts machine kept alone =
-    subst (IsSparedIn k (Monitored machine)) (sym (turns_are_sched harts machine _ chosen)) (sched_spares k harts machine.state kept alone).spared
-
 beside : (byte address : ℕ) → byte ≢ address → byte < address ⊎ address + 1 ≤ byte
 beside byte address other = elim (cases_lt byte address) [ inl below ↦ inl below | inr above ↦ inr (omega (arith, other)) ]
 
@@ -53,13 +43,6 @@ poke_spares k address byte machine (Some memory) is apart =
       context = refl;
     }
 
-deed_spares : (k : ℕ) (machine : Chosen) (d : Deed) → IsKept machine.state → RestsThroughDeed k (Monitored machine) d
-    → IsSparedIn k (Monitored machine) (done (Monitored machine) d)
-deed_spares k machine (Steps harts chosen) kept rests = steps_spare k chosen harts machine kept rests
-deed_spares k machine (OneByte address byte) kept rests =
-    poke_spares k address byte machine (write machine.state.shared.memory address (byte ∷ [])) refl rests.1
-deed_spares k machine _ kept rests = itself k machine
-
 -- a machine alone has no enclave that rests
 none_rests : (k : ℕ) (machine : State) (d : Deed) → RestsThroughDeed k (Bare machine) d → ⊥
 none_rests k machine (OneByte address byte) rests = rests.0
@@ -67,8 +50,13 @@ none_rests k machine (Steps harts chosen) rests = rests
 none_rests k machine _ rests = rests
 
 spares : (target : Target) (d : Deed) → KeepsMonitor target → (k : ℕ) → RestsThroughDeed k target d → IsSparedIn k target (done target d)
-spares (Monitored machine) d kept k rests = deed_spares k machine d kept rests
 spares (Bare machine) d kept k rests = absurd (none_rests k machine d rests)
+spares (Monitored machine) (Steps harts chosen) kept k rests =
+    subst (IsSparedIn k (Monitored machine)) (sym (turns_are_sched harts machine _ chosen))
+    (sched_spares k harts machine.state kept rests).spared
+spares (Monitored machine) (OneByte address byte) kept k rests =
+    poke_spares k address byte machine (write machine.state.shared.memory address (byte ∷ [])) refl rests.1
+spares (Monitored machine) _ kept k rests = itself k machine
 
 pub spares_resting : (bench : BenchState) (command : Command) → KeepsMonitor bench.target → SparesResting bench command (answer bench command).state
 unfolding answer
@@ -97,14 +85,6 @@ running k own chosen breaks watches command kept runs none pokes =
 abbrev ByteIsOr : ℕ → Target → Target → Type 0 → Type 0
 ByteIsOr byte before after other = byte_at (memory_of after) byte ≡ byte_at (memory_of before) byte ⊎ other
 
-steps_change : (byte chosen : ℕ) (harts : List ℕ) (machine : Chosen) → IsKept machine.state
-    → ByteIsOr byte (Monitored machine) (done (Monitored machine) (Steps harts chosen)) (MayChange (Monitored machine) (Steps harts chosen) byte)
-steps_change byte chosen harts machine kept =
-    elim (sched_changes harts machine.state byte kept) [
-      | inl same ↦ inl (ap (λ (target : Target). byte_at (memory_of target) byte) (turns_are_sched harts machine _ chosen) ∙ same)
-      | inr change ↦ inr change
-    ]
-
 poke_changes : (address value byte : ℕ) (machine : Chosen) (memory : Option (List ℕ))
     → write machine.state.shared.memory address (value ∷ []) ≡ memory
     → ByteIsOr byte (Monitored machine) (poke_of (Monitored machine) memory) (byte ≡ address)
@@ -114,17 +94,16 @@ poke_changes address value byte machine (Some memory) is = elim (cases_eq byte a
   | inr other ↦ inl (byte_at-write machine.state.shared.memory address (value ∷ []) memory byte is (beside byte address other))
 ]
 
-deed_changes : (byte : ℕ) (machine : Chosen) (d : Deed) → IsKept machine.state
-    → ByteIsOr byte (Monitored machine) (done (Monitored machine) d) (MayChange (Monitored machine) d byte)
-deed_changes byte machine (Steps harts chosen) kept = steps_change byte chosen harts machine kept
-deed_changes byte machine (OneByte address value) kept =
-    poke_changes address value byte machine (write machine.state.shared.memory address (value ∷ [])) refl
-deed_changes byte machine _ kept = inl refl
-
 changes : (target : Target) (d : Deed) → KeepsMonitor target → IsMonitored target → (byte : ℕ)
     → ByteIsOr byte target (done target d) (MayChange target d byte)
-changes (Monitored machine) d kept is byte = deed_changes byte machine d kept
 changes (Bare machine) d kept is byte = absurd is
+changes (Monitored machine) (Steps harts chosen) kept is byte = elim (sched_changes harts machine.state byte kept) [
+  | inl same ↦ inl (ap (λ (target : Target). byte_at (memory_of target) byte) (turns_are_sched harts machine _ chosen) ∙ same)
+  | inr change ↦ inr change
+]
+changes (Monitored machine) (OneByte address value) kept is byte =
+    poke_changes address value byte machine (write machine.state.shared.memory address (value ∷ [])) refl
+changes (Monitored machine) _ kept is byte = inl refl
 
 pub changes_memory : (bench : BenchState) (command : Command) → KeepsMonitor bench.target → ChangesMemory bench command (answer bench command).state
 unfolding answer

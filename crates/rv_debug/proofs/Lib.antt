@@ -1,5 +1,4 @@
 pub mod Prelude
-pub mod Types
 mod AddressLaws
 pub mod AddressLemmas
 pub mod Answers

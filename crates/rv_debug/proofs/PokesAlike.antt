@@ -2,19 +2,17 @@
 use Rattle.std.proofs.Common.{◌≡◌, ℕ, ◌+◌, ◌-◌, ◌≤◌, Bool, true, false, List, [], ◌∷◌, length, Option, Some, None, IfSome, refl}
 use Rattle.std.proofs.Common.{sym, ◌∙◌, ap, subst, inl, inr, arith}
 use Rattle.std.specs.Prelude.{is_some, nat_le, nat_lt, ◌==◌, ◌%◌}
-use Rattle.std.proofs.lemmas.Bool.{cases_lt, and_parts, and_from, leb-true, ltb-true, le-leb}
-use Rattle.rv_memory.proofs.MemoryLaws.{index-below, index-above, write-is}
-use Rattle.rv_monitor.specs.Debugger.{with_memory}
-use Rattle.rv_enclaves.specs.Blocks.{is_block_size, is_lawful}
-use Rattle.rv_enclaves.specs.Table.{IsLawfulSlot, region_of as region_in}
+use Rattle.rv_enclaves.specs.Table.{region_of as region_in}
 use Rattle.rv_enclaves.specs.declared.slot_info.SlotInfo.{SlotInfo}
 use Rattle.rv_enclaves.proofs.Agreement.{inside-is}
-use Rattle.rv_debug.specs.Confidentiality.{PassAlike, PokeLaw}
-use Rattle.rv_debug.specs.BothBenches.{region_of}
-use Rattle.rv_debug.proofs.Prelude.{AgreeOutside, BenchState, BenchesAgreeBut, Chosen, ChosenAgreeBut, IsKept, KeepsMonitor, Machine, Slots}
-use Rattle.rv_debug.proofs.Prelude.{TargetsAgreeBut, agrees_itself, answer, has, is_inside, is_private, itself, length-write, ram_base, region}
-use Rattle.rv_debug.proofs.Prelude.{shared_agree, slot_at, write, write-some, write_bytes}
-use Rattle.rv_debug.proofs.Types.{Bare, Monitored, Poke, Target}
+use Rattle.rv_enclaves.specs.SharedButFor.{AgreeOutside}
+use Rattle.rv_enclaves.specs.SharedButFor.{is_private}
+use Rattle.rv_enclaves.proofs.Agreement.{write-some}
+use Rattle.rv_debug.specs.Prelude.{Bare, IsKept, IsLawfulSlot, Machine, Monitored, Poke, Slots, Target, has, is_block_size, is_inside}
+use Rattle.rv_debug.specs.Prelude.{is_lawful, ram_base, region, slot_at, with_memory, write, write_bytes}
+use Rattle.rv_debug.proofs.Prelude.{BenchState, BenchesAgreeBut, Chosen, ChosenAgreeBut, KeepsMonitor, PassAlike, PokeLaw, TargetsAgreeBut}
+use Rattle.rv_debug.proofs.Prelude.{agrees_itself, and_from, and_parts, answer, cases_lt, index-above, index-below, itself, le-leb}
+use Rattle.rv_debug.proofs.Prelude.{leb-true, length-write, ltb-true, region_of, shared_agree, write-is}
 
 -- ---- memory
 

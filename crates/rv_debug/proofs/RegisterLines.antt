@@ -2,11 +2,9 @@
 use Rattle.std.proofs.Common.{◌≡◌, ℕ, zero, suc, ◌+◌, ◌-◌, ◌*◌, ◌<◌, ◌≤◌, List, [], ◌∷◌, ◌++◌, length, ap, sym}
 use Rattle.std.proofs.Common.{◌∙◌, arith, add-one, length-append}
 use Rattle.std.specs.Prelude.{decimal}
-use Rattle.std.specs.List.{flat_map, range_with_len}
 use Rattle.std.proofs.lemmas.Fmt.{length-decimal-le}
-use Rattle.std.proofs.lemmas.List.{flat_map_more}
 use Rattle.rv_text.proofs.HexDigits.{length-hex_digits}
-use Rattle.rv_debug.proofs.Prelude.{register_text}
+use Rattle.rv_debug.proofs.Prelude.{flat_map, flat_map_more, range_with_len, register_text}
 
 -- the last of some numbers
 range_with_len-suc : (a n last : ℕ) → a + n ≡ last → range_with_len a (suc n) ≡ range_with_len a n ++ last ∷ []

@@ -2,12 +2,9 @@
 use Rattle.std.proofs.Common.{◌≡◌, ℕ, ◌+◌, ◌/◌, ◌%◌, List, ◌∷◌, [], ◌++◌, Some, None, true, refl, ◌<◌, ◌≤◌, arith}
 use Rattle.std.specs.Prelude.{codes, decimal, replicate, nat_lt, if◌then◌else◌}
 use Rattle.std.specs.Fmt.{digits}
-use Rattle.std.proofs.lemmas.Bool.Decides.{nat_tests}
 use Rattle.std.proofs.lemmas.Fmt.{decimal_digit, decimal_step}
 use Rattle.rv_state.specs.Bits.{kept_bits}
 use Rattle.rv_state.specs.CsrState.{CsrState, at_reset}
-use Rattle.rv_state.specs.CsrTable.{csr_numbered, csr_listing, csr_of}
-use Rattle.rv_debug.specs.Answer.{csr_reply, dis_reply}
 use Rattle.rv_pmp.specs.Covers.{covers}
 use Rattle.rv_pmp.specs.Verdicts.{decider, verdict}
 use Rattle.rv_pmp.specs.declared.access.Access.TheVariants.{Fetch, Read, Write}
@@ -16,15 +13,13 @@ use Rattle.rv_word.specs.declared.width.Width.TheVariants.{Byte, Half, Word}
 use Rattle.rv_disassembler.specs.Spelling.{spelling, instr_text, line_text, word_text}
 use Rattle.rv_word.specs.Logic.{by_bits}
 use Rattle.rv_encoding.specs.Decoding.{decoded}
-use Rattle.rv_pmp.specs.declared.mode.Mode.TheVariants.{U}
 use Rattle.rv_state.specs.declared.cause.Cause.TheVariants.{Exception}
 use Rattle.rv_state.specs.declared.cause.Exception.TheVariants.{IllegalInstruction}
-use Rattle.rv_debug.specs.declared.steps.Stop.TheVariants.{Break, Watch}
-use Rattle.rv_debug.specs.ReplyText.{trap_text, stop_text, pc_text}
-use Rattle.rv_debug.specs.ReplyText.{verdict_text, denied_outside_text, full_text}
-use Rattle.rv_debug.proofs.Prelude.{Entries, access_reply, csr_text, dis_text, entry_text, hex_digits, memory_text, no_csr_text, ok_text}
-use Rattle.rv_debug.proofs.Prelude.{outside_text, pmp_text, ran_text, read, read_result, register_text, registers_text}
-use Rattle.rv_debug.proofs.Types.{Bare, Done, M, S, Target}
+use Rattle.rv_debug.specs.Prelude.{Bare, Break, Done, Entries, M, S, Target, U, Watch, csr_listing, csr_numbered, csr_of, hex_digits, read}
+use Rattle.rv_debug.specs.Prelude.{read_result}
+use Rattle.rv_debug.proofs.Prelude.{access_reply, csr_reply, csr_text, denied_outside_text, dis_reply, dis_text, entry_text, full_text}
+use Rattle.rv_debug.proofs.Prelude.{memory_text, nat_tests, no_csr_text, ok_text, outside_text, pc_text, pmp_text, ran_text, register_text}
+use Rattle.rv_debug.proofs.Prelude.{registers_text, stop_text, trap_text, verdict_text}
 
 -- a number of one digit or two, written so that it computes
 abbrev shown : ℕ → List ℕ

@@ -3,16 +3,15 @@ use Rattle.std.proofs.Common.{◌≡◌, ℕ, List, [], ◌∷◌, ◌++◌, Opt
 use Rattle.rv_monitor.specs.Switches.{saved}
 use Rattle.rv_monitor.specs.Refused.{past_ecall}
 use Rattle.rv_monitor.specs.Returns.{HostComesBack}
-use Rattle.rv_monitor.specs.State.{MonitoredState}
-use Rattle.rv_monitor.specs.Step.{monitored_step}
-use Rattle.rv_monitor.proofs.Returned.{KeptStored, comes_back, entered_is, first_runs, host_on, last_runs, return_law as schedule_law, steps_keep}
-use Rattle.rv_enclaves.specs.Table.{is_host}
+use Rattle.rv_monitor.proofs.Switched.{KeptStored}
+use Rattle.rv_monitor.proofs.Returned.{comes_back, entered_is, first_runs, host_on, last_runs, return_law as schedule_law, steps_keep}
 use Rattle.rv_enclaves.specs.declared.context.Context.{Context}
-use Rattle.rv_debug.specs.Returns.{EntersAndLeaves, EntersAndLeavesUnder, EntersUnder, EntersWithin, IsStoredIn, LeavesUnder, LeavesWithin, ReturnLaw, ReturnWithinLaw, RunsUnder, RunsUnderAll}
-use Rattle.rv_debug.proofs.Prelude.{BenchState, Chosen, Deed, IsKept, KeepsMonitor, Machine, Nothing, OneByte, Register, Steps, TimerLine}
-use Rattle.rv_debug.proofs.Prelude.{after_commands, answer, changed, changed_of, chosen_at, deed, done, harts_stepped, reg_set, sched, sched_kept}
-use Rattle.rv_debug.proofs.Prelude.{seen_by, step_of, timer_set, write}
-use Rattle.rv_debug.proofs.Types.{Bare, Command, Monitored, S, Seat, Target}
+use Rattle.rv_debug.specs.Prelude.{Bare, Command, Machine, Monitored, MonitoredState, S, Seat, Target, changed, is_host, monitored_step}
+use Rattle.rv_debug.specs.Prelude.{reg_set, sched, seen_by, step_of, timer_set, write}
+use Rattle.rv_debug.specs.Returns.{EntersAndLeavesUnder, EntersUnder, IsStoredIn, LeavesUnder, ReturnLaw, ReturnWithinLaw, RunsUnder}
+use Rattle.rv_debug.specs.Returns.{RunsUnderAll}
+use Rattle.rv_debug.proofs.Prelude.{BenchState, Chosen, Deed, KeepsMonitor, Nothing, OneByte, Register, Steps, TimerLine, after_commands}
+use Rattle.rv_debug.proofs.Prelude.{answer, changed_of, chosen_at, deed, done, harts_stepped, sched_kept}
 use Rattle.rv_debug.proofs.DeedsKept.{keeps_monitor, poke_of}
 use Rattle.rv_debug.proofs.Turns.{turns_are_sched}
 
@@ -72,43 +71,36 @@ commands_keep hart bench (command ∷ commands) kept runs =
 abbrev kept_at : MonitoredState → Option Context
 kept_at entry = Some (saved entry.seat.hart (past_ecall entry.seat.hart) S)
 
-enters_within : (hart : ℕ) (harts : List ℕ) (machine : Machine) (entry : MonitoredState) → IsKept machine
-    → EntersWithin hart harts machine entry → host_on hart (sched harts machine).state ≡ kept_at entry
-enters_within hart harts machine entry kept enters =
+enters_under : (hart : ℕ) (target : Target) (d : Deed) (entry : MonitoredState) → KeepsMonitor target
+    → EntersUnder hart (harts_stepped d) target entry → host_in hart (done target d) ≡ kept_at entry
+enters_under hart (Bare machine) d entry kept enters = absurd enters
+enters_under hart (Monitored chosen) d entry kept enters =
+    let machine = chosen.state in
     let here = (sched enters.before machine).state in
     let host = ap (λ (m : MonitoredState). is_host m.seat.world) (sym enters.at) ∙ enters.host in
-    ap (λ (hs : List ℕ). host_on hart (sched hs machine).state) enters.is
+    host_after hart chosen d ∙ ap (λ (hs : List ℕ). host_on hart (sched hs machine).state) enters.is
     ∙ ap (host_on hart) (sched_on enters.before (hart ∷ enters.rest) machine)
     ∙ steps_keep hart enters.rest (step_of hart here).state enters.runs
     ∙ entered_is hart here (sched_kept enters.before machine kept) host (first_runs hart enters.rest (step_of hart here).state enters.runs)
     ∙ ap kept_at (sym enters.at)
-
-enters_under : (hart : ℕ) (target : Target) (d : Deed) (entry : MonitoredState) → KeepsMonitor target
-    → EntersUnder hart (harts_stepped d) target entry → host_in hart (done target d) ≡ kept_at entry
-enters_under hart (Bare machine) d entry kept enters = absurd enters
-enters_under hart (Monitored machine) d entry kept enters =
-    host_after hart machine d ∙ enters_within hart (harts_stepped d) machine.state entry kept enters
 
 command_enters : (hart : ℕ) (bench : BenchState) (command : Command) (entry : MonitoredState) → KeepsMonitor bench.target
     → EntersUnder hart (harts_stepped (deed bench command)) bench.target entry → host_in hart (answer bench command).state.target ≡ kept_at entry
 unfolding answer
 command_enters hart bench command entry kept enters = enters_under hart bench.target (deed bench command) entry kept enters
 
-leaves_within : (hart : ℕ) (harts : List ℕ) (machine : Machine) (entry exit : MonitoredState) → IsKept machine → KeptStored (kept_at entry)
-    → host_on hart machine ≡ kept_at entry → LeavesWithin hart harts machine exit → HostComesBack entry exit (monitored_step exit)
-leaves_within hart harts machine entry exit kept stored is leaves =
+leaves_under : (hart : ℕ) (harts : List ℕ) (target : Target) (entry exit : MonitoredState) → KeepsMonitor target
+    → KeptStored (kept_at entry) → host_in hart target ≡ kept_at entry → LeavesUnder hart harts target exit
+    → HostComesBack entry exit (monitored_step exit)
+leaves_under hart harts (Bare machine) entry exit kept stored is leaves = absurd leaves
+leaves_under hart harts (Monitored chosen) entry exit kept stored is leaves =
+    let machine = chosen.state in
     let here = (sched leaves.before machine).state in
     let same : host_on hart here ≡ kept_at entry = steps_keep hart leaves.before machine leaves.runs ∙ is in
     let host = ap (λ (m : MonitoredState). is_host (monitored_step m).state.seat.world) (sym leaves.at) ∙ leaves.host in
     subst (λ (m : MonitoredState). HostComesBack entry m (monitored_step m)) (sym leaves.at)
     (comes_back hart entry here (sched_kept leaves.before machine kept) (subst KeptStored (sym same) stored) same
     (last_runs hart leaves.before machine leaves.runs) host)
-
-leaves_under : (hart : ℕ) (harts : List ℕ) (target : Target) (entry exit : MonitoredState) → KeepsMonitor target → KeptStored (kept_at entry)
-    → host_in hart target ≡ kept_at entry → LeavesUnder hart harts target exit → HostComesBack entry exit (monitored_step exit)
-leaves_under hart harts (Bare machine) entry exit kept stored is leaves = absurd leaves
-leaves_under hart harts (Monitored machine) entry exit kept stored is leaves =
-    leaves_within hart harts machine.state entry exit kept stored is leaves
 
 stored_on : (hart : ℕ) (target : Target) → IsStoredIn target → KeptStored (host_in hart target)
 stored_on hart (Bare machine) stored = tt
@@ -125,22 +117,17 @@ return_law hart bench first last commands entry exit kept enters stored_between 
 
 -- ---- within one command
 
-goes_within : (hart : ℕ) (harts : List ℕ) (machine : Machine) (entry exit : MonitoredState) → IsKept machine → EntersAndLeaves hart harts machine entry exit
-    → HostComesBack entry exit (monitored_step exit)
-goes_within hart harts machine entry exit kept goes =
-    let here = (sched goes.before machine).state in
-    let last = seen_by hart (sched goes.between (step_of hart here).state).state in
-    let host = ap (λ (m : MonitoredState). is_host m.seat.world) (sym goes.at) ∙ goes.host in
-    let again = ap (λ (m : MonitoredState). is_host (monitored_step m).state.seat.world) (sym goes.leaves) ∙ goes.again in
-    let back = schedule_law hart goes.between here (sched_kept goes.before machine kept) goes.stored host goes.runs again in
-    subst (λ (m : MonitoredState). HostComesBack m exit (monitored_step exit)) (sym goes.at)
-    (subst (λ (m : MonitoredState). HostComesBack (seen_by hart here) m (monitored_step m)) (sym goes.leaves) back)
-
 goes_under : (hart : ℕ) (harts : List ℕ) (target : Target) (entry exit : MonitoredState) → KeepsMonitor target
     → EntersAndLeavesUnder hart harts target entry exit → HostComesBack entry exit (monitored_step exit)
 goes_under hart harts (Bare machine) entry exit kept goes = absurd goes
-goes_under hart harts (Monitored machine) entry exit kept goes =
-    goes_within hart harts machine.state entry exit kept goes
+goes_under hart harts (Monitored chosen) entry exit kept goes =
+    let here = (sched goes.before chosen.state).state in
+    let last = seen_by hart (sched goes.between (step_of hart here).state).state in
+    let host = ap (λ (m : MonitoredState). is_host m.seat.world) (sym goes.at) ∙ goes.host in
+    let again = ap (λ (m : MonitoredState). is_host (monitored_step m).state.seat.world) (sym goes.leaves) ∙ goes.again in
+    let back = schedule_law hart goes.between here (sched_kept goes.before chosen.state kept) goes.stored host goes.runs again in
+    subst (λ (m : MonitoredState). HostComesBack m exit (monitored_step exit)) (sym goes.at)
+    (subst (λ (m : MonitoredState). HostComesBack (seen_by hart here) m (monitored_step m)) (sym goes.leaves) back)
 
 pub return_within : ReturnWithinLaw
 return_within hart bench command entry exit kept goes = goes_under hart (harts_stepped (deed bench command)) bench.target entry exit kept goes

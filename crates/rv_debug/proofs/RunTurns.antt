@@ -1,12 +1,10 @@
 -- A run of the debugger is so many steps of the chosen hart.
-use Rattle.std.proofs.Common.{◌≡◌, ℕ, zero, suc, ◌+◌, ◌==◌, Bool, true, false, cond, List, replicate, Option, Some, None, refl, sym, ◌∙◌}
-use Rattle.std.proofs.Common.{ap, arith}
-use Rattle.rv_debug.specs.declared.steps.Stop.TheVariants.{Break, Watch}
-use Rattle.rv_debug.proofs.Prelude.{AfterRun, AfterSteps, AfterTurns, chosen_of, done, ended, entered_by, is_among, lowest_accessed, no_steps}
-use Rattle.rv_debug.proofs.Prelude.{no_turns, option_case, pc_of, run, run_deed, stepped, steps_of, turns, with_chosen, with_slot, with_step}
-use Rattle.rv_debug.proofs.Prelude.{with_turn}
-use Rattle.rv_debug.proofs.Types.{Bare, Done, Monitored, Scheduled, Target}
+use Rattle.std.proofs.Common.{◌≡◌, ℕ, suc, ◌+◌, ◌==◌, List, replicate, refl, sym, ◌∙◌, ap, arith}
+use Rattle.rv_debug.specs.Prelude.{Bare, Monitored, Scheduled, Stop, Target}
+use Rattle.rv_debug.proofs.Prelude.{AfterRun, AfterSteps, AfterTurns, chosen_of, done, ended, entered_by, no_steps, no_turns, pc_of, run}
+use Rattle.rv_debug.proofs.Prelude.{run_deed, stepped, steps_of, turns, with_chosen, with_slot, with_step, with_turn}
 use Rattle.rv_debug.proofs.Turns.{after_turns}
+use Rattle.rv_debug.proofs.Stepping.{by_run}
 
 -- ---- the chosen hart
 
@@ -31,17 +29,10 @@ record IsTurns (hart : ℕ) (target : Target) (slots earlier : ℕ) (after : Aft
   state : (did : Scheduled) → (turns (replicate count hart) (after_turns target did)).state ≡ after.state
   entered : (did : Scheduled) → did.entered ≡ slots → (turns (replicate count hart) (after_turns target did)).did.entered ≡ after.ran.entered
 
-ends : (hart : ℕ) (so_far : AfterSteps Target) (stop : AfterSteps Target → AfterRun Target) → (stop so_far).ran.steps ≡ so_far.steps
-    → (stop so_far).state ≡ so_far.state → (stop so_far).ran.entered ≡ so_far.entered → chosen_of so_far.state ≡ hart
-    → IsTurns hart so_far.state so_far.entered so_far.steps (stop so_far)
+ends : (hart : ℕ) (so_far : AfterSteps Target) (stop : Stop) → chosen_of so_far.state ≡ hart
+    → IsTurns hart so_far.state so_far.entered so_far.steps (ended so_far stop)
 unfolding turns
-ends hart so_far stop steps state entered own = record {
-  count = 0;
-  steps = omega (arith, steps);
-  chosen = ap chosen_of state ∙ own;
-  state = λ did. sym state;
-  entered = λ did is. is ∙ sym entered;
-}
+ends hart so_far stop own = record { count = 0; steps = omega arith; chosen = own; state = λ did. refl; entered = λ did is. is }
 
 goes : (hart : ℕ) (before : AfterSteps Target) (after : AfterRun Target) → chosen_of before.state ≡ hart
     → (let so_far = with_step before (stepped before.state) in IsTurns hart so_far.state so_far.entered so_far.steps after)
@@ -62,26 +53,12 @@ goes hart before after own more =
           ∙ more.entered (did_of did) (ap (λ (slots : ℕ). with_slot slots last.entered) is);
     }
 
-module _ (breaks watches : List ℕ) where
-  is-turns : (hart count : ℕ) (before : AfterSteps Target) → chosen_of before.state ≡ hart
-      → IsTurns hart before.state before.entered before.steps (run stepped pc_of breaks watches count before)
-  unfolding run
-  is-turns hart zero before own = ends hart before (λ after. ended after Done) refl refl refl own
-  is-turns hart (suc left) before own =
-      let after = with_step before (stepped before.state) in
-      let still = same_hart before.state ∙ own in
-      goes hart before _ own
-      (go after still (lowest_accessed watches (stepped before.state).outcome.touched) (left == 0) (is_among (pc_of after.state) breaks)
-      (is-turns hart left after still)) where
-        go : (after : AfterSteps Target) → chosen_of after.state ≡ hart → (hit : Option ℕ) (last here : Bool)
-            → IsTurns hart after.state after.entered after.steps (run stepped pc_of breaks watches left after)
-            → IsTurns hart after.state after.entered after.steps
-            (option_case hit (cond last (ended after Done) (cond here (ended after Break) (run stepped pc_of breaks watches left after)))
-            (λ address. ended after (Watch address)))
-        go after own (Some address) last here more = ends hart after (λ after. ended after (Watch address)) refl refl refl own
-        go after own None true here more = ends hart after (λ after. ended after Done) refl refl refl own
-        go after own None false true more = ends hart after (λ after. ended after Break) refl refl refl own
-        go after own None false false more = more
+is-turns : (breaks watches : List ℕ) (hart count : ℕ) (before : AfterSteps Target) → chosen_of before.state ≡ hart
+    → IsTurns hart before.state before.entered before.steps (run stepped pc_of breaks watches count before)
+is-turns breaks watches hart =
+    by_run stepped pc_of breaks watches
+    (λ before end. chosen_of before.state ≡ hart → IsTurns hart before.state before.entered before.steps end)
+    (ends hart) (λ before end more own. goes hart before end own (more (same_hart before.state ∙ own)))
 
 -- where a run ends, and what it entered
 pub run_done : (target : Target) (breaks watches : List ℕ) (count : ℕ)

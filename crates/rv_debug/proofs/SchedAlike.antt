@@ -1,11 +1,11 @@
 -- Steps of named harts in two machines that agree but for an enclave that runs on none of them: they show and leave the same, up to one that
 -- enters it.
 use Rattle.std.proofs.Common.{◌≡◌, ℕ, true, List, [], ◌∷◌, ◌⊎◌, Some, refl, sym, ◌∙◌, ap, subst, inl, inr}
-use Rattle.std.proofs.lemmas.Bool.{cases_Bool}
-use Rattle.rv_monitor.proofs.MonitoredAlike.{confidentiality}
-use Rattle.rv_debug.proofs.Prelude.{AfterTurns, Chosen, ChosenAgreeBut, IsKept, Machine, RestsIn, entered_some, enters, entry_law, is_entered}
-use Rattle.rv_debug.proofs.Prelude.{kept_law, step_of, stepped, turns, with_chosen, with_turn}
-use Rattle.rv_debug.proofs.Types.{Monitored, Outcome, Scheduled}
+use Rattle.rv_monitor.proofs.HartsAlike.{entered_some, entry_law}
+use Rattle.rv_monitor.specs.declared.outcome.Outcome.{Outcome}
+use Rattle.rv_debug.specs.Prelude.{IsKept, Machine, Monitored, Scheduled, enters, step_of}
+use Rattle.rv_debug.proofs.Prelude.{AfterTurns, Chosen, ChosenAgreeBut, RestsIn, cases_Bool, confidentiality, is_entered, kept_law}
+use Rattle.rv_debug.proofs.Prelude.{stepped, turns, with_chosen, with_turn}
 use Rattle.rv_debug.proofs.StepsAlike.{enters-with, enters-now}
 use Rattle.rv_debug.proofs.Turns.{after_turns}
 

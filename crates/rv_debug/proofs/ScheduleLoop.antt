@@ -3,14 +3,10 @@ use Rattle.std.proofs.Common.{◌≡◌, ◌<◌, ◌≤◌, ℕ, ◌+◌, ◌==
 use Rattle.std.proofs.Common.{length, Option, Some, None, refl, sym, ◌∙◌, ap, ap₂, subst, arith}
 use Rattle.std.specs.Int.Bits.{or_zero_r, or_zero_l}
 use Rattle.std.specs.Prelude.{◌^◌, ◌&&◌, nat_lt}
-use Rattle.std.specs.Option.{option_or}
-use Rattle.std.proofs.lemmas.Bool.Decides.{nat_tests}
-use Rattle.std.proofs.lemmas.List.{drop_all, drop_more}
-use Rattle.rv_script.specs.Schedules.{hart_of_digit}
-use Rattle.rv_debug.specs.Turns.{with_own}
-use Rattle.rv_debug.proofs.Prelude.{AfterRun, AfterTurns, IsBare, ended, harts_of, has_all, no_steps, pc_of, run, step_count, stepped, turns}
-use Rattle.rv_debug.proofs.Prelude.{with_chosen, with_slot, with_step, with_turn}
-use Rattle.rv_debug.proofs.Types.{Bare, Done, HartRan, Monitored, Ran, Scheduled, Target, Trap}
+use Rattle.rv_debug.specs.Prelude.{Bare, Done, HartRan, Monitored, Ran, Scheduled, Target, Trap, hart_of_digit, has_all}
+use Rattle.rv_debug.proofs.Prelude.{AfterRun, AfterTurns, IsBare, and_parts, drop_all, drop_more, ended, harts_of, nat_tests, no_steps}
+use Rattle.rv_debug.proofs.Prelude.{option_or, pc_of, run, step_count, stepped, turns, with_chosen, with_own, with_slot, with_step}
+use Rattle.rv_debug.proofs.Prelude.{with_turn}
 use Rattle.rv_debug.proofs.Stepping.{run-once}
 use Rattle.rv_debug.proofs.Turns.{after_turns, step_bare}
 
@@ -103,11 +99,6 @@ turn_more digits n digit hart before after inside is names goes =
     ap (λ (harts : List ℕ). turns harts before) (next_digit digits n digit inside is ∙ ap (λ (h : ℕ). h ∷ rest (n + 1) digits) (sym names))
     ∙ unfold_turns hart (rest (n + 1) digits) before ∙ ap (turns (rest (n + 1) digits)) goes
 
-both_true : (a b : Bool) → a && b ≡ true → (a ≡ true) × (b ≡ true)
-both_true true true is = (refl, refl)
-both_true true false is = absurd (let never : false ≡ true = is in cc)
-both_true false b is = absurd (let never : false ≡ true = is in cc)
-
 unfold_all : (count hart : ℕ) (harts : List ℕ) → has_all count (hart ∷ harts) ≡ (nat_lt hart count && has_all count harts)
 unfolding has_all
 unfold_all count hart harts = refl
@@ -117,7 +108,7 @@ pub has_next : (count : ℕ) (digits : List ℕ) (n digit : ℕ) → n < length 
     → has_all count (rest n digits) ≡ true
     → (hart_of_digit digit < count) × (has_all count (rest (n + 1) digits) ≡ true)
 has_next count digits n digit inside is has =
-    let both = both_true (nat_lt (hart_of_digit digit) count) (has_all count (rest (n + 1) digits))
+    let both = and_parts (nat_lt (hart_of_digit digit) count) (has_all count (rest (n + 1) digits))
     (sym (unfold_all count (hart_of_digit digit) (rest (n + 1) digits)) ∙ ap (has_all count) (sym (next_digit digits n digit inside is)) ∙ has) in
     let here = both.0 in (grind (arith, nat_tests, here), both.1)
 

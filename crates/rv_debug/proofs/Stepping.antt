@@ -1,21 +1,51 @@
 -- Steps, one by one.
-use Rattle.std.proofs.Common.{◌≡◌, ℕ, zero, suc, ◌+◌, ◌-◌, ◌<◌, ◌≤◌, ◌==◌, true, false, cond, List, [], Option, Some, None, refl}
-use Rattle.std.proofs.Common.{◌∙◌, ap, arith, inl, inr}
-use Rattle.std.proofs.lemmas.Bool.{cases_eq}
-use Rattle.std.specs.Option.{option_or}
-use Rattle.rv_debug.specs.declared.steps.Stop.TheVariants.{Break, Watch}
-use Rattle.rv_debug.proofs.Prelude.{AfterRun, AfterSteps, Stepped, ended, is_among, lowest_accessed, option_case, run, with_slot, with_step}
-use Rattle.rv_debug.proofs.Types.{Done, Trap}
+use Rattle.std.proofs.Common.{◌≡◌, ℕ, zero, suc, ◌+◌, ◌-◌, ◌<◌, ◌≤◌, ◌==◌, true, false, cond, List, [], Option, Some, None, refl, ◌∙◌, ap}
+use Rattle.std.proofs.Common.{arith, inl, inr, Bool}
+use Rattle.rv_debug.specs.Prelude.{Break, Done, Stop, Trap, Watch, option_case}
+use Rattle.rv_debug.proofs.Prelude.{AfterRun, AfterSteps, Stepped, cases_eq, ended, is_among, lowest_accessed, option_or, run, with_slot}
+use Rattle.rv_debug.proofs.Prelude.{with_step}
+
+-- ---- the one walk over a run
+
+-- where it ends or goes on behind a step, by what the step accessed, whether it was the last, and whether the next is at a break
+abbrev pub next_of : {A : Type 0} → AfterSteps A → AfterRun A → Option ℕ → Bool → Bool → AfterRun A
+next_of after more hit last here =
+    option_case hit (cond last (ended after Done) (cond here (ended after Break) more)) (λ address. ended after (Watch address))
+
+-- what holds where it ends, and of what is more, holds; of two runs side by side that stop alike,
+pub by_next : {A B : Type 0} (P : AfterRun A → AfterRun B → Type 0) (a : AfterSteps A) (b : AfterSteps B) (one : AfterRun A)
+    (other : AfterRun B) (hit : Option ℕ) (last here : Bool) → ((stop : Stop) → P (ended a stop) (ended b stop)) → P one other
+    → P (next_of a one hit last here) (next_of b other hit last here)
+by_next P a b one other (Some address) last here ends more = ends (Watch address)
+by_next P a b one other None true here ends more = ends Done
+by_next P a b one other None false true ends more = ends Break
+by_next P a b one other None false false ends more = more
+
+-- and of one; from its end back to its beginning
+pub by_run : {A : Type 0} (step : A → Stepped A) (pc : A → ℕ) (breaks watches : List ℕ) (P : AfterSteps A → AfterRun A → Type 0)
+    → ((after : AfterSteps A) (stop : Stop) → P after (ended after stop))
+    → ((before : AfterSteps A) (end : AfterRun A) → P (with_step before (step before.state)) end → P before end)
+    → (count : ℕ) (before : AfterSteps A) → P before (run step pc breaks watches count before)
+unfolding run
+by_run step pc breaks watches P ends goes zero before = ends before Done
+by_run {A} step pc breaks watches P ends goes (suc left) before =
+    let last = step before.state in
+    let after = with_step before last in
+    let more = run step pc breaks watches left after in
+    let Ends : AfterRun A → AfterRun A → Type 0 = λ end _. P after end in
+    goes before _ (by_next Ends after after more more (lowest_accessed watches last.outcome.touched) (left == 0)
+    (is_among (pc last.state) breaks) (ends after) (by_run step pc breaks watches P ends goes left after))
+
+-- ---- one step of it
 
 module _ {A : Type 0} (step : A → Stepped A) (pc : A → ℕ) (breaks watches : List ℕ) where
   -- one step of a run, and where it ends or goes on
   abbrev next : ℕ → AfterSteps A → AfterRun A
   next left before =
-      option_case (lowest_accessed watches (step before.state).outcome.touched)
-      (cond (left == 0) (ended (with_step before (step before.state)) Done)
-      (cond (is_among (pc (step before.state).state) breaks) (ended (with_step before (step before.state)) Break)
-      (run step pc breaks watches left (with_step before (step before.state)))))
-      (λ address. ended (with_step before (step before.state)) (Watch address))
+      let last = step before.state in
+      let after = with_step before last in
+      next_of after (run step pc breaks watches left after) (lowest_accessed watches last.outcome.touched) (left == 0)
+      (is_among (pc last.state) breaks)
 
   run-suc : (left : ℕ) (before : AfterSteps A) → run step pc breaks watches (suc left) before ≡ next left before
   unfolding run
@@ -110,21 +140,8 @@ module _ {A : Type 0} (step : A → Stepped A) (pc : A → ℕ) (breaks watches 
   unfolding run
   stops-done count done so_far over = let none : count - done ≡ 0 = omega arith in rw none refl
 
--- so many steps, whatever they access
-steps_after : {A : Type 0} → (A → Stepped A) → ℕ → AfterSteps A → AfterSteps A
-steps_after step zero before = before
-steps_after step (suc count) before = steps_after step count (with_step before (step before.state))
-
--- where nothing is set, a run does all its steps
-run-free : {A : Type 0} (step : A → Stepped A) (pc : A → ℕ) (count : ℕ) (before : AfterSteps A)
-    → run step pc [] [] count before ≡ ended (steps_after step count before) Done
-unfolding run lowest_accessed steps_after
-run-free step pc zero before = refl
-run-free step pc (suc count) before =
-    run-more step pc [] [] (suc count) count before (omega arith) refl (λ _. refl) ∙ run-free step pc count (with_step before (step before.state))
-
--- one step
+-- one step, whatever it accesses
 pub run-once : {A : Type 0} (step : A → Stepped A) (pc : A → ℕ) (before : AfterSteps A)
     → run step pc [] [] 1 before ≡ ended (with_step before (step before.state)) Done
-unfolding steps_after
-run-once step pc before = run-free step pc 1 before
+unfolding run lowest_accessed
+run-once step pc before = refl

@@ -1,16 +1,16 @@
 -- Runs of two monitored machines that agree but for an enclave that is not the world of the chosen hart: they do the same, up to the step
 -- that enters it.
-use Rattle.std.proofs.Common.{◌≡◌, ℕ, zero, suc, ◌⊎◌, ◌==◌, Bool, true, false, cond, List, Option, Some, None, refl, sym, ◌∙◌, ap, subst}
-use Rattle.std.proofs.Common.{inl, inr, arith}
+use Rattle.std.proofs.Common.{◌≡◌, ℕ, zero, suc, ◌⊎◌, ◌==◌, Bool, true, false, List, Option, Some, None, refl, sym, ◌∙◌, ap, subst, inl}
+use Rattle.std.proofs.Common.{inr, arith}
 use Rattle.std.specs.Prelude.{bit_or, ◌^◌}
-use Rattle.std.proofs.lemmas.Bool.{cases_Bool, cases_eq}
 use Rattle.std.proofs.lemmas.Nat.Bits.{bit_at_or, bit_at-lt, bit_at-pow_same}
-use Rattle.rv_monitor.proofs.MonitoredAlike.{confidentiality}
-use Rattle.rv_debug.specs.declared.steps.Stop.TheVariants.{Break as AtBreak, Watch as AtWatch}
-use Rattle.rv_debug.proofs.Prelude.{AfterRun, AfterSteps, AgreeBut, IsKept, Machine, ended, entered_some, enters, entry_law, is_among, is_entered}
-use Rattle.rv_debug.proofs.Prelude.{kept_law, lowest_accessed, option_case, run, runs_on, step_of, with_slot, with_step}
-use Rattle.rv_debug.proofs.Types.{Done, Outcome, Seat}
+use Rattle.rv_monitor.proofs.HartsAlike.{entered_some, entry_law}
+use Rattle.rv_monitor.specs.declared.outcome.Outcome.{Outcome}
+use Rattle.rv_debug.specs.Prelude.{AgreeBut, IsKept, Machine, Seat, Stop, enters, runs_on, step_of}
+use Rattle.rv_debug.proofs.Prelude.{AfterRun, AfterSteps, cases_Bool, cases_eq, confidentiality, is_among, is_entered, kept_law}
+use Rattle.rv_debug.proofs.Prelude.{lowest_accessed, run, with_slot, with_step}
 use Rattle.rv_debug.proofs.TargetRuns.{hart_pc, hart_stepped}
+use Rattle.rv_debug.proofs.Stepping.{by_next, by_run, next_of}
 
 -- ---- slots that are entered
 
@@ -55,54 +55,34 @@ module _ (e hart : ℕ) (breaks watches : List ℕ) where
   abbrev on : ℕ → AfterSteps Machine → AfterRun Machine
   on left before = run (hart_stepped hart) (hart_pc hart) breaks watches left before
 
-  -- what comes after so many steps, by what the last accessed, whether it was the last, and whether the next is at a break
-  abbrev next : ℕ → AfterSteps Machine → Option ℕ → Bool → Bool → AfterRun Machine
-  next left after hit last here =
-      option_case hit (cond last (ended after Done) (cond here (ended after AtBreak) (on left after))) (λ address. ended after (AtWatch address))
-
   -- the steps and one more
   abbrev after_step : AfterSteps Machine → Outcome → Machine → AfterSteps Machine
   after_step before outcome state = with_step before (record { state = state; outcome = outcome.step; entered = outcome.entered })
 
   abbrev next_run : ℕ → AfterSteps Machine → Outcome → Machine → AfterRun Machine
   next_run left before outcome state =
-      next left (after_step before outcome state) (lowest_accessed watches outcome.step.touched) (left == 0) (is_among (hart_pc hart state) breaks)
+      let after = after_step before outcome state in
+      next_of after (on left after) (lowest_accessed watches outcome.step.touched) (left == 0) (is_among (hart_pc hart state) breaks)
 
   -- a slot that was entered stays so
-  next-enters : (left : ℕ) (after : AfterSteps Machine) (hit : Option ℕ) (last here : Bool) → is_entered e after.entered ≡ true
-      → is_entered e (on left after).ran.entered ≡ true → is_entered e (next left after hit last here).ran.entered ≡ true
-  next-enters left after (Some address) last here is more = is
-  next-enters left after None true here is more = is
-  next-enters left after None false true is more = is
-  next-enters left after None false false is more = more
+  abbrev Enters : AfterRun Machine → AfterRun Machine → Type 0
+  Enters end _ = is_entered e end.ran.entered ≡ true
 
   stays-entered : (left : ℕ) (before : AfterSteps Machine) → is_entered e before.entered ≡ true
       → is_entered e (on left before).ran.entered ≡ true
-  unfolding run
-  stays-entered zero before is = is
-  stays-entered (suc left) before is =
-      let last = hart_stepped hart before.state in
-      let more = enters-with e before.entered last.entered is in
-      next-enters left (with_step before last) (lowest_accessed watches last.outcome.touched) (left == 0) (is_among (hart_pc hart last.state) breaks)
-      more (stays-entered left (with_step before last) more)
+  stays-entered =
+      by_run (hart_stepped hart) (hart_pc hart) breaks watches (λ before end. is_entered e before.entered ≡ true → Enters end end)
+      (λ after stop is. is) (λ before end more is. more (enters-with e before.entered (hart_stepped hart before.state).entered is))
 
   -- and so does one that this step enters
   entered-next : (left : ℕ) (before : AfterSteps Machine) (outcome : Outcome) (state : Machine) → outcome.entered ≡ Some e
       → is_entered e (next_run left before outcome state).ran.entered ≡ true
   entered-next left before outcome state is =
       let after = after_step before outcome state in
+      let more = on left after in
       let now = enters-now e before.entered outcome.entered is in
-      next-enters left after (lowest_accessed watches outcome.step.touched) (left == 0) (is_among (hart_pc hart state) breaks)
-      now (stays-entered left after now)
-
-  next-alike : (left : ℕ) (after : AfterSteps Machine) (other : Machine) (hit : Option ℕ) (last here : Bool)
-      → AgreeBut e after.state other → runs_on e hart after.state ≡ false
-      → RunAlike e hart (on left after) (on left (with_state after other))
-      → RunAlike e hart (next left after hit last here) (next left (with_state after other) hit last here)
-  next-alike left after other (Some address) last here agree rests more = inr (record { ran = refl; state = agree; rests = rests })
-  next-alike left after other None true here agree rests more = inr (record { ran = refl; state = agree; rests = rests })
-  next-alike left after other None false true agree rests more = inr (record { ran = refl; state = agree; rests = rests })
-  next-alike left after other None false false agree rests more = more
+      by_next Enters after after more more (lowest_accessed watches outcome.step.touched) (left == 0) (is_among (hart_pc hart state) breaks)
+      (λ stop. now) (stays-entered left after now)
 
   pub run-alike : (left : ℕ) (before : AfterSteps Machine) (other : Machine) → IsKept before.state → IsKept other
       → AgreeBut e before.state other → runs_on e hart before.state ≡ false
@@ -125,11 +105,13 @@ module _ (e hart : ℕ) (breaks watches : List ℕ) where
         | inr passes ↦
             let still = entry_law e hart hart before.state rests passes in
             let more = run-alike left after two.state (kept_law hart before.state kept) (kept_law hart other kept') both.state still in
-            let alike = next-alike left after two.state hit (left == 0) (is_among (hart_pc hart one.state) breaks) both.state still more in
+            let stops = λ (stop : Stop). inr (record { ran = refl; state = both.state; rests = still }) in
+            let alike = by_next (RunAlike e hart) after (with_state after two.state) _ _ hit (left == 0)
+            (is_among (hart_pc hart one.state) breaks) stops more in
             let seats = (let state = both.state in state.seats hart) in
             let place = ap (λ (seat : Seat). is_among seat.hart.pc breaks) (seats.same still) in
             subst (λ (outcome : Outcome). RunAlike e hart (next_run left before one.outcome one.state)
             (next_run left (with_state before other) outcome two.state)) both.outcome
             (subst (λ (here : Bool). RunAlike e hart (next_run left before one.outcome one.state)
-            (next left (with_state after two.state) hit (left == 0) here)) place alike)
+            (next_of (with_state after two.state) (on left (with_state after two.state)) hit (left == 0) here)) place alike)
       ]

@@ -1,10 +1,9 @@
 -- Steps of a target are those of the machine that it is.
-use Rattle.std.proofs.Common.{◌≡◌, ℕ, zero, suc, ◌==◌, Bool, true, false, cond, List, Option, Some, None, refl, sym, ◌∙◌, ap}
-use Rattle.rv_debug.specs.Targets.{with_target}
-use Rattle.rv_debug.specs.declared.steps.Stop.TheVariants.{Break, Watch}
-use Rattle.rv_debug.proofs.Prelude.{AfterRun, AfterSteps, Chosen, Machine, State, Stepped, chosen_at, chosen_seat, chosen_stepped, ended, is_among}
-use Rattle.rv_debug.proofs.Prelude.{lowest_accessed, machine_stepped, no_steps, option_case, pc_of, run, seat_of, step_of, stepped, with_step}
-use Rattle.rv_debug.proofs.Types.{Bare, Done, Monitored, Ran, Target}
+use Rattle.std.proofs.Common.{◌≡◌, ℕ, zero, suc, ◌==◌, List, refl, sym, ◌∙◌, ap}
+use Rattle.rv_debug.specs.Prelude.{Bare, Machine, Monitored, Ran, State, Target, seat_of, step_of}
+use Rattle.rv_debug.proofs.Prelude.{AfterRun, AfterSteps, Chosen, Stepped, chosen_at, chosen_seat, chosen_stepped, is_among}
+use Rattle.rv_debug.proofs.Prelude.{lowest_accessed, machine_stepped, no_steps, pc_of, run, stepped, with_step, with_target}
+use Rattle.rv_debug.proofs.Stepping.{by_next, by_run, next_of}
 
 abbrev pub in_target : {A : Type 0} → (A → Target) → AfterSteps A → AfterSteps Target
 in_target target after = record { state = target after.state; steps = after.steps; trap = after.trap; entered = after.entered }
@@ -15,13 +14,11 @@ target_of target after = record { state = target after.state; ran = after.ran }
 module _ {A : Type 0} (target : A → Target) (step : A → Stepped A) (pc : A → ℕ)
     (steps : (machine : A) → stepped (target machine) ≡ with_target target (step machine))
     (pcs : (machine : A) → pc_of (target machine) ≡ pc machine) (breaks watches : List ℕ) where
-  abbrev next_in : ℕ → AfterSteps Target → Stepped Target → AfterRun Target
-  next_in left before after =
-      option_case (lowest_accessed watches after.outcome.touched)
-      (cond (left == 0) (ended (with_step before after) Done)
-      (cond (is_among (pc_of after.state) breaks) (ended (with_step before after) Break)
-      (run stepped pc_of breaks watches left (with_step before after))))
-      (λ address. ended (with_step before after) (Watch address))
+  abbrev next_in : ℕ → AfterSteps Target → Stepped Target → ℕ → AfterRun Target
+  next_in left before last here =
+      let after = with_step before last in
+      next_of after (run stepped pc_of breaks watches left after) (lowest_accessed watches last.outcome.touched) (left == 0)
+      (is_among here breaks)
 
   run-in : (count : ℕ) (before : AfterSteps A)
       → run stepped pc_of breaks watches count (in_target target before) ≡ target_of target (run step pc breaks watches count before)
@@ -30,24 +27,10 @@ module _ {A : Type 0} (target : A → Target) (step : A → Stepped A) (pc : A �
   run-in (suc left) before =
       let last = step before.state in
       let after = with_step before last in
-      ap (next_in left (in_target target before)) (steps before.state)
-      ∙ (ap (λ here. option_case (lowest_accessed watches last.outcome.touched)
-      (cond (left == 0) (ended (in_target target after) Done)
-      (cond (is_among here breaks) (ended (in_target target after) Break) (run stepped pc_of breaks watches left (in_target target after))))
-      (λ address. ended (in_target target after) (Watch address))) (pcs last.state)
-      ∙ go after (lowest_accessed watches last.outcome.touched) (left == 0) (is_among (pc last.state) breaks) (run-in left after)) where
-        go : (after : AfterSteps A) (hit : Option ℕ) (last here : Bool)
-            → run stepped pc_of breaks watches left (in_target target after) ≡ target_of target (run step pc breaks watches left after)
-            → option_case hit
-            (cond last (ended (in_target target after) Done)
-            (cond here (ended (in_target target after) Break) (run stepped pc_of breaks watches left (in_target target after))))
-            (λ address. ended (in_target target after) (Watch address))
-            ≡ target_of target (option_case hit (cond last (ended after Done) (cond here (ended after Break) (run step pc breaks watches left after)))
-            (λ address. ended after (Watch address)))
-        go after (Some address) last here more = refl
-        go after None true here more = refl
-        go after None false true more = refl
-        go after None false false more = more
+      ap (λ (seen : Stepped Target). next_in left (in_target target before) seen (pc_of seen.state)) (steps before.state)
+      ∙ (ap (next_in left (in_target target before) (with_target target last)) (pcs last.state)
+      ∙ by_next (λ (there : AfterRun Target) (here : AfterRun A). there ≡ target_of target here) (in_target target after) after _ _
+      (lowest_accessed watches last.outcome.touched) (left == 0) (is_among (pc last.state) breaks) (λ stop. refl) (run-in left after))
 
   -- what a run of the machine gives, said of the target
   runs-in : (count : ℕ) (machine after : A) (ran : Ran)
@@ -81,20 +64,9 @@ run_monitored hart breaks watches = run-in (chosen_at hart) (hart_stepped hart) 
 
 entered-none : (breaks watches : List ℕ) (count : ℕ) (before : AfterSteps State)
     → (run machine_stepped machine_pc breaks watches count before).ran.entered ≡ before.entered
-unfolding run
-entered-none breaks watches zero before = refl
-entered-none breaks watches (suc left) before =
-    let after = with_step before (machine_stepped before.state) in
-    go after (lowest_accessed watches (machine_stepped before.state).outcome.touched) (left == 0) (is_among after.state.hart.pc breaks)
-    (entered-none breaks watches left after) where
-      go : (after : AfterSteps State) (hit : Option ℕ) (last here : Bool)
-          → (run machine_stepped machine_pc breaks watches left after).ran.entered ≡ after.entered
-          → (option_case hit (cond last (ended after Done) (cond here (ended after Break) (run machine_stepped machine_pc breaks watches left after)))
-          (λ address. ended after (Watch address))).ran.entered ≡ after.entered
-      go after (Some address) last here more = refl
-      go after None true here more = refl
-      go after None false true more = refl
-      go after None false false more = more
+entered-none breaks watches =
+    by_run machine_stepped machine_pc breaks watches (λ before end. end.ran.entered ≡ before.entered) (λ after stop. refl)
+    (λ before end same. same)
 
 pub enters_none : (breaks watches : List ℕ) (count : ℕ) (machine after : State) (ran : Ran)
     → run machine_stepped machine_pc breaks watches count (no_steps machine) ≡ record { state = after; ran = ran } → ran.entered ≡ 0

@@ -1,7 +1,7 @@
 -- Steps of named harts: those of the machine that the target is, in the order of the harts.
 use Rattle.std.proofs.Common.{◌≡◌, ℕ, List, [], ◌∷◌, refl}
-use Rattle.rv_debug.proofs.Prelude.{AfterTurns, Chosen, IsBare, KeepsMonitor, chosen_at, sched, step_of, stepped, turns, with_chosen, with_turn}
-use Rattle.rv_debug.proofs.Types.{Bare, Monitored, Scheduled, Target}
+use Rattle.rv_debug.specs.Prelude.{Bare, Monitored, Scheduled, State, Target, sched, step_of}
+use Rattle.rv_debug.proofs.Prelude.{AfterTurns, Chosen, IsBare, chosen_at, stepped, turns, with_chosen, with_turn}
 
 abbrev pub after_turns : Target → Scheduled → AfterTurns
 after_turns state did = record { state = state; did = did }
@@ -18,9 +18,13 @@ turns_are_sched (hart ∷ harts) machine did chosen =
 
 -- ---- of a machine alone, which stays one
 
+-- what holds of every machine alone holds of each target that is one
+pub by_bare : (P : Target → Type 0) → ((machine : State) → P (Bare machine)) → (target : Target) → IsBare target → P target
+by_bare P alone (Bare machine) bare = alone machine
+by_bare P alone (Monitored machine) bare = absurd bare
+
 pub step_bare : (hart : ℕ) (target : Target) → IsBare target → IsBare (stepped (with_chosen hart target)).state
-step_bare hart (Bare machine) bare = tt
-step_bare hart (Monitored machine) bare = absurd bare
+step_bare hart = by_bare (λ (target : Target). IsBare (stepped (with_chosen hart target)).state) (λ machine. tt)
 
 pub stays_bare : (harts : List ℕ) (before : AfterTurns) → IsBare before.state → IsBare (turns harts before).state
 unfolding turns
@@ -30,9 +34,4 @@ stays_bare (hart ∷ harts) before bare =
     stays_bare harts (with_turn hart before last) (step_bare hart before.state bare)
 
 pub turned_bare : (hart : ℕ) (target : Target) → IsBare target → IsBare (with_chosen hart target)
-turned_bare hart (Bare machine) bare = tt
-turned_bare hart (Monitored machine) bare = absurd bare
-
-pub bare_kept : (target : Target) → IsBare target → KeepsMonitor target
-bare_kept (Bare machine) bare = tt
-bare_kept (Monitored machine) bare = absurd bare
+turned_bare hart = by_bare (λ (target : Target). IsBare (with_chosen hart target)) (λ machine. tt)

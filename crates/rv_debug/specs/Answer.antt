@@ -1,22 +1,11 @@
 -- The answers to commands: the state of the bench that one leaves, and the text of its reply. (This project's own commands.)
 use Rattle.std.specs.Prelude.{ℕ, Bool, true, false, List, [], ◌++◌, ◌==◌, nat_lt, Option, Result, Ok, Err, if◌then◌else◌}
-use Rattle.rv_word.specs.Cases.{option_case, result_case}
-use Rattle.rv_word.specs.Widths.{bytes_in}
-use Rattle.rv_word.specs.declared.width.Width.{Width}
 use Rattle.rv_memory.specs.Accesses.{verdict_on}
-use Rattle.rv_memory.specs.Memory.{read, number_of_bytes}
-use Rattle.rv_pmp.specs.Entries.{Entries}
 use Rattle.rv_pmp.specs.declared.access.Access.{Access as AccessKind}
-use Rattle.rv_pmp.specs.declared.mode.Mode.{Mode}
-use Rattle.rv_pmp.specs.declared.mode.Mode.TheVariants.{M}
-use Rattle.rv_state.specs.CsrTable.{read_result}
-use Rattle.rv_state.specs.Registers.{register}
-use Rattle.rv_script.specs.Command.{parse_of}
-use Rattle.rv_script.specs.Schedules.{harts_in, has_all}
-use Rattle.rv_script.specs.declared.command.Command.{Command}
-use Rattle.rv_script.specs.declared.command.Command.TheVariants.{Blank, Step, Run, Break, Clear, Watch, Unwatch, Reg, Regs, SetReg, Csr, Mem, Poke, Dis, Pmp}
-use Rattle.rv_script.specs.declared.command.Command.TheVariants.{Enclaves, Access, Timer, Hart, Sched}
-use Rattle.rv_script.specs.declared.command.CommandFault.{CommandFault}
+use Rattle.rv_script.specs.declared.command.Command.TheVariants.{Break, Watch}
+use Rattle.rv_debug.specs.Prelude.{Access, Blank, Clear, Command, CommandFault, Csr, Dis, Enclaves, Entries, Hart, HartRan, M, Mem, Mode}
+use Rattle.rv_debug.specs.Prelude.{Pmp, Poke, Reg, Regs, Run, Sched, SetReg, Step, Target, Timer, Unwatch, Width, bytes_in, harts_in}
+use Rattle.rv_debug.specs.Prelude.{has_all, number_of_bytes, option_case, parse_of, read, read_result, register, result_case}
 use Rattle.rv_debug.specs.Addresses.{with_room_for, without_address}
 use Rattle.rv_debug.specs.BenchState.{BenchState}
 use Rattle.rv_debug.specs.Deeds.{deed, done, entered_by, steps_of}
@@ -25,8 +14,6 @@ use Rattle.rv_debug.specs.ReplyText.{denied_outside_text, full_text, fault_text,
 use Rattle.rv_debug.specs.Turns.{AfterTurns, no_turns, turns}
 use Rattle.rv_debug.specs.Steps.{AfterRun}
 use Rattle.rv_debug.specs.Targets.{chosen_of, hart_of, harts_of, memory_of, world_text, enclaves_text, pc_of, poked, with_chosen}
-use Rattle.rv_debug.specs.declared.scheduled.HartRan.{HartRan}
-use Rattle.rv_debug.specs.declared.target.Target.{Target}
 
 -- ---- breaks and watches
 

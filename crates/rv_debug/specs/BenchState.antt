@@ -1,9 +1,6 @@
 -- The state of a bench: what its commands show and change. (This project's own debugger.)
 use Rattle.std.specs.Prelude.{ℕ, List, []}
-use Rattle.rv_hart.specs.State.{State}
-use Rattle.rv_monitor.specs.State.{Machine}
-use Rattle.rv_debug.specs.declared.target.Target.{Target}
-use Rattle.rv_debug.specs.declared.target.Target.TheVariants.{Bare, Monitored}
+use Rattle.rv_debug.specs.Prelude.{Bare, Machine, Monitored, State, Target}
 
 -- what it steps; the addresses at which a run breaks off; and those of the bytes that it watches, both in rising order
 pub record BenchState : Type 0 where

@@ -4,17 +4,11 @@ use Rattle.std.specs.Prelude.{ℕ, ◌≡◌, suc, ◌==◌, Bool, true, false, 
 use Rattle.std.specs.Prelude.{Err}
 use Rattle.std.specs.Int.{bit_at}
 use Rattle.std.specs.List.{range_with_len}
-use Rattle.rv_monitor.specs.AgreeBut.{AgreeBut, runs_on}
-use Rattle.rv_monitor.specs.HartLaws.{RunsOnNone}
 use Rattle.rv_monitor.specs.Scrambled.{scrambled as scrambled_of}
-use Rattle.rv_enclaves.specs.Blocks.{no_block, meets}
 use Rattle.rv_enclaves.specs.Scramble.{can_scramble as can_scramble_of}
-use Rattle.rv_enclaves.specs.Table.{region}
-use Rattle.rv_enclaves.specs.declared.block.Block.{Block}
-use Rattle.rv_script.specs.Command.{bytes_named, parse_of}
-use Rattle.rv_script.specs.declared.command.Command.{Command}
-use Rattle.rv_script.specs.declared.command.Command.TheVariants.{Blank, Step, Run, Reg, Regs, Csr, Sched}
-use Rattle.rv_script.specs.declared.command.CommandFault.{CommandFault}
+use Rattle.rv_debug.specs.Prelude.{AgreeBut, All, Bare, Blank, Block, BothWhy, Command, CommandFault, Csr, Entered, Monitored, NotBlind}
+use Rattle.rv_debug.specs.Prelude.{Reg, Regs, Run, RunsOnNone, Sched, Step, Target, bytes_named, meets, no_block, parse_of, region}
+use Rattle.rv_debug.specs.Prelude.{runs_on}
 use Rattle.rv_debug.specs.Answer.{Answered, answer}
 use Rattle.rv_debug.specs.BenchState.{BenchState}
 use Rattle.rv_debug.specs.Chosen.{Chosen}
@@ -22,10 +16,6 @@ use Rattle.rv_debug.specs.ReplyText.{fault_text}
 use Rattle.rv_debug.specs.Targets.{chosen_at, chosen_of, harts_of}
 use Rattle.rv_debug.specs.declared.both.BothLine.{BothLine}
 use Rattle.rv_debug.specs.declared.both.BothLine.TheVariants.{Faulty, Given}
-use Rattle.rv_debug.specs.declared.both.BothWhy.{BothWhy}
-use Rattle.rv_debug.specs.declared.both.BothWhy.TheVariants.{All, Entered, NotBlind}
-use Rattle.rv_debug.specs.declared.target.Target.{Target}
-use Rattle.rv_debug.specs.declared.target.Target.TheVariants.{Bare, Monitored}
 
 -- ---- what two benches agree in
 

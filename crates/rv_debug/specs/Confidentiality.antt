@@ -1,19 +1,12 @@
 -- What two benches that agree but for an enclave show and leave, given the same commands that pass by the hart on which it runs: nothing of
 -- that enclave, up to the command that enters it. (Laws of this project's own debugger over its own monitor.)
 use Rattle.std.specs.Prelude.{ℕ, ◌≡◌, suc, Bool, true, false, List, [], ◌∷◌, take}
-use Rattle.rv_enclaves.specs.Blocks.{has}
-use Rattle.rv_enclaves.specs.Table.{is_live}
-use Rattle.rv_script.specs.declared.command.Command.{Command}
-use Rattle.rv_script.specs.declared.command.Command.TheVariants.{Poke}
+use Rattle.rv_debug.specs.Prelude.{All, Bare, BothWhy, Command, Entered, Monitored, NotBlind, Poke, Target, has, is_live}
 use Rattle.rv_debug.specs.Answer.{Answered, answer}
 use Rattle.rv_debug.specs.BenchState.{BenchState}
 use Rattle.rv_debug.specs.Isolation.{after_commands}
 use Rattle.rv_debug.specs.Targets.{KeepsMonitor}
 use Rattle.rv_debug.specs.BothBenches.{BenchesAgreeBut, BothAnswered, PassesBy, RestsIn, is_blind, is_entered, region_of}
-use Rattle.rv_debug.specs.declared.both.BothWhy.{BothWhy}
-use Rattle.rv_debug.specs.declared.both.BothWhy.TheVariants.{All, Entered, NotBlind}
-use Rattle.rv_debug.specs.declared.target.Target.{Target}
-use Rattle.rv_debug.specs.declared.target.Target.TheVariants.{Bare, Monitored}
 
 -- the enclave of slot e is live
 abbrev pub is_live_in : ℕ → Target → Bool

@@ -1,14 +1,10 @@
 -- What commands do to what the bench steps, of which there are five kinds, and what each leaves. (This project's own commands.)
 use Rattle.std.specs.Prelude.{ℕ, Bool, nat_lt, List, [], replicate, if◌then◌else◌}
-use Rattle.rv_word.specs.Cases.{option_case}
-use Rattle.rv_script.specs.Schedules.{harts_in, has_all}
-use Rattle.rv_script.specs.declared.command.Command.{Command}
-use Rattle.rv_script.specs.declared.command.Command.TheVariants.{Step, Run, SetReg, Poke, Timer, Hart, Sched}
+use Rattle.rv_debug.specs.Prelude.{Command, Hart, Poke, Run, Sched, SetReg, Step, Target, Timer, harts_in, has_all, option_case}
 use Rattle.rv_debug.specs.BenchState.{BenchState}
 use Rattle.rv_debug.specs.Turns.{no_turns, turns}
 use Rattle.rv_debug.specs.Steps.{AfterRun, no_steps, run}
 use Rattle.rv_debug.specs.Targets.{chosen_of, harts_of, pc_of, stepped, register_set, timer_set, poked, with_chosen}
-use Rattle.rv_debug.specs.declared.target.Target.{Target}
 
 -- nothing; steps of these harts in their order, behind which this one is chosen; a word put into a register of the chosen hart; its timer
 -- line raised or lowered; a byte put into memory, where its address is in it

@@ -1,13 +1,11 @@
 -- The lines that show the live enclaves: ASCII, ISO/IEC 646, each ended by a line feed. (This project's own replies.)
 use Rattle.std.specs.Prelude.{ℕ, List, [], ◌++◌, Option, Some, None, codes, decimal}
 use Rattle.std.specs.List.{flat_map, range_with_len}
-use Rattle.rv_text.specs.Digits.{hex2, hex8}
 use Rattle.rv_enclaves.specs.SlotNumbers.{slot_count}
-use Rattle.rv_enclaves.specs.Table.{Slots, slot_at}
-use Rattle.rv_enclaves.specs.declared.block.Block.{Block}
 use Rattle.rv_enclaves.specs.declared.slot_info.EnclaveState.{EnclaveState}
 use Rattle.rv_enclaves.specs.declared.slot_info.EnclaveState.TheVariants.{Fresh, Running, Stopped, Exited}
 use Rattle.rv_enclaves.specs.declared.slot_info.SlotInfo.{SlotInfo}
+use Rattle.rv_debug.specs.Prelude.{Block, Slots, hex2, hex8, slot_at}
 
 -- how far an enclave is
 abbrev pub state_text : EnclaveState → List ℕ

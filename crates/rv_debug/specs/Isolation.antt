@@ -2,31 +2,19 @@
 -- for a command and for a list of commands. (This project's own debugger over its own monitor.)
 use Rattle.std.specs.List.{list_all}
 use Rattle.std.specs.Prelude.{ℕ, ◌≡◌, ◌≢◌, ◌<◌, ◌⊎◌, ◌==◌, true, false, not, List, [], ◌∷◌}
-use Rattle.rv_word.specs.Widths.{bytes_in}
-use Rattle.rv_word.specs.declared.width.Width.{Width}
 use Rattle.rv_pmp.specs.Verdicts.{bytes_from, permits}
 use Rattle.rv_pmp.specs.declared.access.Access.{Access as AccessKind}
-use Rattle.rv_pmp.specs.declared.mode.Mode.{Mode}
-use Rattle.rv_pmp.specs.declared.mode.Mode.TheVariants.{M}
 use Rattle.rv_memory.specs.Accesses.{verdict_on}
-use Rattle.rv_memory.specs.Memory.{byte_at, is_inside}
-use Rattle.rv_monitor.specs.AgreeBut.{runs_on}
-use Rattle.rv_monitor.specs.HartLaws.{IsChangedInOrder, IsLeftAlone, RunsOnNone}
-use Rattle.rv_monitor.specs.Integrity.{IsSpared}
-use Rattle.rv_monitor.specs.State.{IsKept, MonitoredState, seat_of, seated, seen_by}
-use Rattle.rv_enclaves.specs.Blocks.{has}
 use Rattle.rv_enclaves.specs.Reach.{in_reach}
-use Rattle.rv_enclaves.specs.Table.{region, is_live}
-use Rattle.rv_script.specs.declared.command.Command.{Command}
-use Rattle.rv_script.specs.declared.command.Command.TheVariants.{Access}
+use Rattle.rv_debug.specs.Prelude.{Access, Bare, Command, IsChangedInOrder, IsKept, IsLeftAlone, IsSpared, M, Mode, Monitored}
+use Rattle.rv_debug.specs.Prelude.{MonitoredState, RunsOnNone, Target, Width, byte_at, bytes_in, has, is_inside, is_live, region, runs_on}
+use Rattle.rv_debug.specs.Prelude.{seat_of, seated, seen_by}
 use Rattle.rv_debug.specs.Answer.{access_reply, answer}
 use Rattle.rv_debug.specs.BenchState.{BenchState}
 use Rattle.rv_debug.specs.Chosen.{Chosen}
 use Rattle.rv_debug.specs.Deeds.{Deed, Steps, Register, TimerLine, OneByte, deed, harts_stepped}
 use Rattle.rv_debug.specs.ReplyText.{verdict_text}
 use Rattle.rv_debug.specs.Targets.{KeepsMonitor, chosen_of, harts_of, memory_of}
-use Rattle.rv_debug.specs.declared.target.Target.{Target}
-use Rattle.rv_debug.specs.declared.target.Target.TheVariants.{Bare, Monitored}
 
 -- ---- reach
 

@@ -1,3 +1,4 @@
+pub mod Prelude
 pub mod Addresses
 pub mod Answer
 pub mod Chosen

@@ -2,22 +2,13 @@
 -- zeros. (This project's own replies.)
 use Rattle.std.specs.Prelude.{ℕ, List, ◌++◌, Option, Some, None, codes, decimal}
 use Rattle.std.specs.List.{flat_map, range_with_len}
-use Rattle.rv_pmp.specs.Entries.{Entries, cfg_of, addr_of}
-use Rattle.rv_pmp.specs.declared.mode.Mode.{Mode}
-use Rattle.rv_pmp.specs.declared.mode.Mode.TheVariants.{U, S, M}
 use Rattle.rv_pmp.specs.declared.verdict.Verdict.{Verdict}
 use Rattle.rv_pmp.specs.declared.verdict.Verdict.TheVariants.{Allowed, AllowedFree, Denied, DeniedPartial, DeniedFree}
 use Rattle.rv_state.specs.Causes.{cause_code}
-use Rattle.rv_state.specs.Registers.{register}
-use Rattle.rv_hart.specs.declared.trap.Trap.{Trap}
-use Rattle.rv_text.specs.Digits.{hex2, hex3, hex8}
 use Rattle.rv_disassembler.specs.Spelling.{spelling}
-use Rattle.rv_script.specs.declared.command.CommandFault.{CommandFault}
 use Rattle.rv_script.specs.declared.command.CommandFault.TheVariants.{BadLine, UnknownCommand, BadOperand}
-use Rattle.rv_debug.specs.declared.scheduled.HartRan.{HartRan}
-use Rattle.rv_debug.specs.declared.steps.Ran.{Ran}
-use Rattle.rv_debug.specs.declared.steps.Stop.{Stop}
-use Rattle.rv_debug.specs.declared.steps.Stop.TheVariants.{Done, Break, Watch}
+use Rattle.rv_debug.specs.Prelude.{Break, CommandFault, Done, Entries, HartRan, M, Mode, Ran, S, Stop, Trap, U, Watch, addr_of, cfg_of}
+use Rattle.rv_debug.specs.Prelude.{hex2, hex3, hex8, register}
 
 -- `-`, or `cause:tval`
 unfoldable pub trap_text : Option Trap → List ℕ

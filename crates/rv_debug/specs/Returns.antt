@@ -2,19 +2,14 @@
 -- the host goes on as it was before the step that entered, past its ecall, but for a0 and a1. (A law of this project's own debugger over
 -- its own monitor; Keystone, EuroSys 2020, in this project's profile.)
 use Rattle.std.specs.Prelude.{ℕ, ◌≡◌, true, List, [], ◌∷◌, ◌++◌}
-use Rattle.rv_monitor.specs.HartLaws.{sched}
 use Rattle.rv_monitor.specs.Returns.{HostComesBack, RunsThrough}
-use Rattle.rv_monitor.specs.State.{Machine, MonitoredState, AreStored, HostIsStored, seat_of, seen_by}
-use Rattle.rv_monitor.specs.Step.{monitored_step, step_of}
-use Rattle.rv_enclaves.specs.Table.{is_host}
-use Rattle.rv_script.specs.declared.command.Command.{Command}
+use Rattle.rv_debug.specs.Prelude.{AreStored, Bare, Command, HostIsStored, Machine, Monitored, MonitoredState, Target, is_host}
+use Rattle.rv_debug.specs.Prelude.{monitored_step, sched, seat_of, seen_by, step_of}
 use Rattle.rv_debug.specs.Answer.{answer}
 use Rattle.rv_debug.specs.BenchState.{BenchState}
 use Rattle.rv_debug.specs.Deeds.{deed, harts_stepped}
 use Rattle.rv_debug.specs.Isolation.{after_commands}
 use Rattle.rv_debug.specs.Targets.{KeepsMonitor}
-use Rattle.rv_debug.specs.declared.target.Target.{Target}
-use Rattle.rv_debug.specs.declared.target.Target.TheVariants.{Bare, Monitored}
 
 -- ---- steps
 

@@ -1,14 +1,10 @@
 -- Steps one after another: RISC-V Unprivileged ISA 20191213, section 1.2; and what ends them. (This project's own debugger.)
 use Rattle.std.specs.Prelude.{ℕ, zero, suc, ◌+◌, ◌^◌, ◌==◌, bit_or, List, Option, Some, None, if◌then◌else◌}
 use Rattle.std.specs.Option.{option_or}
-use Rattle.rv_word.specs.Cases.{option_case}
 use Rattle.rv_hart.specs.declared.trap.StepOutcome.{StepOutcome}
-use Rattle.rv_hart.specs.declared.trap.Trap.{Trap}
+use Rattle.rv_debug.specs.Prelude.{Break, Done, Ran, Stop, Trap, Watch, option_case}
 use Rattle.rv_debug.specs.Addresses.{is_among}
 use Rattle.rv_debug.specs.Stops.{lowest_accessed}
-use Rattle.rv_debug.specs.declared.steps.Ran.{Ran}
-use Rattle.rv_debug.specs.declared.steps.Stop.{Stop}
-use Rattle.rv_debug.specs.declared.steps.Stop.TheVariants.{Done, Break, Watch}
 
 -- a state after one step, what the step shows, and the slot of the enclave that it entered, if it entered one
 pub record Stepped (A : Type 0) : Type 0 where

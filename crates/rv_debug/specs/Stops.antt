@@ -1,9 +1,9 @@
 -- What stops a run: the bytes that an instruction accesses. (This project's own debugger; what a step touches is said of the
 -- instruction's accesses, RISC-V Unprivileged ISA 20191213, section 1.4.)
 use Rattle.std.specs.Prelude.{ℕ, ◌+◌, Bool, false, ◌&&◌, ◌||◌, nat_le, nat_lt, min, List, [], ◌∷◌, filter, Option, Some, None}
-use Rattle.rv_word.specs.Widths.{bytes_in}
 use Rattle.rv_memory.specs.declared.touched.Span.{Span}
 use Rattle.rv_memory.specs.declared.touched.Touched.{Touched}
+use Rattle.rv_debug.specs.Prelude.{bytes_in}
 
 -- the address is one of so many from this one on
 abbrev pub is_between : ℕ → ℕ → ℕ → Bool

@@ -1,22 +1,15 @@
 -- What commands work on, in the few words in which the answers speak of it. (This project's own debugger.)
 use Rattle.std.specs.Prelude.{ℕ, Bool, List, [], ◌∷◌, ◌++◌, codes, decimal, Option, None}
 use Rattle.std.specs.Option.{option_map}
-use Rattle.rv_memory.specs.Memory.{write}
-use Rattle.rv_state.specs.Registers.{with_register}
 use Rattle.rv_hart.specs.HartState.{Hart}
-use Rattle.rv_hart.specs.State.{State}
 use Rattle.rv_hart.specs.Step.{step}
-use Rattle.rv_monitor.specs.Debugger.{with_reg, with_timer, with_memory}
-use Rattle.rv_monitor.specs.State.{Machine, IsKept, count_of, seat_of}
-use Rattle.rv_monitor.specs.Step.{step_of}
-use Rattle.rv_monitor.specs.declared.seat.Seat.{Seat}
-use Rattle.rv_debug.specs.Chosen.{Chosen}
 use Rattle.rv_enclaves.specs.declared.world.World.{World}
 use Rattle.rv_enclaves.specs.declared.world.World.TheVariants.{Host, Enclave}
+use Rattle.rv_debug.specs.Prelude.{Bare, IsKept, Machine, Monitored, Seat, State, Target, count_of, seat_of, step_of, with_memory}
+use Rattle.rv_debug.specs.Prelude.{with_reg, with_register, with_timer, write}
+use Rattle.rv_debug.specs.Chosen.{Chosen}
 use Rattle.rv_debug.specs.EnclaveText.{table_text}
 use Rattle.rv_debug.specs.Steps.{Stepped}
-use Rattle.rv_debug.specs.declared.target.Target.{Target}
-use Rattle.rv_debug.specs.declared.target.Target.TheVariants.{Bare, Monitored}
 
 -- the seat of the chosen hart
 abbrev pub chosen_seat : Chosen → Seat

@@ -2,12 +2,9 @@
 use Rattle.std.specs.Prelude.{ℕ, ◌+◌, ◌==◌, List, [], ◌∷◌}
 use Rattle.std.specs.Prelude.{Option, None, if◌then◌else◌}
 use Rattle.std.specs.Option.{option_or}
-use Rattle.rv_hart.specs.declared.trap.Trap.{Trap}
+use Rattle.rv_debug.specs.Prelude.{HartRan, Scheduled, Target, Trap}
 use Rattle.rv_debug.specs.Steps.{Stepped, with_slot}
 use Rattle.rv_debug.specs.Targets.{stepped, with_chosen}
-use Rattle.rv_debug.specs.declared.scheduled.HartRan.{HartRan}
-use Rattle.rv_debug.specs.declared.scheduled.Scheduled.{Scheduled}
-use Rattle.rv_debug.specs.declared.target.Target.{Target}
 
 -- a target after such steps, and what they did
 pub record AfterTurns : Type 0 where

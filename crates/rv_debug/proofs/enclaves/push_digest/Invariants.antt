@@ -1,6 +1,6 @@
 use Rattle.std.proofs.Common.{◌≡◌, ◌+◌, ◌*◌, ◌++◌, length, take}
-use Rattle.std.specs.List.{flat_map}
-use Rattle.rv_text.specs.Digits.{hex2}
+use Rattle.rv_debug.specs.Prelude.{hex2}
+use Rattle.rv_debug.proofs.Prelude.{flat_map}
 use Rattle.rv_debug.proofs.enclaves.push_digest.Given as goal
 
 abbrev pub invariant-loop-byte : goal.invariant-loop-byte

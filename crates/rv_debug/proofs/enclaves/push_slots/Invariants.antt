@@ -1,7 +1,7 @@
 use Rattle.std.proofs.Common.{◌≡◌, ◌+◌, ◌*◌, ◌≤◌, ◌++◌, length, take}
-use Rattle.std.specs.List.{flat_map}
+use Rattle.rv_debug.specs.Prelude.{slot_at}
 use Rattle.rv_debug.specs.EnclaveText.{slot_text}
-use Rattle.rv_debug.proofs.Prelude.{slot_at}
+use Rattle.rv_debug.proofs.Prelude.{flat_map}
 use Rattle.rv_debug.proofs.enclaves.push_slots.Given as goal
 
 -- the lines so far

@@ -1,7 +1,7 @@
 use Rattle.std.proofs.Common.{◌≡◌, ◌+◌, ◌*◌, ◌++◌, length, take}
-use Rattle.std.specs.List.{flat_map}
 use Rattle.std.specs.Prelude.{codes}
-use Rattle.rv_debug.proofs.Prelude.{hex_digits}
+use Rattle.rv_debug.specs.Prelude.{hex_digits}
+use Rattle.rv_debug.proofs.Prelude.{flat_map}
 use Rattle.rv_debug.proofs.reply.push_memory.Given as goal
 
 abbrev pub invariant-loop-byte : goal.invariant-loop-byte

@@ -1,7 +1,6 @@
 use Rattle.std.proofs.Common.{◌≡◌, ◌+◌, ◌*◌, ◌≤◌, ◌++◌, length}
-use Rattle.std.specs.List.{flat_map, range_with_len}
-use Rattle.rv_pmp.specs.Entries.{cfg_of, addr_of}
-use Rattle.rv_debug.proofs.Prelude.{entry_text}
+use Rattle.rv_debug.specs.Prelude.{addr_of, cfg_of}
+use Rattle.rv_debug.proofs.Prelude.{entry_text, flat_map, range_with_len}
 use Rattle.rv_debug.proofs.reply.push_pmp.Given as goal
 
 -- the lines so far

@@ -1,6 +1,6 @@
 use Rattle.std.proofs.Common.{◌≡◌, ◌+◌, ◌-◌, ◌*◌, ◌≤◌, ◌++◌, length}
-use Rattle.std.specs.List.{flat_map, range_with_len}
-use Rattle.rv_debug.proofs.Prelude.{register, register_text}
+use Rattle.rv_debug.specs.Prelude.{register}
+use Rattle.rv_debug.proofs.Prelude.{flat_map, range_with_len, register_text}
 use Rattle.rv_debug.proofs.reply.push_registers.Given as goal
 
 -- the lines so far: of twelve bytes each, and from x10 on of thirteen

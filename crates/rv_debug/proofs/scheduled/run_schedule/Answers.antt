@@ -1,5 +1,6 @@
 use Rattle.std.proofs.Common.{◌<◌, ◌+◌, ◌∙◌, ℕ, bit_or, get_or, sym, ap, ap₂, subst, refl}
-use Rattle.rv_debug.proofs.Prelude.{AfterTurns, IsBare, harts_of, has_all, no_turns, turns}
+use Rattle.rv_debug.specs.Prelude.{has_all}
+use Rattle.rv_debug.proofs.Prelude.{AfterTurns, IsBare, harts_of, no_turns, turns}
 use Rattle.rv_debug.proofs.ScheduleLoop.{bare_after, harts_after, has_next, no_more, one_more, rest, turn_done, turn_more}
 use Rattle.rv_debug.proofs.Turns.{after_turns, turned_bare}
 use Rattle.rv_debug.proofs.scheduled.run_schedule.Goals as goal

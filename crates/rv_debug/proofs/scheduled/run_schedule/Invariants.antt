@@ -1,5 +1,6 @@
 use Rattle.std.proofs.Common.{◌≡◌, ◌≤◌, true}
-use Rattle.rv_debug.proofs.Prelude.{IsBare, KeepsMonitor, harts_of, has_all, no_turns, turns}
+use Rattle.rv_debug.specs.Prelude.{has_all}
+use Rattle.rv_debug.proofs.Prelude.{IsBare, KeepsMonitor, harts_of, no_turns, turns}
 use Rattle.rv_debug.proofs.ScheduleLoop.{rest}
 use Rattle.rv_debug.proofs.Turns.{after_turns}
 use Rattle.rv_debug.proofs.scheduled.run_schedule.Given as goal

@@ -1,6 +1,6 @@
 use Rattle.std.proofs.Common.{◌<◌, ℕ, ap, subst}
+use Rattle.rv_debug.specs.Prelude.{Target}
 use Rattle.rv_debug.proofs.Prelude.{Answered, BenchState, ChangesMemory, SparesHarts, SparesResting, chosen_of, harts_of}
-use Rattle.rv_debug.proofs.Types.{Target}
 use Rattle.rv_debug.proofs.Beside.{spares_harts}
 use Rattle.rv_debug.proofs.Isolation.{tells_reach, changes_memory, spares_resting}
 use Rattle.rv_debug.proofs.bench.Bench.command.Goals as goal

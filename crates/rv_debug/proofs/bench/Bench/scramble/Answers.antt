@@ -1,6 +1,5 @@
 use Rattle.std.proofs.Common.{◌≡◌, true, sym, ◌∙◌, subst}
-use Rattle.rv_debug.specs.BothBenches.{can_scramble}
-use Rattle.rv_debug.proofs.Prelude.{BenchState}
+use Rattle.rv_debug.proofs.Prelude.{BenchState, can_scramble}
 use Rattle.rv_debug.proofs.AtRest.{scramble_rests}
 use Rattle.rv_debug.proofs.bench.Bench.scramble.Goals as goal
 
