@@ -101,7 +101,8 @@ written_in hart regs raised machine kept has =
       shared = subst (IsSound machine.shared) (sym (map-set world_of machine.seats hart new ∙ worlds_are hart machine has)) kept.shared;
       seats = λ j inside.
           by_place machine.seats hart new (λ i s. i < count_of machine → IsSeated machine.shared.table s) has
-          (λ here. written_seated machine.shared.table regs raised seat (kept.seats hart has)) (λ i other. kept.seats i) j (omega (arith, size, inside));
+          (λ here. written_seated machine.shared.table regs raised seat (kept.seats hart has)) (λ i other. kept.seats i) j
+          (omega (arith, size, inside));
     }
 
 -- of a hart that there is not nothing is written

@@ -16,16 +16,20 @@ pub past_seat : (seats : List Seat) (j : ℕ) → length seats ≤ j → seat_in
 past_seat seats j past = get_or_past {X = Seat} seats j (seat_at_start 0) past
 
 -- one seat put in: what holds of it, and of those beside it, holds of each; in two lists side by side,
-pub by_places : (xs ys : List Seat) (hart : ℕ) (x y : Seat) (P : ℕ → Seat → Seat → Type 0) → length xs ≡ length ys → hart < length xs → P hart x y
-    → ((j : ℕ) → j ≢ hart → P j (seat_in xs j) (seat_in ys j)) → (j : ℕ) → P j (seat_in (slice_set xs hart x) j) (seat_in (slice_set ys hart y) j)
-by_places xs ys hart x y P size has own others j = elim (cases_eq j hart) [
-  | inl at ↦
-      subst (λ (s : Seat). P j s (seat_in (slice_set ys hart y) j)) (sym (get_or-set_at xs hart j x (seat_at_start 0) at has))
-      (subst (P j x) (sym (get_or-set_at ys hart j y (seat_at_start 0) at (omega (arith, size, has)))) (subst (λ (i : ℕ). P i x y) (sym at) own))
-  | inr apart ↦
-      subst (λ (s : Seat). P j s (seat_in (slice_set ys hart y) j)) (sym (get_or-set_other xs hart j x (seat_at_start 0) apart))
-      (subst (P j (seat_in xs j)) (sym (get_or-set_other ys hart j y (seat_at_start 0) apart)) (others j apart))
-]
+pub by_places : (xs ys : List Seat) (hart : ℕ) (x y : Seat) (P : ℕ → Seat → Seat → Type 0) → length xs ≡ length ys → hart < length xs
+    → P hart x y → ((j : ℕ) → j ≢ hart → P j (seat_in xs j) (seat_in ys j))
+    → (j : ℕ) → P j (seat_in (slice_set xs hart x) j) (seat_in (slice_set ys hart y) j)
+by_places xs ys hart x y P size has own others j =
+    let Q : Seat → Type 0 = λ s. P j s (seat_in (slice_set ys hart y) j) in
+    elim (cases_eq j hart) [
+      | inl at ↦
+          subst Q (sym (get_or-set_at xs hart j x (seat_at_start 0) at has))
+          (subst (P j x) (sym (get_or-set_at ys hart j y (seat_at_start 0) at (omega (arith, size, has))))
+          (subst (λ (i : ℕ). P i x y) (sym at) own))
+      | inr apart ↦
+          subst Q (sym (get_or-set_other xs hart j x (seat_at_start 0) apart))
+          (subst (P j (seat_in xs j)) (sym (get_or-set_other ys hart j y (seat_at_start 0) apart)) (others j apart))
+    ]
 
 -- and in one
 pub by_place : (seats : List Seat) (hart : ℕ) (seat : Seat) (P : ℕ → Seat → Type 0) → hart < length seats → P hart seat

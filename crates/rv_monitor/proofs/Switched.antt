@@ -74,7 +74,8 @@ own_stored c own = record { stvec = ap (λ (x : CsrState). x.stvec) own; sepc = 
 abbrev pub KeptStored : Option Context → Type 0
 KeptStored o = IfSome o (λ context. IsStored context.supervisor)
 
-stored_by : (seat : Seat) (trap : Trap) (h : Handled) → Turns seat trap h → HostIsStored seat → KeepsOwn seat.hart.csrs → HostIsStored h.seat
+stored_by : (seat : Seat) (trap : Trap) (h : Handled) → Turns seat trap h → HostIsStored seat → KeepsOwn seat.hart.csrs
+    → HostIsStored h.seat
 stored_by seat trap h (inl stays) stored own = subst KeptStored (sym stays.host) stored
 stored_by seat trap h (inr (inl enters)) stored own = subst KeptStored (sym enters.host) (own_stored seat.hart.csrs own)
 stored_by seat trap h (inr (inr leaves)) stored own = subst KeptStored (sym leaves.forgotten) tt

@@ -37,7 +37,8 @@ fetches_at_pc state = by_ways state (FetchesAtPc state.hart.pc) (record {
 -- ---- what is touched
 
 module _ (state : MonitoredState) (kept : IsOwn state) where
-  reached : (mode : Mode) (access : Access) (o : Option Span) → is_machine mode ≡ false → MayTouch (bare state) mode access o → IsReached state access o
+  reached : (mode : Mode) (access : Access) (o : Option Span) → is_machine mode ≡ false → MayTouch (bare state) mode access o
+      → IsReached state access o
   reached mode access None below may = tt
   reached mode access (Some span) below may = sym (kept_reach state mode access span.addr span.len kept (below_M mode below) may.0) ∙ may.1
 

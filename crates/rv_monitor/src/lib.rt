@@ -1,5 +1,5 @@
-//! A security monitor in the manner of Keystone (EuroSys 2020) over one hart: enclaves that the host, in mode S, creates, enters and
-//! ends by calls, and that the sixteen PMP entries keep apart from it and from one another.
+//! A security monitor in the manner of Keystone (EuroSys 2020) over one hart or two: enclaves that the host, in mode S, creates, enters
+//! and ends by calls, and that the sixteen PMP entries of each hart keep apart from it and from one another.
 //!
 //! [`Monitored`] is the machine with its monitor. Its step is the hart's own, and after each trap the monitor's work: a call, the
 //! stop of an enclave by the timer, or the trap passed on to mode S. What the monitor keeps of the enclaves, and the calls that make, end
