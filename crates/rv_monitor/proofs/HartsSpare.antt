@@ -1,5 +1,6 @@
 -- An enclave that steps of the harts do not step: what it keeps of each, and of steps in any order.
 use Rattle.std.proofs.Common.{◌≡◌, ◌⊎◌, ℕ, true, List, [], ◌∷◌, refl, sym, ◌∙◌, ap, subst, inl, inr}
+use Rattle.std.proofs.lemmas.Bool.{or_right}
 use Rattle.rv_monitor.specs.Prelude.{Seat, Shared, byte_at, has, is_live, is_world_of, region_of, slot_at}
 use Rattle.rv_monitor.proofs.Prelude.{GoOnLaw, GoesOn, IsChanged, IsKept, IsLeftAlone, IsSpared, IsUntouched, Machine, MachineStepped}
 use Rattle.rv_monitor.proofs.Prelude.{MonitoredStepped, RunningLaw, SchedChangeLaw, SchedSparesLaw, both_ways, cases_lt, count_of}
@@ -7,7 +8,6 @@ use Rattle.rv_monitor.proofs.Prelude.{monitored_step, runs_on, sched, seat_of, s
 use Rattle.rv_monitor.proofs.Beside.{live_by, runs_beside, runs_inside, running_is_live}
 use Rattle.rv_monitor.proofs.Changes.{changes}
 use Rattle.rv_monitor.proofs.HartsAlike.{entered_by, is_entered, none_again}
-use Rattle.rv_monitor.proofs.Others.{or_second}
 use Rattle.rv_monitor.proofs.Integrity.{integrity}
 use Rattle.rv_monitor.proofs.Kept.{kept_beside, kept_law, own_kept}
 use Rattle.rv_monitor.proofs.LastAct.{as_is}
@@ -64,7 +64,7 @@ go_on_law hart machine kept k own runs rests = by_hart hart machine (GoesOn k)
     record {
       passes = entered_by k after.outcome.entered
           (λ is. both_ways _ (sound.apart.0 k (is_entered k (seen_by hart machine) is)) others);
-      live = live_by (slot_at after.state.shared.table k) (sound.running k ∙ or_second (is_world_of k after.state.seat.world) _ others);
+      live = live_by (slot_at after.state.shared.table k) (sound.running k ∙ or_right (is_world_of k after.state.seat.world) _ others);
     })
 
 pub running_law : RunningLaw

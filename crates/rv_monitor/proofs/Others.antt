@@ -10,10 +10,6 @@ or_swap true true c = refl
 or_swap true false c = refl
 or_swap false b c = refl
 
-pub or_second : (a b : Bool) → b ≡ true → (a || b) ≡ true
-or_second true b is = refl
-or_second false b is = is
-
 -- the others
 abbrev pub without : List World → ℕ → List World
 without [] i = []
