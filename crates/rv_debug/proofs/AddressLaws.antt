@@ -2,14 +2,11 @@
 use Rattle.std.proofs.Common.{◌≡◌, ℕ, ◌==◌, ltb, Bool, true, false, not, cond, ◌&&◌, ◌||◌, List, [], ◌∷◌, filter, refl, sym}
 use Rattle.std.proofs.Common.{◌∙◌, ap, arith}
 use Rattle.std.proofs.lemmas.List.Folds.{list_any-append}
+use Rattle.std.proofs.Math.Bool.{and-false}
 use Rattle.rv_debug.proofs.Prelude.{is_among, nat_tests, with_address, without_address}
 
-no_and : (b : Bool) → false ≡ (b && false)
-no_and true = refl
-no_and false = refl
-
 among-filter : (p : ℕ → Bool) (x : ℕ) (xs : List ℕ) → is_among x (filter p xs) ≡ (p x && is_among x xs)
-among-filter p x [] = no_and (p x)
+among-filter p x [] = sym (and-false (p x))
 among-filter p x (y ∷ ys) = go (p y) refl (y == x) refl (among-filter p x ys) where
   go : (kept : Bool) → p y ≡ kept → (same : Bool) → (y == x) ≡ same → is_among x (filter p ys) ≡ (p x && is_among x ys)
       → is_among x (cond kept (y ∷ filter p ys) (filter p ys)) ≡ (p x && (same || is_among x ys))

@@ -1,7 +1,8 @@
 -- The law of confidentiality of a command: two benches that agree but for an enclave show and leave the same, where they do not enter it.
-use Rattle.std.proofs.Common.{◌≡◌, ℕ, zero, suc, ◌==◌, ◌+◌, ◌-◌, ◌<◌, ◌≤◌, Bool, true, false, List, [], ◌∷◌, Option, refl, sym, ◌∙◌, ap, ap₂, subst, inl, inr, not}
-use Rattle.std.proofs.Common.{arith}
+use Rattle.std.proofs.Common.{◌≡◌, ℕ, zero, suc, ◌==◌, ◌+◌, ◌-◌, ◌<◌, ◌≤◌, Bool, true, false, List, [], ◌∷◌, Option, refl, sym, ◌∙◌, ap}
+use Rattle.std.proofs.Common.{ap₂, subst, inl, inr, arith}
 use Rattle.std.specs.Prelude.{nat_lt, ◌++◌, if◌then◌else◌}
+use Rattle.std.proofs.lemmas.Bool.{not-true}
 use Rattle.rv_pmp.specs.declared.access.Access.{Access as AccessKind}
 use Rattle.rv_enclaves.specs.Layout.{layout}
 use Rattle.rv_enclaves.specs.declared.shared.Shared.{Shared}
@@ -311,10 +312,6 @@ module _ (e hart : ℕ) (one other : Machine) (agree : AgreeBut e one other) (br
   sched-answers harts false true same kept kept' rests = cc
 
   -- ---- a command
-
-  not-true : (b : Bool) → not b ≡ true → b ≡ false
-  not-true true is = sym is
-  not-true false is = refl
 
   alike : (command : Command) → IsKept one → IsKept other → is_blind e here command ≡ true → PassesBy e here command
       → Alike e (answer here command) (answer there command)

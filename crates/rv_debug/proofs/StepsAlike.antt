@@ -4,25 +4,20 @@ use Rattle.std.proofs.Common.{◌≡◌, ℕ, zero, suc, ◌⊎◌, ◌==◌, Bo
 use Rattle.std.proofs.Common.{inr, arith}
 use Rattle.std.specs.Prelude.{bit_or, ◌^◌}
 use Rattle.std.proofs.lemmas.Nat.Bits.{bit_at_or, bit_at-lt, bit_at-pow_same}
+use Rattle.std.proofs.lemmas.Bool.{eqb-true}
 use Rattle.rv_monitor.proofs.HartsAlike.{entered_some, entry_law}
 use Rattle.rv_monitor.specs.declared.outcome.Outcome.{Outcome}
 use Rattle.rv_debug.specs.Prelude.{AgreeBut, IsKept, Machine, Seat, Stop, enters, runs_on, step_of}
-use Rattle.rv_debug.proofs.Prelude.{AfterRun, AfterSteps, cases_Bool, cases_eq, confidentiality, is_among, is_entered, kept_law}
+use Rattle.rv_debug.proofs.Prelude.{AfterRun, AfterSteps, cases_Bool, confidentiality, eq-eqb, is_among, is_entered, kept_law}
 use Rattle.rv_debug.proofs.Prelude.{lowest_accessed, run, with_slot, with_step}
 use Rattle.rv_debug.proofs.TargetRuns.{hart_pc, hart_stepped}
 use Rattle.rv_debug.proofs.Stepping.{by_next, by_run, next_of}
 
 -- ---- slots that are entered
 
-is-one : (n : ℕ) → (n == 1) ≡ true → n ≡ 1
-is-one n is = elim (cases_eq n 1) [ inl same ↦ same | inr other ↦ grind (arith, is, other) ]
-
-one-is : (n : ℕ) → n ≡ 1 → (n == 1) ≡ true
-one-is n is = rw is refl
-
 enters-or : (e one other : ℕ) → is_entered e one ≡ true → is_entered e (bit_or one other) ≡ true
 enters-or e one other is =
-    one-is _ (bit_at_or one other e ∙ (let low = is-one _ is in let small = bit_at-lt other e in omega (arith, low, small)))
+    eq-eqb _ 1 (bit_at_or one other e ∙ (let low = eqb-true _ 1 is in let small = bit_at-lt other e in omega (arith, low, small)))
 
 pub enters-with : (e slots : ℕ) (entered : Option ℕ) → is_entered e slots ≡ true → is_entered e (with_slot slots entered) ≡ true
 enters-with e slots None is = is
@@ -30,7 +25,7 @@ enters-with e slots (Some k) is = enters-or e slots (2 ^ k) is
 
 pub enters-now : (e slots : ℕ) (entered : Option ℕ) → entered ≡ Some e → is_entered e (with_slot slots entered) ≡ true
 enters-now e slots entered is =
-    rw is (one-is _ (bit_at_or slots (2 ^ e) e ∙ (let set = bit_at-pow_same e in let small = bit_at-lt slots e in omega (arith, set, small))))
+    rw is (eq-eqb _ 1 (bit_at_or slots (2 ^ e) e ∙ (let set = bit_at-pow_same e in let small = bit_at-lt slots e in omega (arith, set, small))))
 
 -- ---- runs
 

@@ -162,7 +162,11 @@ impl Bench {
     {
         match *command {
             Command::Reg(reg) => push_register(out, reg, self.target.regs().get(reg)),
-            Command::Regs => push_registers(out, self.target.regs(), self.target.pc()),
+            Command::Regs => push_registers(
+                out,
+                self.target.regs(),
+                self.target.pc_at(self.target.chosen()),
+            ),
             Command::Csr(csr) => answer_csr(&self.target, csr, out),
             Command::Mem(address, count) => answer_mem(&self.target, address, count, out),
             Command::Dis(address) => answer_dis(&self.target, address, out),

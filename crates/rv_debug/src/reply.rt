@@ -82,18 +82,6 @@ fn push_world_name(out: &mut Reply, world: World)
     }
 }
 
-/// Writes the name of the world of a target's chosen hart.
-fn push_world(out: &mut Reply, target: &Target)
-    requires room { array_vec_len out.old + 11 ≤ 2048 }
-    ensures items { out.new.items ≡ out.old.items ++ world_text target.now }
-    ensures len { array_vec_len out.new ≤ array_vec_len out.old + 11 }
-{
-    match target {
-        Target::Bare(_) => push_text(out, "bare"),
-        Target::Monitored(chosen) => push_world_name(out, chosen.machine.world(chosen.hart)),
-    }
-}
-
 /// Writes the name of the world of a hart that a target has.
 fn push_world_at(out: &mut Reply, target: &Target, hart: u8)
     requires has { hart < harts_of target.now }
@@ -138,14 +126,15 @@ pub(crate) fn push_ran(out: &mut Reply, target: &Target, ran: Ran)
     ensures items { out.new.items ≡ out.old.items ++ ran_text (pc_of target.now) (hart_of target.now).mode (world_text target.now) ran }
     ensures len { array_vec_len out.new ≤ array_vec_len out.old + 97 }
 {
+    let hart = target.chosen();
     push_text(out, "ran ");
     push_decimal(out, ran.steps);
     push_text(out, " pc=");
-    push_hex(out, target.pc(), 8);
+    push_hex(out, target.pc_at(hart), 8);
     push_text(out, " mode=");
-    push_mode(out, target.mode());
+    push_mode(out, target.mode_at(hart));
     push_text(out, " world=");
-    push_world(out, target);
+    push_world_at(out, target, hart);
     push_text(out, " why=");
     push_stop(out, ran.stop);
     push_text(out, " trap=");

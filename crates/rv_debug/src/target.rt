@@ -79,26 +79,6 @@ impl Target {
         }
     }
 
-    /// The address of its next instruction.
-    pub(crate) fn pc(&self) -> u32
-        ensures { result ≡ pc_of self.now }
-    {
-        match self {
-            Target::Bare(machine) => machine.pc(),
-            Target::Monitored(chosen) => chosen.machine.pc(chosen.hart),
-        }
-    }
-
-    /// The mode of its hart.
-    pub(crate) fn mode(&self) -> Mode
-        ensures { result ≡ (hart_of self.now).mode }
-    {
-        match self {
-            Target::Bare(machine) => machine.mode(),
-            Target::Monitored(chosen) => chosen.machine.mode(chosen.hart),
-        }
-    }
-
     /// How many harts it has: 1 or 2.
     pub(crate) fn harts(&self) -> u8
         ensures count { result ≡ harts_of self.now }
@@ -114,6 +94,7 @@ impl Target {
     pub(crate) fn chosen(&self) -> u8
         ensures chosen { result ≡ chosen_of self.now }
         ensures has { result < harts_of self.now }
+        ensures turned { with_chosen result self.now ≡ self.now }
     {
         match self {
             Target::Bare(_) => 0,
