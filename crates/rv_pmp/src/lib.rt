@@ -13,6 +13,7 @@
 mod access;
 mod address_matching;
 mod cache;
+mod caches;
 mod cfg_byte;
 mod entry_ranges;
 mod kept_entries;
