@@ -1,6 +1,6 @@
 //! The entries that the monitor keeps for a table and a world.
 
-ghost use Rattle.std.specs.Prelude.{◌≡◌, ◌<◌, ℕ, false};
+ghost use Rattle.std.specs.Prelude.{◌≡◌, Some, MatchOption};
 ghost use Rattle.rv_enclaves.specs.Layout.{Entry as EntryOf, napot as napot_of, entry_at as entry_at_of, region_entry as region_entry_of, window_entry_of, unused as unused_of, layout, mie_of};
 ghost use Rattle.rv_enclaves.specs.Unlocked.{HasNoLock};
 
@@ -25,14 +25,6 @@ struct Entry {
     addr: u32,
 }
 
-/// An entry that is not used.
-const fn unused() -> Entry
-    ensures cfg { result.cfg ≡ unused_of.cfg }
-    ensures addr { result.addr ≡ unused_of.addr }
-{
-    Entry { cfg: 0, addr: 0 }
-}
-
 /// A NAPOT entry for a lawful block.
 fn napot(cfg: u8, block: Block) -> Entry
     ensures cfg { result.cfg ≡ (napot_of cfg block).cfg }
@@ -44,56 +36,49 @@ fn napot(cfg: u8, block: Block) -> Entry
     }
 }
 
-/// The entry of a slot's region.
-fn region_entry(world: &World, slot: Slot, info: Option<SlotInfo>) -> Entry
-    ensures cfg { result.cfg ≡ (region_entry_of world.now slot info).cfg }
-    ensures addr { result.addr ≡ (region_entry_of world.now slot info).addr }
+/// The entry of the region of a slot whose enclave is live.
+#[inline(never)]
+fn region_entry(world: &World, slot: Slot, info: &SlotInfo) -> Entry
+    ensures cfg { result.cfg ≡ (region_entry_of world.now slot (Some info.now)).cfg }
+    ensures addr { result.addr ≡ (region_entry_of world.now slot (Some info.now)).addr }
 {
-    match info {
-        None => unused(),
-        Some(info) => {
-            let cfg = if world.is_enclave(slot) { ALL } else { NOTHING };
-            napot(cfg, info.region)
-        }
+    let cfg = if world.is_enclave(slot) { ALL } else { NOTHING };
+    napot(cfg, info.region)
+}
+
+/// The entry of the window of the enclave that runs, if it has one.
+fn window_entry(info: &SlotInfo) -> Option<Entry>
+    ensures { MatchOption result (window_entry_of (Some info.now) ≡ unused_of)
+        (λ entry. (entry.cfg ≡ (window_entry_of (Some info.now)).cfg) × (entry.addr ≡ (window_entry_of (Some info.now)).addr)) }
+{
+    if info.window.size == 0 {
+        None
+    } else {
+        Some(napot(READ_WRITE, info.window))
     }
 }
 
-/// The entry of the window of the enclave that runs.
-fn window_entry(slot: Option<SlotInfo>) -> Entry
-    ensures cfg { result.cfg ≡ (window_entry_of slot).cfg }
-    ensures addr { result.addr ≡ (window_entry_of slot).addr }
-{
-    match slot {
-        None => unused(),
-        Some(info) => {
-            if info.window.size == 0 {
-                unused()
-            } else {
-                napot(READ_WRITE, info.window)
-            }
-        }
-    }
-}
-
-/// Entry `i` of the layout.
+/// Entry `i` of the layout, if it is used.
+#[inline(always)]
 #[tactic(auto, unfolding(crate::specs::Layout::entry_at))]
-fn entry_at(table: &Table, world: &World, i: u8) -> Entry
-    ensures cfg { result.cfg ≡ (entry_at_of table.now world.now i).cfg }
-    ensures addr { result.addr ≡ (entry_at_of table.now world.now i).addr }
+fn used_entry_at(table: &Table, world: &World, i: u8) -> Option<Entry>
+    ensures { MatchOption result (entry_at_of table.now world.now i ≡ unused_of)
+        (λ entry. (entry.cfg ≡ (entry_at_of table.now world.now i).cfg) × (entry.addr ≡ (entry_at_of table.now world.now i).addr)) }
 {
     if i == 0 {
-        return napot(NOTHING, monitor_block());
+        return Some(napot(NOTHING, monitor_block()));
     }
     if let Some(slot) = Slot::new(u32::from(i - 1)) {
-        return region_entry(world, slot, table.slot_at(slot));
+        let info = table.get(slot)?;
+        return Some(region_entry(world, slot, info));
     }
     match *world {
-        World::Host if i != 14 => Entry {
+        World::Host if i != 14 => Some(Entry {
             cfg: ALL,
             addr: 0xFFFF_FFFF,
-        },
-        World::Enclave(slot) if i == 14 => window_entry(table.slot_at(slot)),
-        _ => unused(),
+        }),
+        World::Enclave(slot) if i == 14 => window_entry(table.get(slot)?),
+        _ => None,
     }
 }
 
@@ -106,9 +91,10 @@ pub fn write_layout(pmp: &mut Pmp, table: &Table, world: &World)
     let mut cfgs = [0; 16];
     let mut addrs = [0; 16];
     for i in 0..16 {
-        let entry = entry_at(table, world, i as u8);
-        cfgs[i] = entry.cfg;
-        addrs[i] = entry.addr;
+        if let Some(entry) = used_entry_at(table, world, i as u8) {
+            cfgs[i] = entry.cfg;
+            addrs[i] = entry.addr;
+        }
     }
     pmp.set_entries(&cfgs, &addrs);
 }
