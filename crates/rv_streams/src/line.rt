@@ -35,6 +35,7 @@ pub(crate) enum Stop {
 /// # Errors
 ///
 /// Where the source failed. The line then holds the front of what was read.
+#[inline(always)]
 pub(crate) fn read_text<S: Source>(source: &mut S, line: &mut Line) -> Result<Stop, DeviceFault>
     requires short { length line.old.items ≤ 122 }
     requires unfinished { has_feed line.old.items ≡ false }
@@ -59,6 +60,7 @@ pub(crate) fn read_text<S: Source>(source: &mut S, line: &mut Line) -> Result<St
 }
 
 /// Takes the front of a line out, and leaves none.
+#[inline(always)]
 pub(crate) fn take_front(line: &mut Line, count: usize) -> Line
     ensures taken { result.items ≡ take count line.old.items }
     ensures rest { line.new.items ≡ [] }

@@ -78,6 +78,7 @@ impl<S: Source> Lines<S> {
     ///
     /// Where the source failed in this call. The first 122 bytes of the line that was begun are kept, and a further call goes
     /// on from there.
+    #[inline(always)]
     pub fn next_line(&mut self) -> Result<Option<Line>, DeviceFault>
         ensures line { S.tells → IfOk result (λ found. IfSome found (λ line.
             TakesLine (unread self.old) (unread self.new) self.new.is_at_end line.items)) }
@@ -115,6 +116,7 @@ impl<S: Source> Lines<S> {
     /// # Errors
     ///
     /// As `next_line`.
+    #[inline(always)]
     pub fn next_line_before(&mut self, end: ScriptEnd) -> Result<Option<Line>, DeviceFault>
         ensures line { S.tells → IfOk result (λ found. IfSome found (λ line.
             TakesLine (unread self.old) (unread self.new) self.new.is_at_end line.items)) }

@@ -7,6 +7,7 @@ ghost use Rattle.rv_text.specs.Digits.{hex_digits};
 use arrayvec::ArrayString;
 
 /// The last hexadecimal digits of a number, as many as there are places, in lower case.
+#[inline(always)]
 pub fn hex(value: u32, places: usize) -> ArrayString<8>
     requires { places ≤ 8 }
     ensures digits { result.bytes ≡ hex_digits places value }

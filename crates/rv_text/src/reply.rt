@@ -12,6 +12,7 @@ use itoa::Buffer;
 pub type Reply = ArrayVec<u8, 2048>;
 
 /// Writes a text at the end of a reply that has room for it.
+#[inline(always)]
 pub fn push_text(out: &mut Reply, text: &str)
     requires room { array_vec_len out.old + length text.now ≤ 2048 }
     ensures items { out.new.items ≡ out.old.items ++ text.now }
@@ -23,6 +24,7 @@ pub fn push_text(out: &mut Reply, text: &str)
 }
 
 /// Writes the last hexadecimal digits of a number, as many as there are places, in lower case.
+#[inline(always)]
 pub fn push_hex(out: &mut Reply, value: u32, places: usize)
     requires places { places ≤ 8 }
     requires room { array_vec_len out.old + places ≤ 2048 }
