@@ -1,7 +1,7 @@
 -- A command line reads the names that an option takes alike, wherever they lie in memory. This is said of any command line: by
 -- every rule of a list, and every subcommand.
 use Rattle.std.proofs.Common.{◌∙◌, ◌∷◌, ◌≡◌, ◌&&◌, [], ap, Bool, false, length, List, map, None, not, ℕ, Option, option_map, refl}
-use Rattle.std.proofs.Common.{Some, suc, sym, true, zero}
+use Rattle.std.proofs.Common.{Some, subst, suc, sym, true, zero}
 use Rattle.std.specs.List.{list_any}
 use Rattle.std.specs.Option.{option_map_or}
 use Rattle.std.specs.Prelude.{drop, encode_utf8, Err, find, fold, IfOk, is_some, nat_eq, Ok, Result, slice_get}
@@ -9,12 +9,12 @@ use Rattle.std.specs.Str.{bytes_eq, chars}
 use Rattle.clap.proofs.WalkLemmas.{find-map, list_any-map}
 use Rattle.clap.specs.Facts.{parser_of_value}
 use Rattle.clap.specs.Faults.{action_fault, bundle_step_fault, built_fault, check_fault, default_fault, defaults_fault, entered_fault}
-use Rattle.clap.specs.Faults.{fault_of, flag_word_fault, bundle_fault, flags_fault, level_fault, long_fault, option_fault, other_fault}
+use Rattle.clap.specs.Faults.{fault_of, flag_word_fault, bundle_fault, flags_fault, is_simple_and_free, level_fault, long_fault, option_fault, other_fault}
 use Rattle.clap.specs.Faults.{positional_fault, react_fault, settle_fault, short_fault, step_fault, stray_fault, turn_fault, use_fault}
 use Rattle.clap.specs.Faults.{values_fault, walk_fault, word_fault}
 use Rattle.clap.specs.Kinds.{Kinds, or_else, value_kinds}
 use Rattle.clap.specs.Lexer.{long_of, short_of}
-use Rattle.clap.specs.Simple.{App, app_of, argument_words, built, entered, label_of, names_of, rows_at, Shape, subcommand_of}
+use Rattle.clap.specs.Simple.{App, app_of, argument_words, built, entered, is_simple, label_of, names_of, rows_at, Shape, subcommand_of}
 use Rattle.clap.specs.Takes.{is_given}
 use Rattle.clap.specs.Values.{reading_of, same_text}
 use Rattle.clap.specs.Walk.{attached_value}
@@ -428,12 +428,24 @@ module _ (names : Names) (alike : texts names.now ≡ kind_names) where
       sym (subcommand_same (built (program names)) (argument_words (built (program names)) words))
       ∙ ap (λ (a : App). entered a (stop_after a.top.rules (names_of a) (argument_words (built rvbench) words))) there_is
 
-  pub program_faults : {E : Type 0} (r : Result Command E) → IfOk r (λ command. app_of command ≡ program names)
-      → IfOk r (λ command. (words : List Text) → fault_of (app_of command) words ≡ faults_of words)
-  program_faults (Ok command) e = λ words. ap (λ a. fault_of a words) e ∙ program_fault words
-  program_faults (Err e) is = tt
+  -- what is so of the program is so of a command that was told so
+  program_told : {E : Type 0} (P : App → Type 0) → P (program names) → (r : Result Command E) → IfOk r (λ command. app_of command ≡ program names)
+      → IfOk r (λ command. P (app_of command))
+  program_told P is (Ok command) e = subst P (sym e) is
+  program_told P is (Err e) same = tt
 
-  pub program_subcommand : {E : Type 0} (r : Result Command E) → IfOk r (λ command. app_of command ≡ program names)
+  pub told_simple : {E : Type 0} (r : Result Command E) → IfOk r (λ command. app_of command ≡ program names)
+      → IfOk r (λ command. is_simple (app_of command) ≡ true)
+  told_simple = program_told (λ a. is_simple a ≡ true) refl
+
+  pub told_free : {E : Type 0} (r : Result Command E) → IfOk r (λ command. app_of command ≡ program names)
+      → IfOk r (λ command. is_simple_and_free (app_of command) ≡ true)
+  told_free = program_told (λ a. is_simple_and_free a ≡ true) refl
+
+  pub told_faults : {E : Type 0} (r : Result Command E) → IfOk r (λ command. app_of command ≡ program names)
+      → IfOk r (λ command. (words : List Text) → fault_of (app_of command) words ≡ faults_of words)
+  told_faults = program_told (λ a. (words : List Text) → fault_of a words ≡ faults_of words) program_fault
+
+  pub told_subcommand : {E : Type 0} (r : Result Command E) → IfOk r (λ command. app_of command ≡ program names)
       → IfOk r (λ command. (words : List Text) → subcommand_of (app_of command) words ≡ subcommand_of rvbench words)
-  program_subcommand (Ok command) e = λ words. ap (λ a. subcommand_of a words) e ∙ program_entered words
-  program_subcommand (Err e) is = tt
+  told_subcommand = program_told (λ a. (words : List Text) → subcommand_of a words ≡ subcommand_of rvbench words) program_entered

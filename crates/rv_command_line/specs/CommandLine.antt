@@ -1,9 +1,10 @@
 -- The command line of the program, and which words it takes, as the crate `clap` defines it of a command.
-use Rattle.std.specs.Prelude.{List, [], ◌∷◌, codes, map, Some, pos}
+use Rattle.std.specs.Prelude.{List, [], ◌∷◌, codes, fold, map, Some, pos}
 use Rattle.std.specs.Borrow.{Bor}
 use Rattle.clap.specs.Kinds.{Kinds}
 use Rattle.clap.specs.Words.{App, Rule, Text, fault_of, new_app, new_rule, with_rule, with_subcommand}
 use Rattle.clap.specs.declared.builder.action.ArgAction.TheVariants as action
+use Rattle.clap.specs.declared.builder.value_parser.ValueParser.{ValueParser}
 use Rattle.clap.specs.declared.builder.value_parser.ValueParser.TheVariants as parser
 use Rattle.rv_command_line.specs.declared.image_kind.ImageKind.{ImageKind}
 use Rattle.rv_command_line.specs.declared.image_kind.ImageKind.TheVariants as image
@@ -19,71 +20,45 @@ kind_names = map (λ row. row.0) kinds
 abbrev pub Names : Type 0
 Names = Bor (List (Bor Text))
 
+-- `--NAME VALUE`, where the value is what this parser takes, and the flag `--NAME`
+abbrev pub valued : Text → ValueParser → Rule
+valued name parser = record (new_rule name) { long = Some name; value_names = 1; parser = Some parser }
+
+abbrev pub flag : Text → Rule
+flag name = record (new_rule name) { long = Some name; action = Some action.SetTrue }
+
 -- `--kind NAME`: one of the names
 abbrev pub kind : Names → Rule
-kind names = record (new_rule (codes "kind")) {
-  long = Some (codes "kind");
-  value_names = 1;
-  parser = Some (parser.Names names);
-}
+kind names = valued (codes "kind") (parser.Names names)
 
 -- `--ram BYTES`: one number of 32 bits
 abbrev pub ram : Rule
-ram = record (new_rule (codes "ram")) {
-  long = Some (codes "ram");
-  value_names = 1;
-  parser = Some (parser.Signed (pos 0) (pos 4294967295));
-}
+ram = valued (codes "ram") (parser.Signed (pos 0) (pos 4294967295))
 
 -- `--monitor`: a flag
 abbrev pub monitor : Rule
-monitor = record (new_rule (codes "monitor")) {
-  long = Some (codes "monitor");
-  action = Some action.SetTrue;
-}
+monitor = flag (codes "monitor")
 
 -- `--harts HARTS`: one number, 1 or 2
 abbrev pub harts : Rule
-harts = record (new_rule (codes "harts")) {
-  long = Some (codes "harts");
-  value_names = 1;
-  parser = Some (parser.Signed (pos 1) (pos 2));
-}
+harts = valued (codes "harts") (parser.Signed (pos 1) (pos 2))
 
 -- `--slot K`: one number from 0 to 12
 abbrev pub slot : Rule
-slot = record (new_rule (codes "slot")) {
-  long = Some (codes "slot");
-  value_names = 1;
-  parser = Some (parser.Signed (pos 0) (pos 12));
-}
+slot = valued (codes "slot") (parser.Signed (pos 0) (pos 12))
 
--- with the options that say what image is loaded into which RAM
-abbrev pub with_image : Names → App → App
-with_image names app = with_rule (with_rule app (kind names)) ram
+-- a command of this name with these options
+abbrev pub command : Text → List Rule → App
+command name options = fold with_rule (new_app name) options
 
-abbrev pub run_app : Names → App
-run_app names = with_rule (with_rule (with_image names (new_app (codes "run"))) monitor) harts
-
-abbrev pub twin_app : Names → App
-twin_app names = with_rule (with_image names (with_rule (new_app (codes "twin")) slot)) harts
-
-abbrev pub asm_app : App
-asm_app = new_app (codes "asm")
-
-abbrev pub dis_app : App
-dis_app = new_app (codes "dis")
-
--- the program with the subcommand that runs a bench, and with that of two
-abbrev pub bench : Names → App
-bench names = with_subcommand (new_app (codes "rvbench")) (run_app names).top
-
-abbrev pub benches : Names → App
-benches names = with_subcommand (bench names) (twin_app names).top
-
--- the program with all its subcommands
+-- the program with its subcommands
 abbrev pub program : Names → App
-program names = with_subcommand (with_subcommand (benches names) asm_app.top) dis_app.top
+program names = fold with_subcommand (new_app (codes "rvbench"))
+    ((command (codes "run") (kind names ∷ ram ∷ monitor ∷ harts ∷ [])).top
+    ∷ (command (codes "twin") (slot ∷ kind names ∷ ram ∷ harts ∷ [])).top
+    ∷ (command (codes "asm") []).top
+    ∷ (command (codes "dis") []).top
+    ∷ [])
 
 -- what lies at the first address: a command line reads names alike wherever they lie
 abbrev pub lent : {X : Type 0} → X → Bor X

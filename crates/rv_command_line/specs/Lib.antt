@@ -1,4 +1,5 @@
 pub mod CommandLine
+pub mod CommandRows
 pub mod Faults
 pub mod Job
 pub mod Refusals

@@ -21,6 +21,7 @@ mod image_kind;
 mod job;
 mod reading;
 mod setup;
+mod subcommands;
 mod words_fault;
 
 pub use harts::Harts;

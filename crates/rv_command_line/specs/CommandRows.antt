@@ -1,0 +1,16 @@
+-- What `clap` is told by the rows of the program's table of commands and options.
+use Rattle.std.specs.Prelude.{map}
+use Rattle.std.specs.Option.{option_map_or}
+use Rattle.clap.specs.Words.{App, Rule, Shape}
+use Rattle.rv_command_line.specs.CommandLine.{command, flag, valued}
+use Rattle.rv_command_line.specs.declared.subcommands.CommandRow.{CommandRow}
+use Rattle.rv_command_line.specs.declared.subcommands.OptionRow.{OptionRow}
+
+abbrev pub rule_in : OptionRow → Rule
+rule_in row = option_map_or (λ value. valued row.name.now value.1) row.value (flag row.name.now)
+
+abbrev pub app_in : CommandRow → App
+app_in row = command row.name.now (map rule_in row.options.now)
+
+abbrev pub shape_in : CommandRow → Shape
+shape_in row = (app_in row).top
