@@ -25,7 +25,9 @@ enters-with e slots (Some k) is = enters-or e slots (2 ^ k) is
 
 pub enters-now : (e slots : ℕ) (entered : Option ℕ) → entered ≡ Some e → is_entered e (with_slot slots entered) ≡ true
 enters-now e slots entered is =
-    rw is (eq-eqb _ 1 (bit_at_or slots (2 ^ e) e ∙ (let set = bit_at-pow_same e in let small = bit_at-lt slots e in omega (arith, set, small))))
+    let set = bit_at-pow_same e in
+    let small = bit_at-lt slots e in
+    rw is (eq-eqb _ 1 (bit_at_or slots (2 ^ e) e ∙ omega (arith, set, small)))
 
 -- ---- runs
 

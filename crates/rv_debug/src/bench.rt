@@ -203,7 +203,7 @@ impl Bench {
     /// Does what a line says, given without its ending, or replies with its first fault, and then nothing changes. The reply
     /// is put in place of what the buffer holds. Returns what `command` returns, and 0 at a fault. Every line that begins
     /// with the same 121 bytes has the same answer.
-    #[tactic(auto, unfolding(crate::specs::Answer::line_answer))]
+    #[tactic(auto, using(crate::proofs::Answers::line_answer_front), unfolding(crate::specs::Answer::line_answer))]
     pub fn answer_line(&mut self, line: &[u8], out: &mut Reply) -> u16
         ensures answer { line_answer self.old line.now ≡ record { state = self.new; reply = out.new.items; entered = result } }
         ensures front { (other : List ℕ) → take 121 other ≡ take 121 line.now → line_answer self.old other ≡ line_answer self.old line.now }
