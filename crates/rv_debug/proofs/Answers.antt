@@ -10,7 +10,8 @@ unfolding line_answer
 line_answer-cut bench line = ap (answer_or_fault bench) (parse_of-cut line)
 
 -- so lines that begin with the same 121 bytes have the same answer
-pub line_answer_front : (bench : BenchState) (other line : List ℕ) → take 121 other ≡ take 121 line → line_answer bench other ≡ line_answer bench line
+pub line_answer_front : (bench : BenchState) (other line : List ℕ) → take 121 other ≡ take 121 line
+    → line_answer bench other ≡ line_answer bench line
 line_answer_front bench other line same = sym (line_answer-cut bench other) ∙ (ap (line_answer bench) same ∙ line_answer-cut bench line)
 
 -- and so they have of two benches
