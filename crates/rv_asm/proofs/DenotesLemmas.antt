@@ -8,7 +8,7 @@ use Rattle.std.proofs.lemmas.List.Sums.{sum_by-cons, sum_by_push}
 use Rattle.rv_word.specs.Cases.{option_case, result_case}
 use Rattle.rv_asm.specs.Denotes.{Denotes}
 use Rattle.rv_asm.specs.Program.{Reading, readings, line_size, line_words, words_in, is_label, has_label, place_from, place_in, own_fault}
-use Rattle.rv_asm.specs.Program.{label_fault, name_fault, first_fault, fault_in, words_or_none, words_from, words_of, assembled}
+use Rattle.rv_asm.specs.Program.{label_fault, name_fault, first_line_fault, fault_in, words_or_none, words_from, words_of_lines, assembled}
 use Rattle.rv_asm.specs.declared.line.Line.{Line}
 use Rattle.rv_asm.specs.declared.fault.AsmFault.{AsmFault}
 use Rattle.rv_asm.specs.declared.fault.AsmFaultKind.{AsmFaultKind}
@@ -25,11 +25,11 @@ ok_words (Ok words) is = refl
 ok_words (Err kind) is = cc
 
 no_fault_first : (fault : List Reading → Reading → Option AsmFaultKind) (before lines : List Reading) (line : Reading)
-    → first_fault fault before (line ∷ lines) ≡ None → (fault before line ≡ None) × (first_fault fault (before ++ line ∷ []) lines ≡ None)
-no_fault_first fault before lines line none = no_fault (fault before line) (fault_after (length before)) (first_fault fault (before ++ line ∷ []) lines) none
+    → first_line_fault fault before (line ∷ lines) ≡ None → (fault before line ≡ None) × (first_line_fault fault (before ++ line ∷ []) lines ≡ None)
+no_fault_first fault before lines line none = no_fault (fault before line) (fault_after (length before)) (first_line_fault fault (before ++ line ∷ []) lines) none
 
 no_fault_in : (fault : List Reading → Reading → Option AsmFaultKind) (before front after : List Reading)
-    → first_fault fault before (front ++ after) ≡ None → (first_fault fault before front ≡ None) × (first_fault fault (before ++ front) after ≡ None)
+    → first_line_fault fault before (front ++ after) ≡ None → (first_line_fault fault before front ≡ None) × (first_line_fault fault (before ++ front) after ≡ None)
 no_fault_in fault before [] after none = (refl, rw (append-nil before) none)
 no_fault_in fault before (line ∷ front) after none =
     let first = no_fault_first fault before (front ++ after) line none in
@@ -38,7 +38,7 @@ no_fault_in fault before (line ∷ front) after none =
 
 -- before a line, and at it
 no_fault_at : (fault : List Reading → Reading → Option AsmFaultKind) (all before after : List Reading) (line : Reading)
-    → all ≡ before ++ line ∷ after → first_fault fault [] all ≡ None → (first_fault fault [] before ≡ None) × (fault before line ≡ None)
+    → all ≡ before ++ line ∷ after → first_line_fault fault [] all ≡ None → (first_line_fault fault [] before ≡ None) × (fault before line ≡ None)
 no_fault_at fault all before after line split none =
     let parts = no_fault_in fault [] before (line ∷ after) (rw split at none) in
     (parts.0, (no_fault_first fault before after line parts.1).0)
@@ -50,7 +50,7 @@ words_from-append labels before (line ∷ front) after =
     let others = words_from-append labels (before ++ line ∷ []) front after in
     rw (others, append_assoc before (line ∷ []) front) (sym (append_assoc (words_or_none (line_words labels (words_in before) line)) _ _))
 
-length-words_from : (labels : List ℕ → Option ℕ) (before lines : List Reading) → first_fault (name_fault labels) before lines ≡ None
+length-words_from : (labels : List ℕ → Option ℕ) (before lines : List Reading) → first_line_fault (name_fault labels) before lines ≡ None
     → length (words_from labels before lines) ≡ words_in lines
 length-words_from labels before [] none = refl
 length-words_from labels before (line ∷ lines) none =
@@ -64,7 +64,7 @@ mid_part : (n m : ℕ) (xs ys zs : List ℕ) → length xs ≡ n → length ys �
 mid_part n m xs ys zs front mid = ap (take m) (drop_at xs (ys ++ zs) n front) ∙ ap (λ k. take k (ys ++ zs)) (sym mid) ∙ take-append_seam ys zs
 
 stands : (labels : List ℕ → Option ℕ) (all before after : List Reading) (line : Reading) → all ≡ before ++ line ∷ after
-    → first_fault (name_fault labels) [] all ≡ None
+    → first_line_fault (name_fault labels) [] all ≡ None
     → line_words labels (words_in before) line ≡ Ok (take (line_size line) (drop (words_in before) (words_from labels [] all)))
 stands labels all before after line split none =
     let here = line_words labels (words_in before) line in
@@ -124,17 +124,17 @@ none_before None p is = (refl, is)
 none_before (Some f) p is = cc
 
 no_faults : (lines : List Reading) → fault_in lines ≡ None
-    → (first_fault label_fault [] lines ≡ None) × (first_fault (name_fault (place_in lines)) [] lines ≡ None)
+    → (first_line_fault label_fault [] lines ≡ None) × (first_line_fault (name_fault (place_in lines)) [] lines ≡ None)
 no_faults lines none =
-    none_before (first_fault label_fault [] lines) (first_fault (name_fault (place_in lines)) [] lines)
-    (none_before (first_fault own_fault [] lines)
-    (option_case (first_fault label_fault [] lines) (first_fault (name_fault (place_in lines)) [] lines) Some) none).1
+    none_before (first_line_fault label_fault [] lines) (first_line_fault (name_fault (place_in lines)) [] lines)
+    (none_before (first_line_fault own_fault [] lines)
+    (option_case (first_line_fault label_fault [] lines) (first_line_fault (name_fault (place_in lines)) [] lines) Some) none).1
 
 words_if : (o : Option AsmFault) (made words : List ℕ) → option_case o (Ok made) Err ≡ Ok words → (o ≡ None) × (made ≡ words)
 words_if None made words is = (refl, cc)
 words_if (Some f) made words is = cc
 
-denotes_words_of : (text : List ℕ) → fault_in (readings text) ≡ None → Denotes text (words_of (readings text))
+denotes_words_of : (text : List ℕ) → fault_in (readings text) ≡ None → Denotes text (words_of_lines (readings text))
 denotes_words_of text none =
     let lines = readings text in
     let labels = place_in lines in
@@ -152,7 +152,7 @@ denotes_words_of text none =
 pub denotes_assembled : (text words : List ℕ) → assembled text ≡ Ok words → Denotes text words
 unfolding assembled
 denotes_assembled text words is =
-    let made = words_if (fault_in (readings text)) (words_of (readings text)) words is in
+    let made = words_if (fault_in (readings text)) (words_of_lines (readings text)) words is in
     rw (← made.1) (denotes_words_of text made.0)
 
 -- ---- and no others

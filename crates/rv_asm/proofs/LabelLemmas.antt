@@ -8,7 +8,7 @@ use Rattle.rv_asm.specs.LabelMap.{places_of}
 use Rattle.rv_word.specs.Cases.{option_case}
 use Rattle.std.proofs.lemmas.Bool.Decides.{nat_tests}
 use Rattle.rv_asm.specs.Looks.{HasRead, AddsLabel, repeated_with, label_twice}
-use Rattle.rv_asm.specs.Program.{Reading, line_size, words_in, has_label, is_label, place_from, place_in, first_fault, own_fault, label_fault, repeated_name}
+use Rattle.rv_asm.specs.Program.{Reading, line_size, words_in, has_label, is_label, place_from, place_in, first_line_fault, own_fault, label_fault, repeated_name}
 use Rattle.rv_asm.specs.declared.first_look.FirstLook.{FirstLook}
 use Rattle.rv_asm.specs.declared.line.Line.{Line}
 use Rattle.rv_asm.specs.declared.fault.AsmFaultKind.TheVariants.{LabelTwice, TooLong}
@@ -64,11 +64,11 @@ fault_after count kind = record { line = count + 1; kind = kind }
 
 -- the first fault of lines by the first of them: it has none, or one
 pub fault_later : (fault : List Reading → Reading → Option AsmFaultKind) (before lines : List Reading) (line : Reading) → fault before line ≡ None
-    → first_fault fault before (line ∷ lines) ≡ first_fault fault (before ++ line ∷ []) lines
+    → first_line_fault fault before (line ∷ lines) ≡ first_line_fault fault (before ++ line ∷ []) lines
 fault_later fault before lines line sound = rw sound refl
 
 pub fault_here : (fault : List Reading → Reading → Option AsmFaultKind) (before lines : List Reading) (line : Reading) (kind : AsmFaultKind)
-    → fault before line ≡ Some kind → first_fault fault before (line ∷ lines) ≡ Some (fault_after (length before) kind)
+    → fault before line ≡ Some kind → first_line_fault fault before (line ∷ lines) ≡ Some (fault_after (length before) kind)
 fault_here fault before lines line kind own = rw own refl
 
 fault_stays : (o : Option AsmFaultKind) (f : AsmFaultKind → AsmFault) (rest last : Option AsmFault)
@@ -81,13 +81,13 @@ as_map None f = refl
 as_map (Some kind) f = refl
 
 pub first_fault-push : (fault : List Reading → Reading → Option AsmFaultKind) (before lines : List Reading) (line : Reading)
-    → first_fault fault before (lines ++ line ∷ [])
-    ≡ option_case (first_fault fault before lines) (option_map (fault_after (length (before ++ lines))) (fault (before ++ lines) line)) Some
+    → first_line_fault fault before (lines ++ line ∷ [])
+    ≡ option_case (first_line_fault fault before lines) (option_map (fault_after (length (before ++ lines))) (fault (before ++ lines) line)) Some
 first_fault-push fault before [] line = rw (append-nil before) (as_map (fault before line) (fault_after (length before)))
 first_fault-push fault before (first ∷ lines) line =
     let others = first_fault-push fault (before ++ first ∷ []) lines line in
     rw (others, append_assoc before (first ∷ []) lines)
-    (fault_stays (fault before first) (fault_after (length before)) (first_fault fault (before ++ first ∷ []) lines) _)
+    (fault_stays (fault before first) (fault_after (length before)) (first_line_fault fault (before ++ first ∷ []) lines) _)
 
 -- ---- the first look goes on
 
@@ -103,9 +103,9 @@ twice-next false None count = refl
 twice-next false (Some line) count = refl
 
 repeated-next : (look : FirstLook) (before : List Reading) (label : Option (List ℕ)) → HasRead look before
-    → option_case (first_fault label_fault [] before) (option_map (fault_after (length before)) (repeated_name before label)) Some
+    → option_case (first_line_fault label_fault [] before) (option_map (fault_after (length before)) (repeated_name before label)) Some
     ≡ option_map label_twice (repeated_with look label)
-repeated-next look before None has = option_case-some (first_fault label_fault [] before) ∙ has.repeated
+repeated-next look before None has = option_case-some (first_line_fault label_fault [] before) ∙ has.repeated
 repeated-next look before (Some name) has =
     let there : is_some (places_of look.labels name) ≡ is_some (place_in before name) = λ i. is_some (has.labels i name) in
     rw (has.repeated, there, has.count) (twice-next (is_some (place_in before name)) look.repeated (length before))

@@ -5,10 +5,10 @@ use Rattle.std.proofs.lemmas.List.{length-map}
 use Rattle.rv_word.specs.Cases.{option_case}
 use Rattle.rv_asm.specs.LabelMap.{places_of}
 use Rattle.rv_asm.specs.Lacking.{FailsFor, LacksForLabel}
-use Rattle.rv_asm.specs.LineReading.{line_at}
+use Rattle.rv_asm.specs.LineReading.{line_read}
 use Rattle.rv_text.specs.Lines.{lines_of}
 use Rattle.rv_asm.specs.Looks.{HasRead, label_twice}
-use Rattle.rv_asm.specs.Program.{Reading, readings, own_fault, label_fault, name_fault, first_fault, place_in, words_from, words_of, assembled}
+use Rattle.rv_asm.specs.Program.{Reading, readings, own_fault, label_fault, name_fault, first_line_fault, place_in, words_from, words_of_lines, assembled}
 use Rattle.rv_asm.specs.declared.first_look.FirstLook.{FirstLook}
 use Rattle.rv_asm.specs.declared.fault.AsmFault.{AsmFault}
 use Rattle.rv_asm.specs.declared.fault.AsmFaultKind.{AsmFaultKind}
@@ -16,7 +16,7 @@ use Rattle.rv_asm.specs.declared.fault.AsmFaultKind.TheVariants.{NoMemory}
 use Rattle.rv_asm.proofs.LabelLemmas.{fault_after}
 
 pub length-readings : (text : List ℕ) → length (readings text) ≡ length (lines_of text)
-length-readings text = length-map (lines_of text) line_at
+length-readings text = length-map (lines_of text) line_read
 
 -- the line of a fault is one of the lines
 abbrev IsWithin : ℕ → ℕ → AsmFault → Type 0
@@ -34,25 +34,25 @@ later_or_here before count longer (Some kind) rest found more later is =
     (omega (arith, number), omega (arith, number))
 
 fault_line : (fault : List Reading → Reading → Option AsmFaultKind) (before lines : List Reading) (found : AsmFault)
-    → first_fault fault before lines ≡ Some found → IsWithin (length before) (length lines) found
+    → first_line_fault fault before lines ≡ Some found → IsWithin (length before) (length lines) found
 fault_line fault before [] found is = cc
 fault_line fault before (line ∷ lines) found is =
     let bounds =
     later_or_here (length before) (length lines) (length (before ++ line ∷ [])) (fault before line)
-    (first_fault fault (before ++ line ∷ []) lines) found (length-append before (line ∷ [])) (fault_line fault (before ++ line ∷ []) lines found) is in
+    (first_line_fault fault (before ++ line ∷ []) lines) found (length-append before (line ∷ [])) (fault_line fault (before ++ line ∷ []) lines found) is in
     (bounds.0, omega (arith, bounds.1))
 
 -- a fault of its own
-pub own_decides : (text : List ℕ) (fault : AsmFault) → first_fault own_fault [] (readings text) ≡ Some fault → assembled text ≡ Err fault
+pub own_decides : (text : List ℕ) (fault : AsmFault) → first_line_fault own_fault [] (readings text) ≡ Some fault → assembled text ≡ Err fault
 unfolding assembled
 own_decides text fault is = rw is refl
 
 -- a label that stood before
-pub twice_decides : (text : List ℕ) (look : FirstLook) (line : ℕ) → HasRead look (readings text) → first_fault own_fault [] (readings text) ≡ None
+pub twice_decides : (text : List ℕ) (look : FirstLook) (line : ℕ) → HasRead look (readings text) → first_line_fault own_fault [] (readings text) ≡ None
     → look.repeated ≡ Some line → assembled text ≡ Err (label_twice line)
 unfolding assembled
 twice_decides text look line has none is =
-    let twice : first_fault label_fault [] (readings text) ≡ Some (label_twice line) = has.repeated ∙ ap (option_map label_twice) is in
+    let twice : first_line_fault label_fault [] (readings text) ≡ Some (label_twice line) = has.repeated ∙ ap (option_map label_twice) is in
     rw (none, twice) refl
 
 pub twice_line : (text : List ℕ) (look : FirstLook) (line : ℕ) → HasRead look (readings text) → look.repeated ≡ Some line
@@ -62,52 +62,52 @@ twice_line text look line has is =
     (omega (arith, bounds.0), omega (arith, bounds.1, length-readings text))
 
 -- a name, or the words
-not_twice : (text : List ℕ) (look : FirstLook) → HasRead look (readings text) → look.repeated ≡ None → first_fault label_fault [] (readings text) ≡ None
+not_twice : (text : List ℕ) (look : FirstLook) → HasRead look (readings text) → look.repeated ≡ None → first_line_fault label_fault [] (readings text) ≡ None
 not_twice text look has is = has.repeated ∙ ap (option_map label_twice) is
 
 pub name_decides : (text : List ℕ) (look : FirstLook) (fault : AsmFault) → HasRead look (readings text)
-    → first_fault own_fault [] (readings text) ≡ None → look.repeated ≡ None
-    → first_fault (name_fault (places_of look.labels)) [] (readings text) ≡ Some fault → assembled text ≡ Err fault
+    → first_line_fault own_fault [] (readings text) ≡ None → look.repeated ≡ None
+    → first_line_fault (name_fault (places_of look.labels)) [] (readings text) ≡ Some fault → assembled text ≡ Err fault
 unfolding assembled
 name_decides text look fault has none once is =
-    let named : first_fault (name_fault (place_in (readings text))) [] (readings text) ≡ Some fault =
-    ap (λ labels. first_fault (name_fault labels) [] (readings text)) (sym has.labels) ∙ is in
+    let named : first_line_fault (name_fault (place_in (readings text))) [] (readings text) ≡ Some fault =
+    ap (λ labels. first_line_fault (name_fault labels) [] (readings text)) (sym has.labels) ∙ is in
     rw (none, not_twice text look has once, named) refl
 
 pub words_decide : (text : List ℕ) (look : FirstLook) (words : List ℕ) → HasRead look (readings text)
-    → first_fault own_fault [] (readings text) ≡ None → look.repeated ≡ None
-    → first_fault (name_fault (places_of look.labels)) [] (readings text) ≡ None → words ≡ words_from (places_of look.labels) [] (readings text)
+    → first_line_fault own_fault [] (readings text) ≡ None → look.repeated ≡ None
+    → first_line_fault (name_fault (places_of look.labels)) [] (readings text) ≡ None → words ≡ words_from (places_of look.labels) [] (readings text)
     → assembled text ≡ Ok words
 unfolding assembled
 words_decide text look words has none once named is =
-    let labelled : first_fault (name_fault (place_in (readings text))) [] (readings text) ≡ None =
-    ap (λ labels. first_fault (name_fault labels) [] (readings text)) (sym has.labels) ∙ named in
-    let made : words_of (readings text) ≡ words = ap (λ labels. words_from labels [] (readings text)) (sym has.labels) ∙ sym is in
+    let labelled : first_line_fault (name_fault (place_in (readings text))) [] (readings text) ≡ None =
+    ap (λ labels. first_line_fault (name_fault labels) [] (readings text)) (sym has.labels) ∙ named in
+    let made : words_of_lines (readings text) ≡ words = ap (λ labels. words_from labels [] (readings text)) (sym has.labels) ∙ sym is in
     rw (none, not_twice text look has once, labelled) (ap Ok made)
 
 pub words_decide_if : {Z : Type 0} (text : List ℕ) (look : FirstLook) (r : Result (Vec ℕ Z) AsmFault) → HasRead look (readings text)
-    → first_fault own_fault [] (readings text) ≡ None → look.repeated ≡ None
+    → first_line_fault own_fault [] (readings text) ≡ None → look.repeated ≡ None
     → IfOk r (λ words. (words.items ≡ words_from (places_of look.labels) [] (readings text))
-    × (first_fault (name_fault (places_of look.labels)) [] (readings text) ≡ None)) → IfOk r (λ words. assembled text ≡ Ok words.items)
+    × (first_line_fault (name_fault (places_of look.labels)) [] (readings text) ≡ None)) → IfOk r (λ words. assembled text ≡ Ok words.items)
 words_decide_if text look (Ok words) has none once found = words_decide text look words.items has none once found.1 found.0
 words_decide_if text look (Err fault) has none once found = tt
 
 -- the first look fails for a fault of a line's own, or for memory
-pub own_fails : (text : List ℕ) (fault : AsmFault) → (first_fault own_fault [] (readings text) ≡ Some fault) ⊎ LacksForLabel (readings text) fault
+pub own_fails : (text : List ℕ) (fault : AsmFault) → (first_line_fault own_fault [] (readings text) ≡ Some fault) ⊎ LacksForLabel (readings text) fault
     → FailsFor text fault
 own_fails text fault (inl own) = inl (own_decides text fault own)
 own_fails text fault (inr lacks) = inr (inl lacks)
 
 -- the second for a name, or for memory
 pub name_fails_if : {A : Type 0} (text : List ℕ) (look : FirstLook) (r : Result A AsmFault) → HasRead look (readings text)
-    → first_fault own_fault [] (readings text) ≡ None → look.repeated ≡ None
-    → IfErr r (λ fault. (first_fault (name_fault (places_of look.labels)) [] (readings text) ≡ Some fault)
-    ⊎ ((fault.kind ≡ NoMemory) × (first_fault (name_fault (places_of look.labels)) [] (take fault.line (readings text)) ≡ None))) → IfErr r (FailsFor text)
+    → first_line_fault own_fault [] (readings text) ≡ None → look.repeated ≡ None
+    → IfErr r (λ fault. (first_line_fault (name_fault (places_of look.labels)) [] (readings text) ≡ Some fault)
+    ⊎ ((fault.kind ≡ NoMemory) × (first_line_fault (name_fault (places_of look.labels)) [] (take fault.line (readings text)) ≡ None))) → IfErr r (FailsFor text)
 name_fails_if text look (Ok words) has none once found = tt
 name_fails_if text look (Err fault) has none once (inl named) = inl (name_decides text look fault has none once named)
 name_fails_if text look (Err fault) has none once (inr lacks) = inr (inr (record {
   memory = lacks.0;
   own = none;
   labels = not_twice text look has once;
-  names = ap (λ labels. first_fault (name_fault labels) [] (take fault.line (readings text))) (sym has.labels) ∙ lacks.1;
+  names = ap (λ labels. first_line_fault (name_fault labels) [] (take fault.line (readings text))) (sym has.labels) ∙ lacks.1;
 }))

@@ -11,7 +11,7 @@ use Rattle.std.proofs.lemmas.List.Folds.{list_all-append}
 use Rattle.std.proofs.lemmas.List.Splits.{slice_split_none, slice_split_at}
 use Rattle.std.proofs.lemmas.List.Sums.{AllPass-from_list_all}
 use Rattle.rv_text.specs.GoodLines.{is_blank}
-use Rattle.rv_asm.specs.Cuts.{after_blanks, before_blanks, trimmed, fields_of, operands_of}
+use Rattle.rv_asm.specs.Cuts.{after_blanks, before_blanks, trimmed, comma_fields, operands_in}
 
 -- a letter of lower case, a digit, a parenthesis, `-` or `.`, or one of `*`, `+` and `/`
 abbrev pub is_plain : ℕ → Bool
@@ -110,15 +110,15 @@ trimmed-all : (texts : List (List ℕ)) → ArePieces texts → map trimmed (map
 trimmed-all [] pieces = refl
 trimmed-all (text ∷ texts) pieces = rw (trimmed-padded text pieces.0.plain, trimmed-all texts pieces.1) refl
 
-fields_of-spaced : (first : List ℕ) (more : List (List ℕ)) → IsPiece first → ArePieces more → fields_of (spaced first more) ≡ first ∷ more
-unfolding fields_of
+fields_of-spaced : (first : List ℕ) (more : List (List ℕ)) → IsPiece first → ArePieces more → comma_fields (spaced first more) ≡ first ∷ more
+unfolding comma_fields
 fields_of-spaced first more piece pieces = ap (map trimmed) (split-spaced first more piece pieces) ∙ trimmed-all (first ∷ more) (piece, pieces)
 
-pub operands_of-spaced : (first : List ℕ) (more : List (List ℕ)) → IsPiece first → ArePieces more → operands_of (spaced first more) ≡ first ∷ more
+pub operands_of-spaced : (first : List ℕ) (more : List (List ℕ)) → IsPiece first → ArePieces more → operands_in (spaced first more) ≡ first ∷ more
 operands_of-spaced [] more piece pieces = absurd (omega (arith, piece.some))
 operands_of-spaced (b ∷ first) more piece pieces =
     let some = trimmed-some b (first ++ flat_map (λ operand. codes ", " ++ operand) more) (and_parts (is_plain b) (list_all is_plain first) piece.plain).0 in
     taken (length (trimmed (spaced (b ∷ first) more))) some ∙ fields_of-spaced (b ∷ first) more piece pieces
   where
-    taken : (n : ℕ) → 0 < n → (if n == 0 then [] else fields_of (spaced (b ∷ first) more)) ≡ fields_of (spaced (b ∷ first) more)
+    taken : (n : ℕ) → 0 < n → (if n == 0 then [] else comma_fields (spaced (b ∷ first) more)) ≡ comma_fields (spaced (b ∷ first) more)
     taken n some = let not_none : (n == 0) ≡ false = grind (arith, nat_tests) in rw not_none refl

@@ -10,7 +10,7 @@ use Rattle.rv_encoding.specs.declared.instr.Instr.{Instr}
 use Rattle.rv_asm.specs.Cuts.{before_comment, label_text, statement_text, colon_place}
 use Rattle.rv_text.specs.Lines.{lines_of, onto_first}
 use Rattle.rv_text.specs.GoodLines.{is_text, is_good_line}
-use Rattle.rv_asm.specs.LineReading.{line_at}
+use Rattle.rv_asm.specs.LineReading.{line_read}
 use Rattle.rv_asm.specs.Statements.{statement_at}
 use Rattle.rv_asm.specs.Program.{assembled, statement_size, statement_words}
 use Rattle.rv_asm.specs.declared.statement.Statement.{Statement}
@@ -89,8 +89,8 @@ good_line : (line : List ℕ) → length line ≤ 120 → list_all is_line_byte 
 good_line line short of_line = grind (arith, nat_tests, are_text line of_line)
 
 pub line_at-plain : (b : ℕ) (line : List ℕ) (s : Statement) → is_plain b ≡ true → list_all is_line_byte (b ∷ line) ≡ true → length (b ∷ line) ≤ 120
-    → statement_at (b ∷ line) ≡ Ok s → line_at (b ∷ line) ≡ Ok (record { label = None; statement = Some s })
-unfolding line_at
+    → statement_at (b ∷ line) ≡ Ok s → line_read (b ∷ line) ≡ Ok (record { label = None; statement = Some s })
+unfolding line_read
 line_at-plain b line s plain of_line short says =
     let good = good_line (b ∷ line) short of_line in
     let bare = uncommented (b ∷ line) of_line in
@@ -103,11 +103,11 @@ line_at-plain b line s plain of_line short says =
 
 -- a text of one line that says an instruction, or a word
 pub assembled-instruction : (text : List ℕ) (instr : Instr) → lines_of text ≡ text ∷ []
-    → line_at text ≡ Ok (record { label = None; statement = Some (Instruction instr) }) → assembled text ≡ Ok (word_of instr ∷ [])
+    → line_read text ≡ Ok (record { label = None; statement = Some (Instruction instr) }) → assembled text ≡ Ok (word_of instr ∷ [])
 unfolding assembled statement_size statement_words
 assembled-instruction text instr one says = rw one (rw says refl)
 
 pub assembled-word : (text : List ℕ) (word : ℕ) → lines_of text ≡ text ∷ []
-    → line_at text ≡ Ok (record { label = None; statement = Some (Word word) }) → assembled text ≡ Ok (word ∷ [])
+    → line_read text ≡ Ok (record { label = None; statement = Some (Word word) }) → assembled text ≡ Ok (word ∷ [])
 unfolding assembled statement_size statement_words
 assembled-word text word one says = rw one (rw says refl)

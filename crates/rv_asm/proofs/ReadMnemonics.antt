@@ -10,7 +10,7 @@ use Rattle.rv_encoding.specs.declared.kind.OpKind.TheVariants.{Add, Sub, Sll, Sl
 use Rattle.rv_encoding.specs.declared.kind.CsrKind.TheVariants.{Write, Set, Clear}
 use Rattle.rv_encoding.specs.declared.instr.Instr.{Instr}
 use Rattle.rv_encoding.specs.declared.instr.Instr.TheVariants as instr
-use Rattle.rv_asm.specs.Cuts.{operands_of, is_name, is_name_byte}
+use Rattle.rv_asm.specs.Cuts.{operands_in, is_name, is_name_byte}
 use Rattle.rv_asm.specs.Mnemonics.{mnemonics}
 use Rattle.rv_asm.specs.Statements.{statement_at, statement_of}
 use Rattle.rv_asm.specs.declared.mnemonic.Mnemonic.{Mnemonic}
@@ -102,7 +102,7 @@ piece-name i = IsPiece-from_test (name_of i) (test i)
     test instr.Wfi = refl
     test (instr.SfenceVma a b) = refl
 
-pub read-name : (i : Instr) (rest : List ℕ) → statement_at (name_of i ++ 32 ∷ rest) ≡ statement_of (mnemonic_of i) (operands_of (32 ∷ rest))
+pub read-name : (i : Instr) (rest : List ℕ) → statement_at (name_of i ++ 32 ∷ rest) ≡ statement_of (mnemonic_of i) (operands_in (32 ∷ rest))
 unfolding statement_at mnemonics is_name is_name_byte
 read-name (instr.Lui a b) rest = refl
 read-name (instr.Auipc a b) rest = refl

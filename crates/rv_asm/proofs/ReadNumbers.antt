@@ -13,7 +13,7 @@ use Rattle.rv_asm.specs.declared.number.Number.{Number}
 use Rattle.rv_text.specs.Digits.{hex_digits}
 use Rattle.rv_asm.specs.Numbers.{plus, minus, decimal_digits, written_number}
 use Rattle.rv_text.specs.Numbers.{number_of_digits}
-use Rattle.rv_asm.specs.OperandRanges.{immediate_of, upper_immediate_of, five_bits_of, csr_number_of, branch_offset_of, jump_offset_of, word_of_number}
+use Rattle.rv_asm.specs.OperandRanges.{immediate_of, upper_immediate_of, five_bits_of, csr_number_field, branch_offset_of, jump_offset_of, word_of_number}
 use Rattle.rv_disassembler.specs.Spelling.{signed_text, hex_text}
 use Rattle.rv_text.proofs.HexDigits.{length-hex_digits, AllDigits-hex_digits, digits_value-hex_digits}
 use Rattle.rv_disassembler.proofs.HexTexts.{one_digit, two_digits, three_digits, four_digits, five_digits}
@@ -99,7 +99,7 @@ jump_offset-signed field small even = grind (arith, nat_tests)
 pub five_bits-plus : (n : ℕ) → n < 32 → five_bits_of (plus n) ≡ Ok n
 five_bits-plus n small = grind (arith, nat_tests)
 
-pub csr_number-plus : (n : ℕ) → n < 2 ^ 12 → csr_number_of (plus n) ≡ Ok n
+pub csr_number-plus : (n : ℕ) → n < 2 ^ 12 → csr_number_field (plus n) ≡ Ok n
 csr_number-plus n small = grind (arith, nat_tests)
 
 pub word_of-plus : (n : ℕ) → n < 2 ^ 32 → word_of_number (plus n) ≡ Ok n

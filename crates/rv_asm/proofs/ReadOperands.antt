@@ -17,10 +17,10 @@ use Rattle.rv_state.specs.CsrTable.{csr_listing}
 use Rattle.rv_asm.specs.Cuts.{is_name}
 use Rattle.rv_asm.specs.FenceSets.{fence_sets}
 use Rattle.rv_asm.specs.RegisterNames.{registers}
-use Rattle.rv_asm.specs.Operands.{register_at, number_at, csr_at, base_of, address_of, address_at, target_at, fence_set_at, opening}
+use Rattle.rv_asm.specs.Operands.{register_at, number_operand, csr_operand, base_of, offset_and_base, address_operand, target_at, fence_set_at, opening}
 use Rattle.rv_asm.specs.declared.operand.Target.TheVariants.{Offset}
 use Rattle.rv_asm.specs.Numbers.{plus, written_number}
-use Rattle.rv_disassembler.specs.Spelling.{register_text, hex_text, csr_text, signed_text, address_text, accesses_text}
+use Rattle.rv_disassembler.specs.Spelling.{register_operand_text, hex_text, csr_operand_text, signed_text, address_text, accesses_text}
 use Rattle.rv_text.proofs.HexDigits.{length-hex_digits}
 use Rattle.rv_disassembler.proofs.HexTexts.{one_digit, two_digits, three_digits, four_digits, five_digits}
 use Rattle.rv_asm.proofs.Plain.{is_plain, is_piece, IsPiece, IsPiece-from_test}
@@ -45,19 +45,19 @@ below_is f g count n below same = let here : 0 + n ≡ n = omega arith in rw her
 
 -- ---- registers, small numbers and the accesses of fences
 
-pub piece-register : (n : ℕ) → n < 32 → IsPiece (register_text n)
+pub piece-register : (n : ℕ) → n < 32 → IsPiece (register_operand_text n)
 unfolding digits
-piece-register n small = IsPiece-from_test _ (below_is (λ n. is_piece (register_text n)) (λ n. true) 32 n small refl)
+piece-register n small = IsPiece-from_test _ (below_is (λ n. is_piece (register_operand_text n)) (λ n. true) 32 n small refl)
 
-pub read-register : (n : ℕ) → n < 32 → register_at (register_text n) ≡ Ok n
+pub read-register : (n : ℕ) → n < 32 → register_at (register_operand_text n) ≡ Ok n
 unfolding digits registers
-read-register n small = below_is (λ n. register_at (register_text n)) (λ n. Ok n) 32 n small refl
+read-register n small = below_is (λ n. register_at (register_operand_text n)) (λ n. Ok n) 32 n small refl
 
 pub piece-small : (n : ℕ) → n < 32 → IsPiece (decimal n)
 unfolding digits
 piece-small n small = IsPiece-from_test _ (below_is (λ n. is_piece (decimal n)) (λ n. true) 32 n small refl)
 
-pub read-small : (n : ℕ) → n < 32 → number_at (decimal n) ≡ Ok (plus n)
+pub read-small : (n : ℕ) → n < 32 → number_operand (decimal n) ≡ Ok (plus n)
 read-small n small = let written = written-decimal n (omega (arith, small)) in rw written refl
 
 pub piece-accesses : (n : ℕ) → n < 16 → IsPiece (accesses_text n)
@@ -96,14 +96,14 @@ piece-hex_text n small = by_size (nat_lt n 0x10) (nat_lt n 0x100) (nat_lt n 0x10
     by_size false false false true one two three four = of 4 (omega arith) (four_digits n (grind (arith, nat_tests)) (grind (arith, nat_tests)))
     by_size false false false false one two three four = of 5 (omega arith) (five_digits n (grind (arith, nat_tests)) (omega (arith, small)))
 
-pub read-hex_text : (n : ℕ) → n < 2 ^ 20 → number_at (hex_text n) ≡ Ok (plus n)
+pub read-hex_text : (n : ℕ) → n < 2 ^ 20 → number_operand (hex_text n) ≡ Ok (plus n)
 read-hex_text n small = let written = written-hex_text n small in rw written refl
 
-pub read-hex : (places n : ℕ) → 0 < places → places ≤ 8 → n < 16 ^ places → number_at (48 ∷ 120 ∷ hex_digits places n) ≡ Ok (plus n)
+pub read-hex : (places n : ℕ) → 0 < places → places ≤ 8 → n < 16 ^ places → number_operand (48 ∷ 120 ∷ hex_digits places n) ≡ Ok (plus n)
 read-hex places n some few small = let written = written-hex places n some few small in rw written refl
 
 -- no register's name begins with a digit
-pub read-csr : (n : ℕ) → n < 2 ^ 12 → csr_at (csr_text n) ≡ Ok (plus n)
+pub read-csr : (n : ℕ) → n < 2 ^ 12 → csr_operand (csr_operand_text n) ≡ Ok (plus n)
 unfolding csrs csr_listing
 read-csr n small = let written = written-hex 3 n (omega arith) (omega arith) (omega (arith, small)) in rw written refl
 
@@ -170,7 +170,7 @@ piece-signed width field small wide =
     let is = signed-signed width field small wide in
     record { some = is.some; short = omega (arith, is.short); plain = signed-plain (signed_text width field) is.signed }
 
-pub read-signed : (width field : ℕ) → field < 10 ^ 8 → 2 ^ width < 10 ^ 8 → number_at (signed_text width field) ≡ Ok (signed_number width field)
+pub read-signed : (width field : ℕ) → field < 10 ^ 8 → 2 ^ width < 10 ^ 8 → number_operand (signed_text width field) ≡ Ok (signed_number width field)
 read-signed width field small wide =
     let written = written-signed width field (omega (arith, small)) (omega (arith, wide)) in rw written refl
 
@@ -184,7 +184,7 @@ read-target width field small wide =
 -- ---- addresses
 
 abbrev base_text : ℕ → List ℕ
-base_text base = 40 ∷ (register_text base ++ codes ")")
+base_text base = 40 ∷ (register_operand_text base ++ codes ")")
 
 address-parts : (offset base : ℕ) → address_text offset base ≡ signed_text 12 offset ++ base_text base
 address-parts offset base = simp append_assoc
@@ -221,21 +221,21 @@ opening-signed (c ∷ front) back signed =
     one here = grind (arith, nat_tests)
 
 address_of-parts : (front back : List ℕ) (offset : _) (base : ℕ) → list_all is_signed front ≡ true → written_number front ≡ Some offset
-    → base_of (40 ∷ back) ≡ Some base → address_of (front ++ 40 ∷ back) ≡ Some (offset, base)
-unfolding address_of
+    → base_of (40 ∷ back) ≡ Some base → offset_and_base (front ++ 40 ∷ back) ≡ Some (offset, base)
+unfolding offset_and_base
 address_of-parts front back offset base signed written behind =
     let at_front = opening-signed front back signed in
     rw (at_front, take-append_seam front (40 ∷ back), drop-append_seam front (40 ∷ back), written, behind) refl
 
-pub read-address : (offset base : ℕ) → offset < 2 ^ 12 → base < 32 → address_at (address_text offset base) ≡ Ok (signed_number 12 offset, base)
+pub read-address : (offset base : ℕ) → offset < 2 ^ 12 → base < 32 → address_operand (address_text offset base) ≡ Ok (signed_number 12 offset, base)
 read-address offset base small small_base =
     let front = signed-signed 12 offset (omega (arith, small)) (omega arith) in
     let written = written-signed 12 offset (omega (arith, small)) (omega arith) in
     let found =
-    address_of-parts (signed_text 12 offset) (register_text base ++ codes ")") (signed_number 12 offset) base front.signed written
+    address_of-parts (signed_text 12 offset) (register_operand_text base ++ codes ")") (signed_number 12 offset) base front.signed written
     (piece-base base small_base).2 in
-    ap address_at (address-parts offset base) ∙ again found
+    ap address_operand (address-parts offset base) ∙ again found
   where
-    again : address_of (signed_text 12 offset ++ base_text base) ≡ Some (signed_number 12 offset, base)
-        → address_at (signed_text 12 offset ++ base_text base) ≡ Ok (signed_number 12 offset, base)
+    again : offset_and_base (signed_text 12 offset ++ base_text base) ≡ Some (signed_number 12 offset, base)
+        → address_operand (signed_text 12 offset ++ base_text base) ≡ Ok (signed_number 12 offset, base)
     again found = rw found refl

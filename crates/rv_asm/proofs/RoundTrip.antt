@@ -20,15 +20,15 @@ use Rattle.rv_encoding.specs.declared.kind.CsrKind.{CsrKind}
 use Rattle.rv_encoding.specs.declared.instr.Instr.{Instr}
 use Rattle.rv_encoding.specs.declared.instr.Instr.TheVariants.{Lui, Auipc, Jal, Jalr, Branch, Load, Store, OpImm, ShiftImm, Op, Fence}
 use Rattle.rv_encoding.specs.declared.instr.Instr.TheVariants.{Csr, CsrImm, Ecall, Ebreak, Sret, Mret, Wfi, SfenceVma}
-use Rattle.rv_asm.specs.Cuts.{is_name, is_name_byte, label_text, statement_text, trimmed, operands_of}
+use Rattle.rv_asm.specs.Cuts.{is_name, is_name_byte, label_text, statement_text, trimmed, operands_in}
 use Rattle.rv_text.specs.Digits.{hex_digits}
 use Rattle.rv_text.specs.Lines.{lines_of}
-use Rattle.rv_asm.specs.LineReading.{line_at}
+use Rattle.rv_asm.specs.LineReading.{line_read}
 use Rattle.rv_text.specs.GoodLines.{is_text}
 use Rattle.rv_asm.specs.Mnemonics.{mnemonics}
 use Rattle.rv_asm.specs.Program.{assembled}
 use Rattle.rv_asm.specs.Statements.{statement_at, statement_of}
-use Rattle.rv_disassembler.specs.Spelling.{register_text, hex_text, csr_text, signed_text, address_text, accesses_text}
+use Rattle.rv_disassembler.specs.Spelling.{register_operand_text, hex_text, csr_operand_text, signed_text, address_text, accesses_text}
 use Rattle.rv_disassembler.specs.Spelling.{line_text, instr_text, word_text, spelling, is_told_by_operands}
 use Rattle.rv_asm.specs.declared.mnemonic.Mnemonic.TheVariants as mnemonic
 use Rattle.rv_asm.specs.declared.statement.Statement.{Statement}
@@ -87,7 +87,7 @@ length-spaced name first more of_name of_first of_more few =
 -- such a line says what its statement says
 record Says (text : List ℕ) (s : Statement) : Type 0 where
   one : lines_of text ≡ text ∷ []
-  says : line_at text ≡ Ok (record { label = None; statement = Some s })
+  says : line_read text ≡ Ok (record { label = None; statement = Some s })
 
 says_line : (name first : List ℕ) (more : List (List ℕ)) (s : Statement) → IsPiece name → IsPiece first → ArePieces more → length more ≤ 2
     → statement_at (name ++ spaced first more) ≡ Ok s → Says (name ++ spaced first more) s
@@ -120,7 +120,7 @@ assembled-Lui rd imm fields =
     let r = read-register rd fields.0 in
     let n = read-hex_text (imm / 2 ^ 12) small in
     let u = upper-plus imm fields.1.0 fields.1.1 in
-    assembled-line (Lui rd imm) (register_text rd) (hex_text (imm / 2 ^ 12) ∷ []) (piece-register rd fields.0)
+    assembled-line (Lui rd imm) (register_operand_text rd) (hex_text (imm / 2 ^ 12) ∷ []) (piece-register rd fields.0)
     (piece-hex_text (imm / 2 ^ 12) small, tt) (omega arith) (rw (r, n, u) refl)
 
 assembled-Auipc : (rd imm : ℕ) → IsInstr (Auipc rd imm) → assembled (instr_text (Auipc rd imm)) ≡ Ok (word_of (Auipc rd imm) ∷ [])
@@ -130,7 +130,7 @@ assembled-Auipc rd imm fields =
     let r = read-register rd fields.0 in
     let n = read-hex_text (imm / 2 ^ 12) small in
     let u = upper-plus imm fields.1.0 fields.1.1 in
-    assembled-line (Auipc rd imm) (register_text rd) (hex_text (imm / 2 ^ 12) ∷ []) (piece-register rd fields.0)
+    assembled-line (Auipc rd imm) (register_operand_text rd) (hex_text (imm / 2 ^ 12) ∷ []) (piece-register rd fields.0)
     (piece-hex_text (imm / 2 ^ 12) small, tt) (omega arith) (rw (r, n, u) refl)
 
 assembled-Jal : (rd offset : ℕ) → IsInstr (Jal rd offset) → assembled (instr_text (Jal rd offset)) ≡ Ok (word_of (Jal rd offset) ∷ [])
@@ -140,7 +140,7 @@ assembled-Jal rd offset fields =
     let r = read-register rd fields.0 in
     let t = read-target 21 offset small (omega arith) in
     let n = jump_offset-signed offset fields.1.0 fields.1.1 in
-    assembled-line (Jal rd offset) (register_text rd) (signed_text 21 offset ∷ []) (piece-register rd fields.0)
+    assembled-line (Jal rd offset) (register_operand_text rd) (signed_text 21 offset ∷ []) (piece-register rd fields.0)
     (piece-signed 21 offset small (omega arith), tt) (omega arith) (rw (r, t, n) refl)
 
 assembled-Branch : (kind : BranchKind) (rs1 rs2 offset : ℕ) → IsInstr (Branch kind rs1 rs2 offset)
@@ -152,7 +152,7 @@ assembled-Branch kind rs1 rs2 offset fields =
     let b = read-register rs2 fields.1 in
     let t = read-target 13 offset small (omega arith) in
     let n = branch_offset-signed offset fields.2.0 fields.2.1 in
-    assembled-line (Branch kind rs1 rs2 offset) (register_text rs1) (register_text rs2 ∷ signed_text 13 offset ∷ []) (piece-register rs1 fields.0)
+    assembled-line (Branch kind rs1 rs2 offset) (register_operand_text rs1) (register_operand_text rs2 ∷ signed_text 13 offset ∷ []) (piece-register rs1 fields.0)
     (piece-register rs2 fields.1, (piece-signed 13 offset small (omega arith), tt)) (omega arith) (rw (a, b, t, n) refl)
 
 assembled-Jalr : (rd rs1 offset : ℕ) → IsInstr (Jalr rd rs1 offset) → assembled (instr_text (Jalr rd rs1 offset)) ≡ Ok (word_of (Jalr rd rs1 offset) ∷ [])
@@ -161,7 +161,7 @@ assembled-Jalr rd rs1 offset fields =
     let r = read-register rd fields.0 in
     let a = read-address offset rs1 fields.2 fields.1 in
     let n = immediate-signed offset fields.2 in
-    assembled-line (Jalr rd rs1 offset) (register_text rd) (address_text offset rs1 ∷ []) (piece-register rd fields.0)
+    assembled-line (Jalr rd rs1 offset) (register_operand_text rd) (address_text offset rs1 ∷ []) (piece-register rd fields.0)
     (piece-address offset rs1 fields.2 fields.1, tt) (omega arith) (rw (r, a, n) refl)
 
 assembled-Load : (kind : LoadKind) (rd rs1 offset : ℕ) → IsInstr (Load kind rd rs1 offset)
@@ -171,7 +171,7 @@ assembled-Load kind rd rs1 offset fields =
     let r = read-register rd fields.0 in
     let a = read-address offset rs1 fields.2 fields.1 in
     let n = immediate-signed offset fields.2 in
-    assembled-line (Load kind rd rs1 offset) (register_text rd) (address_text offset rs1 ∷ []) (piece-register rd fields.0)
+    assembled-line (Load kind rd rs1 offset) (register_operand_text rd) (address_text offset rs1 ∷ []) (piece-register rd fields.0)
     (piece-address offset rs1 fields.2 fields.1, tt) (omega arith) (rw (r, a, n) refl)
 
 assembled-Store : (kind : StoreKind) (rs1 rs2 offset : ℕ) → IsInstr (Store kind rs1 rs2 offset)
@@ -181,7 +181,7 @@ assembled-Store kind rs1 rs2 offset fields =
     let r = read-register rs2 fields.1 in
     let a = read-address offset rs1 fields.2 fields.0 in
     let n = immediate-signed offset fields.2 in
-    assembled-line (Store kind rs1 rs2 offset) (register_text rs2) (address_text offset rs1 ∷ []) (piece-register rs2 fields.1)
+    assembled-line (Store kind rs1 rs2 offset) (register_operand_text rs2) (address_text offset rs1 ∷ []) (piece-register rs2 fields.1)
     (piece-address offset rs1 fields.2 fields.0, tt) (omega arith) (rw (r, a, n) refl)
 
 assembled-OpImm : (kind : OpImmKind) (rd rs1 imm : ℕ) → IsInstr (OpImm kind rd rs1 imm)
@@ -193,7 +193,7 @@ assembled-OpImm kind rd rs1 imm fields =
     let b = read-register rs1 fields.1 in
     let t = read-signed 12 imm small (omega arith) in
     let n = immediate-signed imm fields.2 in
-    assembled-line (OpImm kind rd rs1 imm) (register_text rd) (register_text rs1 ∷ signed_text 12 imm ∷ []) (piece-register rd fields.0)
+    assembled-line (OpImm kind rd rs1 imm) (register_operand_text rd) (register_operand_text rs1 ∷ signed_text 12 imm ∷ []) (piece-register rd fields.0)
     (piece-register rs1 fields.1, (piece-signed 12 imm small (omega arith), tt)) (omega arith) (rw (a, b, t, n) refl)
 
 assembled-ShiftImm : (kind : ShiftKind) (rd rs1 shamt : ℕ) → IsInstr (ShiftImm kind rd rs1 shamt)
@@ -204,7 +204,7 @@ assembled-ShiftImm kind rd rs1 shamt fields =
     let b = read-register rs1 fields.1 in
     let t = read-small shamt fields.2 in
     let n = five_bits-plus shamt fields.2 in
-    assembled-line (ShiftImm kind rd rs1 shamt) (register_text rd) (register_text rs1 ∷ decimal shamt ∷ []) (piece-register rd fields.0)
+    assembled-line (ShiftImm kind rd rs1 shamt) (register_operand_text rd) (register_operand_text rs1 ∷ decimal shamt ∷ []) (piece-register rd fields.0)
     (piece-register rs1 fields.1, (piece-small shamt fields.2, tt)) (omega arith) (rw (a, b, t, n) refl)
 
 assembled-Op : (kind : OpKind) (rd rs1 rs2 : ℕ) → IsInstr (Op kind rd rs1 rs2)
@@ -214,7 +214,7 @@ assembled-Op kind rd rs1 rs2 fields =
     let a = read-register rd fields.0 in
     let b = read-register rs1 fields.1 in
     let c = read-register rs2 fields.2 in
-    assembled-line (Op kind rd rs1 rs2) (register_text rd) (register_text rs1 ∷ register_text rs2 ∷ []) (piece-register rd fields.0)
+    assembled-line (Op kind rd rs1 rs2) (register_operand_text rd) (register_operand_text rs1 ∷ register_operand_text rs2 ∷ []) (piece-register rd fields.0)
     (piece-register rs1 fields.1, (piece-register rs2 fields.2, tt)) (omega arith) (rw (a, b, c) refl)
 
 -- a fence whose other fields are 0
@@ -234,7 +234,7 @@ assembled-Csr kind rd rs1 csr fields =
     let c = read-csr csr fields.2 in
     let b = read-register rs1 fields.1 in
     let n = csr_number-plus csr fields.2 in
-    assembled-line (Csr kind rd rs1 csr) (register_text rd) (csr_text csr ∷ register_text rs1 ∷ []) (piece-register rd fields.0)
+    assembled-line (Csr kind rd rs1 csr) (register_operand_text rd) (csr_operand_text csr ∷ register_operand_text rs1 ∷ []) (piece-register rd fields.0)
     (piece-hex 3 csr (omega arith), (piece-register rs1 fields.1, tt)) (omega arith) (rw (a, c, b, n) refl)
 
 assembled-CsrImm : (kind : CsrKind) (rd uimm csr : ℕ) → IsInstr (CsrImm kind rd uimm csr)
@@ -246,7 +246,7 @@ assembled-CsrImm kind rd uimm csr fields =
     let b = read-small uimm fields.1 in
     let n = csr_number-plus csr fields.2 in
     let u = five_bits-plus uimm fields.1 in
-    assembled-line (CsrImm kind rd uimm csr) (register_text rd) (csr_text csr ∷ decimal uimm ∷ []) (piece-register rd fields.0)
+    assembled-line (CsrImm kind rd uimm csr) (register_operand_text rd) (csr_operand_text csr ∷ decimal uimm ∷ []) (piece-register rd fields.0)
     (piece-hex 3 csr (omega arith), (piece-small uimm fields.1, tt)) (omega arith) (rw (a, c, b, n, u) refl)
 
 assembled-SfenceVma : (rs1 rs2 : ℕ) → IsInstr (SfenceVma rs1 rs2) → assembled (instr_text (SfenceVma rs1 rs2)) ≡ Ok (word_of (SfenceVma rs1 rs2) ∷ [])
@@ -254,33 +254,33 @@ unfolding instr_text
 assembled-SfenceVma rs1 rs2 fields =
     let a = read-register rs1 fields.0 in
     let b = read-register rs2 fields.1 in
-    assembled-line (SfenceVma rs1 rs2) (register_text rs1) (register_text rs2 ∷ []) (piece-register rs1 fields.0) (piece-register rs2 fields.1, tt)
+    assembled-line (SfenceVma rs1 rs2) (register_operand_text rs1) (register_operand_text rs2 ∷ []) (piece-register rs1 fields.0) (piece-register rs2 fields.1, tt)
     (omega arith) (rw (a, b) refl)
 
 -- a mnemonic alone
 assembled-alone : (i : Instr) → lines_of (name_of i) ≡ name_of i ∷ []
-    → line_at (name_of i) ≡ Ok (record { label = None; statement = Some (Instruction i) }) → assembled (line_text (name_of i) []) ≡ Ok (word_of i ∷ [])
+    → line_read (name_of i) ≡ Ok (record { label = None; statement = Some (Instruction i) }) → assembled (line_text (name_of i) []) ≡ Ok (word_of i ∷ [])
 unfolding line_text
 assembled-alone i one says = assembled-instruction (name_of i) i one says
 
-alone-Ecall : line_at (name_of Ecall) ≡ Ok (record { label = None; statement = Some (Instruction Ecall) })
-unfolding line_at is_text label_text statement_text statement_at mnemonics is_name is_name_byte trimmed
+alone-Ecall : line_read (name_of Ecall) ≡ Ok (record { label = None; statement = Some (Instruction Ecall) })
+unfolding line_read is_text label_text statement_text statement_at mnemonics is_name is_name_byte trimmed
 alone-Ecall = refl
 
-alone-Ebreak : line_at (name_of Ebreak) ≡ Ok (record { label = None; statement = Some (Instruction Ebreak) })
-unfolding line_at is_text label_text statement_text statement_at mnemonics is_name is_name_byte trimmed
+alone-Ebreak : line_read (name_of Ebreak) ≡ Ok (record { label = None; statement = Some (Instruction Ebreak) })
+unfolding line_read is_text label_text statement_text statement_at mnemonics is_name is_name_byte trimmed
 alone-Ebreak = refl
 
-alone-Sret : line_at (name_of Sret) ≡ Ok (record { label = None; statement = Some (Instruction Sret) })
-unfolding line_at is_text label_text statement_text statement_at mnemonics is_name is_name_byte trimmed
+alone-Sret : line_read (name_of Sret) ≡ Ok (record { label = None; statement = Some (Instruction Sret) })
+unfolding line_read is_text label_text statement_text statement_at mnemonics is_name is_name_byte trimmed
 alone-Sret = refl
 
-alone-Mret : line_at (name_of Mret) ≡ Ok (record { label = None; statement = Some (Instruction Mret) })
-unfolding line_at is_text label_text statement_text statement_at mnemonics is_name is_name_byte trimmed
+alone-Mret : line_read (name_of Mret) ≡ Ok (record { label = None; statement = Some (Instruction Mret) })
+unfolding line_read is_text label_text statement_text statement_at mnemonics is_name is_name_byte trimmed
 alone-Mret = refl
 
-alone-Wfi : line_at (name_of Wfi) ≡ Ok (record { label = None; statement = Some (Instruction Wfi) })
-unfolding line_at is_text label_text statement_text statement_at mnemonics is_name is_name_byte trimmed
+alone-Wfi : line_read (name_of Wfi) ≡ Ok (record { label = None; statement = Some (Instruction Wfi) })
+unfolding line_read is_text label_text statement_text statement_at mnemonics is_name is_name_byte trimmed
 alone-Wfi = refl
 
 -- ---- instructions, and words by their number
@@ -315,7 +315,7 @@ assembled-instr_text Mret fields told = assembled-alone Mret refl alone-Mret
 assembled-instr_text Wfi fields told = assembled-alone Wfi refl alone-Wfi
 assembled-instr_text (SfenceVma rs1 rs2) fields told = assembled-SfenceVma rs1 rs2 fields
 
-word-statement : (rest : List ℕ) → statement_at (codes ".word" ++ 32 ∷ rest) ≡ statement_of mnemonic.Word (operands_of (32 ∷ rest))
+word-statement : (rest : List ℕ) → statement_at (codes ".word" ++ 32 ∷ rest) ≡ statement_of mnemonic.Word (operands_in (32 ∷ rest))
 unfolding statement_at mnemonics is_name is_name_byte
 word-statement rest = refl
 

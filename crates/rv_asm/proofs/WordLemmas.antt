@@ -5,9 +5,9 @@ use Rattle.std.proofs.lemmas.Bool.Decides.{nat_tests}
 use Rattle.std.proofs.lemmas.List.{take_at}
 use Rattle.std.proofs.lemmas.List.Sums.{sum_by_push}
 use Rattle.rv_word.specs.Cases.{option_case, result_case}
-use Rattle.rv_asm.specs.LineReading.{line_at}
+use Rattle.rv_asm.specs.LineReading.{line_read}
 use Rattle.rv_text.specs.Lines.{lines_of}
-use Rattle.rv_asm.specs.Program.{Reading, readings, own_fault, name_fault, first_fault, line_words, line_size, words_in, words_from}
+use Rattle.rv_asm.specs.Program.{Reading, readings, own_fault, name_fault, first_line_fault, line_words, line_size, words_in, words_from}
 use Rattle.rv_asm.specs.declared.fault.AsmFault.{AsmFault}
 use Rattle.rv_asm.specs.declared.fault.AsmFaultKind.{AsmFaultKind}
 use Rattle.rv_asm.specs.declared.fault.AsmFaultKind.TheVariants.{TooLong, NoMemory}
@@ -20,9 +20,9 @@ pub record HasWrittenUpTo (labels : List ℕ → Option ℕ) (words : List ℕ) 
   pub place : length words ≡ words_in before
   pub few : words_in before ≤ 65536
   pub split : readings text ≡ before ++ readings rest
-  pub sound : first_fault own_fault before (readings rest) ≡ None
-  pub named : first_fault (name_fault labels) [] (readings text) ≡ first_fault (name_fault labels) before (readings rest)
-  pub none : first_fault (name_fault labels) [] before ≡ None
+  pub sound : first_line_fault own_fault before (readings rest) ≡ None
+  pub named : first_line_fault (name_fault labels) [] (readings text) ≡ first_line_fault (name_fault labels) before (readings rest)
+  pub none : first_line_fault (name_fault labels) [] before ≡ None
   pub written : words_from labels [] (readings text) ≡ words ++ words_from labels before (readings rest)
 
 pub no_fault : (o : Option AsmFaultKind) (f : AsmFaultKind → AsmFault) (rest : Option AsmFault) → option_case o rest (λ kind. Some (f kind)) ≡ None
@@ -41,13 +41,13 @@ stays_few before (Ok line) is = few (nat_lt 65536 (words_in before + line_size (
 
 pub writes_on : (labels : List ℕ → Option ℕ) (words new added : List ℕ) (lines : ℕ) (text rest after line : List ℕ)
     → (has : HasWrittenUpTo labels words lines text rest) → lines_of rest ≡ line ∷ lines_of after
-    → line_words labels (length words) (line_at line) ≡ Ok added → new ≡ words ++ added → length new ≡ length words + line_size (line_at line)
+    → line_words labels (length words) (line_read line) ≡ Ok added → new ≡ words ++ added → length new ≡ length words + line_size (line_read line)
     → HasWrittenUpTo labels new (lines + 1) text after
 writes_on labels words new added lines text rest after line has is gives made size =
-    let this = line_at line in
-    let more : readings rest ≡ this ∷ readings after = ap (map line_at) is in
+    let this = line_read line in
+    let more : readings rest ≡ this ∷ readings after = ap (map line_read) is in
     let none =
-    no_fault (own_fault has.before this) (fault_after (length has.before)) (first_fault own_fault (has.before ++ this ∷ []) (readings after))
+    no_fault (own_fault has.before this) (fault_after (length has.before)) (first_line_fault own_fault (has.before ++ this ∷ []) (readings after))
     (rw more at has.sound) in
     let sum : words_in (has.before ++ this ∷ []) ≡ words_in has.before + line_size this = sum_by_push line_size has.before this in
     let few = stays_few has.before this none.0 in
@@ -60,7 +60,7 @@ writes_on labels words new added lines text rest after line has is gives made si
       split = has.split ∙ ap (λ ls. has.before ++ ls) more ∙ sym (append_assoc has.before (this ∷ []) (readings after));
       sound = none.1;
       named =
-          has.named ∙ ap (first_fault (name_fault labels) has.before) more
+          has.named ∙ ap (first_line_fault (name_fault labels) has.before) more
           ∙ fault_later (name_fault labels) has.before (readings after) this (rw here refl);
       none = first_fault-push (name_fault labels) [] has.before this ∙ rw (has.none, here) refl;
       written =
@@ -69,20 +69,20 @@ writes_on labels words new added lines text rest after line has is gives made si
     }
 
 pub writes_all : (labels : List ℕ → Option ℕ) (words : List ℕ) (lines : ℕ) (text rest : List ℕ) → HasWrittenUpTo labels words lines text rest
-    → lines_of rest ≡ [] → (words ≡ words_from labels [] (readings text)) × (first_fault (name_fault labels) [] (readings text) ≡ None)
+    → lines_of rest ≡ [] → (words ≡ words_from labels [] (readings text)) × (first_line_fault (name_fault labels) [] (readings text) ≡ None)
 writes_all labels words lines text rest has is = (
-  sym (has.written ∙ ap (λ ls. words ++ words_from labels has.before (map line_at ls)) is ∙ append-nil words),
-  has.named ∙ ap (λ ls. first_fault (name_fault labels) has.before (map line_at ls)) is,
+  sym (has.written ∙ ap (λ ls. words ++ words_from labels has.before (map line_read ls)) is ∙ append-nil words),
+  has.named ∙ ap (λ ls. first_line_fault (name_fault labels) has.before (map line_read ls)) is,
 )
 
 pub fails_at : (labels : List ℕ → Option ℕ) (words : List ℕ) (lines : ℕ) (text rest after line : List ℕ) (kind : AsmFaultKind)
     → (has : HasWrittenUpTo labels words lines text rest) → lines_of rest ≡ line ∷ lines_of after
-    → line_words labels (length words) (line_at line) ≡ Err kind
-    → first_fault (name_fault labels) [] (readings text) ≡ Some (record { line = lines + 1; kind = kind })
+    → line_words labels (length words) (line_read line) ≡ Err kind
+    → first_line_fault (name_fault labels) [] (readings text) ≡ Some (record { line = lines + 1; kind = kind })
 fails_at labels words lines text rest after line kind has is gives =
-    let here : line_words labels (words_in has.before) (line_at line) ≡ Err kind = rw (← has.place) gives in
-    has.named ∙ ap (λ ls. first_fault (name_fault labels) has.before (map line_at ls)) is
-    ∙ fault_here (name_fault labels) has.before (readings after) (line_at line) kind (rw here refl) ∙ ap (λ n. Some (fault_after n kind)) (sym has.count)
+    let here : line_words labels (words_in has.before) (line_read line) ≡ Err kind = rw (← has.place) gives in
+    has.named ∙ ap (λ ls. first_line_fault (name_fault labels) has.before (map line_read ls)) is
+    ∙ fault_here (name_fault labels) has.before (readings after) (line_read line) kind (rw here refl) ∙ ap (λ n. Some (fault_after n kind)) (sym has.count)
 
 no_name_fault : (words : Result (List ℕ) AsmFaultKind) → IsOk words → result_case words (λ found. None) Some ≡ None
 no_name_fault (Ok found) is = refl
@@ -91,22 +91,22 @@ no_name_fault (Err kind) is = cc
 -- no line through this one names what is not there
 none_through : (labels : List ℕ → Option ℕ) (words : List ℕ) (lines : ℕ) (text rest after line : List ℕ)
     → (has : HasWrittenUpTo labels words lines text rest) → lines_of rest ≡ line ∷ lines_of after
-    → IsOk (line_words labels (length words) (line_at line)) → first_fault (name_fault labels) [] (take (lines + 1) (readings text)) ≡ None
+    → IsOk (line_words labels (length words) (line_read line)) → first_line_fault (name_fault labels) [] (take (lines + 1) (readings text)) ≡ None
 none_through labels words lines text rest after line has is gives =
-    let this = line_at line in
+    let this = line_read line in
     let whole : readings text ≡ (has.before ++ this ∷ []) ++ readings after =
-    has.split ∙ (ap (λ ls. has.before ++ map line_at ls) is ∙ sym (append_assoc has.before (this ∷ []) (readings after))) in
+    has.split ∙ (ap (λ ls. has.before ++ map line_read ls) is ∙ sym (append_assoc has.before (this ∷ []) (readings after))) in
     let front : take (lines + 1) (readings text) ≡ has.before ++ this ∷ [] =
     ap (take (lines + 1)) whole ∙ take_at (has.before ++ this ∷ []) (readings after) (lines + 1) (omega (arith, has.count, length-append has.before (this ∷ []))) in
     let here : name_fault labels has.before this ≡ None = no_name_fault (line_words labels (words_in has.before) this) (rw (← has.place) gives) in
-    ap (first_fault (name_fault labels) []) front ∙ (first_fault-push (name_fault labels) [] has.before this ∙ rw (has.none, here) refl)
+    ap (first_line_fault (name_fault labels) []) front ∙ (first_fault-push (name_fault labels) [] has.before this ∙ rw (has.none, here) refl)
 
 -- the fault at a line is that of the text, or memory was refused there
 pub fails_or_lacks : (labels : List ℕ → Option ℕ) (words : List ℕ) (lines : ℕ) (text rest after line : List ℕ) (kind : AsmFaultKind)
     → (has : HasWrittenUpTo labels words lines text rest) → lines_of rest ≡ line ∷ lines_of after
-    → (line_words labels (length words) (line_at line) ≡ Err kind) ⊎ ((kind ≡ NoMemory) × IsOk (line_words labels (length words) (line_at line)))
-    → (first_fault (name_fault labels) [] (readings text) ≡ Some (record { line = lines + 1; kind = kind }))
-    ⊎ ((kind ≡ NoMemory) × (first_fault (name_fault labels) [] (take (lines + 1) (readings text)) ≡ None))
+    → (line_words labels (length words) (line_read line) ≡ Err kind) ⊎ ((kind ≡ NoMemory) × IsOk (line_words labels (length words) (line_read line)))
+    → (first_line_fault (name_fault labels) [] (readings text) ≡ Some (record { line = lines + 1; kind = kind }))
+    ⊎ ((kind ≡ NoMemory) × (first_line_fault (name_fault labels) [] (take (lines + 1) (readings text)) ≡ None))
 fails_or_lacks labels words lines text rest after line kind has is (inl gives) = inl (fails_at labels words lines text rest after line kind has is gives)
 fails_or_lacks labels words lines text rest after line kind has is (inr lacks) =
     inr (lacks.0, none_through labels words lines text rest after line has is lacks.1)
@@ -114,5 +114,5 @@ fails_or_lacks labels words lines text rest after line kind has is (inr lacks) =
 pub is_line_of : (labels : List ℕ → Option ℕ) (words : List ℕ) (lines : ℕ) (text rest after line : List ℕ)
     → (has : HasWrittenUpTo labels words lines text rest) → lines_of rest ≡ line ∷ lines_of after → lines + 1 ≤ length (readings text)
 is_line_of labels words lines text rest after line has is =
-    let whole : readings text ≡ has.before ++ line_at line ∷ readings after = has.split ∙ ap (λ ls. has.before ++ map line_at ls) is in
-    rw whole (omega (arith, has.count, length-append has.before (line_at line ∷ readings after)))
+    let whole : readings text ≡ has.before ++ line_read line ∷ readings after = has.split ∙ ap (λ ls. has.before ++ map line_read ls) is in
+    rw whole (omega (arith, has.count, length-append has.before (line_read line ∷ readings after)))

@@ -20,12 +20,12 @@ unfoldable pub trimmed : List ℕ → List ℕ
 trimmed text = before_blanks (after_blanks text)
 
 -- what stands between the commas, without the blanks around it
-unfoldable pub fields_of : List ℕ → List (List ℕ)
-fields_of text = map trimmed (slice_split (λ b. b == comma) text)
+unfoldable pub comma_fields : List ℕ → List (List ℕ)
+comma_fields text = map trimmed (slice_split (λ b. b == comma) text)
 
 -- the operands: none where there are only blanks
-abbrev pub operands_of : List ℕ → List (List ℕ)
-operands_of text = if length (trimmed text) == 0 then [] else fields_of text
+abbrev pub operands_in : List ℕ → List (List ℕ)
+operands_in text = if length (trimmed text) == 0 then [] else comma_fields text
 
 -- ---- comment and label
 

@@ -1,6 +1,6 @@
 -- Where memory may have been refused to the assembler. (This project's own assembler.)
 use Rattle.std.specs.Prelude.{◌≡◌, ◌⊎◌, ℕ, ◌+◌, List, [], ◌∷◌, ◌++◌, length, take, Some, None, Err}
-use Rattle.rv_asm.specs.Program.{Reading, readings, own_fault, label_fault, name_fault, first_fault, place_in, assembled}
+use Rattle.rv_asm.specs.Program.{Reading, readings, own_fault, label_fault, name_fault, first_line_fault, place_in, assembled}
 use Rattle.rv_asm.specs.declared.fault.AsmFault.{AsmFault}
 use Rattle.rv_asm.specs.declared.fault.AsmFaultKind.{AsmFaultKind}
 use Rattle.rv_asm.specs.declared.fault.AsmFaultKind.TheVariants.{NoMemory}
@@ -22,16 +22,16 @@ pub record LacksForLabel (lines : List Reading) (fault : AsmFault) : Type 0 wher
   pub after : List Reading
   pub split : lines ≡ before ++ line ∷ after
   pub number : fault.line ≡ length before + 1
-  pub none : first_fault own_fault [] before ≡ None
+  pub none : first_line_fault own_fault [] before ≡ None
   pub here : LacksAt before line fault.kind
 
 -- For the words of this of the lines: none has a fault of its own, or a label that stood before, and none up to it names what is not there
 -- or is too far.
 pub record LacksForWords (lines : List Reading) (fault : AsmFault) : Type 0 where
   pub memory : fault.kind ≡ NoMemory
-  pub own : first_fault own_fault [] lines ≡ None
-  pub labels : first_fault label_fault [] lines ≡ None
-  pub names : first_fault (name_fault (place_in lines)) [] (take fault.line lines) ≡ None
+  pub own : first_line_fault own_fault [] lines ≡ None
+  pub labels : first_line_fault label_fault [] lines ≡ None
+  pub names : first_line_fault (name_fault (place_in lines)) [] (take fault.line lines) ≡ None
 
 -- memory was refused at a line of the text that has no fault which is told there in the place of that
 abbrev pub LacksMemory : List ℕ → AsmFault → Type 0

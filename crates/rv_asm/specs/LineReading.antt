@@ -25,5 +25,5 @@ uncommented_line_at text = do
   Ok (record { label = label; statement = statement })
 
 -- what a line says, or the first of its own faults
-unfoldable pub line_at : List ℕ → Result Line AsmFaultKind
-line_at text = if is_good_line text then uncommented_line_at (before_comment text) else Err BadText
+unfoldable pub line_read : List ℕ → Result Line AsmFaultKind
+line_read text = if is_good_line text then uncommented_line_at (before_comment text) else Err BadText

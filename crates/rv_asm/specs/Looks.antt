@@ -2,7 +2,7 @@
 use Rattle.std.specs.Prelude.{◌≡◌, ℕ, ◌+◌, ◌≤◌, [], List, length, Option, Some, None, is_some, option_map, if◌then◌else◌}
 use Rattle.rv_word.specs.Cases.{option_case}
 use Rattle.rv_asm.specs.LabelMap.{places_of}
-use Rattle.rv_asm.specs.Program.{Reading, is_label, words_in, place_in, first_fault, label_fault}
+use Rattle.rv_asm.specs.Program.{Reading, is_label, words_in, place_in, first_line_fault, label_fault}
 use Rattle.rv_asm.specs.declared.first_look.FirstLook.{FirstLook}
 use Rattle.rv_asm.specs.declared.fault.AsmFault.{AsmFault}
 use Rattle.rv_asm.specs.declared.fault.AsmFaultKind.TheVariants.{LabelTwice}
@@ -17,7 +17,7 @@ pub record HasRead (look : FirstLook) (lines : List Reading) : Type 0 where
   pub words : look.words ≡ words_in lines
   pub few : words_in lines ≤ 65536
   pub labels : places_of look.labels ≡ place_in lines
-  pub repeated : first_fault label_fault [] lines ≡ option_map label_twice look.repeated
+  pub repeated : first_line_fault label_fault [] lines ≡ option_map label_twice look.repeated
 
 -- the first line whose label stood before, with one more line of this label
 abbrev pub repeated_with : FirstLook → Option (List ℕ) → Option ℕ

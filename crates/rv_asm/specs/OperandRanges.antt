@@ -6,8 +6,8 @@ use Rattle.rv_asm.specs.declared.fault.AsmFaultKind.{AsmFaultKind}
 use Rattle.rv_asm.specs.declared.fault.AsmFaultKind.TheVariants.{OutOfRange}
 
 -- the number is from -below to above
-abbrev pub is_within : ℕ → ℕ → Number → Bool
-is_within below above number = if number.is_negative then nat_le number.magnitude below else nat_le number.magnitude above
+abbrev pub is_number_within : ℕ → ℕ → Number → Bool
+is_number_within below above number = if number.is_negative then nat_le number.magnitude below else nat_le number.magnitude above
 
 -- the number modulo another, as a field of that many values has it
 abbrev pub residue : ℕ → Number → ℕ
@@ -15,7 +15,7 @@ residue modulus number =
     if number.is_negative then (modulus - number.magnitude % modulus) % modulus else number.magnitude % modulus
 
 abbrev pub field_within : ℕ → ℕ → ℕ → Number → Result ℕ AsmFaultKind
-field_within below above modulus number = if is_within below above number then Ok (residue modulus number) else Err OutOfRange
+field_within below above modulus number = if is_number_within below above number then Ok (residue modulus number) else Err OutOfRange
 
 -- immediates of formats I and S
 abbrev pub immediate_of : Number → Result ℕ AsmFaultKind
@@ -23,23 +23,23 @@ immediate_of number = field_within 2048 2047 (2 ^ 12) number
 
 -- bits 31 to 12 of the word that lui and auipc use
 abbrev pub upper_immediate_of : Number → Result ℕ AsmFaultKind
-upper_immediate_of number = if is_within 0 1048575 number then Ok (number.magnitude * 2 ^ 12) else Err OutOfRange
+upper_immediate_of number = if is_number_within 0 1048575 number then Ok (number.magnitude * 2 ^ 12) else Err OutOfRange
 
 -- shift amounts, and the immediates of CSR instructions
 abbrev pub five_bits_of : Number → Result ℕ AsmFaultKind
 five_bits_of number = field_within 0 31 (2 ^ 5) number
 
-abbrev pub csr_number_of : Number → Result ℕ AsmFaultKind
-csr_number_of number = field_within 0 4095 (2 ^ 12) number
+abbrev pub csr_number_field : Number → Result ℕ AsmFaultKind
+csr_number_field number = field_within 0 4095 (2 ^ 12) number
 
 -- offsets in bytes, which are even
 abbrev pub branch_offset_of : Number → Result ℕ AsmFaultKind
 branch_offset_of number =
-    if is_within 4096 4094 number && number.magnitude % 2 == 0 then Ok (residue (2 ^ 13) number) else Err OutOfRange
+    if is_number_within 4096 4094 number && number.magnitude % 2 == 0 then Ok (residue (2 ^ 13) number) else Err OutOfRange
 
 abbrev pub jump_offset_of : Number → Result ℕ AsmFaultKind
 jump_offset_of number =
-    if is_within 1048576 1048574 number && number.magnitude % 2 == 0 then Ok (residue (2 ^ 21) number) else Err OutOfRange
+    if is_number_within 1048576 1048574 number && number.magnitude % 2 == 0 then Ok (residue (2 ^ 21) number) else Err OutOfRange
 
 -- whole words
 abbrev pub word_of_number : Number → Result ℕ AsmFaultKind

@@ -24,12 +24,12 @@ operand read = ok_or read BadOperand
 abbrev pub register_at : List ℕ → Result ℕ AsmFaultKind
 register_at text = operand (register_named text)
 
-abbrev pub number_at : List ℕ → Result Number AsmFaultKind
-number_at text = operand (written_number text)
+abbrev pub number_operand : List ℕ → Result Number AsmFaultKind
+number_operand text = operand (written_number text)
 
 -- a control and status register, by its name or its number
-abbrev pub csr_at : List ℕ → Result Number AsmFaultKind
-csr_at text = operand (option_case (csr_named text) (written_number text) (λ number. Some (plus number)))
+abbrev pub csr_operand : List ℕ → Result Number AsmFaultKind
+csr_operand text = operand (option_case (csr_named text) (written_number text) (λ number. Some (plus number)))
 
 -- the register between `(` and `)`
 unfoldable pub base_of : List ℕ → Option ℕ
@@ -42,13 +42,13 @@ abbrev pub opening : List ℕ → ℕ
 opening text = position_or_len (λ b. b == left_parenthesis) text
 
 -- `n(rs1)`, an offset and a base register
-unfoldable pub address_of : List ℕ → Option (Number × ℕ)
-address_of text =
+unfoldable pub offset_and_base : List ℕ → Option (Number × ℕ)
+offset_and_base text =
     option_and_then (λ offset. option_map (λ base. (offset, base)) (base_of (drop (opening text) text)))
     (written_number (take (opening text) text))
 
-abbrev pub address_at : List ℕ → Result (Number × ℕ) AsmFaultKind
-address_at text = operand (address_of text)
+abbrev pub address_operand : List ℕ → Result (Number × ℕ) AsmFaultKind
+address_operand text = operand (offset_and_base text)
 
 -- what has the form of a name is a label, whatever the name
 unfoldable pub target_at : List ℕ → Result Target AsmFaultKind

@@ -10,7 +10,7 @@ use Rattle.rv_encoding.specs.Rows.{word_of}
 use Rattle.rv_encoding.specs.declared.kind.OpImmKind.TheVariants.{Addi}
 use Rattle.rv_encoding.specs.declared.instr.Instr.{Instr}
 use Rattle.rv_encoding.specs.declared.instr.Instr.TheVariants.{Lui, Jal, Branch, OpImm}
-use Rattle.rv_asm.specs.LineReading.{line_at}
+use Rattle.rv_asm.specs.LineReading.{line_read}
 use Rattle.rv_text.specs.Lines.{lines_of}
 use Rattle.rv_asm.specs.Numbers.{plus, minus}
 use Rattle.rv_asm.specs.OperandRanges.{jump_offset_of, branch_offset_of}
@@ -70,7 +70,7 @@ abbrev pub Reading : Type 0
 Reading = Result Line AsmFaultKind
 
 abbrev pub readings : List ℕ → List Reading
-readings text = map line_at (lines_of text)
+readings text = map line_read (lines_of text)
 
 abbrev pub line_size : Reading → ℕ
 line_size (Ok line) = option_case line.statement 0 statement_size
@@ -123,17 +123,17 @@ abbrev pub name_fault : (List ℕ → Option ℕ) → List Reading → Reading �
 name_fault labels before line = result_case (line_words labels (words_in before) line) (λ words. None) Some
 
 -- The fault of the first of these lines that has one, before being the lines before these. Lines are counted from 1.
-abbrev pub first_fault : (List Reading → Reading → Option AsmFaultKind) → List Reading → List Reading → Option AsmFault
-first_fault fault before [] = None
-first_fault fault before (line ∷ lines) =
-    option_case (fault before line) (first_fault fault (before ++ line ∷ []) lines)
+abbrev pub first_line_fault : (List Reading → Reading → Option AsmFaultKind) → List Reading → List Reading → Option AsmFault
+first_line_fault fault before [] = None
+first_line_fault fault before (line ∷ lines) =
+    option_case (fault before line) (first_line_fault fault (before ++ line ∷ []) lines)
     (λ kind. Some (record { line = length before + 1; kind = kind }))
 
 -- the first line with a fault of its own; else the first whose label stood before; else the first that names what is not there
 abbrev pub fault_in : List Reading → Option AsmFault
 fault_in lines =
-    option_case (first_fault own_fault [] lines)
-    (option_case (first_fault label_fault [] lines) (first_fault (name_fault (place_in lines)) [] lines) Some) Some
+    option_case (first_line_fault own_fault [] lines)
+    (option_case (first_line_fault label_fault [] lines) (first_line_fault (name_fault (place_in lines)) [] lines) Some) Some
 
 -- ---- the words of a text
 
@@ -146,9 +146,9 @@ words_from labels before [] = []
 words_from labels before (line ∷ lines) =
     words_or_none (line_words labels (words_in before) line) ++ words_from labels (before ++ line ∷ []) lines
 
-abbrev pub words_of : List Reading → List ℕ
-words_of lines = words_from (place_in lines) [] lines
+abbrev pub words_of_lines : List Reading → List ℕ
+words_of_lines lines = words_from (place_in lines) [] lines
 
 -- the words that a text stands for, or its fault
 unfoldable pub assembled : List ℕ → Result (List ℕ) AsmFault
-assembled text = option_case (fault_in (readings text)) (Ok (words_of (readings text))) Err
+assembled text = option_case (fault_in (readings text)) (Ok (words_of_lines (readings text))) Err

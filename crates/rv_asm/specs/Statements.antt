@@ -11,10 +11,10 @@ use Rattle.rv_encoding.specs.declared.kind.OpKind.{OpKind}
 use Rattle.rv_encoding.specs.declared.kind.CsrKind.{CsrKind}
 use Rattle.rv_encoding.specs.declared.instr.Instr.{Instr}
 use Rattle.rv_encoding.specs.declared.instr.Instr.TheVariants as instr
-use Rattle.rv_asm.specs.Cuts.{first_word, after_word, operands_of, is_name}
+use Rattle.rv_asm.specs.Cuts.{first_word, after_word, operands_in, is_name}
 use Rattle.rv_asm.specs.Mnemonics.{mnemonic_named}
-use Rattle.rv_asm.specs.Operands.{register_at, number_at, csr_at, address_at, target_at, fence_set_at}
-use Rattle.rv_asm.specs.OperandRanges.{immediate_of, upper_immediate_of, five_bits_of, csr_number_of, branch_offset_of, jump_offset_of, word_of_number}
+use Rattle.rv_asm.specs.Operands.{register_at, number_operand, csr_operand, address_operand, target_at, fence_set_at}
+use Rattle.rv_asm.specs.OperandRanges.{immediate_of, upper_immediate_of, five_bits_of, csr_number_field, branch_offset_of, jump_offset_of, word_of_number}
 use Rattle.rv_asm.specs.declared.mnemonic.Mnemonic.{Mnemonic}
 use Rattle.rv_asm.specs.declared.mnemonic.Mnemonic.TheVariants as mnemonic
 use Rattle.rv_asm.specs.declared.operand.Target.{Target}
@@ -32,15 +32,15 @@ read >>= next = result_case read next Err
 abbrev pub upper_operands : List (List ℕ) → Result (ℕ × ℕ) AsmFaultKind
 upper_operands (rd ∷ n ∷ []) = do
   rd ← register_at rd
-  number ← number_at n
+  number ← number_operand n
   imm ← upper_immediate_of number
   Ok (rd, imm)
 upper_operands _ = Err BadOperand
 
 -- `jal rd, t`
-abbrev pub jump : ℕ → Target → Result Statement AsmFaultKind
-jump rd (Label name) = Ok (JumpTo rd name)
-jump rd (Offset number) = do
+abbrev pub jump_statement : ℕ → Target → Result Statement AsmFaultKind
+jump_statement rd (Label name) = Ok (JumpTo rd name)
+jump_statement rd (Offset number) = do
   offset ← jump_offset_of number
   Ok (Instruction (instr.Jal rd offset))
 
@@ -48,7 +48,7 @@ abbrev pub jal_statement : List (List ℕ) → Result Statement AsmFaultKind
 jal_statement (rd ∷ t ∷ []) = do
   rd ← register_at rd
   target ← target_at t
-  jump rd target
+  jump_statement rd target
 jal_statement _ = Err BadOperand
 
 -- `beq rs1, rs2, t`
@@ -70,7 +70,7 @@ branch_statement kind _ = Err BadOperand
 abbrev pub address_operands : List (List ℕ) → Result (ℕ × ℕ × ℕ) AsmFaultKind
 address_operands (r ∷ address ∷ []) = do
   r ← register_at r
-  address ← address_at address
+  address ← address_operand address
   offset ← immediate_of address.0
   Ok (r, address.1, offset)
 address_operands _ = Err BadOperand
@@ -80,7 +80,7 @@ abbrev pub immediate_statement : OpImmKind → List (List ℕ) → Result Statem
 immediate_statement kind (rd ∷ rs1 ∷ n ∷ []) = do
   rd ← register_at rd
   rs1 ← register_at rs1
-  number ← number_at n
+  number ← number_operand n
   imm ← immediate_of number
   Ok (Instruction (instr.OpImm kind rd rs1 imm))
 immediate_statement kind _ = Err BadOperand
@@ -90,7 +90,7 @@ abbrev pub shift_statement : ShiftKind → List (List ℕ) → Result Statement 
 shift_statement kind (rd ∷ rs1 ∷ n ∷ []) = do
   rd ← register_at rd
   rs1 ← register_at rs1
-  number ← number_at n
+  number ← number_operand n
   shamt ← five_bits_of number
   Ok (Instruction (instr.ShiftImm kind rd rs1 shamt))
 shift_statement kind _ = Err BadOperand
@@ -116,9 +116,9 @@ fence_statement _ = Err BadOperand
 abbrev pub csr_statement : CsrKind → List (List ℕ) → Result Statement AsmFaultKind
 csr_statement kind (rd ∷ c ∷ rs1 ∷ []) = do
   rd ← register_at rd
-  number ← csr_at c
+  number ← csr_operand c
   rs1 ← register_at rs1
-  csr ← csr_number_of number
+  csr ← csr_number_field number
   Ok (Instruction (instr.Csr kind rd rs1 csr))
 csr_statement kind _ = Err BadOperand
 
@@ -126,9 +126,9 @@ csr_statement kind _ = Err BadOperand
 abbrev pub csr_immediate_statement : CsrKind → List (List ℕ) → Result Statement AsmFaultKind
 csr_immediate_statement kind (rd ∷ c ∷ n ∷ []) = do
   rd ← register_at rd
-  number ← csr_at c
-  immediate ← number_at n
-  csr ← csr_number_of number
+  number ← csr_operand c
+  immediate ← number_operand n
+  csr ← csr_number_field number
   uimm ← five_bits_of immediate
   Ok (Instruction (instr.CsrImm kind rd uimm csr))
 csr_immediate_statement kind _ = Err BadOperand
@@ -149,7 +149,7 @@ plain_statement instruction _ = Err BadOperand
 -- `.word n`
 abbrev pub word_statement : List (List ℕ) → Result Statement AsmFaultKind
 word_statement (n ∷ []) = do
-  number ← number_at n
+  number ← number_operand n
   word ← word_of_number number
   Ok (Word word)
 word_statement _ = Err BadOperand
@@ -158,7 +158,7 @@ word_statement _ = Err BadOperand
 abbrev pub li_statement : List (List ℕ) → Result Statement AsmFaultKind
 li_statement (rd ∷ n ∷ []) = do
   rd ← register_at rd
-  number ← number_at n
+  number ← number_operand n
   word ← word_of_number number
   Ok (Li rd word)
 li_statement _ = Err BadOperand
@@ -209,4 +209,4 @@ mnemonic_at word = if is_name word then ok_or (mnemonic_named word) UnknownName 
 unfoldable pub statement_at : List ℕ → Result Statement AsmFaultKind
 statement_at text = do
   mnemonic ← mnemonic_at (first_word text)
-  statement_of mnemonic (operands_of (after_word text))
+  statement_of mnemonic (operands_in (after_word text))

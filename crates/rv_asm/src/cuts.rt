@@ -3,8 +3,8 @@
 ghost use Rattle.std.specs.Prelude.{◌≡◌, ◌==◌, ◌≤◌, length, map, take, option_map};
 ghost use Rattle.std.specs.List.{position_or_len, list_all};
 ghost use Rattle.rv_text.specs.GoodLines.{is_blank as is_blank_of};
-ghost use Rattle.rv_asm.specs.Cuts.{after_blanks as after_blanks_of, before_blanks as before_blanks_of, trimmed as trimmed_of, fields_of};
-ghost use Rattle.rv_asm.specs.Cuts.{operands_of, before_comment as before_comment_of, label_text, statement_text, is_letter as is_letter_of};
+ghost use Rattle.rv_asm.specs.Cuts.{after_blanks as after_blanks_of, before_blanks as before_blanks_of, trimmed as trimmed_of, comma_fields};
+ghost use Rattle.rv_asm.specs.Cuts.{operands_in, before_comment as before_comment_of, label_text, statement_text, is_letter as is_letter_of};
 ghost use Rattle.rv_asm.specs.Cuts.{is_name_byte as is_name_byte_of, is_name as is_name_of};
 
 use arrayvec::ArrayVec;
@@ -59,7 +59,7 @@ pub(crate) fn blank_position(text: &[u8]) -> usize
 
 /// What stands between the commas, without the blanks around it, at most `MOST_OPERANDS`.
 fn first_fields(text: &[u8]) -> ArrayVec<&[u8], MOST_OPERANDS>
-    ensures { map (λ field. field.now) result.items ≡ take MOST_OPERANDS (fields_of text.now) }
+    ensures { map (λ field. field.now) result.items ≡ take MOST_OPERANDS (comma_fields text.now) }
 {
     let mut fields = ArrayVec::new();
     for field in text.split(|byte| *byte == b',').map(|field| trimmed(field)) {
@@ -73,7 +73,7 @@ fn first_fields(text: &[u8]) -> ArrayVec<&[u8], MOST_OPERANDS>
 
 /// The operands in what follows a mnemonic, at most `MOST_OPERANDS`: none where there are only blanks.
 pub(crate) fn first_operands(text: &[u8]) -> ArrayVec<&[u8], MOST_OPERANDS>
-    ensures { map (λ operand. operand.now) result.items ≡ take MOST_OPERANDS (operands_of text.now) }
+    ensures { map (λ operand. operand.now) result.items ≡ take MOST_OPERANDS (operands_in text.now) }
 {
     if trimmed(text).is_empty() {
         return ArrayVec::new();

@@ -5,8 +5,8 @@ ghost use Rattle.rv_word.specs.Cases.{option_case};
 ghost use Rattle.rv_asm.specs.LabelMap.{places_of};
 ghost use Rattle.rv_asm.specs.Lacking.{FailsAt, LacksForLabel};
 ghost use Rattle.rv_asm.specs.Looks.{HasRead, AddsLabel};
-ghost use Rattle.rv_asm.specs.LineReading.{line_at};
-ghost use Rattle.rv_asm.specs.Program.{Reading, readings, own_fault, first_fault, statement_size as statement_size_of};
+ghost use Rattle.rv_asm.specs.LineReading.{line_read};
+ghost use Rattle.rv_asm.specs.Program.{Reading, readings, own_fault, first_line_fault, statement_size as statement_size_of};
 
 use crate::code::{Labels, statement_size};
 use crate::fault::{AsmFault, AsmFaultKind};
@@ -104,10 +104,10 @@ impl FirstLook {
         requires few { self.old.words ≤ MAX_WORDS }
         ensures ok { OnOk result
             ((before : List Reading) → HasRead self.old before
-            → HasRead self.new (before ++ line_at text.now ∷ []) × (own_fault before (line_at text.now) ≡ None)) }
+            → HasRead self.new (before ++ line_read text.now ∷ []) × (own_fault before (line_read text.now) ≡ None)) }
         ensures line { IfErr result (λ fault. fault.line ≡ self.old.lines + 1) }
         ensures fault { IfErr result
-            (λ fault. (before : List Reading) → HasRead self.old before → FailsAt before (line_at text.now) fault.kind) }
+            (λ fault. (before : List Reading) → HasRead self.old before → FailsAt before (line_read text.now) fault.kind) }
     {
         let number = self.lines + 1;
         let Line { label, statement } = match read_line(text) {
@@ -139,8 +139,8 @@ impl FirstLook {
     /// The fault of the first line that has one of its own, or with which there are too many words, or `NoMemory` at the
     /// line in hand.
     pub(crate) fn over(alloc: Global, text: &[u8]) -> Result<FirstLook, AsmFault>
-        ensures ok { IfOk result (λ look. HasRead look (readings text.now) × (first_fault own_fault [] (readings text.now) ≡ None)) }
-        ensures fault { IfErr result (λ fault. (first_fault own_fault [] (readings text.now) ≡ Some fault) ⊎ LacksForLabel (readings text.now) fault) }
+        ensures ok { IfOk result (λ look. HasRead look (readings text.now) × (first_line_fault own_fault [] (readings text.now) ≡ None)) }
+        ensures fault { IfErr result (λ fault. (first_line_fault own_fault [] (readings text.now) ≡ Some fault) ⊎ LacksForLabel (readings text.now) fault) }
         ensures line { IfErr result (λ fault. (1 ≤ fault.line) × (fault.line ≤ length (readings text.now))) }
     {
         let mut look = FirstLook::new(alloc);

@@ -3,9 +3,9 @@
 
 ghost use Rattle.std.specs.Prelude.{◌≡◌, ◌∷◌, [], Ok, Err, map};
 ghost use Rattle.rv_word.specs.Cases.{result_case};
-ghost use Rattle.rv_asm.specs.Operands.{register_at, number_at};
+ghost use Rattle.rv_asm.specs.Operands.{register_at, number_operand};
 ghost use Rattle.rv_asm.specs.OperandRanges.{immediate_of as immediate_of_number, word_of_number};
-ghost use Rattle.rv_asm.specs.Statements.{upper_operands as upper_operands_of, address_operands as address_operands_of, jump as jump_of};
+ghost use Rattle.rv_asm.specs.Statements.{upper_operands as upper_operands_of, address_operands as address_operands_of, jump_statement as jump_of};
 ghost use Rattle.rv_asm.specs.Statements.{jal_statement as jal_of, branch as branch_of, branch_statement as branch_statement_of};
 ghost use Rattle.rv_asm.specs.Statements.{immediate_statement as immediate_of, shift_statement as shift_of, register_statement as register_of};
 ghost use Rattle.rv_asm.specs.Statements.{fence_statement as fence_of, csr_statement as csr_of, csr_immediate_statement as csr_immediate_of};
@@ -31,14 +31,14 @@ fn registers(first: &[u8], second: &[u8]) -> Result<(Reg, Reg), AsmFaultKind>
 
 /// The immediate that an operand writes.
 fn immediate(n: &[u8]) -> Result<Imm12, AsmFaultKind>
-    ensures { result ≡ result_case (number_at n.now) immediate_of_number Err }
+    ensures { result ≡ result_case (number_operand n.now) immediate_of_number Err }
 {
     number(n)?.immediate()
 }
 
 /// The word that an operand writes.
 fn word(n: &[u8]) -> Result<u32, AsmFaultKind>
-    ensures { result ≡ result_case (number_at n.now) word_of_number Err }
+    ensures { result ≡ result_case (number_operand n.now) word_of_number Err }
 {
     number(n)?.word()
 }

@@ -1,7 +1,7 @@
 //! A line of an assembler text.
 
 ghost use Rattle.std.specs.Prelude.{◌≡◌, option_map};
-ghost use Rattle.rv_asm.specs.LineReading.{label_at, optional_statement_at, line_at};
+ghost use Rattle.rv_asm.specs.LineReading.{label_at, optional_statement_at, line_read};
 
 use crate::cuts::{before_comment, split_label};
 use crate::fault::AsmFaultKind;
@@ -48,9 +48,9 @@ fn optional_statement(text: &[u8]) -> Result<Option<Statement>, AsmFaultKind>
 /// # Errors
 ///
 /// The first of its own faults: `BadText`, `UnknownName`, `BadOperand` or `OutOfRange`.
-#[tactic(auto, unfolding(crate::specs::LineReading::line_at))]
+#[tactic(auto, unfolding(crate::specs::LineReading::line_read))]
 pub(crate) fn read_line(text: &[u8]) -> Result<Line, AsmFaultKind>
-    ensures { result ≡ line_at text.now }
+    ensures { result ≡ line_read text.now }
 {
     if !is_good_line(text) {
         return Err(AsmFaultKind::BadText);

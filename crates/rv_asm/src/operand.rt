@@ -1,7 +1,7 @@
 //! What the operands of a statement write.
 
 ghost use Rattle.std.specs.Prelude.{◌≡◌};
-ghost use Rattle.rv_asm.specs.Operands.{register_at, number_at, csr_at, base_of, address_of, address_at, target_at, fence_set_at};
+ghost use Rattle.rv_asm.specs.Operands.{register_at, number_operand, csr_operand, base_of, offset_and_base, address_operand, target_at, fence_set_at};
 
 use crate::csr_name::csr_named;
 use crate::fault::AsmFaultKind;
@@ -59,7 +59,7 @@ pub(crate) fn register(text: &[u8]) -> Result<Reg, AsmFaultKind>
 ///
 /// `BadOperand` where it is no number.
 pub(crate) fn number(text: &[u8]) -> Result<Number, AsmFaultKind>
-    ensures { result ≡ number_at text.now }
+    ensures { result ≡ number_operand text.now }
 {
     written_number(text).ok_or(AsmFaultKind::BadOperand)
 }
@@ -70,7 +70,7 @@ pub(crate) fn number(text: &[u8]) -> Result<Number, AsmFaultKind>
 ///
 /// `BadOperand` where it is neither a known name nor a number.
 pub(crate) fn csr(text: &[u8]) -> Result<Number, AsmFaultKind>
-    ensures { result ≡ csr_at text.now }
+    ensures { result ≡ csr_operand text.now }
 {
     match csr_named(text) {
         Some(csr) => Ok(Number::plus(u64::from(csr.number()))),
@@ -89,9 +89,9 @@ fn base(text: &[u8]) -> Option<Reg>
 }
 
 /// The offset and the base register of `n(rs1)`.
-#[tactic(auto, unfolding(crate::specs::Operands::address_of))]
+#[tactic(auto, unfolding(crate::specs::Operands::offset_and_base))]
 fn offset_and_base(text: &[u8]) -> Option<(Number, Reg)>
-    ensures { result ≡ address_of text.now }
+    ensures { result ≡ offset_and_base text.now }
 {
     let (offset, rest) = text.split_at(position_of(text, b'('));
     let offset = written_number(offset)?;
@@ -105,7 +105,7 @@ fn offset_and_base(text: &[u8]) -> Option<(Number, Reg)>
 ///
 /// `BadOperand` where it has another form.
 pub(crate) fn address(text: &[u8]) -> Result<(Number, Reg), AsmFaultKind>
-    ensures { result ≡ address_at text.now }
+    ensures { result ≡ address_operand text.now }
 {
     offset_and_base(text).ok_or(AsmFaultKind::BadOperand)
 }

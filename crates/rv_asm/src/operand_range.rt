@@ -1,8 +1,8 @@
 //! The ranges of the numbers that operands write (Unprivileged ISA, sections 2.3, 2.4 and 9.1).
 
 ghost use Rattle.std.specs.Prelude.{◌≡◌, ◌<◌, ◌≤◌, ◌^◌};
-ghost use Rattle.rv_asm.specs.OperandRanges.{is_within as is_within_of, residue as residue_of, immediate_of, upper_immediate_of, five_bits_of};
-ghost use Rattle.rv_asm.specs.OperandRanges.{csr_number_of, branch_offset_of, jump_offset_of, word_of_number};
+ghost use Rattle.rv_asm.specs.OperandRanges.{is_number_within as is_within_of, residue as residue_of, immediate_of, upper_immediate_of, five_bits_of};
+ghost use Rattle.rv_asm.specs.OperandRanges.{csr_number_field, branch_offset_of, jump_offset_of, word_of_number};
 
 use crate::fault::AsmFaultKind;
 use crate::number::Number;
@@ -97,7 +97,7 @@ impl Number {
     ///
     /// `OutOfRange` for any other number.
     pub(crate) fn csr_number(self) -> Result<CsrNumber, AsmFaultKind>
-        ensures { result ≡ csr_number_of self }
+        ensures { result ≡ csr_number_field self }
     {
         if !self.is_within(0, 4095) {
             return Err(AsmFaultKind::OutOfRange);

@@ -2,8 +2,8 @@
 
 ghost use Rattle.std.specs.Prelude.{◌≡◌, ◌⊎◌, ◌≤◌, ◌+◌, ◌++◌, [], None, Some, Ok, Err, IfOk, IfErr, IsOk, OnOk, List, ℕ, length, take};
 ghost use Rattle.rv_asm.specs.LabelMap.{places_of};
-ghost use Rattle.rv_asm.specs.LineReading.{line_at};
-ghost use Rattle.rv_asm.specs.Program.{readings, own_fault, name_fault, first_fault, line_words, line_size, words_from};
+ghost use Rattle.rv_asm.specs.LineReading.{line_read};
+ghost use Rattle.rv_asm.specs.Program.{readings, own_fault, name_fault, first_line_fault, line_words, line_size, words_from};
 ghost use Rattle.rv_asm.specs.Program.{statement_words as statement_words_of, statement_size};
 
 use crate::code::{Labels, statement_words};
@@ -47,12 +47,12 @@ fn add_statement(
 fn add_words(words: &mut Vec<u32>, labels: &Labels, text: &[u8]) -> Result<(), AsmFaultKind>
     requires { length words.old.items ≤ 65536 }
     ensures ok { OnOk result
-        ((added : List ℕ) × (line_words (places_of labels.now) (length words.old.items) (line_at text.now) ≡ Ok added)
+        ((added : List ℕ) × (line_words (places_of labels.now) (length words.old.items) (line_read text.now) ≡ Ok added)
         × (words.new.items ≡ words.old.items ++ added)) }
-    ensures len { OnOk result (length words.new.items ≡ length words.old.items + line_size (line_at text.now)) }
+    ensures len { OnOk result (length words.new.items ≡ length words.old.items + line_size (line_read text.now)) }
     ensures fault { IfErr result
-        (λ kind. (line_words (places_of labels.now) (length words.old.items) (line_at text.now) ≡ Err kind)
-        ⊎ ((kind ≡ AsmFaultKind.NoMemory) × IsOk (line_words (places_of labels.now) (length words.old.items) (line_at text.now)))) }
+        (λ kind. (line_words (places_of labels.now) (length words.old.items) (line_read text.now) ≡ Err kind)
+        ⊎ ((kind ≡ AsmFaultKind.NoMemory) × IsOk (line_words (places_of labels.now) (length words.old.items) (line_read text.now)))) }
 {
     match read_line(text)?.statement {
         Some(statement) => add_statement(words, labels, &statement),
@@ -67,14 +67,14 @@ fn add_words(words: &mut Vec<u32>, labels: &Labels, text: &[u8]) -> Result<(), A
 /// The fault of the first line that names a label which no line has, or which is too far, or `NoMemory` at the line in
 /// hand.
 pub(crate) fn words_of(alloc: Global, text: &[u8], labels: &Labels) -> Result<Vec<u32>, AsmFault>
-    requires { first_fault own_fault [] (readings text.now) ≡ None }
+    requires { first_line_fault own_fault [] (readings text.now) ≡ None }
     ensures ok { IfOk result
         (λ words. (words.items ≡ words_from (places_of labels.now) [] (readings text.now))
-        × (first_fault (name_fault (places_of labels.now)) [] (readings text.now) ≡ None)) }
+        × (first_line_fault (name_fault (places_of labels.now)) [] (readings text.now) ≡ None)) }
     ensures few { IfOk result (λ words. length words.items ≤ 65536) }
     ensures fault { IfErr result
-        (λ fault. (first_fault (name_fault (places_of labels.now)) [] (readings text.now) ≡ Some fault)
-        ⊎ ((fault.kind ≡ AsmFaultKind.NoMemory) × (first_fault (name_fault (places_of labels.now)) [] (take fault.line (readings text.now)) ≡ None))) }
+        (λ fault. (first_line_fault (name_fault (places_of labels.now)) [] (readings text.now) ≡ Some fault)
+        ⊎ ((fault.kind ≡ AsmFaultKind.NoMemory) × (first_line_fault (name_fault (places_of labels.now)) [] (take fault.line (readings text.now)) ≡ None))) }
     ensures line { IfErr result (λ fault. (1 ≤ fault.line) × (fault.line ≤ length (readings text.now))) }
 {
     let mut words = Vec::new(alloc);

@@ -11,7 +11,7 @@ use Rattle.rv_script.specs.Numbers.{hexadecimal_of, byte_of_text}
 use Rattle.rv_script.specs.declared.command.Command.TheVariants.{Poke}
 use Rattle.rv_debug.specs.Answer.{answer}
 use Rattle.rv_debug.specs.BenchState.{BenchState}
-use Rattle.rv_debug.specs.BothBenches.{can_scramble, is_blind, region_of}
+use Rattle.rv_debug.specs.BothBenches.{can_scramble, is_blind, region_in}
 use Rattle.rv_command_line.specs.declared.setup.Setup.{Setup}
 use Rattle.rv_streams.specs.declared.fault.BenchFault.{BenchFault}
 use Rattle.rv_streams.specs.Separator.{after_separator, has_separator}
@@ -33,8 +33,8 @@ rest = codes "enclaves\nregs\n"
 -- the enclave is live and runs on no hart, and these are bytes of its region
 pub record HasEnclave (bench : BenchState) : Type 0 where
   pub idle : can_scramble 0 bench ≡ true
-  pub first : has (region_of 0 bench.target) 0x80020000 ≡ true
-  pub second : has (region_of 0 bench.target) 0x80020ffc ≡ true
+  pub first : has (region_in 0 bench.target) 0x80020000 ≡ true
+  pub second : has (region_in 0 bench.target) 0x80020ffc ≡ true
 
 comment_passes : (bench : BenchState) → LinePassesOver 0 bench (codes "# that was the key")
 unfolding parse_of is_text meaning_of words_of is_blind answer

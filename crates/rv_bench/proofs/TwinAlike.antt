@@ -33,7 +33,7 @@ use Rattle.rv_bench.specs.Apart.{apart_line, done_by, set_apart, replied_apart}
 use Rattle.rv_bench.specs.Output.{bench_in}
 use Rattle.rv_bench.specs.Replies.{Replied, state_after}
 use Rattle.rv_text.specs.Lines.{lines_of}
-use Rattle.rv_bench.specs.Twin.{after_first, monitored}
+use Rattle.rv_bench.specs.Twin.{after_first_script, monitored_setup}
 use Rattle.rv_bench.specs.TwinLaws.{BothSpare, IsToldAlike, OfApart, StayTogether, TwinConceals, TwinSpares, commands_done, done_by_both, done_in_line}
 use Rattle.rv_bench.proofs.Concealed.{bench_keeps}
 use Rattle.rv_bench.proofs.RepliesLemmas.{state_after-append}
@@ -255,16 +255,16 @@ module _ (slot : ℕ) where
 
 of_apart : (Law : Apart → Type 0) (slot : ℕ) → ((apart : Apart) → Going slot apart → Law apart) → (setup : Setup) (input : List ℕ)
     → OfApart setup slot input Law
-of_apart Law slot law setup input = go (bench_in (monitored setup) input) (bench_keeps (monitored setup) input) where
+of_apart Law slot law setup input = go (bench_in (monitored_setup setup) input) (bench_keeps (monitored_setup setup) input) where
   some : (apart : Option Apart) → IfSome apart (Going slot) → IfSome apart Law
   some (Some apart) going = law apart going
   some None going = tt
 
   go : (bench : Result BenchState BenchFault) → IfOk bench (λ state. KeepsMonitor state.target)
-      → IfOk bench (λ bench. IfSome (set_apart slot (after_first bench (after_separator input))) Law)
+      → IfOk bench (λ bench. IfSome (set_apart slot (after_first_script bench (after_separator input))) Law)
   go (Ok bench) kept =
-      some (set_apart slot (after_first bench (after_separator input)))
-      (start_going slot (after_first bench (after_separator input)) (keeps_lines bench (before_separator (lines_of (after_separator input))) kept))
+      some (set_apart slot (after_first_script bench (after_separator input)))
+      (start_going slot (after_first_script bench (after_separator input)) (keeps_lines bench (before_separator (lines_of (after_separator input))) kept))
   go (Err fault) kept = tt
 
 pub twin_conceals : (setup : Setup) (slot : ℕ) (input : List ℕ) → TwinConceals setup slot input
@@ -272,6 +272,6 @@ twin_conceals setup slot input = of_apart (StayTogether slot) slot (stay_togethe
 
 pub twin_spares : (setup : Setup) (slot : ℕ) (input : List ℕ) → TwinSpares setup slot input
 twin_spares setup slot input = record {
-  first = stream_spares (monitored setup) input;
+  first = stream_spares (monitored_setup setup) input;
   second = of_apart (BothSpare slot) slot (both_spare slot) setup input;
 }

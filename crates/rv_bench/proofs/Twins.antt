@@ -37,7 +37,7 @@ use Rattle.rv_bench.specs.Output.{bench_in}
 use Rattle.rv_bench.specs.Replies.{one_bench}
 use Rattle.rv_bench.specs.Run.{RunsLines, StopsAtRead, StopsAtWrite}
 use Rattle.rv_bench.specs.Twin.{IsNeverEntered, IsOver, RunsSecond, RunsTwin, StopsInScripts, StopsInScriptsAtWrite, StopsSecondAtWrite}
-use Rattle.rv_bench.specs.Twin.{after_first, first_text, monitored, scripts_text, second_text, twin_output}
+use Rattle.rv_bench.specs.Twin.{after_first_script, first_text, monitored_setup, scripts_text, second_text, twin_output}
 use Rattle.rv_bench.proofs.ApartLemmas.{front_after, front_more}
 use Rattle.rv_bench.proofs.Entering.{read_after, write_after}
 use Rattle.rv_bench.proofs.Starts.{no_ram, has_ram, fault_has_ram}
@@ -66,15 +66,15 @@ not_numbered number bench kept none = sym (not_apart number bench (none_numbered
 module _ {S W : Type 0} {g : SourceGhosts S} (h : SinkGhosts W) (setup : Setup) (slot : ℕ) (image : List ℕ) (old mid : Lines S g) (before : W)
     (reads : ReadsThroughSeparator old mid) (is : g.tells → image_in (unread old) ≡ Ok image) where
   -- the bench of the input is that of the image
-  bench_is : (r : Result BenchState BenchFault) → started image (monitored setup) ≡ r → g.tells → bench_in (monitored setup) (unread old) ≡ r
+  bench_is : (r : Result BenchState BenchFault) → started image (monitored_setup setup) ≡ r → g.tells → bench_in (monitored_setup setup) (unread old) ≡ r
   bench_is r starts tells = rw (is tells) starts
 
-  fault_is : (fault : BenchFault) → started image (monitored setup) ≡ Err fault → g.tells → twin_output setup slot (unread old) ≡ Err fault
+  fault_is : (fault : BenchFault) → started image (monitored_setup setup) ≡ Err fault → g.tells → twin_output setup slot (unread old) ≡ Err fault
   fault_is fault starts tells =
       ap (λ (m : Result BenchState BenchFault). result_case m (λ bench. Ok (scripts_text slot bench (after_separator (unread old)))) Err)
       (bench_is (Err fault) starts tells)
 
-  output_is : (bench : BenchState) → started image (monitored setup) ≡ Ok bench → g.tells
+  output_is : (bench : BenchState) → started image (monitored_setup setup) ≡ Ok bench → g.tells
       → twin_output setup slot (unread old) ≡ Ok (scripts_text slot bench (unread mid))
   output_is bench starts tells =
       ap (λ (m : Result BenchState BenchFault). result_case m (λ bench. Ok (scripts_text slot bench (after_separator (unread old)))) Err)
@@ -82,15 +82,15 @@ module _ {S W : Type 0} {g : SourceGhosts S} (h : SinkGhosts W) (setup : Setup) 
       ∙ ap (λ (t : List ℕ). Ok (scripts_text slot bench t)) (sym (reads.rest tells))
 
   -- the benches do not start
-  pub not_started : (fault : BenchFault) → Starts image (monitored setup) (Err fault) → RunsTwin h setup slot old mid before before (Err fault)
-  not_started (Ram BadSize) none = (none, reads, fault_is (Ram BadSize) (no_ram image (monitored setup) none), refl)
+  pub not_started : (fault : BenchFault) → Starts image (monitored_setup setup) (Err fault) → RunsTwin h setup slot old mid before before (Err fault)
+  not_started (Ram BadSize) none = (none, reads, fault_is (Ram BadSize) (no_ram image (monitored_setup setup) none), refl)
   not_started (Ram NoRamMemory) some = (some, reads, λ tells. rw (is tells) refl, refl)
-  not_started (Image fault) faulty = (fault_has_ram image (monitored setup) fault faulty, reads, fault_is (Image fault) faulty, refl)
+  not_started (Image fault) faulty = (fault_has_ram image (monitored_setup setup) fault faulty, reads, fault_is (Image fault) faulty, refl)
   not_started _ never = absurd never
 
-  module _ (bench : BenchState) (starts : started image (monitored setup) ≡ Ok bench) where
+  module _ (bench : BenchState) (starts : started image (monitored_setup setup) ≡ Ok bench) where
     has_size : is_ram_size setup.ram ≡ true
-    has_size = has_ram image (monitored setup) bench starts
+    has_size = has_ram image (monitored_setup setup) bench starts
 
     module _ (new : Lines S g) (after : W) (script_end : TellsEnd mid new) where
       -- the source failed in the first script
@@ -136,10 +136,10 @@ module _ {S W : Type 0} {g : SourceGhosts S} (h : SinkGhosts W) (setup : Setup) 
 
     -- the first script was run, and the benches are set apart
     module _ (next : Lines S g) (between : W) (first : RunsLines h Separator bench mid next before between (Ok tt)) (then : BenchState)
-        (state : g.tells → then ≡ after_first bench (unread mid)) (new : Lines S g) (after : W)
+        (state : g.tells → then ≡ after_first_script bench (unread mid)) (new : Lines S g) (after : W)
         (image_end : TellsEnd old mid) (first_end : TellsEnd mid next) (second_end : TellsEnd next new) where
       abbrev apart_at : List ℕ → Option Apart
-      apart_at scripts = set_apart slot (after_first bench scripts)
+      apart_at scripts = set_apart slot (after_first_script bench scripts)
 
       apart_is : g.tells → set_apart slot then ≡ apart_at (unread mid)
       apart_is tells = ap (set_apart slot) (state tells)
@@ -162,11 +162,11 @@ module _ {S W : Type 0} {g : SourceGhosts S} (h : SinkGhosts W) (setup : Setup) 
 
       -- and of the whole input
       of_scripts : g.tells → (P : Option Apart → List ℕ → Type 0) → P (set_apart slot then) (unread next)
-          → IsOkAnd (bench_in (monitored setup) (unread old))
-          (λ bench. P (set_apart slot (after_first bench (after_separator (unread old)))) (after_separator (after_separator (unread old))))
+          → IsOkAnd (bench_in (monitored_setup setup) (unread old))
+          (λ bench. P (set_apart slot (after_first_script bench (after_separator (unread old)))) (after_separator (after_separator (unread old))))
       of_scripts tells P holds =
           subst (λ (m : Result BenchState BenchFault). IsOkAnd m
-          (λ bench. P (set_apart slot (after_first bench (after_separator (unread old)))) (after_separator (after_separator (unread old))))) (sym
+          (λ bench. P (set_apart slot (after_first_script bench (after_separator (unread old)))) (after_separator (after_separator (unread old))))) (sym
           (bench_is (Ok bench) starts tells))
           (subst (λ (t : List ℕ). P (apart_at t) (after_separator t)) (reads.rest tells) (of_rest tells P holds))
 

@@ -38,14 +38,14 @@ abbrev pub memory_loaded : List ℕ → Setup → LoadPlan → List ℕ
 memory_loaded image setup plan = loaded_memory image plan.segments (replicate setup.ram 0)
 
 -- the harts that the monitor is over
-abbrev pub harts_of : Harts → MonitorHarts
-harts_of One = monitor.One
-harts_of Two = monitor.Two
+abbrev pub monitor_harts : Harts → MonitorHarts
+monitor_harts One = monitor.One
+monitor_harts Two = monitor.Two
 
 -- the bench at reset over a memory: the image alone on one hart in mode M, or the host on each hart above the monitor, with hart 0 chosen
 abbrev pub reset_over : Setup → List ℕ → ℕ → BenchState
 reset_over setup memory entry =
-    if setup.monitored then monitored_bench (at_start memory entry (harts_of setup.harts))
+    if setup.monitored then monitored_bench (at_start memory entry (monitor_harts setup.harts))
     else bare (record { hart = at_reset entry M; memory = memory })
 
 -- the bench at reset, or the first fault: of the RAM's size, then of the image

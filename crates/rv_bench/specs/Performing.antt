@@ -35,9 +35,9 @@ fault_text (Asm fault) =
 
 -- ---- statuses
 
-abbrev pub status_of : Outcome → ℕ
-status_of (Ok _) = 0
-status_of (Err fault) = 1
+abbrev pub exit_status : Outcome → ℕ
+exit_status (Ok _) = 0
+exit_status (Err fault) = 1
 
 -- ---- what is done
 
@@ -77,7 +77,7 @@ module _ {S W : Type 0} (g : SourceGhosts S) (h : SinkGhosts W) (source : S) (be
     pub mid : W
     pub does : DoesJob g h source left before mid job outcome
     pub told : TellsOutcome h outcome mid after
-    pub status_is : status ≡ status_of outcome
+    pub status_is : status ≡ exit_status outcome
 
   -- the words name no job, for one of the reasons that they have, or memory was refused
   pub record RefusesWords (given : List Text) (status : ℕ) : Type 0 where

@@ -29,15 +29,15 @@ use Rattle.rv_bench.specs.Output.{bench_in}
 use Rattle.rv_bench.specs.Replies.{bench_line, one_bench, replies, state_after}
 use Rattle.rv_bench.specs.Run.{FailsToRead, FailsToWrite, StopsAtRead, StopsAtWrite}
 
--- the setup of a twin run is monitored, whatever it says
-abbrev pub monitored : Setup → Setup
-monitored setup = record setup { monitored = true }
+-- the setup of a twin run is monitored_setup, whatever it says
+abbrev pub monitored_setup : Setup → Setup
+monitored_setup setup = record setup { monitored = true }
 
 -- ---- the text
 
 -- both benches after the first script, which is before the first separator
-abbrev pub after_first : BenchState → List ℕ → BenchState
-after_first bench input = state_after bench_line bench (before_separator (lines_of input))
+abbrev pub after_first_script : BenchState → List ℕ → BenchState
+after_first_script bench input = state_after bench_line bench (before_separator (lines_of input))
 
 abbrev pub first_text : BenchState → List ℕ → List ℕ
 first_text bench input = replies bench_line bench (before_separator (lines_of input))
@@ -49,12 +49,12 @@ second_text slot (Some apart) input = script_text slot apart (lines_of input)
 
 -- the text over both scripts
 abbrev pub scripts_text : ℕ → BenchState → List ℕ → List ℕ
-scripts_text slot bench input = first_text bench input ++ second_text slot (set_apart slot (after_first bench input)) (after_separator input)
+scripts_text slot bench input = first_text bench input ++ second_text slot (set_apart slot (after_first_script bench input)) (after_separator input)
 
 -- the text for a whole input, or the fault of its image
 abbrev pub twin_output : Setup → ℕ → List ℕ → Result (List ℕ) BenchFault
 twin_output setup slot input =
-    result_case (bench_in (monitored setup) input) (λ bench. Ok (scripts_text slot bench (after_separator input))) Err
+    result_case (bench_in (monitored_setup setup) input) (λ bench. Ok (scripts_text slot bench (after_separator input))) Err
 
 -- ---- what was read
 
@@ -136,7 +136,7 @@ module _ {S W : Type 0} {g : SourceGhosts S} (h : SinkGhosts W) (setup : Setup) 
   abbrev pub StopsInScripts : List ℕ → BenchState → Type 0
   StopsInScripts scripts bench =
       StopsAtRead one_bench Separator bench h.tells scripts (g.remaining new.source) (held new) (h.taken before) (h.taken after)
-      ⊎ (IsTrue (has_separator scripts) × IsSomeAnd (set_apart slot (after_first bench scripts)) (λ apart.
+      ⊎ (IsTrue (has_separator scripts) × IsSomeAnd (set_apart slot (after_first_script bench scripts)) (λ apart.
       StopsAtRead (both_benches slot) Input apart h.tells (after_separator scripts) (g.remaining new.source) (held new)
       (h.taken before ++ first_text bench scripts) (h.taken after)))
 
@@ -144,31 +144,31 @@ module _ {S W : Type 0} {g : SourceGhosts S} (h : SinkGhosts W) (setup : Setup) 
   abbrev pub StopsTwinAtRead : Type 0
   StopsTwinAtRead =
       (ReadsInImage (unread old) (g.remaining new.source) (held new) × (after ≡ before))
-      ⊎ (IsTrue (has_separator (unread old)) × IsOkAnd (bench_in (monitored setup) (unread old)) (StopsInScripts (after_separator (unread old))))
+      ⊎ (IsTrue (has_separator (unread old)) × IsOkAnd (bench_in (monitored_setup setup) (unread old)) (StopsInScripts (after_separator (unread old))))
 
   -- the sink failed in the first script, or after it
   abbrev pub StopsInScriptsAtWrite : List ℕ → BenchState → Type 0
   StopsInScriptsAtWrite scripts bench =
       StopsAtWrite one_bench Separator bench h.tells scripts (unread new) (h.taken before) (h.taken after)
-      ⊎ StopsSecondAtWrite slot (set_apart slot (after_first bench scripts)) h.tells (after_separator scripts) (unread new)
+      ⊎ StopsSecondAtWrite slot (set_apart slot (after_first_script bench scripts)) h.tells (after_separator scripts) (unread new)
       (h.taken before ++ first_text bench scripts) (h.taken after)
 
   abbrev pub StopsTwinAtWrite : Type 0
-  StopsTwinAtWrite = IsOkAnd (bench_in (monitored setup) (unread old)) (StopsInScriptsAtWrite (after_separator (unread old)))
+  StopsTwinAtWrite = IsOkAnd (bench_in (monitored_setup setup) (unread old)) (StopsInScriptsAtWrite (after_separator (unread old)))
 
   -- a slot was scrambled after the first script, and no line of the second entered it
   abbrev pub IsTwinNeverEntered : Type 0
   IsTwinNeverEntered =
-      IsOkAnd (bench_in (monitored setup) (unread old)) (λ bench.
+      IsOkAnd (bench_in (monitored_setup setup) (unread old)) (λ bench.
       let scripts = after_separator (unread old) in
-      IsNeverEntered slot (set_apart slot (after_first bench scripts)) (after_separator scripts))
+      IsNeverEntered slot (set_apart slot (after_first_script bench scripts)) (after_separator scripts))
 
   -- the run was over before the end of the input
   abbrev pub IsTwinOver : Type 0
   IsTwinOver =
-      IsOkAnd (bench_in (monitored setup) (unread old)) (λ bench.
+      IsOkAnd (bench_in (monitored_setup setup) (unread old)) (λ bench.
       let scripts = after_separator (unread old) in
-      IsOver slot (set_apart slot (after_first bench scripts)) (after_separator scripts) (unread new) new.is_at_end)
+      IsOver slot (set_apart slot (after_first_script bench scripts)) (after_separator scripts) (unread new) new.is_at_end)
 
   -- What each result of `run_twin` means. The image's text, the RAM's size and the image are asked in this order, before a byte is written.
   abbrev pub RunsTwin : Outcome → Type 0

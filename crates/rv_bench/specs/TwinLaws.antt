@@ -15,7 +15,7 @@ use Rattle.rv_bench.specs.Apart.{apart_line, set_apart}
 use Rattle.rv_bench.specs.Integrity.{SparesThrough}
 use Rattle.rv_bench.specs.Output.{bench_in}
 use Rattle.rv_bench.specs.Replies.{state_after}
-use Rattle.rv_bench.specs.Twin.{after_first, monitored}
+use Rattle.rv_bench.specs.Twin.{after_first_script, monitored_setup}
 
 -- ---- confidentiality
 
@@ -67,12 +67,12 @@ BothSpare slot start =
 -- the benches once they are set apart, where the input starts any and a slot can be scrambled
 abbrev pub OfApart : Setup → ℕ → List ℕ → (Apart → Type 0) → Type 0
 OfApart setup slot input Law =
-    IfOk (bench_in (monitored setup) input) (λ bench. IfSome (set_apart slot (after_first bench (after_separator input))) Law)
+    IfOk (bench_in (monitored_setup setup) input) (λ bench. IfSome (set_apart slot (after_first_script bench (after_separator input))) Law)
 
 abbrev pub TwinConceals : Setup → ℕ → List ℕ → Type 0
 TwinConceals setup slot input = OfApart setup slot input (StayTogether slot)
 
 -- in the first script, and in both benches in the second
 pub record TwinSpares (setup : Setup) (slot : ℕ) (input : List ℕ) : Type 0 where
-  pub first : IfOk (bench_in (monitored setup) input) SparesThrough
+  pub first : IfOk (bench_in (monitored_setup setup) input) SparesThrough
   pub second : OfApart setup slot input (BothSpare slot)

@@ -1,7 +1,7 @@
 //! The bench that an image starts.
 
 ghost use Rattle.std.specs.Prelude.{◌≡◌, ◌%◌, length, IfOk};
-ghost use Rattle.rv_bench.specs.Loaded.{harts_of, is_read_as_elf as is_read_as_elf_of, planned as planned_of, reset_over, Starts};
+ghost use Rattle.rv_bench.specs.Loaded.{monitor_harts, is_read_as_elf as is_read_as_elf_of, planned as planned_of, reset_over, Starts};
 ghost use Rattle.rv_bench.specs.MonitorRange.{ReservesMonitorRange};
 
 use rv_command_line::{Harts, ImageKind, Setup};
@@ -44,7 +44,7 @@ fn planned(image: &[u8], setup: &Setup) -> Result<Plan, ElfFault>
 
 /// The harts that the monitor is over.
 fn monitor_harts(harts: Harts) -> rv_monitor::Harts
-    ensures { result ≡ harts_of harts }
+    ensures { result ≡ monitor_harts harts }
 {
     match harts {
         Harts::One => rv_monitor::Harts::One,

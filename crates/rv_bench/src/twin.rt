@@ -3,7 +3,7 @@
 ghost use Rattle.std.specs.Prelude.{◌≡◌, Ok, Err, Some, None, MatchOption, MatchResult, IfSome, [], false};
 ghost use Rattle.rv_bench.specs.Apart.{set_apart as set_apart_of, no_slot_text};
 ghost use Rattle.rv_bench.specs.Loaded.{Starts, started};
-ghost use Rattle.rv_bench.specs.Twin.{RunsSecond, RunsTwin, monitored};
+ghost use Rattle.rv_bench.specs.Twin.{RunsSecond, RunsTwin, monitored_setup};
 ghost use Rattle.rv_bench.specs.TwinLaws.{TwinConceals, TwinSpares};
 ghost use Rattle.rv_streams.specs.Unread.{held, unread, TellsEnd};
 
@@ -20,8 +20,8 @@ use std::alloc::Global;
 /// Two monitored benches at reset, with the image in the RAM of each.
 fn start_two(alloc: Global, image: &[u8], setup: &Setup) -> Result<EqualBenches, BenchFault>
     ensures { MatchResult result
-        (λ benches. started image.now (monitored setup.now) ≡ Ok benches.first)
-        (λ fault. Starts image.now (monitored setup.now) (Err fault)) }
+        (λ benches. started image.now (monitored_setup setup.now) ≡ Ok benches.first)
+        (λ fault. Starts image.now (monitored_setup setup.now) (Err fault)) }
 {
     let setup = Setup {
         kind: setup.kind,

@@ -6,7 +6,7 @@ use Rattle.clap.specs.declared.error.kind.ErrorKind.TheVariants as kind
 use Rattle.rv_command_line.proofs.Taken.{taken_lawful}
 use Rattle.rv_command_line.specs.CommandLine.{faults_of}
 use Rattle.rv_command_line.specs.Faults.{IsFaultOf}
-use Rattle.rv_command_line.specs.Job.{has_its_monitor, is_lawful, job_of}
+use Rattle.rv_command_line.specs.Job.{has_its_monitor, is_lawful_job, job_of}
 use Rattle.rv_command_line.specs.Refusals.{refusals_of}
 use Rattle.rv_command_line.specs.declared.job.Job.{Job}
 use Rattle.rv_command_line.specs.declared.words_fault.WordsFault.{WordsFault}
@@ -37,8 +37,8 @@ module _ (words : List Text) (taken : faults_of words ≡ []) (r : Result Job Wo
   pub named_job : IfOk r (λ job. job ≡ job_of words)
   named_job = rw is (kept (has_its_monitor (job_of words)) (job_of words) (λ job. job ≡ job_of words) refl)
 
-  pub named_lawful : IfOk r (λ job. is_lawful job ≡ true)
-  named_lawful = rw is (kept (has_its_monitor (job_of words)) (job_of words) (λ job. is_lawful job ≡ true) (taken_lawful words taken))
+  pub named_lawful : IfOk r (λ job. is_lawful_job job ≡ true)
+  named_lawful = rw is (kept (has_its_monitor (job_of words)) (job_of words) (λ job. is_lawful_job job ≡ true) (taken_lawful words taken))
 
   pub named_monitor : IfOk r (λ job. has_its_monitor job ≡ true)
   named_monitor = rw is (go (has_its_monitor (job_of words)) refl)

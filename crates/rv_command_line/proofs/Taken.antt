@@ -26,7 +26,7 @@ use Rattle.rv_command_line.proofs.Given.{AllGood, EntersGood, entered_good, part
 use Rattle.rv_command_line.proofs.Numbers.{both, number_reads}
 use Rattle.rv_command_line.proofs.Truths.{truth_spelled}
 use Rattle.rv_command_line.specs.CommandLine.{faults_of, harts, kind, kind_names, kinds, lent, monitor, Names, ram, rvbench, slot}
-use Rattle.rv_command_line.specs.Job.{are_options_read, are_run_read, are_twin_read, harts_in_text, harts_of, is_lawful}
+use Rattle.rv_command_line.specs.Job.{are_options_read, are_run_read, are_twin_read, harts_in_text, counted_harts, is_lawful_job}
 use Rattle.rv_command_line.specs.Job.{is_monitor_read, is_setup_read, is_slot, is_slot_read, job_of, kind_of, named_job, number_in_text, options_of}
 use Rattle.rv_command_line.specs.Job.{run_of, truth_in_text, twin_of}
 use Rattle.rv_command_line.specs.declared.job.Job.TheVariants as job
@@ -83,7 +83,7 @@ slot_accepted v e =
     let got = number_between 8 0 12 (omega arith) v e in
     ap (λ o. option_map_or (λ n. nat_lt n 13) o false) got.1 ∙ lt-ltb got.0 13 (omega arith)
 
-harts_counted : (n : ℕ) → 1 ≤ n → n ≤ 2 → is_some (harts_of n) ≡ true
+harts_counted : (n : ℕ) → 1 ≤ n → n ≤ 2 → is_some (counted_harts n) ≡ true
 harts_counted zero least most = absurd (omega arith)
 harts_counted (suc zero) least most = refl
 harts_counted (suc (suc zero)) least most = refl
@@ -92,7 +92,7 @@ harts_counted (suc (suc (suc n))) least most = absurd (omega arith)
 harts_read : (v : Text) → accepts false (parser.Signed (pos 1) (pos 2)) v ≡ true → is_some (harts_in_text (without_minus v)) ≡ true
 harts_read v e =
     let got = number_between 8 1 2 (omega arith) v e in
-    ap (λ o. is_some (option_and_then harts_of o)) got.1 ∙ harts_counted got.0 got.2 got.3
+    ap (λ o. is_some (option_and_then counted_harts o)) got.1 ∙ harts_counted got.0 got.2 got.3
 
 truth_read : (v : Text) → accepts false parser.Bool v ≡ true → is_some (truth_in_text v) ≡ true
 truth_read v e = truth_spelled (bytes_eq v (codes "true")) (bytes_eq v (codes "false")) e
@@ -195,18 +195,18 @@ slot_below (Some text) e = go (number_in_text 8 text) e
     go (Some n) e = e
 
 named_lawful : (met : Option (Text × List Row)) → are_twin_read (option_map_or (λ met. cond (bytes_eq met.0 (codes "twin")) met.1 []) met []) ≡ true
-    → is_lawful (named_job met) ≡ true
+    → is_lawful_job (named_job met) ≡ true
 named_lawful None e = refl
 named_lawful (Some met) e = go (bytes_eq met.0 (codes "asm")) (bytes_eq met.0 (codes "dis")) (bytes_eq met.0 (codes "twin")) e
   where
     go : (is_asm is_dis is_twin : Bool) → are_twin_read (cond is_twin met.1 []) ≡ true
-        → is_lawful (cond is_asm job.Asm (cond is_dis job.Dis (cond is_twin (twin_of met.1) (run_of met.1)))) ≡ true
+        → is_lawful_job (cond is_asm job.Asm (cond is_dis job.Dis (cond is_twin (twin_of met.1) (run_of met.1)))) ≡ true
     go true d t e = refl
     go false true t e = refl
     go false false true e = slot_below (one_of (codes "slot") met.1) (both (is_setup_read met.1) (is_slot_read met.1) e).1
     go false false false e = refl
 
-pub taken_lawful : (words : List Text) → faults_of words ≡ [] → is_lawful (job_of words) ≡ true
+pub taken_lawful : (words : List Text) → faults_of words ≡ [] → is_lawful_job (job_of words) ≡ true
 taken_lawful words e = named_lawful (subcommand_of rvbench words)
     (both (are_run_read (options_of (codes "run") words)) (are_twin_read (options_of (codes "twin") words)) (taken_read words e)).1
 

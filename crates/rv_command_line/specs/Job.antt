@@ -26,11 +26,11 @@ number_in_text bits text =
     if is_numeral digits && nat_lt (digits_value 10 digits) (2 ^ bits) then Some (digits_value 10 digits) else None
 
 -- so many harts, where a bench may have so many
-abbrev pub harts_of : ℕ → Option Harts
-harts_of count = if count == 1 then Some harts.One else (if count == 2 then Some harts.Two else None)
+abbrev pub counted_harts : ℕ → Option Harts
+counted_harts count = if count == 1 then Some harts.One else (if count == 2 then Some harts.Two else None)
 
 abbrev pub harts_in_text : Text → Option Harts
-harts_in_text text = option_and_then harts_of (number_in_text 8 text)
+harts_in_text text = option_and_then counted_harts (number_in_text 8 text)
 
 -- the truth that a text spells
 abbrev pub truth_in_text : Text → Option Bool
@@ -104,9 +104,9 @@ abbrev pub are_options_read : List Text → Bool
 are_options_read words = are_run_read (options_of (codes "run") words) && are_twin_read (options_of (codes "twin") words)
 
 -- a job that names a slot names one of the thirteen, and a bench with the monitor
-abbrev pub is_lawful : Job → Bool
-is_lawful (job.Twin setup slot) = setup.monitored && nat_lt slot 13
-is_lawful _ = true
+abbrev pub is_lawful_job : Job → Bool
+is_lawful_job (job.Twin setup slot) = setup.monitored && nat_lt slot 13
+is_lawful_job _ = true
 
 abbrev pub is_one : Harts → Bool
 is_one harts.One = true

@@ -1,7 +1,7 @@
 //! How many harts a bench has.
 
 ghost use Rattle.std.specs.Prelude.{◌≡◌};
-ghost use Rattle.rv_command_line.specs.Job.{harts_of};
+ghost use Rattle.rv_command_line.specs.Job.{counted_harts};
 
 /// How many harts a bench has.
 #[derive(Clone, Copy, Debug, PartialEq, Eq)]
@@ -15,7 +15,7 @@ pub enum Harts {
 impl Harts {
     /// So many harts, or `None` where a bench does not have so many.
     pub(crate) fn counted(count: u8) -> Option<Harts>
-        ensures { result ≡ harts_of count }
+        ensures { result ≡ counted_harts count }
     {
         match count {
             1 => Some(Harts::One),

@@ -15,7 +15,7 @@ use Rattle.rv_debug.specs.Prelude.{Access, AgreeBut, Bare, Block, Command, Csr, 
 use Rattle.rv_debug.specs.Prelude.{Mem, Mode, Monitored, Pmp, Poke, Ran, Reg, Regs, Run, RunsOnNone, Sched, Scheduled, Seat, SetReg, Slots}
 use Rattle.rv_debug.specs.Prelude.{State, Step, Target, Timer, Width, bytes_in, count_of, harts_in, has_all, is_inside, is_world_of, meets}
 use Rattle.rv_debug.specs.Prelude.{number_of_bytes, option_case, ram_base, read, read_result, reg_set, region, register, result_case}
-use Rattle.rv_debug.specs.Prelude.{runs_on, seat_of, timer_set, write, write_bytes}
+use Rattle.rv_debug.specs.Prelude.{runs_on, seat_of, seat_timer_set, write, write_bytes}
 use Rattle.rv_debug.specs.EnclaveText.{table_text}
 use Rattle.rv_debug.proofs.Prelude.{AfterRun, AfterTurns, AgreeAgain, Answered, BenchState, BenchesAgreeBut, Chosen, ChosenAgreeBut}
 use Rattle.rv_debug.proofs.Prelude.{ConfidentialityLaw, Deed, IsBare, KeepsMonitor, Nothing, PassesBy, RestsIn, Steps, TargetsAgreeBut}
@@ -330,7 +330,7 @@ module _ (e hart : ℕ) (one other : Machine) (agree : AgreeBut e one other) (br
   }) refl
   alike (Timer raised) kept kept' blind by = passes e _ _ breaks watches ok_text ok_text (record {
     hart = refl;
-    state = changed_agree e hart (timer_set raised) one other (λ seat. refl) agree;
+    state = changed_agree e hart (seat_timer_set raised) one other (λ seat. refl) agree;
   }) refl
   alike (Mem address count) kept kept' blind by =
       shown _ _ (ap (λ (bytes : Option (List ℕ)). option_case bytes outside_text (memory_text address))

@@ -3,7 +3,7 @@ use Rattle.std.proofs.Common.{◌≡◌, ℕ, true, false, List, [], ◌∷◌, 
 use Rattle.rv_enclaves.proofs.Scrambled.{slot_rests}
 use Rattle.rv_monitor.proofs.Beside.{runs_among}
 use Rattle.rv_debug.specs.Prelude.{Bare, Command, Machine, Monitored, Poke, RunsOnNone, Seat, Target, changed, is_world_of, reg_set}
-use Rattle.rv_debug.specs.Prelude.{runs_on, slot_at, timer_set, write}
+use Rattle.rv_debug.specs.Prelude.{runs_on, slot_at, seat_timer_set, write}
 use Rattle.rv_debug.proofs.Prelude.{AllPassBy, BenchState, Chosen, ChosenAgreeBut, Deed, KeepsMonitor, Nothing, OneByte, PokesInto}
 use Rattle.rv_debug.proofs.Prelude.{Register, RestLaw, RestsIn, RunsOnNoneIn, Steps, TimerLine, agrees_itself, answer, both_ways}
 use Rattle.rv_debug.proofs.Prelude.{can_scramble_in, cases_Bool, changed_of, chosen_at, deed, done, entered_by, harts_shown, is_entered}
@@ -53,7 +53,7 @@ deed_rests e (Monitored machine) Nothing kept rests none = rests
 deed_rests e (Monitored machine) (Steps harts chosen) kept rests none = steps_rest e chosen harts machine kept rests none
 deed_rests e (Monitored machine) (Register number value) kept rests none =
     written_rests e machine (reg_set number value) (λ seat. refl) rests
-deed_rests e (Monitored machine) (TimerLine raised) kept rests none = written_rests e machine (timer_set raised) (λ seat. refl) rests
+deed_rests e (Monitored machine) (TimerLine raised) kept rests none = written_rests e machine (seat_timer_set raised) (λ seat. refl) rests
 deed_rests e (Monitored machine) (OneByte address byte) kept rests none =
     poke_rests e machine (write machine.state.shared.memory address (byte ∷ [])) rests
 

@@ -2,7 +2,7 @@
 use Rattle.std.proofs.Common.{◌≡◌, ◌≢◌, ◌<◌, ℕ, ◌==◌, true, false, List, [], ◌∷◌, Option, Some, None, sym, ◌∙◌, ap, subst, not}
 use Rattle.rv_monitor.proofs.LastAct.{as_is}
 use Rattle.rv_debug.specs.Prelude.{Bare, Command, IsKept, Machine, Monitored, Seat, Target, changed, count_of, reg_set, sched}
-use Rattle.rv_debug.specs.Prelude.{seat_at_start, seat_of, seated, step_of, timer_set, write}
+use Rattle.rv_debug.specs.Prelude.{seat_at_start, seat_of, seated, step_of, seat_timer_set, write}
 use Rattle.rv_debug.proofs.Prelude.{BenchState, Chosen, Deed, KeepsHart, KeepsMonitor, LeavesHart, Nothing, OneByte, Register, SparesHarts}
 use Rattle.rv_debug.proofs.Prelude.{Steps, TimerLine, and_parts, answer, chosen_at, deed, done, eq-eqb, get_or-set_other, harts_of}
 use Rattle.rv_debug.proofs.Prelude.{kept_law, list_all, step_count, step_laid}
@@ -51,7 +51,7 @@ leaves hart (Monitored machine) (Steps harts chosen) kept has none =
     subst (KeepsHart hart (Monitored machine)) (sym (turns_are_sched harts machine _ chosen))
     (sched_leaves hart harts machine.state kept has none)
 leaves hart (Monitored machine) (Register number value) kept has none = write_leaves hart machine (reg_set number value) kept has none
-leaves hart (Monitored machine) (TimerLine raised) kept has none = write_leaves hart machine (timer_set raised) kept has none
+leaves hart (Monitored machine) (TimerLine raised) kept has none = write_leaves hart machine (seat_timer_set raised) kept has none
 leaves hart (Monitored machine) (OneByte address byte) kept has none =
     poke_leaves hart machine (write machine.state.shared.memory address (byte ∷ [])) kept has
 

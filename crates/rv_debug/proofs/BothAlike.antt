@@ -5,7 +5,7 @@ use Rattle.std.specs.Prelude.{◌&&◌, ◌||◌, if◌then◌else◌}
 use Rattle.rv_debug.specs.Prelude.{All, Bare, BothWhy, Command, Entered, Monitored, NotBlind, Slots, Target, bytes_named, meets, region}
 use Rattle.rv_debug.proofs.Prelude.{AlikeBy, AllPassBy, AnswerAlike, BenchState, BenchesAgreeBut, BothAnswered, BothRan, KeepsMonitor}
 use Rattle.rv_debug.proofs.Prelude.{PassAll, PassBy, StayAlike, TargetsAgreeBut, after_commands, and_parts, answer, both_answer, both_do}
-use Rattle.rv_debug.proofs.Prelude.{both_run, cases_Bool, drop_all, drop_more, go_on, is_blind, is_entered, region_of}
+use Rattle.rv_debug.proofs.Prelude.{both_run, cases_Bool, drop_all, drop_more, go_on, is_blind, is_entered, region_in}
 use Rattle.rv_debug.proofs.AnswersAlike.{agree_again, confidentiality}
 use Rattle.rv_debug.proofs.DeedsKept.{keeps_monitor}
 
@@ -29,7 +29,7 @@ module _ (e : ℕ) where
   ]
 
   same_region : (c : Command) (one other : Target) → TargetsAgreeBut e one other
-      → meets (bytes_named c) (region_of e one) ≡ meets (bytes_named c) (region_of e other)
+      → meets (bytes_named c) (region_in e one) ≡ meets (bytes_named c) (region_in e other)
   same_region c (Monitored one) (Monitored other) agree =
       ap (λ (slots : Slots). meets (bytes_named c) (region slots e)) (let state = agree.state in state.shared.table)
   same_region c (Bare one) (Bare other) agree = refl

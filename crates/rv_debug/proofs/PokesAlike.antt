@@ -2,7 +2,7 @@
 use Rattle.std.proofs.Common.{◌≡◌, ℕ, ◌+◌, ◌-◌, ◌≤◌, Bool, true, false, List, [], ◌∷◌, length, Option, Some, None, IfSome, refl}
 use Rattle.std.proofs.Common.{sym, ◌∙◌, ap, subst, inl, inr, arith}
 use Rattle.std.specs.Prelude.{is_some, nat_le, nat_lt, ◌==◌, ◌%◌}
-use Rattle.rv_enclaves.specs.Table.{region_of as region_in}
+use Rattle.rv_enclaves.specs.Table.{region_of}
 use Rattle.rv_enclaves.specs.declared.slot_info.SlotInfo.{SlotInfo}
 use Rattle.rv_enclaves.proofs.Agreement.{inside-is}
 use Rattle.rv_enclaves.specs.SharedButFor.{AgreeOutside}
@@ -12,7 +12,7 @@ use Rattle.rv_debug.specs.Prelude.{Bare, IsKept, IsLawfulSlot, Machine, Monitore
 use Rattle.rv_debug.specs.Prelude.{is_lawful, ram_base, region, slot_at, with_memory, write, write_bytes}
 use Rattle.rv_debug.proofs.Prelude.{BenchState, BenchesAgreeBut, Chosen, ChosenAgreeBut, KeepsMonitor, PassAlike, PokeLaw, TargetsAgreeBut}
 use Rattle.rv_debug.proofs.Prelude.{agrees_itself, and_from, and_parts, answer, cases_lt, index-above, index-below, itself, le-leb}
-use Rattle.rv_debug.proofs.Prelude.{leb-true, length-write, ltb-true, region_of, shared_agree, write-is}
+use Rattle.rv_debug.proofs.Prelude.{leb-true, length-write, ltb-true, region_in, shared_agree, write-is}
 
 -- ---- memory
 
@@ -48,12 +48,12 @@ hidden_writes hidden m n here there byte other m' n' agree first second secret s
 -- ---- the region
 
 -- it has a byte: its enclave is live, and the byte is in memory
-has_live : (o : Option SlotInfo) (address : ℕ) → has (region_in o) address ≡ true → is_some o ≡ true
+has_live : (o : Option SlotInfo) (address : ℕ) → has (region_of o) address ≡ true → is_some o ≡ true
 has_live None address is = let parts = and_parts (nat_le 0 address) (nat_lt address 0) is in let never = ltb-true address 0 parts.1 in
     absurd (omega (arith, never))
 has_live (Some info) address is = refl
 
-has_inside : (memory : List ℕ) (o : Option SlotInfo) (address : ℕ) → IfSome o (IsLawfulSlot memory) → has (region_in o) address ≡ true
+has_inside : (memory : List ℕ) (o : Option SlotInfo) (address : ℕ) → IfSome o (IsLawfulSlot memory) → has (region_of o) address ≡ true
     → is_inside memory address 1 ≡ true
 unfolding is_lawful
 has_inside memory None address law is = let never = has_live None address is in cc
@@ -95,7 +95,7 @@ module _ (e : ℕ) (one other : Chosen) (here there byte byte' : ℕ) (agree : C
 
 targets_alike : (e : ℕ) (one other : Target) (breaks watches : List ℕ) (here there byte byte' : ℕ) → KeepsMonitor one → KeepsMonitor other
     → TargetsAgreeBut e one other
-    → has (region_of e one) here ≡ true → has (region_of e other) there ≡ true
+    → has (region_in e one) here ≡ true → has (region_in e other) there ≡ true
     → PassAlike e (answer (record { target = one; breaks = breaks; watches = watches }) (Poke here byte))
     (answer (record { target = other; breaks = breaks; watches = watches }) (Poke there byte'))
 unfolding answer

@@ -6,7 +6,7 @@ unfoldable pub use Rattle.rv_debug.specs.Answer.{answer, line_answer}
 pub use Rattle.rv_debug.specs.BenchState.{BenchState}
 pub use Rattle.rv_debug.specs.BothBenches.{BenchesAgreeBut, BothAnswered, BothRan, ChosenAgreeBut, PassesBy, RestsIn, RunsOnNoneIn}
 pub use Rattle.rv_debug.specs.BothBenches.{TargetsAgreeBut, both_do, both_line_answer, both_told, can_scramble, can_scramble_in, go_on}
-pub use Rattle.rv_debug.specs.BothBenches.{harts_shown, is_entered, region_of}
+pub use Rattle.rv_debug.specs.BothBenches.{harts_shown, is_entered, region_in}
 unfoldable pub use Rattle.rv_debug.specs.BothBenches.{both_answer, both_run, is_blind}
 pub use Rattle.rv_debug.specs.Chosen.{Chosen}
 pub use Rattle.rv_debug.specs.Confidentiality.{AgreeAgain, AlikeBy, AllPassBy, AnswerAlike, ConfidentialityLaw, PassAlike, PassAll, PassBy}
@@ -19,12 +19,12 @@ pub use Rattle.rv_debug.specs.Isolation.{PokesNone, RestsThroughDeed, RunningLaw
 unfoldable pub use Rattle.rv_debug.specs.ReplyText.{csr_text, denied_outside_text, dis_text, entry_text, full_text, hart_text, memory_text}
 unfoldable pub use Rattle.rv_debug.specs.ReplyText.{no_csr_text, no_hart_text, ok_text, outside_text, pc_text, pmp_text, ran_text}
 unfoldable pub use Rattle.rv_debug.specs.ReplyText.{register_text, registers_text, stop_text, trap_text, verdict_text}
-pub use Rattle.rv_debug.specs.Steps.{AfterRun, AfterSteps, Stepped, ended, no_steps, with_slot, with_step}
+pub use Rattle.rv_debug.specs.Steps.{AfterRun, AfterSteps, Stepped, ended, no_steps, slots_with, with_step}
 unfoldable pub use Rattle.rv_debug.specs.Steps.{run}
 pub use Rattle.rv_debug.specs.Stops.{is_accessed, is_between, is_in, lower, lowest}
 unfoldable pub use Rattle.rv_debug.specs.Stops.{lowest_accessed}
 pub use Rattle.rv_debug.specs.Targets.{IsBare, KeepsMonitor, chosen_at, chosen_of, chosen_seat, chosen_stepped, harts_of, machine_stepped}
-pub use Rattle.rv_debug.specs.Targets.{memory_of, over_memory, pc_of, stepped, with_chosen, with_target, world_name}
+pub use Rattle.rv_debug.specs.Targets.{memory_of, over_memory, pc_of, target_stepped, with_chosen, with_target, world_name}
 pub use Rattle.rv_debug.specs.Turns.{AfterTurns, no_turns, with_own, with_turn}
 unfoldable pub use Rattle.rv_debug.specs.Turns.{turns}
 pub use Rattle.rv_enclaves.proofs.Alike.{itself, seen_block}

@@ -7,7 +7,7 @@ use Rattle.rv_monitor.proofs.Switched.{KeptStored}
 use Rattle.rv_monitor.proofs.Returned.{comes_back, entered_is, first_runs, host_on, last_runs, return_law as schedule_law, steps_keep}
 use Rattle.rv_enclaves.specs.declared.context.Context.{Context}
 use Rattle.rv_debug.specs.Prelude.{Bare, Command, Machine, Monitored, MonitoredState, S, Seat, Target, changed, is_host, monitored_step}
-use Rattle.rv_debug.specs.Prelude.{reg_set, sched, seen_by, step_of, timer_set, write}
+use Rattle.rv_debug.specs.Prelude.{reg_set, sched, seen_by, step_of, seat_timer_set, write}
 use Rattle.rv_debug.specs.Returns.{EntersAndLeavesUnder, EntersUnder, IsStoredIn, LeavesUnder, ReturnLaw, ReturnWithinLaw, RunsUnder}
 use Rattle.rv_debug.specs.Returns.{RunsUnderAll}
 use Rattle.rv_debug.proofs.Prelude.{BenchState, Chosen, Deed, KeepsMonitor, Nothing, OneByte, Register, Steps, TimerLine, after_commands}
@@ -42,7 +42,7 @@ host_after : (hart : ℕ) (machine : Chosen) (d : Deed)
 host_after hart machine Nothing = refl
 host_after hart machine (Steps harts chosen) = ap (host_in hart) (turns_are_sched harts machine _ chosen)
 host_after hart machine (Register number value) = write_host hart machine (reg_set number value) (λ seat. refl)
-host_after hart machine (TimerLine raised) = write_host hart machine (timer_set raised) (λ seat. refl)
+host_after hart machine (TimerLine raised) = write_host hart machine (seat_timer_set raised) (λ seat. refl)
 host_after hart machine (OneByte address byte) = poke_host hart machine (write machine.state.shared.memory address (byte ∷ []))
 
 deed_host : (hart : ℕ) (target : Target) (d : Deed) → RunsUnder hart (harts_stepped d) target

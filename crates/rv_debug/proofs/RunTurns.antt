@@ -2,7 +2,7 @@
 use Rattle.std.proofs.Common.{◌≡◌, ℕ, suc, ◌+◌, ◌==◌, List, replicate, refl, sym, ◌∙◌, ap, arith}
 use Rattle.rv_debug.specs.Prelude.{Bare, Monitored, Scheduled, Stop, Target}
 use Rattle.rv_debug.proofs.Prelude.{AfterRun, AfterSteps, AfterTurns, chosen_of, done, ended, entered_by, no_steps, no_turns, pc_of, run}
-use Rattle.rv_debug.proofs.Prelude.{run_deed, stepped, steps_of, turns, with_chosen, with_slot, with_step, with_turn}
+use Rattle.rv_debug.proofs.Prelude.{run_deed, target_stepped, steps_of, turns, with_chosen, slots_with, with_step, with_turn}
 use Rattle.rv_debug.proofs.Turns.{after_turns}
 use Rattle.rv_debug.proofs.Stepping.{by_run}
 
@@ -12,7 +12,7 @@ own_turn : (target : Target) → with_chosen (chosen_of target) target ≡ targe
 own_turn (Bare machine) = refl
 own_turn (Monitored machine) = refl
 
-same_hart : (target : Target) → chosen_of (stepped target).state ≡ chosen_of target
+same_hart : (target : Target) → chosen_of (target_stepped target).state ≡ chosen_of target
 same_hart (Bare machine) = refl
 same_hart (Monitored machine) = refl
 
@@ -35,13 +35,13 @@ unfolding turns
 ends hart so_far stop own = record { count = 0; steps = omega arith; chosen = own; state = λ did. refl; entered = λ did is. is }
 
 goes : (hart : ℕ) (before : AfterSteps Target) (after : AfterRun Target) → chosen_of before.state ≡ hart
-    → (let so_far = with_step before (stepped before.state) in IsTurns hart so_far.state so_far.entered so_far.steps after)
+    → (let so_far = with_step before (target_stepped before.state) in IsTurns hart so_far.state so_far.entered so_far.steps after)
     → IsTurns hart before.state before.entered before.steps after
 unfolding turns
 goes hart before after own more =
-    let last = stepped before.state in
+    let last = target_stepped before.state in
     let next : Target → Scheduled → AfterTurns =
-    λ target did. turns (replicate more.count hart) (with_turn hart (after_turns before.state did) (stepped target)) in
+    λ target did. turns (replicate more.count hart) (with_turn hart (after_turns before.state did) (target_stepped target)) in
     let here = turned_own hart before.state own in
     let did_of : Scheduled → Scheduled = λ did. (with_turn hart (after_turns before.state did) last).did in
     record {
@@ -50,13 +50,13 @@ goes hart before after own more =
       chosen = more.chosen;
       state = λ did. ap (λ (target : Target). (next target did).state) here ∙ more.state (did_of did);
       entered = λ did is. ap (λ (target : Target). (next target did).did.entered) here
-          ∙ more.entered (did_of did) (ap (λ (slots : ℕ). with_slot slots last.entered) is);
+          ∙ more.entered (did_of did) (ap (λ (slots : ℕ). slots_with slots last.entered) is);
     }
 
 is-turns : (breaks watches : List ℕ) (hart count : ℕ) (before : AfterSteps Target) → chosen_of before.state ≡ hart
-    → IsTurns hart before.state before.entered before.steps (run stepped pc_of breaks watches count before)
+    → IsTurns hart before.state before.entered before.steps (run target_stepped pc_of breaks watches count before)
 is-turns breaks watches hart =
-    by_run stepped pc_of breaks watches
+    by_run target_stepped pc_of breaks watches
     (λ before end. chosen_of before.state ≡ hart → IsTurns hart before.state before.entered before.steps end)
     (ends hart) (λ before end more own. goes hart before end own (more (same_hart before.state ∙ own)))
 

@@ -5,7 +5,7 @@ use Rattle.rv_monitor.proofs.HartsAlike.{entered_some, entry_law}
 use Rattle.rv_monitor.specs.declared.outcome.Outcome.{Outcome}
 use Rattle.rv_debug.specs.Prelude.{IsKept, Machine, Monitored, Scheduled, enters, step_of}
 use Rattle.rv_debug.proofs.Prelude.{AfterTurns, Chosen, ChosenAgreeBut, RestsIn, cases_Bool, confidentiality, is_entered, kept_law}
-use Rattle.rv_debug.proofs.Prelude.{stepped, turns, with_chosen, with_turn}
+use Rattle.rv_debug.proofs.Prelude.{target_stepped, turns, with_chosen, with_turn}
 use Rattle.rv_debug.proofs.StepsAlike.{enters-with, enters-now}
 use Rattle.rv_debug.proofs.Turns.{after_turns}
 
@@ -16,7 +16,7 @@ stays_entered : (e : ℕ) (harts : List ℕ) (before : AfterTurns) → is_entere
 unfolding turns
 stays_entered e [] before is = is
 stays_entered e (hart ∷ harts) before is =
-    let last = stepped (with_chosen hart before.state) in
+    let last = target_stepped (with_chosen hart before.state) in
     stays_entered e harts (with_turn hart before last) (enters-with e before.did.entered last.entered is)
 
 -- ---- all steps

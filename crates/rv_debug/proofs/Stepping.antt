@@ -2,7 +2,7 @@
 use Rattle.std.proofs.Common.{◌≡◌, ℕ, zero, suc, ◌+◌, ◌-◌, ◌<◌, ◌≤◌, ◌==◌, true, false, cond, List, [], Option, Some, None, refl, ◌∙◌, ap}
 use Rattle.std.proofs.Common.{arith, inl, inr, Bool}
 use Rattle.rv_debug.specs.Prelude.{Break, Done, Stop, Trap, Watch, option_case}
-use Rattle.rv_debug.proofs.Prelude.{AfterRun, AfterSteps, Stepped, cases_eq, ended, is_among, lowest_accessed, option_or, run, with_slot}
+use Rattle.rv_debug.proofs.Prelude.{AfterRun, AfterSteps, Stepped, cases_eq, ended, is_among, lowest_accessed, option_or, run, slots_with}
 use Rattle.rv_debug.proofs.Prelude.{with_step}
 
 -- ---- the one walk over a run
@@ -94,13 +94,13 @@ module _ {A : Type 0} (step : A → Stepped A) (pc : A → ℕ) (breaks watches 
   after_step before last trap entered = record { state = last.state; steps = before.steps + 1; trap = trap; entered = entered }
 
   adds : (before : AfterSteps A) (last : Stepped A) (trap : Option Trap) (entered : ℕ)
-      → trap ≡ option_or last.outcome.trap before.trap → entered ≡ with_slot before.entered last.entered
+      → trap ≡ option_or last.outcome.trap before.trap → entered ≡ slots_with before.entered last.entered
       → with_step before last ≡ after_step before last trap entered
   adds before last trap entered told enters = rw (told, enters) refl
 
   -- it ends at a watched byte
   pub stops-watch : (count done : ℕ) (before : AfterSteps A) (last : Stepped A) (trap : Option Trap) (entered address : ℕ)
-      → done < count → step before.state ≡ last → trap ≡ option_or last.outcome.trap before.trap → entered ≡ with_slot before.entered last.entered
+      → done < count → step before.state ≡ last → trap ≡ option_or last.outcome.trap before.trap → entered ≡ slots_with before.entered last.entered
       → Some address ≡ lowest_accessed watches last.outcome.touched
       → run step pc breaks watches (count - done) before ≡ ended (after_step before last trap entered) (Watch address)
   stops-watch count done before last trap entered address more is told enters hit =
@@ -110,7 +110,7 @@ module _ {A : Type 0} (step : A → Stepped A) (pc : A → ℕ) (breaks watches 
   -- or at a break, where steps are left
   pub stops-break : (count done : ℕ) (before : AfterSteps A) (last : Stepped A) (trap : Option Trap) (entered : ℕ)
       → done + 1 < count → step before.state ≡ last → trap ≡ option_or last.outcome.trap before.trap
-      → entered ≡ with_slot before.entered last.entered
+      → entered ≡ slots_with before.entered last.entered
       → None ≡ lowest_accessed watches last.outcome.touched → true ≡ is_among (pc last.state) breaks
       → run step pc breaks watches (count - done) before ≡ ended (after_step before last trap entered) Break
   stops-break count done before last trap entered more is told enters none here =
@@ -119,7 +119,7 @@ module _ {A : Type 0} (step : A → Stepped A) (pc : A → ℕ) (breaks watches 
 
   -- or goes on
   pub goes-on : (count done : ℕ) (before : AfterSteps A) (last : Stepped A) (trap : Option Trap) (entered : ℕ)
-      → done < count → step before.state ≡ last → trap ≡ option_or last.outcome.trap before.trap → entered ≡ with_slot before.entered last.entered
+      → done < count → step before.state ≡ last → trap ≡ option_or last.outcome.trap before.trap → entered ≡ slots_with before.entered last.entered
       → None ≡ lowest_accessed watches last.outcome.touched → (done + 1 < count → is_among (pc last.state) breaks ≡ false)
       → run step pc breaks watches (count - done) before ≡ run step pc breaks watches (count - (done + 1)) (after_step before last trap entered)
   goes-on count done before last trap entered more is told enters none elsewhere =
@@ -129,7 +129,7 @@ module _ {A : Type 0} (step : A → Stepped A) (pc : A → ℕ) (breaks watches 
   -- as it does where nothing is set
   pub goes-on-free : (count done : ℕ) (before : AfterSteps A) (last : Stepped A) (trap : Option Trap) (entered : ℕ)
       → breaks ≡ [] → watches ≡ [] → done < count → step before.state ≡ last
-      → trap ≡ option_or last.outcome.trap before.trap → entered ≡ with_slot before.entered last.entered
+      → trap ≡ option_or last.outcome.trap before.trap → entered ≡ slots_with before.entered last.entered
       → run step pc breaks watches (count - done) before ≡ run step pc breaks watches (count - (done + 1)) (after_step before last trap entered)
   unfolding lowest_accessed
   goes-on-free count done before last trap entered no_breaks no_watches more is told enters =

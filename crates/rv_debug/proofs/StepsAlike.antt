@@ -9,7 +9,7 @@ use Rattle.rv_monitor.proofs.HartsAlike.{entered_some, entry_law}
 use Rattle.rv_monitor.specs.declared.outcome.Outcome.{Outcome}
 use Rattle.rv_debug.specs.Prelude.{AgreeBut, IsKept, Machine, Seat, Stop, enters, runs_on, step_of}
 use Rattle.rv_debug.proofs.Prelude.{AfterRun, AfterSteps, cases_Bool, confidentiality, eq-eqb, is_among, is_entered, kept_law}
-use Rattle.rv_debug.proofs.Prelude.{lowest_accessed, run, with_slot, with_step}
+use Rattle.rv_debug.proofs.Prelude.{lowest_accessed, run, slots_with, with_step}
 use Rattle.rv_debug.proofs.TargetRuns.{hart_pc, hart_stepped}
 use Rattle.rv_debug.proofs.Stepping.{by_next, by_run, next_of}
 
@@ -19,11 +19,11 @@ enters-or : (e one other : ℕ) → is_entered e one ≡ true → is_entered e (
 enters-or e one other is =
     eq-eqb _ 1 (bit_at_or one other e ∙ (let low = eqb-true _ 1 is in let small = bit_at-lt other e in omega (arith, low, small)))
 
-pub enters-with : (e slots : ℕ) (entered : Option ℕ) → is_entered e slots ≡ true → is_entered e (with_slot slots entered) ≡ true
+pub enters-with : (e slots : ℕ) (entered : Option ℕ) → is_entered e slots ≡ true → is_entered e (slots_with slots entered) ≡ true
 enters-with e slots None is = is
 enters-with e slots (Some k) is = enters-or e slots (2 ^ k) is
 
-pub enters-now : (e slots : ℕ) (entered : Option ℕ) → entered ≡ Some e → is_entered e (with_slot slots entered) ≡ true
+pub enters-now : (e slots : ℕ) (entered : Option ℕ) → entered ≡ Some e → is_entered e (slots_with slots entered) ≡ true
 enters-now e slots entered is =
     let set = bit_at-pow_same e in
     let small = bit_at-lt slots e in

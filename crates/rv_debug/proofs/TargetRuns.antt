@@ -2,7 +2,7 @@
 use Rattle.std.proofs.Common.{◌≡◌, ℕ, zero, suc, ◌==◌, List, refl, sym, ◌∙◌, ap}
 use Rattle.rv_debug.specs.Prelude.{Bare, Machine, Monitored, Ran, State, Target, seat_of, step_of}
 use Rattle.rv_debug.proofs.Prelude.{AfterRun, AfterSteps, Chosen, Stepped, chosen_at, chosen_seat, chosen_stepped, is_among}
-use Rattle.rv_debug.proofs.Prelude.{lowest_accessed, machine_stepped, no_steps, pc_of, run, stepped, with_step, with_target}
+use Rattle.rv_debug.proofs.Prelude.{lowest_accessed, machine_stepped, no_steps, pc_of, run, target_stepped, with_step, with_target}
 use Rattle.rv_debug.proofs.Stepping.{by_next, by_run, next_of}
 
 abbrev pub in_target : {A : Type 0} → (A → Target) → AfterSteps A → AfterSteps Target
@@ -12,16 +12,16 @@ abbrev pub target_of : {A : Type 0} → (A → Target) → AfterRun A → AfterR
 target_of target after = record { state = target after.state; ran = after.ran }
 
 module _ {A : Type 0} (target : A → Target) (step : A → Stepped A) (pc : A → ℕ)
-    (steps : (machine : A) → stepped (target machine) ≡ with_target target (step machine))
+    (steps : (machine : A) → target_stepped (target machine) ≡ with_target target (step machine))
     (pcs : (machine : A) → pc_of (target machine) ≡ pc machine) (breaks watches : List ℕ) where
   abbrev next_in : ℕ → AfterSteps Target → Stepped Target → ℕ → AfterRun Target
   next_in left before last here =
       let after = with_step before last in
-      next_of after (run stepped pc_of breaks watches left after) (lowest_accessed watches last.outcome.touched) (left == 0)
+      next_of after (run target_stepped pc_of breaks watches left after) (lowest_accessed watches last.outcome.touched) (left == 0)
       (is_among here breaks)
 
   run-in : (count : ℕ) (before : AfterSteps A)
-      → run stepped pc_of breaks watches count (in_target target before) ≡ target_of target (run step pc breaks watches count before)
+      → run target_stepped pc_of breaks watches count (in_target target before) ≡ target_of target (run step pc breaks watches count before)
   unfolding run
   run-in zero before = refl
   run-in (suc left) before =
@@ -35,7 +35,7 @@ module _ {A : Type 0} (target : A → Target) (step : A → Stepped A) (pc : A �
   -- what a run of the machine gives, said of the target
   runs-in : (count : ℕ) (machine after : A) (ran : Ran)
       → run step pc breaks watches count (no_steps machine) ≡ record { state = after; ran = ran }
-      → run stepped pc_of breaks watches count (no_steps (target machine)) ≡ record { state = target after; ran = ran }
+      → run target_stepped pc_of breaks watches count (no_steps (target machine)) ≡ record { state = target after; ran = ran }
   runs-in count machine after ran is = run-in count (no_steps machine) ∙ ap (target_of target) is
 
 abbrev pub machine_pc : State → ℕ
@@ -52,11 +52,11 @@ hart_pc hart machine = (seat_of hart machine).hart.pc
 
 pub runs_bare : (breaks watches : List ℕ) (count : ℕ) (machine after : State) (ran : Ran)
     → run machine_stepped machine_pc breaks watches count (no_steps machine) ≡ record { state = after; ran = ran }
-    → run stepped pc_of breaks watches count (no_steps (Bare machine)) ≡ record { state = Bare after; ran = ran }
+    → run target_stepped pc_of breaks watches count (no_steps (Bare machine)) ≡ record { state = Bare after; ran = ran }
 runs_bare breaks watches = runs-in Bare machine_stepped machine_pc (λ machine. refl) (λ machine. refl) breaks watches
 
 pub run_monitored : (hart : ℕ) (breaks watches : List ℕ) (count : ℕ) (before : AfterSteps Machine)
-    → run stepped pc_of breaks watches count (in_target (chosen_at hart) before) ≡ target_of (chosen_at hart)
+    → run target_stepped pc_of breaks watches count (in_target (chosen_at hart) before) ≡ target_of (chosen_at hart)
     (run (hart_stepped hart) (hart_pc hart) breaks watches count before)
 run_monitored hart breaks watches = run-in (chosen_at hart) (hart_stepped hart) (hart_pc hart) (λ machine. refl) (λ machine. refl) breaks watches
 
@@ -80,5 +80,5 @@ chosen_pc chosen = (chosen_seat chosen).hart.pc
 
 pub runs_chosen : (breaks watches : List ℕ) (count : ℕ) (machine after : Chosen) (ran : Ran)
     → run chosen_stepped chosen_pc breaks watches count (no_steps machine) ≡ record { state = after; ran = ran }
-    → run stepped pc_of breaks watches count (no_steps (Monitored machine)) ≡ record { state = Monitored after; ran = ran }
+    → run target_stepped pc_of breaks watches count (no_steps (Monitored machine)) ≡ record { state = Monitored after; ran = ran }
 runs_chosen breaks watches = runs-in Monitored chosen_stepped chosen_pc (λ machine. refl) (λ machine. refl) breaks watches

@@ -10,7 +10,7 @@ use Rattle.rv_debug.specs.Addresses.{with_room_for, without_address}
 use Rattle.rv_debug.specs.BenchState.{BenchState}
 use Rattle.rv_debug.specs.Deeds.{deed, done, entered_by, steps_of}
 use Rattle.rv_debug.specs.ReplyText.{ran_text, register_text, registers_text, ok_text, csr_text, memory_text, dis_text, pmp_text, verdict_text}
-use Rattle.rv_debug.specs.ReplyText.{denied_outside_text, full_text, fault_text, hart_text, no_csr_text, no_hart_text, outside_text}
+use Rattle.rv_debug.specs.ReplyText.{denied_outside_text, full_text, command_fault_text, hart_text, no_csr_text, no_hart_text, outside_text}
 use Rattle.rv_debug.specs.Turns.{AfterTurns, no_turns, turns}
 use Rattle.rv_debug.specs.Steps.{AfterRun}
 use Rattle.rv_debug.specs.Targets.{chosen_of, hart_of, harts_of, memory_of, world_text, enclaves_text, pc_of, poked, with_chosen}
@@ -141,7 +141,7 @@ answer bench command = record {
 -- one line: a faulty one is told its fault, and changes nothing
 abbrev pub answer_or_fault : BenchState → Result Command CommandFault → Answered
 answer_or_fault bench (Ok command) = answer bench command
-answer_or_fault bench (Err fault) = record { state = bench; reply = fault_text fault; entered = 0 }
+answer_or_fault bench (Err fault) = record { state = bench; reply = command_fault_text fault; entered = 0 }
 
 unfoldable pub line_answer : BenchState → List ℕ → Answered
 line_answer bench line = answer_or_fault bench (parse_of line)

@@ -12,7 +12,7 @@ use Rattle.rv_debug.specs.Prelude.{runs_on}
 use Rattle.rv_debug.specs.Answer.{Answered, answer}
 use Rattle.rv_debug.specs.BenchState.{BenchState}
 use Rattle.rv_debug.specs.Chosen.{Chosen}
-use Rattle.rv_debug.specs.ReplyText.{fault_text}
+use Rattle.rv_debug.specs.ReplyText.{command_fault_text}
 use Rattle.rv_debug.specs.Targets.{chosen_at, chosen_of, harts_of}
 use Rattle.rv_debug.specs.declared.both.BothLine.{BothLine}
 use Rattle.rv_debug.specs.declared.both.BothLine.TheVariants.{Faulty, Given}
@@ -38,13 +38,13 @@ pub record BenchesAgreeBut (e : ℕ) (one other : BenchState) : Type 0 where
 -- ---- what a command shows, and what it enters
 
 -- the region of slot e, without bytes where its enclave is not live
-abbrev pub region_of : ℕ → Target → Block
-region_of e (Bare machine) = no_block
-region_of e (Monitored chosen) = region chosen.state.shared.table e
+abbrev pub region_in : ℕ → Target → Block
+region_in e (Bare machine) = no_block
+region_in e (Monitored chosen) = region chosen.state.shared.table e
 
 -- the command is not a mem, dis or poke with a byte in the region of slot e
 unfoldable pub is_blind : ℕ → BenchState → Command → Bool
-is_blind e bench command = not (meets (bytes_named command) (region_of e bench.target))
+is_blind e bench command = not (meets (bytes_named command) (region_in e bench.target))
 
 -- the harts that a command steps, or of which it shows registers, pc, mode or world; `sched` tells where each hart is
 abbrev pub harts_shown : Target → Command → List ℕ
@@ -127,7 +127,7 @@ both_told e first second (Ok command) =
       line = Given after.why (is_blank command);
     }
 both_told e first second (Err fault) =
-    record { first = first; second = second; first_reply = fault_text fault; second_reply = []; line = Faulty }
+    record { first = first; second = second; first_reply = command_fault_text fault; second_reply = []; line = Faulty }
 
 abbrev pub both_line_answer : ℕ → BenchState → BenchState → List ℕ → BothTold
 both_line_answer e first second line = both_told e first second (parse_of line)
@@ -159,12 +159,12 @@ pub record BothRan : Type 0 where
   pub ran : ℕ
   pub why : BothWhy
 
-abbrev pub one_more : BothRan → BothRan
-one_more rest = record { first = rest.first; second = rest.second; ran = suc rest.ran; why = rest.why }
+abbrev pub one_more_ran : BothRan → BothRan
+one_more_ran rest = record { first = rest.first; second = rest.second; ran = suc rest.ran; why = rest.why }
 
 -- the rest is done where the first command lets it
 abbrev pub go_on : BothWhy → BothAnswered → BothRan → BothRan
-go_on All after rest = one_more rest
+go_on All after rest = one_more_ran rest
 go_on Entered after rest = record { first = after.first; second = after.second; ran = 1; why = Entered }
 go_on NotBlind after rest = record { first = after.first; second = after.second; ran = 0; why = NotBlind }
 

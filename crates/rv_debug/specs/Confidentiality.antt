@@ -6,7 +6,7 @@ use Rattle.rv_debug.specs.Answer.{Answered, answer}
 use Rattle.rv_debug.specs.BenchState.{BenchState}
 use Rattle.rv_debug.specs.Isolation.{after_commands}
 use Rattle.rv_debug.specs.Targets.{KeepsMonitor}
-use Rattle.rv_debug.specs.BothBenches.{BenchesAgreeBut, BothAnswered, PassesBy, RestsIn, is_blind, is_entered, region_of}
+use Rattle.rv_debug.specs.BothBenches.{BenchesAgreeBut, BothAnswered, PassesBy, RestsIn, is_blind, is_entered, region_in}
 
 -- the enclave of slot e is live
 abbrev pub is_live_in : ℕ → Target → Bool
@@ -52,7 +52,7 @@ RestLaw = (e : ℕ) (bench : BenchState) (command : Command) → KeepsMonitor be
 
 -- a byte is poked into the region of slot e
 abbrev pub PokesInto : ℕ → BenchState → Command → Type 0
-PokesInto e bench (Poke address byte) = has (region_of e bench.target) address ≡ true
+PokesInto e bench (Poke address byte) = has (region_in e bench.target) address ≡ true
 PokesInto e bench _ = ⊥
 
 -- two benches that agree but for an enclave do so too once each has a byte poked into its region, whichever and wherever, and reply the same

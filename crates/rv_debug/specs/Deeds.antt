@@ -4,7 +4,7 @@ use Rattle.rv_debug.specs.Prelude.{Command, Hart, Poke, Run, Sched, SetReg, Step
 use Rattle.rv_debug.specs.BenchState.{BenchState}
 use Rattle.rv_debug.specs.Turns.{no_turns, turns}
 use Rattle.rv_debug.specs.Steps.{AfterRun, no_steps, run}
-use Rattle.rv_debug.specs.Targets.{chosen_of, harts_of, pc_of, stepped, register_set, timer_set, poked, with_chosen}
+use Rattle.rv_debug.specs.Targets.{chosen_of, harts_of, pc_of, target_stepped, register_set, timer_set, poked, with_chosen}
 
 -- nothing; steps of these harts in their order, behind which this one is chosen; a word put into a register of the chosen hart; its timer
 -- line raised or lowered; a byte put into memory, where its address is in it
@@ -38,7 +38,7 @@ harts_stepped _ = []
 
 -- so many steps of the chosen hart, or fewer, where a watched byte or a break ends them
 abbrev pub steps_of : Target → List ℕ → List ℕ → ℕ → AfterRun Target
-steps_of target breaks watches count = run stepped pc_of breaks watches count (no_steps target)
+steps_of target breaks watches count = run target_stepped pc_of breaks watches count (no_steps target)
 
 abbrev pub run_deed : Target → List ℕ → List ℕ → ℕ → Deed
 run_deed target breaks watches count =

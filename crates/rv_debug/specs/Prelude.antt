@@ -18,7 +18,7 @@ pub use Rattle.rv_hart.specs.declared.trap.Trap.{Trap}
 pub use Rattle.rv_memory.specs.Memory.{byte_at, is_inside, number_of_bytes, ram_base, write_bytes}
 unfoldable pub use Rattle.rv_memory.specs.Memory.{read, write}
 pub use Rattle.rv_monitor.specs.AgreeBut.{AgreeBut, runs_on}
-pub use Rattle.rv_monitor.specs.Debugger.{changed, reg_set, timer_set, with_memory, with_reg, with_timer}
+pub use Rattle.rv_monitor.specs.Debugger.{changed, reg_set, seat_timer_set, with_memory, with_reg, with_timer}
 pub use Rattle.rv_monitor.specs.HartLaws.{IsChangedInOrder, IsLeftAlone, RunsOnNone, sched}
 pub use Rattle.rv_monitor.specs.Integrity.{IsSpared, enters}
 pub use Rattle.rv_monitor.specs.State.{AreStored, HostIsStored, IsKept, Machine, MonitoredState, count_of, seat_at_start, seat_of, seated}

@@ -94,10 +94,10 @@ unfoldable pub full_text : List ℕ
 full_text = codes "error full\n"
 
 -- the fault of a line
-abbrev pub fault_text : CommandFault → List ℕ
-fault_text BadLine = codes "error line\n"
-fault_text UnknownCommand = codes "error command\n"
-fault_text BadOperand = codes "error operand\n"
+abbrev pub command_fault_text : CommandFault → List ℕ
+command_fault_text BadLine = codes "error line\n"
+command_fault_text UnknownCommand = codes "error command\n"
+command_fault_text BadOperand = codes "error operand\n"
 
 -- there is no control and status register of the number
 unfoldable pub no_csr_text : List ℕ

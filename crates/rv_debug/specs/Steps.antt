@@ -29,9 +29,9 @@ abbrev pub no_steps : {A : Type 0} → A → AfterSteps A
 no_steps state = record { state = state; steps = 0; trap = None; entered = 0 }
 
 -- the slots and one more, if there is one
-abbrev pub with_slot : ℕ → Option ℕ → ℕ
-with_slot slots None = slots
-with_slot slots (Some slot) = bit_or slots (2 ^ slot)
+abbrev pub slots_with : ℕ → Option ℕ → ℕ
+slots_with slots None = slots
+slots_with slots (Some slot) = bit_or slots (2 ^ slot)
 
 -- steps and one more
 abbrev pub with_step : {A : Type 0} → AfterSteps A → Stepped A → AfterSteps A
@@ -39,7 +39,7 @@ with_step before last = record {
   state = last.state;
   steps = before.steps + 1;
   trap = option_or last.outcome.trap before.trap;
-  entered = with_slot before.entered last.entered;
+  entered = slots_with before.entered last.entered;
 }
 
 abbrev pub ended : {A : Type 0} → AfterSteps A → Stop → AfterRun A

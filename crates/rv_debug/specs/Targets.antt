@@ -63,9 +63,9 @@ abbrev pub chosen_at : ℕ → Machine → Target
 chosen_at hart state = Monitored (record { hart = hart; state = state })
 
 -- a target after one step, of the chosen hart
-abbrev pub stepped : Target → Stepped Target
-stepped (Bare machine) = with_target Bare (machine_stepped machine)
-stepped (Monitored chosen) = with_target Monitored (chosen_stepped chosen)
+abbrev pub target_stepped : Target → Stepped Target
+target_stepped (Bare machine) = with_target Bare (machine_stepped machine)
+target_stepped (Monitored chosen) = with_target Monitored (chosen_stepped chosen)
 
 -- how many harts it has
 abbrev pub harts_of : Target → ℕ

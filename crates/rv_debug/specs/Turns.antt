@@ -3,8 +3,8 @@ use Rattle.std.specs.Prelude.{ℕ, ◌+◌, ◌==◌, List, [], ◌∷◌}
 use Rattle.std.specs.Prelude.{Option, None, if◌then◌else◌}
 use Rattle.std.specs.Option.{option_or}
 use Rattle.rv_debug.specs.Prelude.{HartRan, Scheduled, Target, Trap}
-use Rattle.rv_debug.specs.Steps.{Stepped, with_slot}
-use Rattle.rv_debug.specs.Targets.{stepped, with_chosen}
+use Rattle.rv_debug.specs.Steps.{Stepped, slots_with}
+use Rattle.rv_debug.specs.Targets.{target_stepped, with_chosen}
 
 -- a target after such steps, and what they did
 pub record AfterTurns : Type 0 where
@@ -29,11 +29,11 @@ with_turn hart before last = record {
   did = record {
     first = with_own 0 hart last.outcome.trap before.did.first;
     second = with_own 1 hart last.outcome.trap before.did.second;
-    entered = with_slot before.did.entered last.entered;
+    entered = slots_with before.did.entered last.entered;
   };
 }
 
 -- one step of each of these harts, in this order, whatever is a break or watched; the last of them is chosen then
 unfoldable pub turns : List ℕ → AfterTurns → AfterTurns
 turns [] before = before
-turns (hart ∷ harts) before = turns harts (with_turn hart before (stepped (with_chosen hart before.state)))
+turns (hart ∷ harts) before = turns harts (with_turn hart before (target_stepped (with_chosen hart before.state)))

@@ -3,7 +3,7 @@
 ghost use Rattle.std.specs.Prelude.{◌≡◌, ℕ, ◌+◌, ◌*◌, ◌<◌, ◌≤◌, ◌++◌, length, codes, decimal, if◌then◌else◌};
 ghost use Rattle.arrayvec.specs.ArrayVec.{array_vec_len};
 ghost use Rattle.rv_debug.specs.Answer.{hart_told};
-ghost use Rattle.rv_debug.specs.ReplyText.{mode_text, stop_text, ran_text, hart_text, no_hart_text, trap_text, register_text, registers_text, pc_text, ok_text, csr_text, memory_text, dis_text, entry_text, pmp_text, verdict_text, denied_outside_text, full_text, fault_text, no_csr_text, outside_text};
+ghost use Rattle.rv_debug.specs.ReplyText.{mode_text, stop_text, ran_text, hart_text, no_hart_text, trap_text, register_text, registers_text, pc_text, ok_text, csr_text, memory_text, dis_text, entry_text, pmp_text, verdict_text, denied_outside_text, full_text, command_fault_text, no_csr_text, outside_text};
 ghost use Rattle.rv_debug.specs.Targets.{hart_of, harts_of, pc_of, with_chosen, world_name, world_text};
 
 use crate::scheduled::HartRan;
@@ -322,7 +322,7 @@ pub(crate) fn push_denied_outside(out: &mut Reply)
 /// Writes the reply to a line that has a fault, at the end of one that has room for it.
 pub(crate) fn push_fault(out: &mut Reply, fault: CommandFault)
     requires room { array_vec_len out.old + 14 ≤ 2048 }
-    ensures items { out.new.items ≡ out.old.items ++ fault_text fault }
+    ensures items { out.new.items ≡ out.old.items ++ command_fault_text fault }
     ensures len { array_vec_len out.new ≤ array_vec_len out.old + 14 }
 {
     match fault {

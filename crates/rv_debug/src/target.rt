@@ -7,8 +7,8 @@ ghost use Rattle.rv_enclaves.specs.Blocks.{no_block};
 ghost use Rattle.rv_monitor.specs.State.{IsKept};
 ghost use Rattle.rv_debug.specs.Returns.{IsStoredIn};
 ghost use Rattle.rv_debug.specs.Steps.{no_steps, run};
-ghost use Rattle.rv_debug.specs.BothBenches.{TargetsAgreeBut, can_scramble_in, region_of, scrambled_in};
-ghost use Rattle.rv_debug.specs.Targets.{chosen_of, hart_of, harts_of, memory_of, pc_of, stepped, with_chosen, register_set, timer_set, poked, IsBare, KeepsMonitor};
+ghost use Rattle.rv_debug.specs.BothBenches.{TargetsAgreeBut, can_scramble_in, region_in, scrambled_in};
+ghost use Rattle.rv_debug.specs.Targets.{chosen_of, hart_of, harts_of, memory_of, pc_of, target_stepped, with_chosen, register_set, timer_set, poked, IsBare, KeepsMonitor};
 
 use crate::addresses::Addresses;
 use crate::chosen::ChosenHart;
@@ -71,7 +71,7 @@ impl Target {
 
     /// The region of a slot, where its enclave is live.
     pub(crate) fn region(&self, slot: Slot) -> Option<Block>
-        ensures { option_case result no_block (λ block. block) ≡ region_of slot self.now }
+        ensures { option_case result no_block (λ block. block) ≡ region_in slot self.now }
     {
         match self {
             Target::Bare(_) => None,
@@ -189,7 +189,7 @@ impl Target {
 
     /// Does steps until one accesses a watched byte, or else so many are done, or else the next instruction is at a break.
     pub(crate) fn run(&mut self, count: u32, breaks: &Addresses, watches: &Addresses) -> Ran
-        ensures run { run stepped pc_of breaks.now watches.now count (no_steps self.old) ≡ record { state = self.new; ran = result } }
+        ensures run { run target_stepped pc_of breaks.now watches.now count (no_steps self.old) ≡ record { state = self.new; ran = result } }
         ensures bare { IsBare self.old → result.entered ≡ 0 }
         ensures monitor { KeepsMonitor self.old → KeepsMonitor self.new }
     {
@@ -202,7 +202,7 @@ impl Target {
 
 /// The steps of a machine alone, which enter no enclave.
 fn run_bare(machine: &mut Machine, count: u32, breaks: &Addresses, watches: &Addresses) -> Ran
-    ensures run { run stepped pc_of breaks.now watches.now count (no_steps (Target.Bare machine.old)) ≡ record { state = Target.Bare machine.new; ran = result } }
+    ensures run { run target_stepped pc_of breaks.now watches.now count (no_steps (Target.Bare machine.old)) ≡ record { state = Target.Bare machine.new; ran = result } }
     ensures none { result.entered ≡ 0 }
 {
     run_steps(machine, count, breaks, watches)
@@ -215,7 +215,7 @@ fn run_monitored(
     breaks: &Addresses,
     watches: &Addresses,
 ) -> Ran
-    ensures run { run stepped pc_of breaks.now watches.now count (no_steps (Target.Monitored chosen.old)) ≡ record { state = Target.Monitored chosen.new; ran = result } }
+    ensures run { run target_stepped pc_of breaks.now watches.now count (no_steps (Target.Monitored chosen.old)) ≡ record { state = Target.Monitored chosen.new; ran = result } }
     ensures kept { IsKept chosen.new.state }
 {
     let ran = run_steps(chosen, count, breaks, watches);

@@ -15,16 +15,16 @@ use Rattle.rv_text.specs.Digits.{hex3, hex8}
 -- ---- operands
 
 -- a register by its number
-abbrev pub register_text : ℕ → List ℕ
-register_text number = codes "x" ++ decimal number
+abbrev pub register_operand_text : ℕ → List ℕ
+register_operand_text number = codes "x" ++ decimal number
 
 -- a number in hexadecimal, lower case, without leading zeros
 abbrev pub hex_text : ℕ → List ℕ
 hex_text n = codes "0x" ++ digits 16 false n
 
 -- a control and status register by its number
-abbrev pub csr_text : ℕ → List ℕ
-csr_text number = codes "0x" ++ hex3 number
+abbrev pub csr_operand_text : ℕ → List ℕ
+csr_operand_text number = codes "0x" ++ hex3 number
 
 -- the signed number that a field of so many bits is in two's complement
 abbrev pub signed_text : ℕ → ℕ → List ℕ
@@ -32,7 +32,7 @@ signed_text width field = if nat_lt field (2 ^ (width - 1)) then decimal field e
 
 -- an offset of twelve bits from a register
 abbrev pub address_text : ℕ → ℕ → List ℕ
-address_text offset base = signed_text 12 offset ++ codes "(" ++ register_text base ++ codes ")"
+address_text offset base = signed_text 12 offset ++ codes "(" ++ register_operand_text base ++ codes ")"
 
 -- a letter where a set has the bit
 abbrev pub letter_text : ℕ → ℕ → List ℕ → List ℕ
@@ -46,25 +46,25 @@ accesses_text set =
 
 -- the operands of an instruction, in their order
 abbrev pub operand_texts : Instr → List (List ℕ)
-operand_texts (Lui rd imm) = register_text rd ∷ hex_text (imm / 2 ^ 12) ∷ []
-operand_texts (Auipc rd imm) = register_text rd ∷ hex_text (imm / 2 ^ 12) ∷ []
-operand_texts (Jal rd offset) = register_text rd ∷ signed_text 21 offset ∷ []
-operand_texts (Jalr rd rs1 offset) = register_text rd ∷ address_text offset rs1 ∷ []
-operand_texts (Branch kind rs1 rs2 offset) = register_text rs1 ∷ register_text rs2 ∷ signed_text 13 offset ∷ []
-operand_texts (Load kind rd rs1 offset) = register_text rd ∷ address_text offset rs1 ∷ []
-operand_texts (Store kind rs1 rs2 offset) = register_text rs2 ∷ address_text offset rs1 ∷ []
-operand_texts (OpImm kind rd rs1 imm) = register_text rd ∷ register_text rs1 ∷ signed_text 12 imm ∷ []
-operand_texts (ShiftImm kind rd rs1 shamt) = register_text rd ∷ register_text rs1 ∷ decimal shamt ∷ []
-operand_texts (Op kind rd rs1 rs2) = register_text rd ∷ register_text rs1 ∷ register_text rs2 ∷ []
+operand_texts (Lui rd imm) = register_operand_text rd ∷ hex_text (imm / 2 ^ 12) ∷ []
+operand_texts (Auipc rd imm) = register_operand_text rd ∷ hex_text (imm / 2 ^ 12) ∷ []
+operand_texts (Jal rd offset) = register_operand_text rd ∷ signed_text 21 offset ∷ []
+operand_texts (Jalr rd rs1 offset) = register_operand_text rd ∷ address_text offset rs1 ∷ []
+operand_texts (Branch kind rs1 rs2 offset) = register_operand_text rs1 ∷ register_operand_text rs2 ∷ signed_text 13 offset ∷ []
+operand_texts (Load kind rd rs1 offset) = register_operand_text rd ∷ address_text offset rs1 ∷ []
+operand_texts (Store kind rs1 rs2 offset) = register_operand_text rs2 ∷ address_text offset rs1 ∷ []
+operand_texts (OpImm kind rd rs1 imm) = register_operand_text rd ∷ register_operand_text rs1 ∷ signed_text 12 imm ∷ []
+operand_texts (ShiftImm kind rd rs1 shamt) = register_operand_text rd ∷ register_operand_text rs1 ∷ decimal shamt ∷ []
+operand_texts (Op kind rd rs1 rs2) = register_operand_text rd ∷ register_operand_text rs1 ∷ register_operand_text rs2 ∷ []
 operand_texts (Fence fm pred succ rd rs1) = accesses_text pred ∷ accesses_text succ ∷ []
-operand_texts (Csr kind rd rs1 csr) = register_text rd ∷ csr_text csr ∷ register_text rs1 ∷ []
-operand_texts (CsrImm kind rd uimm csr) = register_text rd ∷ csr_text csr ∷ decimal uimm ∷ []
+operand_texts (Csr kind rd rs1 csr) = register_operand_text rd ∷ csr_operand_text csr ∷ register_operand_text rs1 ∷ []
+operand_texts (CsrImm kind rd uimm csr) = register_operand_text rd ∷ csr_operand_text csr ∷ decimal uimm ∷ []
 operand_texts Ecall = []
 operand_texts Ebreak = []
 operand_texts Sret = []
 operand_texts Mret = []
 operand_texts Wfi = []
-operand_texts (SfenceVma rs1 rs2) = register_text rs1 ∷ register_text rs2 ∷ []
+operand_texts (SfenceVma rs1 rs2) = register_operand_text rs1 ∷ register_operand_text rs2 ∷ []
 
 -- ---- lines
 

@@ -7,7 +7,7 @@ use Rattle.std.proofs.lemmas.List.Elements.{filter_more}
 use Rattle.std.proofs.lemmas.List.FromFn.{filter_of_map_range_with_len_more}
 use Rattle.rv_elf.specs.declared.segment.Segment.{Segment}
 use Rattle.rv_elf.specs.Fields.{e_phoff, p_type}
-use Rattle.rv_elf.specs.Segments.{is_load, segment_at, is_empty, occupying}
+use Rattle.rv_elf.specs.Segments.{is_load, segment_at, has_no_bytes, occupying}
 
 -- the place of a header
 abbrev pub place_of : List ℕ → ℕ → ℕ
@@ -41,14 +41,14 @@ pub with_occupying : (segments : List Segment) (i : ℕ) (default : Segment) →
     → occupying (take (i + 1) segments) ≡ occupying (take i segments) ++ slice_index_or segments i default ∷ []
 unfolding occupying
 with_occupying segments i default inside takes =
-    filter_more (λ segment. not (is_empty segment)) segments i default inside ∙ rw (ne_eqb (slice_index_or segments i default).memory_size 0 takes) refl
+    filter_more (λ segment. not (has_no_bytes segment)) segments i default inside ∙ rw (ne_eqb (slice_index_or segments i default).memory_size 0 takes) refl
 
 pub without_occupying : (segments : List Segment) (i : ℕ) (default : Segment) → i < length segments → (slice_index_or segments i default).memory_size ≡ 0
     → occupying (take (i + 1) segments) ≡ occupying (take i segments)
 unfolding occupying
 without_occupying segments i default inside none =
-    filter_more (λ segment. not (is_empty segment)) segments i default inside
-    ∙ rw (eq-eqb (slice_index_or segments i default).memory_size 0 none) (append-nil (filter (λ segment. not (is_empty segment)) (take i segments)))
+    filter_more (λ segment. not (has_no_bytes segment)) segments i default inside
+    ∙ rw (eq-eqb (slice_index_or segments i default).memory_size 0 none) (append-nil (filter (λ segment. not (has_no_bytes segment)) (take i segments)))
 
 pub occupying_none : occupying [] ≡ []
 unfolding occupying

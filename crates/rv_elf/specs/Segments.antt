@@ -24,12 +24,12 @@ unfoldable pub segments_of : List ℕ → List Segment
 segments_of file = map (segment_at file) (filter (is_load file) (header_places file))
 
 -- the segment takes no memory
-abbrev pub is_empty : Segment → Bool
-is_empty segment = segment.memory_size == 0
+abbrev pub has_no_bytes : Segment → Bool
+has_no_bytes segment = segment.memory_size == 0
 
 -- those that take memory: the others are skipped
 unfoldable pub occupying : List Segment → List Segment
-occupying segments = filter (λ segment. not (is_empty segment)) segments
+occupying segments = filter (λ segment. not (has_no_bytes segment)) segments
 
 -- a raw image of so many bytes: one segment at the first address that an image may use, or none where it has no byte
 abbrev pub raw_segments : ℕ → Bool → List Segment

@@ -13,7 +13,7 @@ use Rattle.rv_enclaves.specs.declared.call.Call.TheVariants as calls
 use Rattle.rv_enclaves.proofs.Prelude.{AgreeOutside, Block, Context, Contexts, EnclaveState, IsLawfulSlot, IsValid, Proposal, Shared, SharedButFor, SlotInfo}
 use Rattle.rv_enclaves.proofs.Prelude.{Slots, context_at, created, destroyed, first_context, has, is_block_size, is_inside, is_lawful, is_live, is_private}
 use Rattle.rv_enclaves.proofs.Prelude.{measured, measurement_at, measurement_of, meets, new_slot, option_case, recorded, region, region_of, slot_at}
-use Rattle.rv_enclaves.proofs.Prelude.{with_bytes, with_context, with_slot, with_state, zeroed}
+use Rattle.rv_enclaves.proofs.Prelude.{with_bytes_at, with_context, with_slot, with_state, zeroed}
 use Rattle.rv_enclaves.proofs.Agreement.{IsSeen, inside-is, same_read, read-none, write-alike, zeros-alike}
 use Rattle.rv_enclaves.proofs.BlockLaws.{meets_at}
 use Rattle.rv_enclaves.proofs.SavedLists.{same_at_set, same_after_set, length_after}
@@ -161,7 +161,7 @@ module _ (e : ℕ) (table : Slots) (m n : List ℕ) (cs ds : Contexts) (agree : 
   unfolding measured
   measured_alike k address =
       let bytes = measurement_at table k in
-      still table (with_bytes m address bytes) (with_bytes n address bytes) cs ds refl (write-alike (is_private table e) m n address bytes agree) saved
+      still table (with_bytes_at m address bytes) (with_bytes_at n address bytes) cs ds refl (write-alike (is_private table e) m n address bytes agree) saved
 
   -- ---- a switch of another slot
 

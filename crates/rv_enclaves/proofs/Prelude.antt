@@ -9,7 +9,7 @@ pub use Rattle.rv_enclaves.specs.Destroy.{zeroed}
 unfoldable pub use Rattle.rv_enclaves.specs.Destroy.{destroyed}
 pub use Rattle.rv_enclaves.specs.Layout.{host_entry, region_entry, window_entry, window_entry_of}
 unfoldable pub use Rattle.rv_enclaves.specs.Layout.{entry_at, layout}
-pub use Rattle.rv_enclaves.specs.Measure.{measurement_at, with_bytes}
+pub use Rattle.rv_enclaves.specs.Measure.{measurement_at, with_bytes_at}
 unfoldable pub use Rattle.rv_enclaves.specs.Measure.{measured}
 pub use Rattle.rv_enclaves.specs.Refusals.{first_refusal}
 pub use Rattle.rv_enclaves.specs.SharedButFor.{AgreeOutside, is_private, SharedButFor}

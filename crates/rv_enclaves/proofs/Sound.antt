@@ -15,7 +15,7 @@ use Rattle.rv_enclaves.specs.declared.call.Call.TheVariants as calls
 use Rattle.rv_enclaves.proofs.Prelude.{AreApart, Block, Context, Enclave, EnclaveState, Host, IsSound, Proposal, Running, Shared, SlotInfo, Slots, World}
 use Rattle.rv_enclaves.proofs.Prelude.{can_go_on, context_at, created, destroyed, first_context, has, is_held, is_lawful, is_running, is_window, is_world_of}
 use Rattle.rv_enclaves.proofs.Prelude.{length-write, measured, measurement_at, measurement_of, new_slot, option_case, overlaps, recorded, region, runs}
-use Rattle.rv_enclaves.proofs.Prelude.{slot_at, window, with_bytes, with_context, with_slot, with_state, write, zeroed}
+use Rattle.rv_enclaves.proofs.Prelude.{slot_at, window, with_bytes_at, with_context, with_slot, with_state, write, zeroed}
 use Rattle.rv_enclaves.specs.CallLaws.{CallsKeepLaw}
 use Rattle.rv_enclaves.proofs.Refusals.{MayCreate, IsTaken, may_create, may_take, takes_rests}
 use Rattle.rv_enclaves.proofs.Slots.{at_same, at_other, IsFree, free_from}
@@ -206,7 +206,7 @@ pub measured_sound : (shared : Shared) (worlds : List World) (k address : â„•) â
 unfolding measured
 measured_sound shared worlds k address sound =
     let bytes = measurement_at shared.table k in
-    sound_by_size shared worlds (with_bytes shared.memory address bytes) sound
+    sound_by_size shared worlds (with_bytes_at shared.memory address bytes) sound
     (size_with_bytes shared.memory address bytes (write shared.memory address bytes) refl)
 
 -- ---- switches

@@ -30,8 +30,8 @@ unfoldable pub may_store_all : List ℕ → Entries → ℕ → Bool
 may_store_all memory entries address = list_all (may_store memory entries) (range_with_len address 32)
 
 -- the memory with the bytes at an address, where they are inside
-abbrev pub with_bytes : List ℕ → ℕ → List ℕ → List ℕ
-with_bytes memory address bytes = option_case (write memory address bytes) memory (λ after. after)
+abbrev pub with_bytes_at : List ℕ → ℕ → List ℕ → List ℕ
+with_bytes_at memory address bytes = option_case (write memory address bytes) memory (λ after. after)
 
 -- the recorded measurement of the enclave of a slot; [] where none is live, which NoEnclave refuses
 abbrev pub measurement_at : Slots → ℕ → List ℕ
@@ -45,4 +45,4 @@ measure_refusals shared entries k address =
 
 -- what is shared after a measure that is not refused
 unfoldable pub measured : Shared → ℕ → ℕ → Shared
-measured shared k address = record shared { memory = with_bytes shared.memory address (measurement_at shared.table k) }
+measured shared k address = record shared { memory = with_bytes_at shared.memory address (measurement_at shared.table k) }

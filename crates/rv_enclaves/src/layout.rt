@@ -2,7 +2,7 @@
 
 ghost use Rattle.std.specs.Prelude.{◌≡◌, Some, MatchOption};
 ghost use Rattle.rv_enclaves.specs.Layout.{Entry as EntryOf, napot as napot_of, entry_at as entry_at_of, region_entry as region_entry_of, window_entry_of, unused as unused_of, layout, mie_of};
-ghost use Rattle.rv_enclaves.specs.Unlocked.{HasNoLock};
+ghost use Rattle.rv_enclaves.specs.Unlocked.{IsUnlocked};
 
 use crate::block::{Block, monitor_block};
 use crate::slot::Slot;
@@ -85,7 +85,7 @@ fn used_entry_at(table: &Table, world: &World, i: u8) -> Option<Entry>
 /// Sets the sixteen entries to those of a table and a world, at once: the monitor's range, the region of each slot, the window of the
 /// enclave that runs, and the rest of the addresses while the host does. (RISC-V Privileged Architecture 20211203, section 3.7.1.)
 pub fn write_layout(pmp: &mut Pmp, table: &Table, world: &World)
-    requires { HasNoLock pmp.old }
+    requires { IsUnlocked pmp.old }
     ensures { pmp.new ≡ layout table.now world.now }
 {
     let mut cfgs = [0; 16];

@@ -4,7 +4,7 @@ ghost use Rattle.std.specs.Prelude.{◌≡◌, ◌-◌, ◌≤◌, ◌+◌, ◌<
 ghost use Rattle.std.specs.List.{list_all, range_with_len};
 ghost use Rattle.rv_enclaves.specs.Refusals.{first_refusal};
 ghost use Rattle.rv_enclaves.specs.Table.{slot_at};
-ghost use Rattle.rv_enclaves.specs.Measure.{measured, measure_refusals, measured_slot, may_store as may_store_of, may_store_all as may_store_all_of, with_bytes};
+ghost use Rattle.rv_enclaves.specs.Measure.{measured, measure_refusals, measured_slot, may_store as may_store_of, may_store_all as may_store_all_of, with_bytes_at};
 
 use crate::refusal::Refusal;
 use crate::shared::Shared;
@@ -71,7 +71,7 @@ fn check_measure(
 /// Puts 32 bytes at an address, where they are inside the memory.
 #[tactic(auto, unfolding(rv_memory::specs::Memory::write))]
 fn put_bytes(memory: &mut Ram, address: u32, bytes: &[u8; 32])
-    ensures { memory.new ≡ with_bytes memory.old address bytes.now }
+    ensures { memory.new ≡ with_bytes_at memory.old address bytes.now }
 {
     if memory.contains(address, 32) {
         memory.write_part(address, bytes);

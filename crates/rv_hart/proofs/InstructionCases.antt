@@ -14,7 +14,7 @@ use Rattle.rv_state.specs.Interrupts.{is_machine}
 use Rattle.rv_state.specs.Registers.{register, with_register}
 use Rattle.rv_state.specs.declared.csr_fault.CsrFault.{CsrFault}
 use Rattle.rv_hart.specs.Arithmetic.{sum_of, is_taken}
-use Rattle.rv_hart.specs.CsrInstructions.{is_written, changed, old_word, new_csrs, unless_fault, csr_changed}
+use Rattle.rv_hart.specs.CsrInstructions.{is_written, changed_word, old_word, new_csrs, unless_fault, csr_changed}
 use Rattle.rv_hart.specs.Exceptions.{misaligned}
 use Rattle.rv_hart.specs.Hart.{advanced, with_result, jumped, branched}
 use Rattle.rv_hart.specs.HartState.{Hart}
@@ -62,14 +62,14 @@ unfolding csr_changed
 changed-by hart P changes kind rd source operand csr word =
     elim (old_word hart kind rd csr) as (λ o.
     IfOk (unless_illegal word
-    (unless_fault o (λ old. unless_fault (new_csrs hart kind source (changed kind old operand) csr)
+    (unless_fault o (λ old. unless_fault (new_csrs hart kind source (changed_word kind old operand) csr)
     (λ csrs. Ok (with_result (record hart { csrs = csrs }) rd old))))) P) [
       | Ok old ↦
           elim (is_written kind source) as (λ b.
           IfOk (unless_illegal word
-          (unless_fault (if b then write_result hart.csrs csr (changed kind old operand) hart.mode else Ok hart.csrs)
+          (unless_fault (if b then write_result hart.csrs csr (changed_word kind old operand) hart.mode else Ok hart.csrs)
           (λ csrs. Ok (with_result (record hart { csrs = csrs }) rd old)))) P)
-          [ true ↦ written-by hart P changes rd old word csr (changed kind old operand) _ refl | false ↦ changes.computes _ _ ]
+          [ true ↦ written-by hart P changes rd old word csr (changed_word kind old operand) _ refl | false ↦ changes.computes _ _ ]
       | Err fault ↦ tt
     ]
 

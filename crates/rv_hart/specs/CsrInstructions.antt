@@ -26,10 +26,10 @@ is_written kinds.Set source = not (source == 0)
 is_written kinds.Clear source = not (source == 0)
 
 -- the word that is written, by the old one and the operand
-abbrev pub changed : CsrKind → ℕ → ℕ → ℕ
-changed kinds.Write old operand = operand
-changed kinds.Set old operand = or_by_bits old operand
-changed kinds.Clear old operand = and_not_by_bits old operand
+abbrev pub changed_word : CsrKind → ℕ → ℕ → ℕ
+changed_word kinds.Write old operand = operand
+changed_word kinds.Set old operand = or_by_bits old operand
+changed_word kinds.Clear old operand = and_not_by_bits old operand
 
 -- where nothing is read, rd is x0, and 0 is put there
 abbrev pub old_word : Hart → CsrKind → ℕ → ℕ → Result ℕ CsrFault
@@ -45,7 +45,7 @@ unless_fault access go = result_case access go Err
 unfoldable pub csr_changed : Hart → CsrKind → ℕ → ℕ → ℕ → ℕ → Result Hart CsrFault
 csr_changed hart kind rd source operand csr =
     unless_fault (old_word hart kind rd csr) (λ old.
-    unless_fault (new_csrs hart kind source (changed kind old operand) csr) (λ csrs.
+    unless_fault (new_csrs hart kind source (changed_word kind old operand) csr) (λ csrs.
     Ok (with_result (record hart { csrs = csrs }) rd old)))
 
 -- the register that an instruction writes where it is done

@@ -67,8 +67,8 @@ abbrev pub proceeds : Hart → Result Hart Trap
 proceeds hart = Ok (advanced hart)
 
 -- and a register is written
-abbrev pub writes : Hart → ℕ → ℕ → Result Hart Trap
-writes hart rd value = Ok (with_result hart rd value)
+abbrev pub gives : Hart → ℕ → ℕ → Result Hart Trap
+gives hart rd value = Ok (with_result hart rd value)
 
 -- pc and an offset of so many bits
 abbrev pub relative : Hart → ℕ → ℕ → ℕ
@@ -84,16 +84,16 @@ request _ hart = requests.Nothing
 
 -- the hart after the instruction that the word spells is executed, with the number that its load gave, or its exception
 unfoldable pub executed : Instr → Hart → ℕ → ℕ → Result Hart Trap
-executed (Lui rd imm) hart word loaded = writes hart rd imm
-executed (Auipc rd imm) hart word loaded = writes hart rd (sum_of hart.pc imm)
+executed (Lui rd imm) hart word loaded = gives hart rd imm
+executed (Auipc rd imm) hart word loaded = gives hart rd (sum_of hart.pc imm)
 executed (Jal rd offset) hart word loaded = jumped hart rd (relative hart offset 21)
 executed (Jalr rd rs1 offset) hart word loaded = jumped hart rd (made_even (address_of hart rs1 offset))
 executed (Branch kind rs1 rs2 offset) hart word loaded = branched hart (is_taken kind (x hart rs1) (x hart rs2)) (relative hart offset 13)
-executed (Load kind rd rs1 offset) hart word loaded = writes hart rd (load_value kind loaded)
+executed (Load kind rd rs1 offset) hart word loaded = gives hart rd (load_value kind loaded)
 executed (Store kind rs1 rs2 offset) hart word loaded = proceeds hart
-executed (OpImm kind rd rs1 imm) hart word loaded = writes hart rd (op_imm_value kind (x hart rs1) (sign_extended imm 12))
-executed (ShiftImm kind rd rs1 shamt) hart word loaded = writes hart rd (shift_value kind (x hart rs1) shamt)
-executed (Op kind rd rs1 rs2) hart word loaded = writes hart rd (op_value kind (x hart rs1) (x hart rs2))
+executed (OpImm kind rd rs1 imm) hart word loaded = gives hart rd (op_imm_value kind (x hart rs1) (sign_extended imm 12))
+executed (ShiftImm kind rd rs1 shamt) hart word loaded = gives hart rd (shift_value kind (x hart rs1) shamt)
+executed (Op kind rd rs1 rs2) hart word loaded = gives hart rd (op_value kind (x hart rs1) (x hart rs2))
 executed (Fence fm pred succ rd rs1) hart word loaded = proceeds hart
 executed (Csr kind rd rs1 csr) hart word loaded = unless_illegal word (csr_changed hart kind rd rs1 (x hart rs1) csr)
 executed (CsrImm kind rd uimm csr) hart word loaded = unless_illegal word (csr_changed hart kind rd uimm uimm csr)

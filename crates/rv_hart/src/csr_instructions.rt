@@ -1,7 +1,7 @@
 //! The instructions that read and change a control and status register (Unprivileged ISA, section 9.1).
 
 ghost use Rattle.std.specs.Prelude.{◌≡◌, ◌^◌, ◌<◌, Ok, Err, MatchResult, OnErr};
-ghost use Rattle.rv_hart.specs.CsrInstructions.{is_read as is_read_of, is_written as is_written_of, changed as changed_of};
+ghost use Rattle.rv_hart.specs.CsrInstructions.{is_read as is_read_of, is_written as is_written_of, changed_word as changed_of};
 
 use crate::hart::Hart;
 use crate::trap::{StepOutcome, exception};

@@ -10,9 +10,9 @@ use Rattle.rv_monitor.specs.Prelude.{kept_context, measured, measured_slot, meas
 use Rattle.rv_monitor.specs.Prelude.{proposed, ram_base, recorded, region, status_of, step, with_context, with_slot, with_state, write}
 use Rattle.rv_monitor.specs.declared.next.Next.{Next}
 use Rattle.rv_monitor.proofs.Prelude.{AskedLaw, AskedStepLaw, Handled, Machine, MonitoredState, MonitoredStepped, SameAsked, SameWhereSame}
-use Rattle.rv_monitor.proofs.Prelude.{SameWork, a0, a1, answered, asked_by, bare, both_ways, cases_eq, entered_slot, eq-eqb, handled}
+use Rattle.rv_monitor.proofs.Prelude.{SameWork, a0, a1, answered, asked_by, bare_state, both_ways, cases_eq, entered_slot, eq-eqb, handled}
 use Rattle.rv_monitor.proofs.Prelude.{is_entering, left_slot, monitored_step, ne_eqb, returned, returned_to, seat_at_start, seated}
-use Rattle.rv_monitor.proofs.Prelude.{seen_by, state_after, step_of, with_layout}
+use Rattle.rv_monitor.proofs.Prelude.{seen_by, enclave_state_after, step_of, with_layout}
 use Rattle.rv_monitor.proofs.Places.{is_trapping}
 use Rattle.rv_monitor.proofs.TrapSteps.{seat_after, trapped_step}
 use Rattle.rv_monitor.proofs.Works.{AsksFor, by_work_of_both, entering, kept_by, over}
@@ -112,7 +112,7 @@ module _ (table : Slots) (m n : List â„•) (cs ds : Contexts) (size : length m â‰
           record {
             seat = refl;
             next = refl;
-            shared = with_kept (with_state table k (state_after trap.cause seat.hart.regs)) k (Some (kept_by trap.cause seat));
+            shared = with_kept (with_state table k (enclave_state_after trap.cause seat.hart.regs)) k (Some (kept_by trap.cause seat));
           };
       stays = record { seat = refl; next = refl; shared = untouched };
       forwards = record { seat = refl; next = refl; shared = untouched };
@@ -160,7 +160,7 @@ asked_one seat one other trap trapped trapped_too same =
     let there : MonitoredState = record { seat = seat; shared = other } in
     let work = asked_law (seat_after seat trap) trap one other (asked_after trap.cause seat trap one other same) in
     rw (trapped_step here trap trapped, trapped_step there trap trapped_too)
-    (returned_same one other (step (bare here)).outcome (step (bare there)).outcome _ _ work)
+    (returned_same one other (step (bare_state here)).outcome (step (bare_state there)).outcome _ _ work)
 
 pub asked_step_law : AskedStepLaw
 asked_step_law hart machine other trap seats trapped trapped_too same =

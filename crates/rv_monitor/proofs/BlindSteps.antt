@@ -1,16 +1,16 @@
--- A bare step of a kept state neither depends on a region that is not the world's nor changes it.
+-- A bare_state step of a kept state neither depends on a region that is not the world's nor changes it.
 use Rattle.std.proofs.Common.{◌≡◌, ℕ, Bool, false, List, Option, Some, None}
 use Rattle.rv_enclaves.proofs.Agreement.{IsSeen, same_read, same_write}
 use Rattle.rv_memory.specs.declared.touched.Touched.{Touched}
 use Rattle.rv_monitor.specs.Prelude.{Access, AgreeOutside, Fetch, Mode, Read, Span, State, bytes_in, data_mode, is_machine, is_private}
 use Rattle.rv_monitor.specs.Prelude.{is_world_of, step}
-use Rattle.rv_monitor.proofs.Prelude.{AgreeOn, BareLaw, IsOwn, MayTouch, MayTouchAll, MonitoredState, SameIn, StepAlike, Stores, bare}
+use Rattle.rv_monitor.proofs.Prelude.{AgreeOn, BareLaw, IsOwn, MayTouch, MayTouchAll, MonitoredState, SameIn, StepAlike, Stores, bare_state}
 use Rattle.rv_monitor.proofs.Prelude.{confined, inside_is, permitted_apart, small_ram, some_bytes, touches_permitted}
 use Rattle.rv_monitor.proofs.KeptReaches.{below_M, data_below}
 
 module _ (e : ℕ) (state : MonitoredState) (kept : IsOwn state) (other : is_world_of e state.seat.world ≡ false) where
   abbrev before : State
-  before = bare state
+  before = bare_state state
 
   abbrev hidden : ℕ → Bool
   hidden = is_private state.shared.table e

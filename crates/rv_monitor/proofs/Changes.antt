@@ -8,10 +8,10 @@ use Rattle.rv_enclaves.specs.declared.block.Block.{Block}
 use Rattle.rv_monitor.specs.Prelude.{Byte, Call, Destroy, IsLawfulSlot, IsValid, Measure, S, Seat, Shared, Span, Stepped, Trap, World}
 use Rattle.rv_monitor.specs.Prelude.{Write, asked_in, byte_at, bytes_from, bytes_in, created, data_mode, destroyed, first_refusal, has}
 use Rattle.rv_monitor.specs.Prelude.{is_inside, is_live, layout, may_store, may_store_all, measure_refusals, measured, measured_slot}
-use Rattle.rv_monitor.specs.Prelude.{option_case, permits, region, slot_at, step, verdict, with_bytes, with_slot, write, zeroed}
+use Rattle.rv_monitor.specs.Prelude.{option_case, permits, region, slot_at, step, verdict, with_bytes_at, with_slot, write, zeroed}
 use Rattle.rv_monitor.proofs.Prelude.{ByMonitor, ChangeLaw, Entries, IsChanged, IsConfined, IsMeasured, IsOwn, IsStoredInReach, IsTaken}
 use Rattle.rv_monitor.proofs.Prelude.{MayTouch, MonitoredState, SlotInfo, Stores, TouchesPermitted, a0, a1, and_from, and_parts, at_same}
-use Rattle.rv_monitor.proofs.Prelude.{bare, both_ways, cases_Bool, cases_lt, confined, entered_slot, handled, is_call, le-leb, left_slot}
+use Rattle.rv_monitor.proofs.Prelude.{bare_state, both_ways, cases_Bool, cases_lt, confined, entered_slot, handled, is_call, le-leb, left_slot}
 use Rattle.rv_monitor.proofs.Prelude.{length-replicate, live_in_range, lt-ltb, reach_law, touches_permitted}
 use Rattle.rv_monitor.proofs.KeptReaches.{below_M, data_below, kept_reach}
 use Rattle.rv_monitor.proofs.StepKept.{agrees_itself}
@@ -90,7 +90,7 @@ module _ (seat : Seat) (shared : Shared) (valid : IsValid shared.memory shared.t
     put_changes : (o : Option SlotInfo) → IfSome o (IsLawfulSlot shared.memory) → is_some o ≡ true
         → Changes seat.world seat.hart.regs shared byte (record shared {
           memory =
-              with_bytes shared.memory (a1 seat) (option_case o [] (λ info. info.measurement));
+              with_bytes_at shared.memory (a1 seat) (option_case o [] (λ info. info.measurement));
         })
     put_changes None lawful is_there = cc
     put_changes (Some info) lawful is_there = elim (cases_lt byte (a1 seat)) [
@@ -135,13 +135,13 @@ module _ (seat : Seat) (shared : Shared) (valid : IsValid shared.memory shared.t
     forwards = inl refl;
   })
 
--- ---- the bare step
+-- ---- the bare_state step
 
 module _ (state : MonitoredState) (kept : IsOwn state) (byte : ℕ) where
   abbrev Stored : Option Span → List ℕ → Type 0
   Stored stored memory = byte_at memory byte ≡ byte_at state.shared.memory byte ⊎ IsStoredInReach state.seat.world state.shared stored byte
 
-  stored_by : (stored : Option Span) (bytes after : List ℕ) → MayTouch (bare state) (data_mode state.seat.hart) Write stored
+  stored_by : (stored : Option Span) (bytes after : List ℕ) → MayTouch (bare_state state) (data_mode state.seat.hart) Write stored
       → Stores bytes state.shared.memory after stored → Stored stored after
   stored_by None bytes after may is = inl (ap (λ (memory : List ℕ). byte_at memory byte) is)
   stored_by (Some span) bytes after may stores =
@@ -162,7 +162,7 @@ module _ (state : MonitoredState) (kept : IsOwn state) (byte : ℕ) where
         ]
       ]
 
-  bare_changes : (after : Stepped) → IsConfined (bare state) after → TouchesPermitted (bare state) after
+  bare_changes : (after : Stepped) → IsConfined (bare_state state) after → TouchesPermitted (bare_state state) after
       → Stored after.outcome.touched.stored after.state.memory
   bare_changes after is may =
       let agree = agrees_itself state.shared.memory after.outcome.touched in
@@ -170,7 +170,7 @@ module _ (state : MonitoredState) (kept : IsOwn state) (byte : ℕ) where
 
 pub changes : ChangeLaw
 changes state kept byte = by_step state (λ after. byte_at after.state.shared.memory byte ≡ byte_at state.shared.memory byte ⊎ IsChanged state after byte)
-    (λ none. elim (bare_changes state kept byte (step (bare state)) (confined (bare state)) (touches_permitted (bare state))) [
+    (λ none. elim (bare_changes state kept byte (step (bare_state state)) (confined (bare_state state)) (touches_permitted (bare_state state))) [
       | inl same ↦ inl same
       | inr stored ↦ inr (inl stored)
     ])

@@ -11,7 +11,7 @@ use Rattle.rv_monitor.specs.Prelude.{Call, Context, Contexts, Enclave, Running, 
 use Rattle.rv_monitor.specs.Prelude.{measured_slot, new_slot, option_case, proposed, ram_base, region, region_of, slot_at, status_of}
 use Rattle.rv_monitor.specs.Prelude.{with_context, with_slot, with_state}
 use Rattle.rv_monitor.proofs.Prelude.{HandledAlike, HandlerLaw, IsTaken, SlotInfo, a0, a1, answered, at_same, both_ways, cases_eq}
-use Rattle.rv_monitor.proofs.Prelude.{entered_slot, eq-eqb, going_on_from, handled, left_slot, live_in_range, state_after, with_layout}
+use Rattle.rv_monitor.proofs.Prelude.{entered_slot, eq-eqb, going_on_from, handled, left_slot, live_in_range, enclave_state_after, with_layout}
 use Rattle.rv_monitor.proofs.Works.{by_work_of_both, entering, kept_by, leaving, over}
 
 -- ---- the slot's own switch
@@ -92,7 +92,7 @@ module _ (e : ℕ) (table : Slots) (m n : List ℕ) (cs ds : Contexts) (works : 
       record {
         entered = refl;
         seat = record { world = refl; same = λ rests. refl };
-        shared = works.switches k (state_after trap.cause seat.hart.regs) (Some (kept_by trap.cause seat)) (λ same. both_ways _ other (eq-eqb k e (sym same)));
+        shared = works.switches k (enclave_state_after trap.cause seat.hart.regs) (Some (kept_by trap.cause seat)) (λ same. both_ways _ other (eq-eqb k e (sym same)));
       }
 
   handled_alike : length m ≡ length n → HandledAlike e (handled seat here trap) (handled seat there trap)

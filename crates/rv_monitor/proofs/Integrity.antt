@@ -8,7 +8,7 @@ use Rattle.rv_monitor.specs.Prelude.{context_at, created, destroyed, first_conte
 use Rattle.rv_monitor.specs.Prelude.{option_case, proposed, recorded, region, register, slot_at, with_context, with_slot, with_state}
 use Rattle.rv_monitor.proofs.Prelude.{Handled, IntegrityLaw, IsOwn, IsSpared, IsTaken, MayCreate, MonitoredState, SlotInfo, a0, at_other}
 use Rattle.rv_monitor.proofs.Prelude.{at_same, both_ways, cases_eq, entered_slot, enters, eq-eqb, free_slot_from, handled, left_slot}
-use Rattle.rv_monitor.proofs.Prelude.{live_in_range, monitored_step, reached_apart, seen_by, state_after}
+use Rattle.rv_monitor.proofs.Prelude.{live_in_range, monitored_step, reached_apart, seen_by, enclave_state_after}
 use Rattle.rv_monitor.proofs.Beside.{seat_spared}
 use Rattle.rv_monitor.proofs.Changes.{changes}
 use Rattle.rv_monitor.proofs.Kept.{own_kept}
@@ -69,7 +69,7 @@ module _ (k : ℕ) (seat : Seat) (shared : Shared) (valid : IsValid shared.memor
     measures = λ asks may passes stays. record { slot = refl; context = refl };
     enters = λ call asks enters host taken passes stays. other_state k (a0 seat) shared Running None passes;
     leaves = λ j host runs is passes stays.
-        other_state k j shared (state_after trap.cause seat.hart.regs) (Some (kept_by trap.cause seat)) (sym (ap (is_world_of k) runs) ∙ rests);
+        other_state k j shared (enclave_state_after trap.cause seat.hart.regs) (Some (kept_by trap.cause seat)) (sym (ap (is_world_of k) runs) ∙ rests);
     stays = λ passes stays. record { slot = refl; context = refl };
     forwards = λ passes stays. record { slot = refl; context = refl };
   })

@@ -2,7 +2,7 @@
 use Rattle.std.proofs.Common.{◌≡◌, ◌<◌, ℕ, suc, List, [], ◌∷◌, length, refl, ◌∙◌, ap, arith, sym, subst}
 use Rattle.std.specs.Prelude.{map, slice_index_or}
 use Rattle.rv_monitor.specs.Prelude.{Cause, Seat, Shared, Slots, Trap}
-use Rattle.rv_monitor.proofs.Prelude.{Entries, Handled, HasNoLock, IsSeated, entered_slot, forwarded, forwarded_csrs, handled_cause}
+use Rattle.rv_monitor.proofs.Prelude.{Entries, Handled, IsUnlocked, IsSeated, entered_slot, forwarded, forwarded_csrs, handled_cause}
 use Rattle.rv_monitor.proofs.Prelude.{left_slot, seat_at_start, seated, with_layout}
 use Rattle.rv_monitor.proofs.Works.{by_pieces}
 
@@ -51,6 +51,6 @@ work_entries seat shared trap =
 -- so where no entry was locked none is, whatever caused the trap
 pub work_unlocked : (seat : Seat) (shared : Shared) (cause : Cause) (left : Handled)
     → (let trap : Trap = record { cause = cause; tval = 0 } in handled_cause seat shared trap cause ≡ left)
-    → HasNoLock seat.hart.csrs.pmp → HasNoLock left.seat.hart.csrs.pmp
+    → IsUnlocked seat.hart.csrs.pmp → IsUnlocked left.seat.hart.csrs.pmp
 work_unlocked seat shared cause left is unlocked =
-    subst HasNoLock (sym (work_entries seat shared (record { cause = cause; tval = 0 })) ∙ ap entries_of is) unlocked
+    subst IsUnlocked (sym (work_entries seat shared (record { cause = cause; tval = 0 })) ∙ ap entries_of is) unlocked

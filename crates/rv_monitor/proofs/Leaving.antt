@@ -3,8 +3,8 @@ use Rattle.std.proofs.Common.{◌≡◌, ℕ, ◌⊎◌, true, Option, Some, Non
 use Rattle.std.proofs.Math.Bool.{or-false}
 use Rattle.rv_state.specs.declared.cause.Cause.TheVariants as causes
 use Rattle.rv_monitor.specs.Prelude.{Cause, Context, Enclave, Host, Outcome, Seat, StepOutcome, Trap, can_go_on, is_set, step}
-use Rattle.rv_monitor.proofs.Prelude.{Handled, IsOwn, LeaveLaw, MonitoredState, MonitoredStepped, bare, handled, kept_after, left_hart}
-use Rattle.rv_monitor.proofs.Prelude.{left_shared, left_slot, monitored_step, reason, returned, seen_by, state_after, value, with_layout}
+use Rattle.rv_monitor.proofs.Prelude.{Handled, IsOwn, LeaveLaw, MonitoredState, MonitoredStepped, bare_state, handled, kept_after, left_hart}
+use Rattle.rv_monitor.proofs.Prelude.{left_shared, left_slot, monitored_step, reason, returned, seen_by, enclave_state_after, value, with_layout}
 use Rattle.rv_monitor.proofs.Kept.{own_kept}
 use Rattle.rv_monitor.proofs.Places.{is_trapping, laid_by, step_seen}
 use Rattle.rv_monitor.proofs.Switched.{aligned_again}
@@ -21,7 +21,7 @@ module _ (before : MonitoredState) (k : ℕ) (host : Context) (runs : before.sea
 
   abbrev leaving_with : Context → Handled
   leaving_with context =
-      left_slot (lowered_by trap.cause seat) before.shared k (state_after trap.cause before.seat.hart.regs) context host
+      left_slot (lowered_by trap.cause seat) before.shared k (enclave_state_after trap.cause before.seat.hart.regs) context host
       (reason trap.cause before.seat.hart.regs) (value trap.cause before.seat.hart.regs)
 
   abbrev leaving_now : Handled
@@ -87,7 +87,7 @@ module _ (before : MonitoredState) (k : ℕ) (host : Context) (runs : before.sea
   left_one all is gone =
       let step_is = trapped_step before trap is in
       let there = subst (λ (after : MonitoredStepped). after.state.seat.world ≡ Host) step_is gone in
-      subst Left (sym step_is) (left_or_not (step (bare before)).outcome _ all work_goes there)
+      subst Left (sym step_is) (left_or_not (step (bare_state before)).outcome _ all work_goes there)
 
 pub leave_law : LeaveLaw
 leave_law hart machine kept k host trap runs kept_host is gone =

@@ -5,7 +5,7 @@ pub use Rattle.rv_enclaves.proofs.Refusals.{same_measure_refusals, takes_rests}
 pub use Rattle.rv_enclaves.proofs.Slots.{at_other, at_same, or-first, or-second}
 pub use Rattle.rv_enclaves.proofs.Sound.{created_sound, destroyed_sound, entered_sound, free_slot_from, left_sound, live_in_range}
 pub use Rattle.rv_enclaves.proofs.Sound.{measured_sound, sound_by_size}
-pub use Rattle.rv_enclaves.specs.Unlocked.{HasNoLock}
+pub use Rattle.rv_enclaves.specs.Unlocked.{IsUnlocked}
 pub use Rattle.rv_enclaves.specs.declared.slot_info.SlotInfo.{SlotInfo}
 pub use Rattle.rv_hart.proofs.Confined.{confined}
 pub use Rattle.rv_hart.proofs.StepLaws.{keeps_machine_parts, keeps_mprv_clear, touches_permitted, trap_keeps}
@@ -15,14 +15,14 @@ pub use Rattle.rv_monitor.specs.AgreeBut.{AgreeBut, SeatsAgreeBut, runs_on}
 pub use Rattle.rv_monitor.specs.Asked.{AskedLaw, AskedStepLaw, SameAsked, SameWhereSame, SameWork, asked_by, is_call, is_entering}
 pub use Rattle.rv_monitor.specs.CallRefusals.{a0, a1, call_refusals}
 pub use Rattle.rv_monitor.specs.Changes.{ByMonitor, ChangeLaw, ChangesInReach, IsChanged, IsMeasured, IsStoredInReach}
-pub use Rattle.rv_monitor.specs.Confidentiality.{BareLaw, ConfidentialityLaw, HandledAlike, HandlerLaw, StepAlike, bare, going_on_from}
-pub use Rattle.rv_monitor.specs.Debugger.{changed, reg_set, timer_set}
+pub use Rattle.rv_monitor.specs.Confidentiality.{BareLaw, ConfidentialityLaw, HandledAlike, HandlerLaw, StepAlike, bare_state, going_on_from}
+pub use Rattle.rv_monitor.specs.Debugger.{changed, reg_set, seat_timer_set}
 pub use Rattle.rv_monitor.specs.HartLaws.{EntryLaw, IsLeftAlone, KeptLaw, NotOwnLaw, RunningLaw, RunsOnNone, SchedChangeLaw, SchedKeptLaw}
 pub use Rattle.rv_monitor.specs.HartLaws.{SchedLaw, SchedSparesLaw, sched}
 pub use Rattle.rv_monitor.specs.Integrity.{GoOnLaw, GoesOn, IntegrityLaw, IsSpared, IsUntouched, enters}
-pub use Rattle.rv_monitor.specs.Leaving.{LeaveLaw, kept_after, left_hart, left_shared, line_after, state_after}
+pub use Rattle.rv_monitor.specs.Leaving.{LeaveLaw, kept_after, left_hart, left_shared, line_after, enclave_state_after}
 pub use Rattle.rv_monitor.specs.State.{AreStored, HasLayout, HostIsStored, IsKept, IsOwn, IsSeated, KeepsHost, Machine, MonitoredState}
-pub use Rattle.rv_monitor.specs.State.{count_of, held, seat_at_start, seat_of, seated, seats_at_start, seen_by, with_seat, worlds}
+pub use Rattle.rv_monitor.specs.State.{count_of, held_by, seat_at_start, seat_of, seated, seats_at_start, seen_by, with_seat, worlds}
 unfoldable pub use Rattle.rv_monitor.specs.State.{at_start}
 pub use Rattle.rv_monitor.specs.Step.{MachineStepped, MonitoredStepped, answered, forwarded, handled_cause, handled_exception, not_stepped}
 pub use Rattle.rv_monitor.specs.Step.{past_call, refused, returned, returned_to, seats_behind, seen_after, stepped_by, stopped_context}

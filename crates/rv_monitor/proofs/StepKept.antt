@@ -11,8 +11,8 @@ use Rattle.rv_state.specs.declared.mstatus.Mstatus.{Mstatus}
 use Rattle.rv_monitor.specs.Prelude.{CsrState, Hart, IsSound, Seat, Shared, Slots, Span, State, StepOutcome, Stepped, Trap, World}
 use Rattle.rv_monitor.specs.Prelude.{aligned_to_4, entry_at, is_machine, layout, mie_of, step}
 use Rattle.rv_monitor.specs.State.{laid_out}
-use Rattle.rv_monitor.proofs.Prelude.{AgreeOn, Handled, HasLayout, HasNoLock, IsConfined, IsOwn, IsSeated, KeepsHost, MonitoredState}
-use Rattle.rv_monitor.proofs.Prelude.{MonitoredStepped, SameIn, Stores, bare, cases_lt, cfg_of, confined, get_or_past, handled}
+use Rattle.rv_monitor.proofs.Prelude.{AgreeOn, Handled, HasLayout, IsUnlocked, IsConfined, IsOwn, IsSeated, KeepsHost, MonitoredState}
+use Rattle.rv_monitor.proofs.Prelude.{MonitoredStepped, SameIn, Stores, bare_state, cases_lt, cfg_of, confined, get_or_past, handled}
 use Rattle.rv_monitor.proofs.Prelude.{keeps_machine_parts, keeps_mprv_clear, monitored_step, returned, returned_to, seated, sound_by_size}
 use Rattle.rv_monitor.proofs.Prelude.{unhandled}
 use Rattle.rv_monitor.proofs.Ready.{IsTrapped, IsDone, IsLaidOut, handled_done, handled_laid_out}
@@ -20,7 +20,7 @@ use Rattle.rv_monitor.proofs.TrapSteps.{by_step, hart_after, seat_after}
 
 -- ---- no entry of a layout is locked
 
-pub layout_unlocked : (slots : Slots) (world : World) → HasNoLock (layout slots world)
+pub layout_unlocked : (slots : Slots) (world : World) → IsUnlocked (layout slots world)
 unfolding layout
 layout_unlocked slots world i = elim (cases_lt i 16) [
   | inl inside ↦
@@ -32,22 +32,22 @@ layout_unlocked slots world i = elim (cases_lt i 16) [
       rw is refl
 ]
 
-pub seat_unlocked : (slots : Slots) (seat : Seat) → IsSeated slots seat → HasNoLock seat.hart.csrs.pmp
-seat_unlocked slots seat is = let layout = is.layout in subst HasNoLock (sym layout.entries) (layout_unlocked slots seat.world)
+pub seat_unlocked : (slots : Slots) (seat : Seat) → IsSeated slots seat → IsUnlocked seat.hart.csrs.pmp
+seat_unlocked slots seat is = let layout = is.layout in subst IsUnlocked (sym layout.entries) (layout_unlocked slots seat.world)
 
 -- nor is one of a hart that is laid out, also behind a trap
 unlocked_if : (slots : Slots) (seat : Seat) (o : Option Trap) (hart : Hart) (memory left : List ℕ) (trap : Trap) → o ≡ Some trap → IsSeated slots seat
-    → IfSome o (λ t. (hart ≡ hart_after seat.hart t) × (left ≡ memory)) → HasNoLock hart.csrs.pmp
+    → IfSome o (λ t. (hart ≡ hart_after seat.hart t) × (left ≡ memory)) → IsUnlocked hart.csrs.pmp
 unlocked_if slots seat None hart memory left trap is seated keeps = cc
 unlocked_if slots seat (Some t) hart memory left trap is seated keeps =
-    subst (λ (h : Hart). HasNoLock h.csrs.pmp) (sym keeps.0) (seat_unlocked slots seat seated)
+    subst (λ (h : Hart). IsUnlocked h.csrs.pmp) (sym keeps.0) (seat_unlocked slots seat seated)
 
 pub unlocked_after : (seat : Seat) (shared : Shared) (after : Stepped) (trap : Trap) → after.outcome.trap ≡ Some trap → IsSeated shared.table seat
-    → TrapKeeps (record { hart = seat.hart; memory = shared.memory }) after → HasNoLock after.state.hart.csrs.pmp
+    → TrapKeeps (record { hart = seat.hart; memory = shared.memory }) after → IsUnlocked after.state.hart.csrs.pmp
 unlocked_after seat shared after trap is seated keeps =
     unlocked_if shared.table seat after.outcome.trap after.state.hart shared.memory after.state.memory trap is seated keeps
 
--- ---- the bare step
+-- ---- the bare_state step
 
 stored_size : (bytes old new : List ℕ) (span : Option Span) → Stores bytes old new span → length old ≡ length new
 stored_size bytes old new None stores = sym (ap length stores)
@@ -143,13 +143,13 @@ module _ (beside : List World) (seat : Seat) (shared : Shared) (sound : IsSound 
       }
 
   -- without a trap
-  quiet_kept : (after : Stepped) → IsConfined (bare state) after → StaysBelow seat.hart after.state.hart → after.state.hart.csrs.mstatus.mprv ≡ false
+  quiet_kept : (after : Stepped) → IsConfined (bare_state state) after → StaysBelow seat.hart after.state.hart → after.state.hart.csrs.mstatus.mprv ≡ false
       → KeptBeside beside (unhandled after.outcome (record seat { hart = after.state.hart }) (record shared { memory = after.state.memory }))
   quiet_kept after confined below mprv =
       let hart = after.state.hart in
       let parts = same_parts hart.csrs seat.hart.csrs below.0 in
       let layout = is.layout in (
-        sound_by_size shared (seat.world ∷ beside) after.state.memory sound (step_size (bare state) after confined),
+        sound_by_size shared (seat.world ∷ beside) after.state.memory sound (step_size (bare_state state) after confined),
         hart_seated shared.table seat hart is.host (record {
           entries = parts.0 ∙ layout.entries;
           mie = parts.1 ∙ layout.mie;
@@ -181,12 +181,12 @@ module _ (beside : List World) (seat : Seat) (shared : Shared) (sound : IsSound 
 
   pub step_kept : KeptBeside beside (monitored_step state)
   step_kept =
-      let after = step (bare state) in
+      let after = step (bare_state state) in
       let layout = is.layout in
       by_step state (KeptBeside beside)
       (λ none.
-      let below = stays_if after.outcome.trap (StaysBelow seat.hart after.state.hart) none (keeps_machine_parts (bare state) layout.mode layout.mprv) in
-      quiet_kept after (confined (bare state)) below (keeps_mprv_clear (bare state) (λ b. layout.mprv) below.1))
+      let below = stays_if after.outcome.trap (StaysBelow seat.hart after.state.hart) none (keeps_machine_parts (bare_state state) layout.mode layout.mprv) in
+      quiet_kept after (confined (bare_state state)) below (keeps_mprv_clear (bare_state state) (λ b. layout.mprv) below.1))
       (λ trap traps.
       let last = seat_after seat trap in
       worked_kept after.outcome (handled last shared trap) (handled_done beside last shared trap (trapped_seat trap)) (handled_laid_out last shared trap))

@@ -5,7 +5,7 @@ use Rattle.rv_memory.specs.declared.touched.Touched.{Touched}
 use Rattle.rv_monitor.specs.Prelude.{Access, Fetch, Hart, Mode, Read, Span, State, Stepped, Trap, Word, Write, data_mode, is_machine}
 use Rattle.rv_monitor.specs.Prelude.{retired_or_trapped, span, step}
 use Rattle.rv_monitor.specs.Touches.{executes, IsReached, IsTouchedInReach, TouchLaw}
-use Rattle.rv_monitor.proofs.Prelude.{IsOwn, MayTouch, MonitoredState, bare, touches_permitted}
+use Rattle.rv_monitor.proofs.Prelude.{IsOwn, MayTouch, MonitoredState, bare_state, touches_permitted}
 use Rattle.rv_monitor.proofs.KeptReaches.{below_M, data_below, kept_reach}
 use Rattle.rv_monitor.proofs.TrapSteps.{same_outcome}
 
@@ -37,18 +37,18 @@ fetches_at_pc state = by_ways state (FetchesAtPc state.hart.pc) (record {
 -- ---- what is touched
 
 module _ (state : MonitoredState) (kept : IsOwn state) where
-  reached : (mode : Mode) (access : Access) (o : Option Span) → is_machine mode ≡ false → MayTouch (bare state) mode access o
+  reached : (mode : Mode) (access : Access) (o : Option Span) → is_machine mode ≡ false → MayTouch (bare_state state) mode access o
       → IsReached state access o
   reached mode access None below may = tt
   reached mode access (Some span) below may = sym (kept_reach state mode access span.addr span.len kept (below_M mode below) may.0) ∙ may.1
 
-  touched_in_reach : IsTouchedInReach state (step (bare state)).outcome
+  touched_in_reach : IsTouchedInReach state (step (bare_state state)).outcome
   touched_in_reach =
-      let may = touches_permitted (bare state) in
+      let may = touches_permitted (bare_state state) in
       let below = data_below state kept in
-      let touched = (step (bare state)).outcome.touched in
+      let touched = (step (bare_state state)).outcome.touched in
       record {
-        at_pc = fetches_at_pc (bare state);
+        at_pc = fetches_at_pc (bare_state state);
         fetched = reached state.seat.hart.mode Fetch touched.fetched kept.layout.mode may.fetched;
         loaded = reached (data_mode state.seat.hart) Read touched.loaded below may.loaded;
         stored = reached (data_mode state.seat.hart) Write touched.stored below may.stored;

@@ -3,7 +3,7 @@ use Rattle.std.proofs.Common.{◌≡◌, ℕ, false, List, Option, Some, None, I
 use Rattle.rv_hart.specs.Hart.{step_counted}
 use Rattle.rv_hart.specs.Hart.{trapped}
 use Rattle.rv_monitor.specs.Prelude.{Hart, Seat, StepOutcome, Trap, option_case, step}
-use Rattle.rv_monitor.proofs.Prelude.{MonitoredState, MonitoredStepped, bare, handled, monitored_step, returned, trap_keeps, unhandled}
+use Rattle.rv_monitor.proofs.Prelude.{MonitoredState, MonitoredStepped, bare_state, handled, monitored_step, returned, trap_keeps, unhandled}
 
 -- a hart after a trap that was counted
 abbrev pub hart_after : Hart → Trap → Hart
@@ -17,12 +17,12 @@ seat_after seat trap = record seat { hart = hart_after seat.hart trap }
 -- without a trap
 abbrev pub untrapped : MonitoredState → MonitoredStepped
 untrapped state =
-    let after = step (bare state) in
+    let after = step (bare_state state) in
     unhandled after.outcome (record state.seat { hart = after.state.hart }) (record state.shared { memory = after.state.memory })
 
 -- with one, which the monitor handles
 abbrev pub trapped_to : MonitoredState → Trap → MonitoredStepped
-trapped_to state trap = returned (step (bare state)).outcome (handled (seat_after state.seat trap) state.shared trap)
+trapped_to state trap = returned (step (bare_state state)).outcome (handled (seat_after state.seat trap) state.shared trap)
 
 by-end : (state : MonitoredState) (P : MonitoredStepped → Type 0) (o : Option Trap) (outcome : StepOutcome) (hart : Hart) (memory : List ℕ)
     → IfSome o (λ t. (hart ≡ hart_after state.seat.hart t) × (memory ≡ state.shared.memory))
@@ -38,17 +38,17 @@ by-end state P (Some trap) outcome hart memory keeps quiet traps =
     rw (hart_is, memory_is) (traps trap refl)
 
 -- what holds of each holds of the step
-pub by_step : (state : MonitoredState) (P : MonitoredStepped → Type 0) → ((step (bare state)).outcome.trap ≡ None → P (untrapped state))
-    → ((trap : Trap) → (step (bare state)).outcome.trap ≡ Some trap → P (trapped_to state trap)) → P (monitored_step state)
+pub by_step : (state : MonitoredState) (P : MonitoredStepped → Type 0) → ((step (bare_state state)).outcome.trap ≡ None → P (untrapped state))
+    → ((trap : Trap) → (step (bare_state state)).outcome.trap ≡ Some trap → P (trapped_to state trap)) → P (monitored_step state)
 unfolding monitored_step
 by_step state P quiet traps =
-    let after = step (bare state) in
-    by-end state P after.outcome.trap after.outcome after.state.hart after.state.memory (trap_keeps (bare state)) quiet traps
+    let after = step (bare_state state) in
+    by-end state P after.outcome.trap after.outcome after.state.hart after.state.memory (trap_keeps (bare_state state)) quiet traps
 
 -- what the step shows of the hart's own
-pub same_outcome : (state : MonitoredState) → (monitored_step state).outcome.step ≡ (step (bare state)).outcome
+pub same_outcome : (state : MonitoredState) → (monitored_step state).outcome.step ≡ (step (bare_state state)).outcome
 same_outcome state =
-    by_step state (λ after. after.outcome.step ≡ (step (bare state)).outcome) (λ none. refl) (λ trap is. refl)
+    by_step state (λ after. after.outcome.step ≡ (step (bare_state state)).outcome) (λ none. refl) (λ trap is. refl)
 
 pub trapped_step : (state : MonitoredState) (trap : Trap) → (monitored_step state).outcome.step.trap ≡ Some trap
     → monitored_step state ≡ trapped_to state trap

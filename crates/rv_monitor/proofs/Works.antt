@@ -11,7 +11,7 @@ use Rattle.rv_monitor.proofs.Prelude.{Handled, IsTaken, MayCreate, MayMeasure, a
 use Rattle.rv_monitor.proofs.Prelude.{called, cases_Bool, cond-false, cond-true, entered_slot, find, forwarded, handled, handled_cause}
 use Rattle.rv_monitor.proofs.Prelude.{handled_exception, is_entering, left, left_by, line_after, may_create, may_measure, may_take}
 use Rattle.rv_monitor.proofs.Prelude.{nat_tests, past_call, performed, reason, refused, same_create_refusals, same_measure_refusals, saved}
-use Rattle.rv_monitor.proofs.Prelude.{state_after, stopped_context, timer_stopped, trapped_mode, trapped_pc, value, with_layout}
+use Rattle.rv_monitor.proofs.Prelude.{enclave_state_after, stopped_context, timer_stopped, trapped_mode, trapped_pc, value, with_layout}
 
 -- ---- the call that is asked for
 
@@ -74,7 +74,7 @@ lowered_by cause seat =
 
 abbrev pub leaving : Cause → Seat → Shared → World → Option Context → Handled
 leaving cause seat shared world host =
-    left_by (lowered_by cause seat) shared (state_after cause seat.hart.regs) (kept_by cause seat) (reason cause seat.hart.regs)
+    left_by (lowered_by cause seat) shared (enclave_state_after cause seat.hart.regs) (kept_by cause seat) (reason cause seat.hart.regs)
     (value cause seat.hart.regs) world host
 
 abbrev pub entering : Seat → Shared → Handled

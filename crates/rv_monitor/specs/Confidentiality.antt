@@ -26,23 +26,23 @@ HandlerLaw =
     → is_world_of e seat.world ≡ false → SharedButFor e one other
     → HandledAlike e (handled seat one trap) (handled seat other trap)
 
--- ---- the bare step
+-- ---- the bare_state step
 
-abbrev pub bare : MonitoredState → State
-bare state = record { hart = state.seat.hart; memory = state.shared.memory }
+abbrev pub bare_state : MonitoredState → State
+bare_state state = record { hart = state.seat.hart; memory = state.shared.memory }
 
--- two bare steps end in the same hart, show the same, and leave memories that agree where nothing is hidden
+-- two bare_state steps end in the same hart, show the same, and leave memories that agree where nothing is hidden
 pub record StepAlike (hidden : ℕ → Bool) (one other : Stepped) : Type 0 where
   pub hart : other.state.hart ≡ one.state.hart
   pub outcome : other.outcome ≡ one.outcome
   pub memory : AgreeOutside hidden one.state.memory other.state.memory
 
--- a bare step depends on no byte of a region that is not the world's
+-- a bare_state step depends on no byte of a region that is not the world's
 abbrev pub BareLaw : Type 0
 BareLaw =
     (e : ℕ) (state : MonitoredState) (memory : List ℕ) → IsOwn state → is_world_of e state.seat.world ≡ false
     → AgreeOutside (is_private state.shared.table e) state.shared.memory memory
-    → StepAlike (is_private state.shared.table e) (step (bare state)) (step (record (bare state) { memory = memory }))
+    → StepAlike (is_private state.shared.table e) (step (bare_state state)) (step (record (bare_state state) { memory = memory }))
 
 -- ---- the monitored step
 

@@ -12,12 +12,12 @@ pub record Scheduled : Type 0 where
   pub state : Machine
   pub outcomes : List Outcome
 
-abbrev pub after_first : Outcome → Scheduled → Scheduled
-after_first outcome rest = record { state = rest.state; outcomes = outcome ∷ rest.outcomes }
+abbrev pub first_then : Outcome → Scheduled → Scheduled
+first_then outcome rest = record { state = rest.state; outcomes = outcome ∷ rest.outcomes }
 
 abbrev pub sched : List ℕ → Machine → Scheduled
 sched [] machine = record { state = machine; outcomes = [] }
-sched (hart ∷ harts) machine = after_first (step_of hart machine).outcome (sched harts (step_of hart machine).state)
+sched (hart ∷ harts) machine = first_then (step_of hart machine).outcome (sched harts (step_of hart machine).state)
 
 -- a step keeps what is true in every state
 abbrev pub KeptLaw : Type 0

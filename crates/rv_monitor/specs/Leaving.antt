@@ -15,9 +15,9 @@ use Rattle.rv_monitor.specs.SwitchLaws.{reason, value}
 -- ---- what is kept of the enclave
 
 -- how far it is then, which a6 tells of a call
-abbrev pub state_after : Cause → List ℕ → EnclaveState
-state_after (causes.Interrupt interrupt) regs = Stopped
-state_after (causes.Exception exception) regs = if register regs 16 == call_number Exit then Exited else Stopped
+abbrev pub enclave_state_after : Cause → List ℕ → EnclaveState
+enclave_state_after (causes.Interrupt interrupt) regs = Stopped
+enclave_state_after (causes.Exception exception) regs = if register regs 16 == call_number Exit then Exited else Stopped
 
 -- after stop it goes on past its ecall with a0 and a1 0
 abbrev pub stopped_at : Hart → Context
@@ -30,7 +30,7 @@ kept_after (causes.Exception exception) hart = if register hart.regs 16 == call_
 
 abbrev pub left_shared : Shared → ℕ → Cause → Hart → Shared
 left_shared shared k cause hart = record shared {
-  table = with_state shared.table k (state_after cause hart.regs);
+  table = with_state shared.table k (enclave_state_after cause hart.regs);
   contexts = with_context shared.contexts k (Some (kept_after cause hart));
 }
 

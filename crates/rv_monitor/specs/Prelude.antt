@@ -11,7 +11,7 @@ pub use Rattle.rv_enclaves.specs.Destroy.{zeroed}
 unfoldable pub use Rattle.rv_enclaves.specs.Destroy.{destroyed}
 pub use Rattle.rv_enclaves.specs.Layout.{mie_of}
 unfoldable pub use Rattle.rv_enclaves.specs.Layout.{entry_at, layout}
-pub use Rattle.rv_enclaves.specs.Measure.{may_store, measured_slot, measurement_at, with_bytes}
+pub use Rattle.rv_enclaves.specs.Measure.{may_store, measured_slot, measurement_at, with_bytes_at}
 unfoldable pub use Rattle.rv_enclaves.specs.Measure.{may_store_all, measure_refusals, measured}
 unfoldable pub use Rattle.rv_enclaves.specs.Reach.{in_reach}
 pub use Rattle.rv_enclaves.specs.Refusals.{first_refusal}

@@ -1,7 +1,7 @@
 //! How many harts a machine has.
 
 ghost use Rattle.std.specs.Prelude.{◌≡◌};
-ghost use Rattle.rv_monitor.specs.State.{harts_in};
+ghost use Rattle.rv_monitor.specs.State.{number_of_harts};
 
 /// How many harts a machine has.
 #[derive(Clone, Copy, Debug, PartialEq, Eq)]
@@ -15,7 +15,7 @@ pub enum Harts {
 impl Harts {
     /// The number of them.
     pub(crate) const fn count(self) -> u8
-        ensures { result ≡ harts_in self }
+        ensures { result ≡ number_of_harts self }
     {
         match self {
             Harts::One => 1,

@@ -7,7 +7,7 @@ use Rattle.std.proofs.lemmas.Bool.{both_ways, eqb-true}
 use Rattle.rv_pmp.specs.declared.entry_ranges.EntryRanges.{EntryRanges}
 use Rattle.rv_pmp.specs.Entries.{Entries}
 use Rattle.rv_pmp.specs.Covers.{covers}
-use Rattle.rv_pmp.specs.Segments.{owner, is_within, AreRanges}
+use Rattle.rv_pmp.specs.Remembered.Segments.{owner, is_within, AreRanges}
 use Rattle.rv_pmp.proofs.VerdictLemmas.{find_at, find_none, find_cases}
 
 -- two tests that agree find the same

@@ -10,7 +10,7 @@ use Rattle.std.proofs.lemmas.List.{length-take-le, get_or-take}
 use Rattle.std.proofs.lemmas.List.Sorted.{Contains-permutation, IsNonDecreasingBy-from_default}
 use Rattle.rv_pmp.specs.declared.entry_ranges.EntryRanges.{EntryRanges}
 use Rattle.rv_pmp.specs.declared.segments.Segments.{Segments}
-use Rattle.rv_pmp.specs.Segments.{owner, is_within, start_of, reach_of, AreBounds, AreInOrder, AreOwned}
+use Rattle.rv_pmp.specs.Remembered.Segments.{owner, is_within, start_of, reach_of, AreBounds, AreInOrder, AreOwned}
 use Rattle.rv_pmp.proofs.OwnerLemmas.{bool_same, owner_alike}
 
 -- where a segment begins, by the list of ends

@@ -5,6 +5,4 @@ pub mod Covers
 pub mod Locks
 pub mod Verdicts
 pub mod Justified
-pub mod OpenRanges
-pub mod Segments
-pub mod Cache
+pub mod Remembered

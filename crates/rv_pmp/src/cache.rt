@@ -1,6 +1,6 @@
 //! What is kept beside the entries, so that an access need not go through them.
 
-ghost use Rattle.rv_pmp.specs.Cache.{IsCacheOf};
+ghost use Rattle.rv_pmp.specs.Remembered.Cache.{IsCacheOf};
 ghost use Rattle.rv_pmp.specs.Entries.{Entries, HasSixteen};
 
 use crate::open_range::{NONE_OPEN, OpenRanges};

@@ -1,7 +1,7 @@
 //! What is kept beside the entries as they stand, and beside those that stood before.
 
 ghost use Rattle.std.specs.Prelude.{◌≡◌};
-ghost use Rattle.rv_pmp.specs.Cache.{IsCacheOf, cache_before, cache_now, with_fetch, with_read, with_write};
+ghost use Rattle.rv_pmp.specs.Remembered.Cache.{IsCacheOf, cache_before, cache_now, with_fetch, with_read, with_write};
 ghost use Rattle.rv_pmp.specs.Entries.{Entries, HasSixteen};
 
 use crate::cache::Cache;
@@ -18,7 +18,7 @@ pub(crate) struct Caches {
 
 impl Caches {
     /// Nothing is kept yet, of whatever entries.
-    #[tactic(auto, unfolding(crate::specs::Cache::cache_now, crate::specs::Cache::cache_before))]
+    #[tactic(auto, unfolding(crate::specs::Remembered::Cache::cache_now, crate::specs::Remembered::Cache::cache_before))]
     pub(crate) const fn new() -> Caches
         ensures now { (entries : Entries) → HasSixteen entries → IsCacheOf entries (cache_now result) }
         ensures before { (entries : Entries) → HasSixteen entries → IsCacheOf entries (cache_before result) }
@@ -32,7 +32,7 @@ impl Caches {
 
     /// What is kept of the entries as they stand.
     #[inline(always)]
-    #[tactic(auto, unfolding(crate::specs::Cache::cache_now))]
+    #[tactic(auto, unfolding(crate::specs::Remembered::Cache::cache_now))]
     pub(crate) fn now(&self) -> &Cache
         ensures { result.now ≡ cache_now self.now }
     {
@@ -45,7 +45,7 @@ impl Caches {
 
     /// The two change places.
     #[inline(always)]
-    #[tactic(auto, unfolding(crate::specs::Cache::cache_now, crate::specs::Cache::cache_before))]
+    #[tactic(auto, unfolding(crate::specs::Remembered::Cache::cache_now, crate::specs::Remembered::Cache::cache_before))]
     pub(crate) fn turn(&mut self)
         ensures now { cache_now self.new ≡ cache_before self.old }
         ensures before { cache_before self.new ≡ cache_now self.old }
@@ -54,7 +54,7 @@ impl Caches {
     }
 
     /// Forgets what is kept of the entries as they stand, as [`Cache::forget`].
-    #[tactic(auto, unfolding(crate::specs::Cache::cache_now, crate::specs::Cache::cache_before))]
+    #[tactic(auto, unfolding(crate::specs::Remembered::Cache::cache_now, crate::specs::Remembered::Cache::cache_before))]
     pub(crate) fn forget(&mut self)
         ensures now { (entries : Entries) → HasSixteen entries → IsCacheOf entries (cache_now self.new) }
         ensures before { cache_before self.new ≡ cache_before self.old }
@@ -67,7 +67,7 @@ impl Caches {
     }
 
     /// Makes the segments of the entries as they stand, as [`Cache::rebuild`].
-    #[tactic(auto, unfolding(crate::specs::Cache::cache_now, crate::specs::Cache::cache_before))]
+    #[tactic(auto, unfolding(crate::specs::Remembered::Cache::cache_now, crate::specs::Remembered::Cache::cache_before))]
     pub(crate) fn rebuild(&mut self, cfgs: &[u8; 16], addrs: &[u32; 16])
         ensures now { IsCacheOf (record { cfgs = cfgs.now; addrs = addrs.now }) (cache_now self.new) }
         ensures before { cache_before self.new ≡ cache_before self.old }
@@ -80,7 +80,7 @@ impl Caches {
     }
 
     /// Remembers where fetches are permitted by the entries as they stand.
-    #[tactic(auto, unfolding(crate::specs::Cache::cache_now, crate::specs::Cache::cache_before))]
+    #[tactic(auto, unfolding(crate::specs::Remembered::Cache::cache_now, crate::specs::Remembered::Cache::cache_before))]
     pub(crate) fn remember_fetch(&mut self, range: OpenRange)
         ensures now { cache_now self.new ≡ with_fetch (cache_now self.old) range }
         ensures before { cache_before self.new ≡ cache_before self.old }
@@ -93,7 +93,7 @@ impl Caches {
     }
 
     /// Remembers where reads are permitted by the entries as they stand.
-    #[tactic(auto, unfolding(crate::specs::Cache::cache_now, crate::specs::Cache::cache_before))]
+    #[tactic(auto, unfolding(crate::specs::Remembered::Cache::cache_now, crate::specs::Remembered::Cache::cache_before))]
     pub(crate) fn remember_read(&mut self, range: OpenRange)
         ensures now { cache_now self.new ≡ with_read (cache_now self.old) range }
         ensures before { cache_before self.new ≡ cache_before self.old }
@@ -106,7 +106,7 @@ impl Caches {
     }
 
     /// Remembers where writes are permitted by the entries as they stand.
-    #[tactic(auto, unfolding(crate::specs::Cache::cache_now, crate::specs::Cache::cache_before))]
+    #[tactic(auto, unfolding(crate::specs::Remembered::Cache::cache_now, crate::specs::Remembered::Cache::cache_before))]
     pub(crate) fn remember_write(&mut self, range: OpenRange)
         ensures now { cache_now self.new ≡ with_write (cache_now self.old) range }
         ensures before { cache_before self.new ≡ cache_before self.old }

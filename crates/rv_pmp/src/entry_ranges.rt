@@ -2,7 +2,7 @@
 
 ghost use Rattle.std.specs.Prelude.{◌≡◌, ◌+◌, ◌<◌, ◌≤◌, ◌^◌, ℕ, Option, IfSome, IfNone, take, slice_index, nat_le, nat_lt, ◌&&◌};
 ghost use Rattle.rv_pmp.specs.Covers.{covers, CoversRange, CoversNothing};
-ghost use Rattle.rv_pmp.specs.Segments.{owner, is_within, AreRanges, AreBounds};
+ghost use Rattle.rv_pmp.specs.Remembered.Segments.{owner, is_within, AreRanges, AreBounds};
 
 use crate::address_matching::AddressMatching;
 use crate::matched_range::matched_range;

@@ -1,7 +1,7 @@
 //! The addresses in segments, each with the least entry that covers its bytes.
 
 ghost use Rattle.std.specs.Prelude.{◌≡◌, ◌+◌, ◌<◌, ◌≤◌, ◌^◌, ℕ, Option, None, length, slice_index, slice_index_or};
-ghost use Rattle.rv_pmp.specs.Segments.{owner, is_within, start_of, reach_of, AreRanges, AreBounds, AreInOrder, AreOwned, AreSegments};
+ghost use Rattle.rv_pmp.specs.Remembered.Segments.{owner, is_within, start_of, reach_of, AreRanges, AreBounds, AreInOrder, AreOwned, AreSegments};
 
 use crate::entry_ranges::EntryRanges;
 use crate::pmp_index::PmpIndex;

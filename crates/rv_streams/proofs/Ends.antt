@@ -7,7 +7,7 @@ use Rattle.rv_streams.specs.declared.device.Source.{Ghosts}
 use Rattle.rv_streams.specs.declared.lines.Lines.{Lines}
 use Rattle.rv_streams.specs.declared.device.Sink.{Ghosts as SinkGhosts}
 use Rattle.rv_streams.specs.Calls.{SinkFailed, SinkWorked}
-use Rattle.rv_streams.specs.Device.{counted, one_more, HasRisen}
+use Rattle.rv_streams.specs.Device.{counted_if, one_more, HasRisen}
 use Rattle.rv_streams.specs.Script.{ReadsThroughSeparator}
 use Rattle.rv_streams.specs.Separator.{has_separator}
 use Rattle.rv_streams.specs.Unread.{unread, HasEnded, TellsEnd}
@@ -31,8 +31,8 @@ TellsEnd-ends {S} {g} old new before after count =
     }
 
 -- a read that did not fail leaves the count of failures as it was
-pub no_failure : {A E : Type 0} (old mid new : ℕ) (r : Result A E) (a : A) → new ≡ counted (is_err r) mid → r ≡ Ok a → mid ≡ old → new ≡ old
-no_failure old mid new r a count ok same = count ∙ (ap (λ r. counted (is_err r) mid) ok ∙ same)
+pub no_failure : {A E : Type 0} (old mid new : ℕ) (r : Result A E) (a : A) → new ≡ counted_if (is_err r) mid → r ≡ Ok a → mid ≡ old → new ≡ old
+no_failure old mid new r a count ok same = count ∙ (ap (λ r. counted_if (is_err r) mid) ok ∙ same)
 
 -- a sink that fails after it worked
 pub SinkFailed-after : {W : Type 0} (h : SinkGhosts W) {old mid new : W} → SinkWorked h old mid → SinkFailed h mid new → SinkFailed h old new

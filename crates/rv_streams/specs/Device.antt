@@ -1,4 +1,4 @@
--- What one call of a device moved, and how calls of one kind are counted: those that failed, the ends that a source
+-- What one call of a device moved, and how calls of one kind are counted_if: those that failed, the ends that a source
 -- answered, and the parts of which a sink took nothing. (This project's own streams: no standard states them.)
 use Rattle.std.specs.Prelude.{ℕ, ◌+◌, ◌-◌, ◌^◌, ◌≤◌, ◌==◌, nat_lt, min, Bool, false, ◌&&◌, Result, Ok, Err, if◌then◌else◌}
 
@@ -17,8 +17,8 @@ abbrev pub one_more : ℕ → ℕ
 one_more count = min (count + 1) (2 ^ 64 - 1)
 
 -- the count after a call, which is of the kind or is not
-abbrev pub counted : Bool → ℕ → ℕ
-counted of_kind count = if of_kind then one_more count else count
+abbrev pub counted_if : Bool → ℕ → ℕ
+counted_if of_kind count = if of_kind then one_more count else count
 
 -- a call of the kind was made since the count was old: it has risen, or stands at its greatest value
 abbrev pub HasRisen : ℕ → ℕ → Type 0

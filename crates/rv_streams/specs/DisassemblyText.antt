@@ -18,12 +18,12 @@ unfoldable pub dis_line : ℕ → List ℕ
 dis_line word = hex8 word ++ codes " " ++ spelling word ++ codes "\n"
 
 -- a line for each word
-abbrev pub dis_text : List ℕ → List ℕ
-dis_text words = flat_map dis_line words
+abbrev pub disassembly_text : List ℕ → List ℕ
+disassembly_text words = flat_map dis_line words
 
 -- the lines of the words, where the bytes are whole words
 abbrev pub dis_of : List ℕ → Result (List ℕ) BenchFault
-dis_of image = if length image % 4 == 0 then Ok (dis_text (words_of_image image)) else Err Hex
+dis_of image = if length image % 4 == 0 then Ok (disassembly_text (words_of_image image)) else Err Hex
 
 -- the lines for the image at the front of an input, or the fault: of the image's text, or of the number of its bytes
 abbrev pub dis_output : List ℕ → Result (List ℕ) BenchFault

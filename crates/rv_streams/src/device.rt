@@ -1,6 +1,6 @@
 //! What a source of bytes and a sink for bytes promise.
 ghost use Rattle.std.specs.Prelude.{◌≡◌, ℕ, Bool, List, [], ◌++◌, ◌+◌, ◌-◌, ◌^◌, ◌≤◌, ◌==◌, ◌&&◌, ◌||◌, min, take, length, IsTrue, is_err, is_ok};
-ghost use Rattle.rv_streams.specs.Device.{moved_count, answers_none, counted};
+ghost use Rattle.rv_streams.specs.Device.{moved_count, answers_none, counted_if};
 
 /// A call of a device failed: nothing was given or taken in that call.
 #[derive(Clone, Copy, Debug, PartialEq, Eq)]
@@ -33,8 +33,8 @@ pub trait Source {
         ensures room { moved_count result ≤ length buffer.new }
         ensures bytes { tells → remaining self.old ≡ take (moved_count result) buffer.new ++ remaining self.new }
         ensures end { tells → IsTrue (answers_none result (length buffer.new)) → remaining self.new ≡ [] }
-        ensures ends { ends self.new ≡ counted (answers_none result (length buffer.new)) (ends self.old) }
-        ensures failures { failures self.new ≡ counted (is_err result) (failures self.old) }
+        ensures ends { ends self.new ≡ counted_if (answers_none result (length buffer.new)) (ends self.old) }
+        ensures failures { failures self.new ≡ counted_if (is_err result) (failures self.old) }
         ensures failing { failures self.old ≡ 2 ^ 64 - 1 → result ≡ Err record {} }
         ensures falls { calls_left self.new + min (moved_count result) 1 ≤ calls_left self.old };
 }
@@ -65,8 +65,8 @@ pub trait Sink {
         ensures bound { moved_count result ≤ length part.now }
         ensures bytes { tells → taken self.new ≡ taken self.old ++ take (moved_count result) part.now }
         ensures flushed { is_flushed self.new ≡ (is_flushed self.old && (moved_count result == 0)) }
-        ensures refusals { refusals self.new ≡ counted (answers_none result (length part.now)) (refusals self.old) }
-        ensures failures { failures self.new ≡ counted (is_err result) (failures self.old) }
+        ensures refusals { refusals self.new ≡ counted_if (answers_none result (length part.now)) (refusals self.old) }
+        ensures failures { failures self.new ≡ counted_if (is_err result) (failures self.old) }
         ensures failing { failures self.old ≡ 2 ^ 64 - 1 → result ≡ Err record {} };
 
     /// Passes on all that the sink has taken and still holds.
@@ -78,6 +78,6 @@ pub trait Sink {
         ensures bytes { tells → taken self.new ≡ taken self.old }
         ensures flushed { is_flushed self.new ≡ (is_flushed self.old || is_ok result) }
         ensures refusals { refusals self.new ≡ refusals self.old }
-        ensures failures { failures self.new ≡ counted (is_err result) (failures self.old) }
+        ensures failures { failures self.new ≡ counted_if (is_err result) (failures self.old) }
         ensures failing { failures self.old ≡ 2 ^ 64 - 1 → result ≡ Err record {} };
 }

@@ -5,7 +5,7 @@ ghost use Rattle.arrayvec.specs.ArrayVec.{array_vec_len};
 ghost use Rattle.rv_word.specs.ByteOrder.{word_of_bytes};
 ghost use Rattle.rv_streams.specs.Device.{HasRisen};
 ghost use Rattle.rv_streams.specs.Disassemble.{RunsDis};
-ghost use Rattle.rv_streams.specs.DisassemblyText.{dis_line, dis_text};
+ghost use Rattle.rv_streams.specs.DisassemblyText.{dis_line, disassembly_text};
 ghost use Rattle.rv_streams.specs.Transfer.{WritesFront};
 ghost use Rattle.rv_streams.specs.Unread.{TellsEnd};
 
@@ -45,8 +45,8 @@ fn push_disassembly(out: &mut Reply, word: u32)
 /// Only where the sink failed in this call, or took no byte of a part that was not empty. A beginning of the lines is
 /// written then.
 fn write_disassembly<W: Sink>(words: &[[u8; 4]], sink: &mut W) -> Result<(), DeviceFault>
-    ensures written { OnOk result (W.tells → W.taken sink.new ≡ W.taken sink.old ++ dis_text (map word_of_bytes words.now)) }
-    ensures front { W.tells → WritesFront (W.taken sink.old) (W.taken sink.new) (dis_text (map word_of_bytes words.now)) }
+    ensures written { OnOk result (W.tells → W.taken sink.new ≡ W.taken sink.old ++ disassembly_text (map word_of_bytes words.now)) }
+    ensures front { W.tells → WritesFront (W.taken sink.old) (W.taken sink.new) (disassembly_text (map word_of_bytes words.now)) }
     ensures flushed { OnOk result (W.is_flushed sink.new ≡ true) }
     ensures ok { OnOk result ((W.failures sink.new ≡ W.failures sink.old) × (W.refusals sink.new ≡ W.refusals sink.old)) }
     ensures err { OnErr result (HasRisen (W.failures sink.old) (W.failures sink.new) ⊎ HasRisen (W.refusals sink.old) (W.refusals sink.new)) }

@@ -1,6 +1,6 @@
 //! The bytes of one line, read one by one.
 ghost use Rattle.std.specs.Prelude.{◌≡◌, ◌+◌, ◌<◌, ◌≤◌, false, [], ◌++◌, take, length, IsTrue, is_err};
-ghost use Rattle.rv_streams.specs.Device.{counted};
+ghost use Rattle.rv_streams.specs.Device.{counted_if};
 ghost use Rattle.rv_text.specs.Lines.{has_feed};
 ghost use Rattle.rv_streams.specs.LineText.{ReadsText, left_from, stops_at_end};
 ghost use Rattle.rv_text.specs.Lines.{without_return};
@@ -41,8 +41,8 @@ pub(crate) fn read_text<S: Source>(source: &mut S, line: &mut Line) -> Result<St
     requires unfinished { has_feed line.old.items ≡ false }
     ensures bytes { S.tells → ReadsText (line.old.items ++ S.remaining source.old) (left_from result (S.remaining source.new)) line.new.items }
     ensures end { S.tells → result ≡ Ok Stop.End → S.remaining source.new ≡ [] }
-    ensures ends { S.ends source.new ≡ counted (stops_at_end result) (S.ends source.old) }
-    ensures failures { S.failures source.new ≡ counted (is_err result) (S.failures source.old) }
+    ensures ends { S.ends source.new ≡ counted_if (stops_at_end result) (S.ends source.old) }
+    ensures failures { S.failures source.new ≡ counted_if (is_err result) (S.failures source.old) }
     ensures short { length line.new.items ≤ 122 }
     ensures unfinished { has_feed line.new.items ≡ false }
     ensures falls { S.calls_left source.new + length line.new.items ≤ S.calls_left source.old + length line.old.items }

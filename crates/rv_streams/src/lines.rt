@@ -25,7 +25,7 @@ pub struct Lines<S: Source> {
 
 impl<S: Source> Lines<S> {
     ghost use Rattle.std.specs.Prelude.{◌≡◌, ◌<◌, true, false, [], IsTrue, IfOk, OnOk, OnErr, IfSome, IfNone, OnSome, is_err};
-    ghost use Rattle.rv_streams.specs.Device.{counted};
+    ghost use Rattle.rv_streams.specs.Device.{counted_if};
     ghost use Rattle.rv_streams.specs.LineText.{ReadsText, TakesLine};
     ghost use Rattle.rv_streams.specs.Script.{ends_script, FindsEnd};
     ghost use Rattle.rv_streams.specs.Unread.{held, unread, calls_left, TellsEnd};
@@ -86,7 +86,7 @@ impl<S: Source> Lines<S> {
         ensures none { IfOk result (λ found. IfNone found (self.new.is_at_end ≡ true)) }
         ensures nothing { S.tells → IfOk result (λ found. IfNone found ((unread self.old ≡ []) × (unread self.new ≡ []))) }
         ensures end { TellsEnd self.old self.new }
-        ensures failures { S.failures self.new.source ≡ counted (is_err result) (S.failures self.old.source) }
+        ensures failures { S.failures self.new.source ≡ counted_if (is_err result) (S.failures self.old.source) }
         ensures err { OnErr result ((self.old.is_at_end ≡ false) × (self.new.is_at_end ≡ false)) }
         ensures kept { S.tells → OnErr result (ReadsText (unread self.old) (S.remaining self.new.source) (held self.new)) }
         ensures emptied { OnOk result (held self.new ≡ []) }
@@ -124,7 +124,7 @@ impl<S: Source> Lines<S> {
         ensures going { IfOk result (λ found. OnSome found (self.old.is_at_end ≡ false)) }
         ensures none { IfOk result (λ found. IfNone found (FindsEnd end self.old self.new)) }
         ensures end { TellsEnd self.old self.new }
-        ensures failures { S.failures self.new.source ≡ counted (is_err result) (S.failures self.old.source) }
+        ensures failures { S.failures self.new.source ≡ counted_if (is_err result) (S.failures self.old.source) }
         ensures err { OnErr result ((self.old.is_at_end ≡ false) × (self.new.is_at_end ≡ false)) }
         ensures kept { S.tells → OnErr result (ReadsText (unread self.old) (S.remaining self.new.source) (held self.new)) }
         ensures emptied { OnOk result (held self.new ≡ []) }

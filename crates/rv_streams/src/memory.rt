@@ -1,6 +1,6 @@
 //! A source and a sink over memory that is lent to them. They take no memory of their own, and never fail.
 ghost use Rattle.std.specs.Prelude.{◌≡◌, ◌==◌, ◌&&◌, ◌++◌, ◌+◌, ◌-◌, ◌^◌, ◌≤◌, [], ⊤, true, nat_lt, min, length, take, is_err};
-ghost use Rattle.rv_streams.specs.Device.{moved_count, answers_none, counted};
+ghost use Rattle.rv_streams.specs.Device.{moved_count, answers_none, counted_if};
 ghost use Rattle.rv_streams.specs.MemoryStreams.{rest_of, bytes_of, room_of, has_flushed};
 
 use crate::device::{DeviceFault, Sink, Source};
@@ -94,7 +94,7 @@ impl<'a> MemorySink<'a> {
         ensures bytes { bytes_of self.new ≡ bytes_of self.old ++ take result part.now }
         ensures room { room_of self.new + result ≡ room_of self.old }
         ensures flushed { has_flushed self.new ≡ (has_flushed self.old && (result == 0)) }
-        ensures refusals { self.new.refused_parts ≡ counted ((result == 0) && nat_lt 0 (length part.now)) self.old.refused_parts }
+        ensures refusals { self.new.refused_parts ≡ counted_if ((result == 0) && nat_lt 0 (length part.now)) self.old.refused_parts }
     {
         let room = self.buffer.len().saturating_sub(self.taken_len);
         let count = part.len().min(room);
@@ -127,8 +127,8 @@ impl<'a> Sink for MemorySink<'a> {
         ensures bound { moved_count result ≤ length part.now }
         ensures bytes { bytes_of self.new ≡ bytes_of self.old ++ take (moved_count result) part.now }
         ensures flushed { has_flushed self.new ≡ (has_flushed self.old && (moved_count result == 0)) }
-        ensures refusals { self.new.refused_parts ≡ counted (answers_none result (length part.now)) self.old.refused_parts }
-        ensures failures { 0 ≡ counted (is_err result) 0 }
+        ensures refusals { self.new.refused_parts ≡ counted_if (answers_none result (length part.now)) self.old.refused_parts }
+        ensures failures { 0 ≡ counted_if (is_err result) 0 }
         ensures failing { 0 ≡ 2 ^ 64 - 1 → result ≡ Err record {} }
     {
         Ok(self.fill(part))

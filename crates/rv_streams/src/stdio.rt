@@ -41,7 +41,7 @@ pub struct StandardSource<R: Read> {
 
 impl<R: Read> StandardSource<R> {
     ghost use Rattle.std.specs.Prelude.{◌≡◌, ◌-◌, ◌^◌, ◌<◌, [], OnOk, is_err};
-    ghost use Rattle.rv_streams.specs.Device.{counted};
+    ghost use Rattle.rv_streams.specs.Device.{counted_if};
     ghost use Rattle.rv_streams.specs.StandardStreams.{TellsAll, known, rest_of};
 
     /// A source over this reader, of which nothing is read yet.
@@ -76,7 +76,7 @@ impl<R: Read> StandardSource<R> {
         ensures end { OnOk result (TellsAll R.remaining → self.new.start ≡ self.new.end → rest_of self.new ≡ []) }
         ensures calls { self.new.calls_left ≡ self.old.calls_left }
         ensures ends { self.new.end_count ≡ self.old.end_count }
-        ensures failures { self.new.failed_calls ≡ counted (is_err result) self.old.failed_calls }
+        ensures failures { self.new.failed_calls ≡ counted_if (is_err result) self.old.failed_calls }
     {
         match self.reader.read(&mut self.buffer) {
             Ok(count) => {
@@ -103,7 +103,7 @@ impl<R: Read> StandardSource<R> {
         ensures end { OnOk result (TellsAll R.remaining → self.new.start ≡ self.new.end → rest_of self.new ≡ []) }
         ensures calls { self.new.calls_left ≡ self.old.calls_left }
         ensures ends { self.new.end_count ≡ self.old.end_count }
-        ensures failures { self.new.failed_calls ≡ counted (is_err result) self.old.failed_calls }
+        ensures failures { self.new.failed_calls ≡ counted_if (is_err result) self.old.failed_calls }
     {
         if self.start < self.end {
             return Ok(());

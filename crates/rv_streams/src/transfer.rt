@@ -1,6 +1,6 @@
 //! One byte from a source, and all of a text to a sink.
 ghost use Rattle.std.specs.Prelude.{◌≡◌, ◌++◌, ◌⊎◌, ◌+◌, ◌≤◌, [], length, IsTrue, IfOk, OnOk, OnErr, IfNone, is_err};
-ghost use Rattle.rv_streams.specs.Device.{counted, HasRisen};
+ghost use Rattle.rv_streams.specs.Device.{counted_if, HasRisen};
 ghost use Rattle.rv_streams.specs.Transfer.{byte_given, answers_end, WritesFront};
 
 use crate::device::{DeviceFault, Sink, Source};
@@ -13,8 +13,8 @@ use crate::device::{DeviceFault, Sink, Source};
 pub(crate) fn read_byte<S: Source>(source: &mut S) -> Result<Option<u8>, DeviceFault>
     ensures bytes { S.tells → S.remaining source.old ≡ byte_given result ++ S.remaining source.new }
     ensures end { S.tells → IfOk result (λ byte. IfNone byte (S.remaining source.new ≡ [])) }
-    ensures ends { S.ends source.new ≡ counted (answers_end result) (S.ends source.old) }
-    ensures failures { S.failures source.new ≡ counted (is_err result) (S.failures source.old) }
+    ensures ends { S.ends source.new ≡ counted_if (answers_end result) (S.ends source.old) }
+    ensures failures { S.failures source.new ≡ counted_if (is_err result) (S.failures source.old) }
     ensures falls { S.calls_left source.new + length (byte_given result) ≤ S.calls_left source.old }
 {
     let mut byte = [0];

@@ -2,7 +2,7 @@
 
 ghost use Rattle.std.specs.Prelude.{◌≡◌, ℕ, ◌+◌, ◌/◌, ◌^◌, ◌<◌, ◌≤◌, [], ◌∷◌, ◌++◌, length, codes, decimal};
 ghost use Rattle.arrayvec.specs.ArrayString.{array_string_len};
-ghost use Rattle.rv_disassembler.specs.Spelling.{register_text, hex_text, csr_text, signed_text, address_text, accesses_text, line_text};
+ghost use Rattle.rv_disassembler.specs.Spelling.{register_operand_text, hex_text, csr_operand_text, signed_text, address_text, accesses_text, line_text};
 
 use super::operand::{
     Line, push_accesses, push_address, push_csr, push_decimal, push_hex, push_register, push_signed,
@@ -33,7 +33,7 @@ fn push_comma(out: &mut Line)
 /// Writes a mnemonic with its first register.
 fn put_name_and_register(out: &mut Line, name: &str, register: Reg)
     requires { length name.now ≤ 10 }
-    ensures bytes { out.new.bytes ≡ name.now ++ codes " " ++ register_text register }
+    ensures bytes { out.new.bytes ≡ name.now ++ codes " " ++ register_operand_text register }
     ensures len { array_string_len out.new ≤ 15 }
 {
     put_mnemonic(out, name);
@@ -43,7 +43,7 @@ fn put_name_and_register(out: &mut Line, name: &str, register: Reg)
 /// Writes a register that is not the first operand.
 fn push_next_register(out: &mut Line, register: Reg)
     requires room { array_string_len out.old + 6 ≤ 48 }
-    ensures bytes { out.new.bytes ≡ out.old.bytes ++ codes ", " ++ register_text register }
+    ensures bytes { out.new.bytes ≡ out.old.bytes ++ codes ", " ++ register_operand_text register }
     ensures len { array_string_len out.new ≤ array_string_len out.old + 6 }
 {
     push_comma(out);
@@ -64,7 +64,7 @@ pub(super) fn put_name(out: &mut Line, name: &str)
 #[tactic(auto, unfolding(crate::specs::Spelling::line_text))]
 pub(super) fn put_upper(out: &mut Line, name: &str, rd: Reg, imm: UpperImm)
     requires { length name.now ≤ 10 }
-    ensures { out.new.bytes ≡ line_text name.now (register_text rd ∷ hex_text (imm / 2 ^ 12) ∷ []) }
+    ensures { out.new.bytes ≡ line_text name.now (register_operand_text rd ∷ hex_text (imm / 2 ^ 12) ∷ []) }
 {
     put_name_and_register(out, name, rd);
     push_comma(out);
@@ -76,7 +76,7 @@ pub(super) fn put_upper(out: &mut Line, name: &str, rd: Reg, imm: UpperImm)
 pub(super) fn put_jump(out: &mut Line, name: &str, rd: Reg, offset: u32)
     requires name { length name.now ≤ 10 }
     requires offset { offset < 2 ^ 21 }
-    ensures { out.new.bytes ≡ line_text name.now (register_text rd ∷ signed_text 21 offset ∷ []) }
+    ensures { out.new.bytes ≡ line_text name.now (register_operand_text rd ∷ signed_text 21 offset ∷ []) }
 {
     put_name_and_register(out, name, rd);
     push_comma(out);
@@ -87,7 +87,7 @@ pub(super) fn put_jump(out: &mut Line, name: &str, rd: Reg, offset: u32)
 #[tactic(auto, unfolding(crate::specs::Spelling::line_text))]
 pub(super) fn put_address(out: &mut Line, name: &str, register: Reg, offset: Imm12, base: Reg)
     requires { length name.now ≤ 10 }
-    ensures { out.new.bytes ≡ line_text name.now (register_text register ∷ address_text offset base ∷ []) }
+    ensures { out.new.bytes ≡ line_text name.now (register_operand_text register ∷ address_text offset base ∷ []) }
 {
     put_name_and_register(out, name, register);
     push_comma(out);
@@ -100,7 +100,7 @@ pub(super) fn put_signed(out: &mut Line, name: &str, a: Reg, b: Reg, field: u32,
     requires name { length name.now ≤ 10 }
     requires width { (0 < width) × (width ≤ 21) }
     requires field { field < 2 ^ width }
-    ensures { out.new.bytes ≡ line_text name.now (register_text a ∷ register_text b ∷ signed_text width field ∷ []) }
+    ensures { out.new.bytes ≡ line_text name.now (register_operand_text a ∷ register_operand_text b ∷ signed_text width field ∷ []) }
 {
     put_name_and_register(out, name, a);
     push_next_register(out, b);
@@ -112,7 +112,7 @@ pub(super) fn put_signed(out: &mut Line, name: &str, a: Reg, b: Reg, field: u32,
 #[tactic(auto, unfolding(crate::specs::Spelling::line_text))]
 pub(super) fn put_shift(out: &mut Line, name: &str, rd: Reg, rs1: Reg, shamt: u32)
     requires { length name.now ≤ 10 }
-    ensures { out.new.bytes ≡ line_text name.now (register_text rd ∷ register_text rs1 ∷ decimal shamt ∷ []) }
+    ensures { out.new.bytes ≡ line_text name.now (register_operand_text rd ∷ register_operand_text rs1 ∷ decimal shamt ∷ []) }
 {
     put_name_and_register(out, name, rd);
     push_next_register(out, rs1);
@@ -124,7 +124,7 @@ pub(super) fn put_shift(out: &mut Line, name: &str, rd: Reg, rs1: Reg, shamt: u3
 #[tactic(auto, unfolding(crate::specs::Spelling::line_text))]
 pub(super) fn put_two_registers(out: &mut Line, name: &str, a: Reg, b: Reg)
     requires { length name.now ≤ 10 }
-    ensures { out.new.bytes ≡ line_text name.now (register_text a ∷ register_text b ∷ []) }
+    ensures { out.new.bytes ≡ line_text name.now (register_operand_text a ∷ register_operand_text b ∷ []) }
 {
     put_name_and_register(out, name, a);
     push_next_register(out, b);
@@ -134,7 +134,7 @@ pub(super) fn put_two_registers(out: &mut Line, name: &str, a: Reg, b: Reg)
 #[tactic(auto, unfolding(crate::specs::Spelling::line_text))]
 pub(super) fn put_three_registers(out: &mut Line, name: &str, a: Reg, b: Reg, c: Reg)
     requires { length name.now ≤ 10 }
-    ensures { out.new.bytes ≡ line_text name.now (register_text a ∷ register_text b ∷ register_text c ∷ []) }
+    ensures { out.new.bytes ≡ line_text name.now (register_operand_text a ∷ register_operand_text b ∷ register_operand_text c ∷ []) }
 {
     put_name_and_register(out, name, a);
     push_next_register(out, b);
@@ -157,7 +157,7 @@ pub(super) fn put_fence(out: &mut Line, name: &str, pred: FenceSet, succ: FenceS
 #[tactic(auto, unfolding(crate::specs::Spelling::line_text))]
 pub(super) fn put_csr(out: &mut Line, name: &str, rd: Reg, csr: CsrNumber, rs1: Reg)
     requires { length name.now ≤ 10 }
-    ensures { out.new.bytes ≡ line_text name.now (register_text rd ∷ csr_text csr ∷ register_text rs1 ∷ []) }
+    ensures { out.new.bytes ≡ line_text name.now (register_operand_text rd ∷ csr_operand_text csr ∷ register_operand_text rs1 ∷ []) }
 {
     put_name_and_register(out, name, rd);
     push_comma(out);
@@ -169,7 +169,7 @@ pub(super) fn put_csr(out: &mut Line, name: &str, rd: Reg, csr: CsrNumber, rs1: 
 #[tactic(auto, unfolding(crate::specs::Spelling::line_text))]
 pub(super) fn put_csr_imm(out: &mut Line, name: &str, rd: Reg, csr: CsrNumber, uimm: u32)
     requires { length name.now ≤ 10 }
-    ensures { out.new.bytes ≡ line_text name.now (register_text rd ∷ csr_text csr ∷ decimal uimm ∷ []) }
+    ensures { out.new.bytes ≡ line_text name.now (register_operand_text rd ∷ csr_operand_text csr ∷ decimal uimm ∷ []) }
 {
     put_name_and_register(out, name, rd);
     push_comma(out);

@@ -2,7 +2,7 @@
 
 ghost use Rattle.std.specs.Prelude.{◌≡◌, ℕ, ◌+◌, ◌^◌, ◌<◌, ◌≤◌, ◌++◌, length, decimal};
 ghost use Rattle.arrayvec.specs.ArrayString.{array_string_len};
-ghost use Rattle.rv_disassembler.specs.Spelling.{register_text, hex_text, csr_text, signed_text, address_text, letter_text, accesses_text};
+ghost use Rattle.rv_disassembler.specs.Spelling.{register_operand_text, hex_text, csr_operand_text, signed_text, address_text, letter_text, accesses_text};
 
 use crate::hexadecimal::digit_count;
 use arrayvec::ArrayString;
@@ -26,7 +26,7 @@ pub(super) fn push_decimal(out: &mut Line, number: u32)
 /// Writes a register by its number.
 pub(super) fn push_register(out: &mut Line, register: Reg)
     requires room { array_string_len out.old + 4 ≤ 48 }
-    ensures bytes { out.new.bytes ≡ out.old.bytes ++ register_text register }
+    ensures bytes { out.new.bytes ≡ out.old.bytes ++ register_operand_text register }
     ensures len { array_string_len out.new ≤ array_string_len out.old + 4 }
 {
     out.push_str("x");
@@ -47,7 +47,7 @@ pub(super) fn push_hex(out: &mut Line, number: u32)
 /// Writes a control and status register by its number, in three digits.
 pub(super) fn push_csr(out: &mut Line, csr: CsrNumber)
     requires room { array_string_len out.old + 5 ≤ 48 }
-    ensures bytes { out.new.bytes ≡ out.old.bytes ++ csr_text csr }
+    ensures bytes { out.new.bytes ≡ out.old.bytes ++ csr_operand_text csr }
     ensures len { array_string_len out.new ≤ array_string_len out.old + 5 }
 {
     out.push_str("0x");

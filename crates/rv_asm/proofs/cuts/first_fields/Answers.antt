@@ -4,11 +4,11 @@ use Rattle.std.proofs.lemmas.Iterator.Splits.{YieldsList-from_slice_split}
 use Rattle.std.proofs.lemmas.Iterator.Consumers.{YieldsList-at, YieldsList-so_far, YieldsList-end}
 use Rattle.std.proofs.lemmas.Bool.Decides.{nat_tests}
 use Rattle.std.proofs.lemmas.Grind.{common_steps}
-use Rattle.rv_asm.specs.Cuts.{trimmed, fields_of}
+use Rattle.rv_asm.specs.Cuts.{trimmed, comma_fields}
 use Rattle.rv_asm.proofs.cuts.first_fields.Goals as goal
 
 pub returns-in-None : goal.returns-in-None
-unfolding fields_of
+unfolding comma_fields
 returns-in-None c =
     let end =
     YieldsList-end (YieldsList-at c.into_iter-field-iterator.ensures.into_iter_gives
@@ -21,7 +21,7 @@ returns-in-None c =
     rw c.loop-field.invariant.kept (grind (arith, common_steps, end.0, end.1, few))
 
 pub returns-then-is_full : goal.returns-then-is_full
-unfolding fields_of
+unfolding comma_fields
 returns-then-is_full c =
     let front =
     YieldsList-so_far (YieldsList-at c.into_iter-field-iterator.ensures.into_iter_gives

@@ -2,7 +2,7 @@ use Rattle.std.proofs.Common.{sym, ◌∙◌, subst}
 use Rattle.rv_state.specs.declared.cause.Cause.TheVariants as causes
 use Rattle.rv_state.specs.declared.cause.Interrupt.TheVariants.{MachineTimer}
 use Rattle.rv_monitor.specs.Prelude.{Cause, EnvironmentCallFromS, Seat}
-use Rattle.rv_monitor.proofs.Prelude.{Handled, HasNoLock}
+use Rattle.rv_monitor.proofs.Prelude.{Handled, IsUnlocked}
 use Rattle.rv_monitor.proofs.LastAct.{work_unlocked}
 use Rattle.rv_monitor.proofs.handler.handle.Goals as goal
 use Rattle.rv_monitor.proofs.handler.handle.Goals.{in-Interrupt, in-Exception-EnvironmentCallFromS}
@@ -10,7 +10,7 @@ use Rattle.rv_monitor.proofs.handler.handle.Goals.{in-Interrupt, in-Exception-En
 -- neither the timer's stop nor a call has written an entry
 pub lay_out-requires : goal.lay_out-requires
 lay_out-requires c =
-    let P : Seat → Type 0 = λ seat. HasNoLock seat.hart.csrs.pmp in
+    let P : Seat → Type 0 = λ seat. IsUnlocked seat.hart.csrs.pmp in
     let still = λ (cause : Cause) (left : Handled). work_unlocked c.args.seat.now c.args.shared.now cause left in
     elim c.match-trap.branch [
       | in-Interrupt w ↦

@@ -2,7 +2,7 @@ use Rattle.std.proofs.Common.{◌≡◌, ◌∙◌, ◌+◌, ◌≤◌, sym, ari
 use Rattle.rv_word.specs.Cases.{option_case}
 use Rattle.rv_asm.specs.LabelMap.{places_of}
 use Rattle.rv_asm.specs.Looks.{AddsLabel}
-use Rattle.rv_asm.specs.LineReading.{line_at}
+use Rattle.rv_asm.specs.LineReading.{line_read}
 use Rattle.rv_asm.specs.Program.{line_size}
 use Rattle.rv_asm.proofs.LabelLemmas.{reads_more, own_fault-none, label_fault-none}
 use Rattle.rv_asm.proofs.first_look.FirstLook.add_line.Goals as goal
@@ -10,7 +10,7 @@ use Rattle.rv_asm.proofs.first_look.FirstLook.add_line.Goals as goal
 pub returns-clause-ok : goal.returns-clause-ok
 returns-clause-ok c = λ before has.
     let line = c.in-Ok.line in
-    let said : line_at c.args.text.now ≡ Ok line = sym c.read_line.ensures ∙ c.in-Ok.is in
+    let said : line_read c.args.text.now ≡ Ok line = sym c.read_line.ensures ∙ c.in-Ok.is in
     let small : c.args.self.now.words + line_size (Ok line) ≤ 65536 = omega (arith, c.optional_size.ensures.value, c.if-words-gt-MAX_WORDS.false) in
     let added : AddsLabel c.args.self.now c.add_label.new.self line.label = grind (arith, c.add_label.ensures) in
     rw (said, c.optional_size.ensures.value)
@@ -19,7 +19,7 @@ returns-clause-ok c = λ before has.
 pub returns-then-is_err-clause-fault : goal.returns-then-is_err-clause-fault
 returns-then-is_err-clause-fault c = λ before has.
     let line = c.in-Ok.line in
-    let said : line_at c.args.text.now ≡ Ok line = sym c.read_line.ensures ∙ c.in-Ok.is in
+    let said : line_read c.args.text.now ≡ Ok line = sym c.read_line.ensures ∙ c.in-Ok.is in
     let small : c.args.self.now.words + line_size (Ok line) ≤ 65536 = omega (arith, c.optional_size.ensures.value, c.if-words-gt-MAX_WORDS.false) in
     let absent : option_case line.label false (λ name. is_some (places_of c.args.self.now.labels name)) ≡ false = grind (arith, c.add_label.ensures) in
     rw said (inr (record {

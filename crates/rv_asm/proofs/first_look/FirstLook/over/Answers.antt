@@ -1,5 +1,5 @@
 use Rattle.std.proofs.Common.{◌∷◌, [], length-append, arith}
-use Rattle.rv_asm.specs.LineReading.{line_at}
+use Rattle.rv_asm.specs.LineReading.{line_read}
 use Rattle.rv_asm.proofs.LookLemmas.{reads_on}
 use Rattle.rv_asm.proofs.first_look.FirstLook.over.Goals as goal
 
@@ -16,7 +16,7 @@ loop-line-preserved c =
             arith,
             more.0.count,
             has.read.count,
-            length-append has.before (line_at c.in-Some.line.now ∷ []),
+            length-append has.before (line_read c.in-Some.line.now ∷ []),
             c.in-Some.ensures.shorter,
             c.loop-line.invariant.count,
           );

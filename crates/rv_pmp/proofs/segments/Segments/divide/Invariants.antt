@@ -1,5 +1,5 @@
 use Rattle.std.proofs.Common.{◌≡◌, ℕ, ◌<◌, ◌≤◌, length, slice_index}
-use Rattle.rv_pmp.specs.Segments.{is_within, reach_of, AreInOrder, AreOwned}
+use Rattle.rv_pmp.specs.Remembered.Segments.{is_within, reach_of, AreInOrder, AreOwned}
 use Rattle.rv_pmp.proofs.segments.Segments.divide.Given as goal
 
 -- the segments go up to start, which the bounds so far have reached

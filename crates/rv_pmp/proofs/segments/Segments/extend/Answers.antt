@@ -1,6 +1,6 @@
 use Rattle.std.proofs.Common.{arith, sym, ◌∙◌, ◌-◌, slice_index_or, None}
 use Rattle.std.proofs.lemmas.List.{get_or_default}
-use Rattle.rv_pmp.specs.Segments.{is_within, owner}
+use Rattle.rv_pmp.specs.Remembered.Segments.{is_within, owner}
 use Rattle.rv_pmp.proofs.OwnerLemmas.{option_same}
 use Rattle.rv_pmp.proofs.SegmentLemmas.{goes_on, one_more}
 use Rattle.rv_pmp.proofs.segments.Segments.extend.Goals as goal

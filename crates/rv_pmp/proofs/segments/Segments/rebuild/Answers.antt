@@ -1,6 +1,6 @@
 use Rattle.std.proofs.Common.{◌∙◌}
 use Rattle.rv_pmp.specs.Covers.{covers}
-use Rattle.rv_pmp.specs.Segments.{is_within, AreSegments}
+use Rattle.rv_pmp.specs.Remembered.Segments.{is_within, AreSegments}
 use Rattle.rv_pmp.specs.Entries.{Entries}
 use Rattle.rv_pmp.proofs.OwnerLemmas.{owner_alike}
 use Rattle.rv_pmp.proofs.segments.Segments.rebuild.Goals as goal

@@ -4,8 +4,8 @@ use Rattle.rv_pmp.specs.declared.cache.Cache.{Cache}
 use Rattle.rv_pmp.specs.declared.caches.Caches.{Caches}
 use Rattle.rv_pmp.specs.declared.open_range.OpenRange.{OpenRange}
 use Rattle.rv_pmp.specs.Entries.{Entries, HasSixteen}
-use Rattle.rv_pmp.specs.OpenRanges.{AreOpen}
-use Rattle.rv_pmp.specs.Segments.{AreSegments}
+use Rattle.rv_pmp.specs.Remembered.OpenRanges.{AreOpen}
+use Rattle.rv_pmp.specs.Remembered.Segments.{AreSegments}
 
 -- there are sixteen entries; the segments are theirs, where no entry was written since they were made; and what is remembered is
 -- open
