@@ -13,7 +13,6 @@ pub const fn integrity()
 {}
 
 /// An enclave that runs on a hart is spared so by every command that does not step that hart and pokes no byte of the region.
-#[tactic(auto, using(crate::proofs::Isolation::running))]
 pub const fn runs_beside()
     ensures { RunningLaw }
 {}

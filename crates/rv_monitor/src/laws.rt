@@ -122,7 +122,6 @@ pub const fn any_order_spares()
 {}
 
 /// An enclave that runs on one hart is left alone by steps of the others in any order.
-#[tactic(auto, using(crate::proofs::HartsSpare::running_law))]
 pub const fn runs_beside()
     ensures { RunningLaw }
 {}
@@ -133,7 +132,6 @@ pub const fn any_order_is_blind()
 {}
 
 /// A hart runs an enclave behind a step only where it did before, or where the step entered it.
-#[tactic(auto, using(crate::proofs::HartsAlike::entry_law))]
 pub const fn only_entry_runs()
     ensures { EntryLaw }
 {}
