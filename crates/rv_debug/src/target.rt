@@ -188,6 +188,7 @@ impl Target {
     }
 
     /// Does steps until one accesses a watched byte, or else so many are done, or else the next instruction is at a break.
+    #[inline(always)]
     pub(crate) fn run(&mut self, count: u32, breaks: &Addresses, watches: &Addresses) -> Ran
         ensures run { run target_stepped pc_of breaks.now watches.now count (no_steps self.old) ≡ record { state = self.new; ran = result } }
         ensures bare { IsBare self.old → result.entered ≡ 0 }
