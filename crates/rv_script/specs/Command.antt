@@ -59,50 +59,58 @@ width_of operand =
     else (if bytes_eq operand (codes "2") then Some Half
     else (if bytes_eq operand (codes "4") then Some Word else None))
 
--- the command of no operands, of just one, of just two, and of just four
-abbrev pub none : Command → List (List ℕ) → Option Command
-none command [] = Some command
-none command _ = None
+-- what stands behind a first word, and the command that it makes: no operand, just one, just two, or just four
+pub data Form : Type 0 where
+  NoOperand : (command : Command) → Form
+  OneOperand : (make : List ℕ → Option Command) → Form
+  TwoOperands : (make : List ℕ → List ℕ → Option Command) → Form
+  FourOperands : (make : List ℕ → List ℕ → List ℕ → List ℕ → Option Command) → Form
 
-abbrev pub one : {A : Type 0} → (List ℕ → Option A) → (A → Command) → List (List ℕ) → Option Command
-one read make (operand ∷ []) = option_map make (read operand)
-one read make _ = None
+abbrev pub made : Form → List (List ℕ) → Option Command
+made (NoOperand command) [] = Some command
+made (OneOperand make) (t ∷ []) = make t
+made (TwoOperands make) (t ∷ u ∷ []) = make t u
+made (FourOperands make) (t ∷ u ∷ v ∷ w ∷ []) = make t u v w
+made _ _ = None
 
-abbrev pub two : {A B : Type 0} → (List ℕ → Option A) → (List ℕ → Option B) → (A → B → Command) → List (List ℕ) → Option Command
-two read read_next make (operand ∷ next ∷ []) = option_and_then (λ a. option_map (make a) (read_next next)) (read operand)
-two read read_next make _ = None
+-- each operand is read on its own
+abbrev pub one : {A : Type 0} → (List ℕ → Option A) → (A → Command) → Form
+one read make = OneOperand (λ t. option_map make (read t))
+
+abbrev pub two : {A B : Type 0} → (List ℕ → Option A) → (List ℕ → Option B) → (A → B → Command) → Form
+two first second make = TwoOperands (λ t u. option_and_then (λ a. option_map (make a) (second u)) (first t))
 
 abbrev pub four : {A B C D : Type 0} → (List ℕ → Option A) → (List ℕ → Option B) → (List ℕ → Option C) → (List ℕ → Option D)
-    → (A → B → C → D → Command) → List (List ℕ) → Option Command
-four first second third fourth make (t ∷ u ∷ v ∷ w ∷ []) =
-    option_and_then (λ a. option_and_then (λ b. option_and_then (λ c. option_map (make a b c) (fourth w)) (third v)) (second u)) (first t)
-four first second third fourth make _ = None
+    → (A → B → C → D → Command) → Form
+four first second third fourth make =
+    FourOperands (λ t u v w.
+    option_and_then (λ a. option_and_then (λ b. option_and_then (λ c. option_map (make a b c) (fourth w)) (third v)) (second u)) (first t))
 
--- a row of the table of commands: the first word, and the command that the words after it make
+-- a row of the table of commands: the first word, and what stands behind it
 pub record CommandRow : Type 0 where
   pub spelling : List ℕ
-  pub operands : List (List ℕ) → Option Command
+  pub form : Form
 
 abbrev pub command_row : Keyword → CommandRow
-command_row keyword.Step = record { spelling = codes "step"; operands = one (decimal_within 1 1000000) command.Step }
-command_row keyword.Run = record { spelling = codes "run"; operands = one (decimal_within 1 1000000) command.Run }
-command_row keyword.Break = record { spelling = codes "break"; operands = one hexadecimal_of command.Break }
-command_row keyword.Clear = record { spelling = codes "clear"; operands = one hexadecimal_of command.Clear }
-command_row keyword.Watch = record { spelling = codes "watch"; operands = one hexadecimal_of command.Watch }
-command_row keyword.Unwatch = record { spelling = codes "unwatch"; operands = one hexadecimal_of command.Unwatch }
-command_row keyword.Reg = record { spelling = codes "reg"; operands = one register_of command.Reg }
-command_row keyword.Regs = record { spelling = codes "regs"; operands = none command.Regs }
-command_row keyword.SetReg = record { spelling = codes "setreg"; operands = two register_of hexadecimal_of command.SetReg }
-command_row keyword.Csr = record { spelling = codes "csr"; operands = one csr_number_of command.Csr }
-command_row keyword.Mem = record { spelling = codes "mem"; operands = two hexadecimal_of (decimal_within 1 64) command.Mem }
-command_row keyword.Poke = record { spelling = codes "poke"; operands = two hexadecimal_of byte_of_text command.Poke }
-command_row keyword.Dis = record { spelling = codes "dis"; operands = one hexadecimal_of command.Dis }
-command_row keyword.Pmp = record { spelling = codes "pmp"; operands = none command.Pmp }
-command_row keyword.Enclaves = record { spelling = codes "enclaves"; operands = none command.Enclaves }
-command_row keyword.Access = record { spelling = codes "access"; operands = four mode_of access_of hexadecimal_of width_of command.Access }
-command_row keyword.Timer = record { spelling = codes "timer"; operands = one switch_of command.Timer }
-command_row keyword.Hart = record { spelling = codes "hart"; operands = one hart_named command.Hart }
-command_row keyword.Sched = record { spelling = codes "sched"; operands = one schedule_of command.Sched }
+command_row keyword.Step = record { spelling = codes "step"; form = one (decimal_within 1 1000000) command.Step }
+command_row keyword.Run = record { spelling = codes "run"; form = one (decimal_within 1 1000000) command.Run }
+command_row keyword.Break = record { spelling = codes "break"; form = one hexadecimal_of command.Break }
+command_row keyword.Clear = record { spelling = codes "clear"; form = one hexadecimal_of command.Clear }
+command_row keyword.Watch = record { spelling = codes "watch"; form = one hexadecimal_of command.Watch }
+command_row keyword.Unwatch = record { spelling = codes "unwatch"; form = one hexadecimal_of command.Unwatch }
+command_row keyword.Reg = record { spelling = codes "reg"; form = one register_of command.Reg }
+command_row keyword.Regs = record { spelling = codes "regs"; form = NoOperand command.Regs }
+command_row keyword.SetReg = record { spelling = codes "setreg"; form = two register_of hexadecimal_of command.SetReg }
+command_row keyword.Csr = record { spelling = codes "csr"; form = one csr_number_of command.Csr }
+command_row keyword.Mem = record { spelling = codes "mem"; form = two hexadecimal_of (decimal_within 1 64) command.Mem }
+command_row keyword.Poke = record { spelling = codes "poke"; form = two hexadecimal_of byte_of_text command.Poke }
+command_row keyword.Dis = record { spelling = codes "dis"; form = one hexadecimal_of command.Dis }
+command_row keyword.Pmp = record { spelling = codes "pmp"; form = NoOperand command.Pmp }
+command_row keyword.Enclaves = record { spelling = codes "enclaves"; form = NoOperand command.Enclaves }
+command_row keyword.Access = record { spelling = codes "access"; form = four mode_of access_of hexadecimal_of width_of command.Access }
+command_row keyword.Timer = record { spelling = codes "timer"; form = one switch_of command.Timer }
+command_row keyword.Hart = record { spelling = codes "hart"; form = one hart_named command.Hart }
+command_row keyword.Sched = record { spelling = codes "sched"; form = one schedule_of command.Sched }
 
 abbrev pub keywords : List Keyword
 keywords =
@@ -114,7 +122,7 @@ abbrev pub spelling_of : Keyword → List ℕ
 spelling_of k = (command_row k).spelling
 
 abbrev pub operands_of : Keyword → List (List ℕ) → Option Command
-operands_of k = (command_row k).operands
+operands_of k = made (command_row k).form
 
 -- the keyword that a word spells
 unfoldable pub keyword_of : List ℕ → Option Keyword

@@ -1,5 +1,5 @@
 -- Which hart makes which step, as a word of digits says it. (This project's own commands.)
-use Rattle.std.specs.Prelude.{ℕ, ◌+◌, ◌-◌, ◌==◌, Bool, ◌||◌, ◌&&◌, nat_lt, nat_le, List, ◌++◌, map, take, length}
+use Rattle.std.specs.Prelude.{ℕ, ◌-◌, ◌==◌, Bool, ◌||◌, ◌&&◌, nat_lt, nat_le, List, ◌++◌, map, take, length}
 use Rattle.std.specs.Prelude.{replicate, Option, Some, None, codes, if◌then◌else◌}
 use Rattle.std.specs.List.{list_all}
 use Rattle.std.specs.Str.{bytes_eq}

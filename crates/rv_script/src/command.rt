@@ -273,6 +273,7 @@ fn with_four(
 }
 
 /// The command that a keyword makes of its operands.
+#[tactic(auto, using(crate::proofs::Commands::made_three, crate::proofs::Commands::made_many))]
 fn with_operands(keyword: Keyword, operands: &[&[u8]]) -> Option<Command>
     ensures { result ≡ operands_of keyword (map (λ operand. operand.now) operands.now) }
 {
@@ -280,6 +281,7 @@ fn with_operands(keyword: Keyword, operands: &[&[u8]]) -> Option<Command>
         [] => with_none(keyword),
         [operand] => with_one(keyword, operand),
         [first, second] => with_two(keyword, first, second),
+        [_, _, _] => None,
         [first, second, third, fourth] => with_four(keyword, first, second, third, fourth),
         _ => None,
     }

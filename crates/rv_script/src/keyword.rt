@@ -30,7 +30,7 @@ pub(crate) enum Keyword {
 }
 
 /// How the keywords are spelled.
-const SPELLINGS: [(&str, Keyword); 19] = [
+const SPELLINGS: &[(&str, Keyword)] = &[
     ("step", Keyword::Step),
     ("run", Keyword::Run),
     ("break", Keyword::Break),
@@ -72,7 +72,7 @@ impl Keyword {
     pub(crate) fn find(word: &[u8]) -> Option<Keyword>
         ensures { result ≡ keyword_of word.now }
     {
-        Self::matching(&SPELLINGS, word)
+        Self::matching(SPELLINGS, word)
     }
 
     /// The keyword in the row of a word, if there is one.
