@@ -12,8 +12,8 @@ use Rattle.rv_streams.specs.declared.lines.Lines.{Lines}
 use Rattle.rv_streams.specs.declared.separator.ScriptEnd.{ScriptEnd}
 use Rattle.rv_streams.specs.declared.separator.ScriptEnd.TheVariants.{Input, Separator}
 use Rattle.rv_streams.specs.Calls.{SourceWorked, SinkWorked, SinkFailed}
-use Rattle.rv_streams.specs.LineText.{ReadsText}
-use Rattle.rv_streams.specs.Script.{script_lines, within, FindsEnd, TakesScript}
+use Rattle.rv_streams.specs.LineText.{ReadsLineText}
+use Rattle.rv_streams.specs.Script.{script_lines, is_script_line, FindsEnd, TakesScript}
 use Rattle.rv_streams.specs.Transfer.{WritesFront}
 use Rattle.rv_streams.specs.Unread.{held, unread, TellsEnd}
 use Rattle.rv_streams.proofs.Ends.{SinkFailed-after}
@@ -54,7 +54,7 @@ module _ {A : Type 0} {by : Answering A} {end : ScriptEnd} {start : A} {tells : 
 
     -- the source fails within a line
     pub AnswersLines-read : {rest kept : List ℕ} → AnswersLines by end start tells unread old now left false new → by.is_over now ≡ false
-        → ReadsText left rest kept → StopsAtRead by end start tells unread rest kept old new
+        → ReadsLineText left rest kept → StopsAtRead by end start tells unread rest kept old new
     AnswersLines-read so_far going begun = let reads = so_far.taken.reads in record {
       text = reads.text;
       begun = begun.text;
@@ -136,7 +136,7 @@ module _ {A : Type 0} {by : Answering A} {end : ScriptEnd} {start : A} {tells : 
   pub AnswersNext-taken : TakesScript end unread rest ends lines
   AnswersNext-taken = record {
     reads = ReadsLines-more unread next.left rest ends next.shown next.so_far.lines next.so_far.taken.reads next.takes;
-    inside = list_all-push (within end) next.so_far.lines next.takes.line next.so_far.taken.inside
+    inside = list_all-push (is_script_line end) next.so_far.lines next.takes.line next.so_far.taken.inside
         (ap not (ends_script-shown end next.left rest ends next.shown next.takes ∙ next.inside));
   }
 

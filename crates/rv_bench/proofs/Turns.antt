@@ -6,7 +6,7 @@ use Rattle.rv_streams.specs.declared.fault.BenchFault.TheVariants.{Read, Write}
 use Rattle.rv_streams.specs.declared.lines.Lines.{Lines}
 use Rattle.rv_streams.specs.declared.separator.ScriptEnd.{ScriptEnd}
 use Rattle.rv_streams.specs.Calls.{SourceFailed, SourceWorked, SinkFailed, SinkWorked}
-use Rattle.rv_streams.specs.LineText.{ReadsText, TakesLine}
+use Rattle.rv_streams.specs.LineText.{ReadsLineText, TakesLine}
 use Rattle.rv_streams.specs.Script.{ends_script, FindsEnd}
 use Rattle.rv_streams.specs.Transfer.{WritesFront}
 use Rattle.rv_streams.specs.Unread.{held, unread, TellsEnd}
@@ -63,7 +63,7 @@ module _ {S W : Type 0} {g : SourceGhosts S} {h : SinkGhosts W} {A : Type 0} {by
 
     -- the source fails
     pub SoFar-read : (new : Lines S g) → SoFar h by end start old before now mid between → (mid.is_at_end ≡ false) × (new.is_at_end ≡ false)
-        → SourceFailed g mid.source new.source → (g.tells → ReadsText (unread mid) (g.remaining new.source) (held new))
+        → SourceFailed g mid.source new.source → (g.tells → ReadsLineText (unread mid) (g.remaining new.source) (held new))
         → FailsIn h by end start old new before between Read
     SoFar-read new so_far going risen kept =
         let same = so_far.source in

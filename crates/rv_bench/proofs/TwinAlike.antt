@@ -12,7 +12,7 @@ use Rattle.rv_debug.specs.Isolation.{IsSparedIn, after_commands}
 use Rattle.rv_debug.specs.Targets.{KeepsMonitor}
 use Rattle.rv_debug.specs.BothBenches.{BenchesAgreeBut, BothAnswered, BothTold, RestsIn, TargetsAgreeBut, both_answer, both_do, both_line_answer, both_told}
 use Rattle.rv_debug.specs.BothBenches.{can_scramble}
-use Rattle.rv_debug.specs.BothBenches.{can_scramble_in, is_blank, is_blind, scrambled, scrambled_in}
+use Rattle.rv_debug.specs.BothBenches.{can_scramble_in, has_no_command, is_blind, scrambled, scrambled_in}
 use Rattle.rv_debug.specs.declared.both.BothLine.{BothLine}
 use Rattle.rv_debug.specs.declared.both.BothLine.TheVariants.{Given}
 use Rattle.rv_debug.specs.declared.both.BothWhy.{BothWhy}
@@ -114,7 +114,7 @@ module _ (slot : ℕ) where
 
   -- what both did with a line of this command
   abbrev of_command : Command → BothAnswered → BothWhy → Apart → Replied Apart
-  of_command command after why apart = done_by (Given why (is_blank command)) (with_line after (Given after.why (is_blank command))) apart.ran
+  of_command command after why apart = done_by (Given why (has_no_command command)) (with_line after (Given after.why (has_no_command command))) apart.ran
 
   done_going : (apart : Apart) (command : Command) (after : BothAnswered) (why : BothWhy) → after.why ≡ why
       → Becomes apart.first apart.second command after → Going (of_command command after why apart).state

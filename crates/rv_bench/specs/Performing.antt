@@ -43,7 +43,7 @@ exit_status (Err fault) = 1
 
 module _ {W : Type 0} (h : SinkGhosts W) where
   -- A text was written behind what was taken before, and the sink flushed.
-  pub record TellsAll (before after : W) (text : List ℕ) : Type 0 where
+  pub record WritesAll (before after : W) (text : List ℕ) : Type 0 where
     pub sink : SinkFlushed h before after
     pub written : h.tells → h.taken after ≡ h.taken before ++ text
 
@@ -54,7 +54,7 @@ module _ {W : Type 0} (h : SinkGhosts W) where
 
   -- what was told in addition, where that did not change the status
   abbrev pub Tells : W → W → List ℕ → Type 0
-  Tells before after text = TellsAll before after text ⊎ TellsFront before after text
+  Tells before after text = WritesAll before after text ⊎ TellsFront before after text
 
   -- what is told of an outcome, behind what the job has written: the line of its fault
   abbrev pub TellsOutcome : Outcome → W → W → Type 0
@@ -67,7 +67,7 @@ module _ {W : Type 0} (h : SinkGhosts W) where
   Refuses before after words.Refused status = Tells before after (codes "rvbench: command line\n") × (status ≡ 2)
   Refuses before after words.NoMemory status = Tells before after (codes "rvbench: memory\n") × (status ≡ 1)
   Refuses before after (words.Help text) status =
-      (TellsAll before after (string_bytes text) × (status ≡ 0)) ⊎ (TellsFront before after (string_bytes text) × (status ≡ 1))
+      (WritesAll before after (string_bytes text) × (status ≡ 0)) ⊎ (TellsFront before after (string_bytes text) × (status ≡ 1))
 
 module _ {S W : Type 0} (g : SourceGhosts S) (h : SinkGhosts W) (source : S) (before after : W) where
   -- the job was done, and its outcome told

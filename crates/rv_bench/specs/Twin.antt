@@ -29,7 +29,7 @@ use Rattle.rv_bench.specs.Output.{bench_in}
 use Rattle.rv_bench.specs.Replies.{bench_line, one_bench, replies, state_after}
 use Rattle.rv_bench.specs.Run.{FailsToRead, FailsToWrite, StopsAtRead, StopsAtWrite}
 
--- the setup of a twin run is monitored_setup, whatever it says
+-- the setup of a twin run is monitored, whatever it says
 abbrev pub monitored_setup : Setup → Setup
 monitored_setup setup = record setup { monitored = true }
 
@@ -106,7 +106,7 @@ module _ {S W : Type 0} {g : SourceGhosts S} (h : SinkGhosts W) where
     pub told : h.tells → (ran : ℕ) × EndsIn (end_text ran) (h.taken after)
 
   -- The text was written, the sink flushed behind it, and all was read to the end of the input, or as far as the run went.
-  pub record Tells (output : Result (List ℕ) BenchFault) (NeverEntered Over : Type 0) (old new : Lines S g) (before after : W) : Type 0 where
+  pub record TellsTwin (output : Result (List ℕ) BenchFault) (NeverEntered Over : Type 0) (old new : Lines S g) (before after : W) : Type 0 where
     pub source : SourceWorked g old.source new.source
     pub sink : SinkFlushed h before after
     pub emptied : held new ≡ []
@@ -116,7 +116,7 @@ module _ {S W : Type 0} {g : SourceGhosts S} (h : SinkGhosts W) where
   -- What each result of the second part means, by the benches once they are set apart.
   abbrev pub RunsSecond : ℕ → Option Apart → Lines S g → Lines S g → W → W → Outcome → Type 0
   RunsSecond slot apart old new before after (Ok _) =
-      Tells (Ok (second_text slot apart (unread old))) (IsNeverEntered slot apart (unread old)) (IsOver slot apart (unread old) (unread new) new.is_at_end)
+      TellsTwin (Ok (second_text slot apart (unread old))) (IsNeverEntered slot apart (unread old)) (IsOver slot apart (unread old) (unread new) new.is_at_end)
       old new before after
   RunsSecond slot apart old new before after (Err Read) =
       FailsToRead h old new before after
@@ -172,7 +172,7 @@ module _ {S W : Type 0} {g : SourceGhosts S} (h : SinkGhosts W) (setup : Setup) 
 
   -- What each result of `run_twin` means. The image's text, the RAM's size and the image are asked in this order, before a byte is written.
   abbrev pub RunsTwin : Outcome → Type 0
-  RunsTwin (Ok _) = (is_ram_size setup.ram ≡ true) × Tells h (twin_output setup slot (unread old)) IsTwinNeverEntered IsTwinOver old new before after
+  RunsTwin (Ok _) = (is_ram_size setup.ram ≡ true) × TellsTwin h (twin_output setup slot (unread old)) IsTwinNeverEntered IsTwinOver old new before after
   RunsTwin (Err Read) = FailsToRead h old new before after × (g.tells → StopsTwinAtRead)
   RunsTwin (Err Write) =
       (is_ram_size setup.ram ≡ true) × FailsToWrite h (twin_output setup slot (unread old)) old new before after × (g.tells → StopsTwinAtWrite)

@@ -3,7 +3,7 @@
 ghost use Rattle.std.specs.Prelude.{◌≡◌, ◌≤◌, ◌++◌, OnOk, OnErr, codes, decimal, length};
 ghost use Rattle.clap.specs.Walk.{texts};
 ghost use Rattle.rv_asm.specs.Faults.{asm_fault_number};
-ghost use Rattle.rv_bench.specs.Performing.{DoesAndTells, fault_text, Performs, Refuses, TellsAll, TellsFront};
+ghost use Rattle.rv_bench.specs.Performing.{DoesAndTells, fault_text, Performs, Refuses, WritesAll, TellsFront};
 
 use crate::job::run_job;
 use rv_asm::AsmFault;
@@ -79,7 +79,7 @@ fn fault_line(fault: BenchFault) -> Reply
 ///
 /// Where the sink failed in this call, or took no byte of a part that was not empty. A beginning of the text is written then.
 fn tell<W: Sink>(sink: &mut W, text: &[u8]) -> Result<(), DeviceFault>
-    ensures all { OnOk result (TellsAll W.Sink sink.old sink.new text.now) }
+    ensures all { OnOk result (WritesAll W.Sink sink.old sink.new text.now) }
     ensures front { OnErr result (TellsFront W.Sink sink.old sink.new text.now) }
 {
     write_all(sink, text)?;

@@ -1,6 +1,6 @@
 //! A source and a sink over memory for tests: they move few bytes a call, and fail at a set call.
 ghost use Rattle.std.specs.Prelude.{◌≡◌, ◌<◌, [], ⊤, length};
-ghost use Rattle.rv_streams.specs.MemoryStreams.{rest_of, bytes_of, has_flushed};
+ghost use Rattle.rv_streams.specs.MemoryStreams.{rest_in_memory, bytes_taken, has_flushed};
 
 use rv_bench::{DeviceFault, MemorySink, MemorySource, Sink, Source};
 
@@ -51,13 +51,13 @@ impl<'a> FaultySource<'a> {
 impl<'a> Source for FaultySource<'a> {
     ghost tells = { ⊤ };
 
-    ghost remaining = { λ faulty. rest_of faulty.source };
+    ghost remaining = { λ faulty. rest_in_memory faulty.source };
 
     ghost ends = { λ faulty. faulty.source.end_count };
 
     ghost failures = { λ faulty. faulty.failed_calls };
 
-    ghost calls_left = { λ faulty. length (rest_of faulty.source) };
+    ghost calls_left = { λ faulty. length (rest_in_memory faulty.source) };
 
     fn read_some(&mut self, buffer: &mut [u8]) -> Result<usize, DeviceFault> {
         if self.failed_calls == u64::MAX {
@@ -119,7 +119,7 @@ impl<'a> FaultySink<'a> {
 impl<'a> Sink for FaultySink<'a> {
     ghost tells = { ⊤ };
 
-    ghost taken = { λ faulty. bytes_of faulty.sink };
+    ghost taken = { λ faulty. bytes_taken faulty.sink };
 
     ghost is_flushed = { λ faulty. has_flushed faulty.sink };
 

@@ -24,8 +24,8 @@ Names = Bor (List (Bor Text))
 abbrev pub valued : Text → ValueParser → Rule
 valued name parser = record (new_rule name) { long = Some name; value_names = 1; parser = Some parser }
 
-abbrev pub flag : Text → Rule
-flag name = record (new_rule name) { long = Some name; action = Some action.SetTrue }
+abbrev pub flag_rule : Text → Rule
+flag_rule name = record (new_rule name) { long = Some name; action = Some action.SetTrue }
 
 -- `--kind NAME`: one of the names
 abbrev pub kind : Names → Rule
@@ -37,7 +37,7 @@ ram = valued (codes "ram") (parser.Signed (pos 0) (pos 4294967295))
 
 -- `--monitor`: a flag
 abbrev pub monitor : Rule
-monitor = flag (codes "monitor")
+monitor = flag_rule (codes "monitor")
 
 -- `--harts HARTS`: one number, 1 or 2
 abbrev pub harts : Rule

@@ -2,12 +2,12 @@
 use Rattle.std.specs.Prelude.{map}
 use Rattle.std.specs.Option.{option_map_or}
 use Rattle.clap.specs.Words.{App, Rule, Shape}
-use Rattle.rv_command_line.specs.CommandLine.{command, flag, valued}
+use Rattle.rv_command_line.specs.CommandLine.{command, flag_rule, valued}
 use Rattle.rv_command_line.specs.declared.subcommands.CommandRow.{CommandRow}
 use Rattle.rv_command_line.specs.declared.subcommands.OptionRow.{OptionRow}
 
 abbrev pub rule_in : OptionRow → Rule
-rule_in row = option_map_or (λ value. valued row.name.now value.1) row.value (flag row.name.now)
+rule_in row = option_map_or (λ value. valued row.name.now value.1) row.value (flag_rule row.name.now)
 
 abbrev pub app_in : CommandRow → App
 app_in row = command row.name.now (map rule_in row.options.now)

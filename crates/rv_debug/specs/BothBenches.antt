@@ -103,9 +103,9 @@ both_answer e first second command =
 -- ---- one line for both
 
 -- a line without a command
-abbrev pub is_blank : Command → Bool
-is_blank Blank = true
-is_blank _ = false
+abbrev pub has_no_command : Command → Bool
+has_no_command Blank = true
+has_no_command _ = false
 
 -- both benches after a line, what is told of it, and what it was
 pub record BothTold : Type 0 where
@@ -124,7 +124,7 @@ both_told e first second (Ok command) =
       second = after.second;
       first_reply = after.first_reply;
       second_reply = after.second_reply;
-      line = Given after.why (is_blank command);
+      line = Given after.why (has_no_command command);
     }
 both_told e first second (Err fault) =
     record { first = first; second = second; first_reply = command_fault_text fault; second_reply = []; line = Faulty }

@@ -1,4 +1,4 @@
--- A bare_state step of a kept state neither depends on a region that is not the world's nor changes it.
+-- A bare step of a kept state neither depends on a region that is not the world's nor changes it.
 use Rattle.std.proofs.Common.{◌≡◌, ℕ, Bool, false, List, Option, Some, None}
 use Rattle.rv_enclaves.proofs.Agreement.{IsSeen, same_read, same_write}
 use Rattle.rv_memory.specs.declared.touched.Touched.{Touched}

@@ -135,7 +135,7 @@ module _ (seat : Seat) (shared : Shared) (valid : IsValid shared.memory shared.t
     forwards = inl refl;
   })
 
--- ---- the bare_state step
+-- ---- the bare step
 
 module _ (state : MonitoredState) (kept : IsOwn state) (byte : ℕ) where
   abbrev Stored : Option Span → List ℕ → Type 0

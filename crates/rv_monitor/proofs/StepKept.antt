@@ -47,7 +47,7 @@ pub unlocked_after : (seat : Seat) (shared : Shared) (after : Stepped) (trap : T
 unlocked_after seat shared after trap is seated keeps =
     unlocked_if shared.table seat after.outcome.trap after.state.hart shared.memory after.state.memory trap is seated keeps
 
--- ---- the bare_state step
+-- ---- the bare step
 
 stored_size : (bytes old new : List ℕ) (span : Option Span) → Stores bytes old new span → length old ≡ length new
 stored_size bytes old new None stores = sym (ap length stores)

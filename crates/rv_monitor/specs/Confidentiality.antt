@@ -26,18 +26,18 @@ HandlerLaw =
     → is_world_of e seat.world ≡ false → SharedButFor e one other
     → HandledAlike e (handled seat one trap) (handled seat other trap)
 
--- ---- the bare_state step
+-- ---- the bare step
 
 abbrev pub bare_state : MonitoredState → State
 bare_state state = record { hart = state.seat.hart; memory = state.shared.memory }
 
--- two bare_state steps end in the same hart, show the same, and leave memories that agree where nothing is hidden
+-- two bare steps end in the same hart, show the same, and leave memories that agree where nothing is hidden
 pub record StepAlike (hidden : ℕ → Bool) (one other : Stepped) : Type 0 where
   pub hart : other.state.hart ≡ one.state.hart
   pub outcome : other.outcome ≡ one.outcome
   pub memory : AgreeOutside hidden one.state.memory other.state.memory
 
--- a bare_state step depends on no byte of a region that is not the world's
+-- a bare step depends on no byte of a region that is not the world's
 abbrev pub BareLaw : Type 0
 BareLaw =
     (e : ℕ) (state : MonitoredState) (memory : List ℕ) → IsOwn state → is_world_of e state.seat.world ≡ false

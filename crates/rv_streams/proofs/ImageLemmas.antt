@@ -9,7 +9,7 @@ use Rattle.std.specs.Option.{IsSomeAnd, is_some, unwrap_or, option_and_then}
 use Rattle.rv_streams.specs.declared.fault.BenchFault.TheVariants.{Hex, TooLong}
 use Rattle.rv_streams.specs.declared.separator.ScriptEnd.TheVariants.{Separator}
 use Rattle.rv_text.specs.Lines.{lines_of}
-use Rattle.rv_streams.specs.LineText.{ReadsText, TakesLine, ReadsLines}
+use Rattle.rv_streams.specs.LineText.{ReadsLineText, TakesLine, ReadsLines}
 use Rattle.rv_streams.specs.Image.{bytes_of_digits, line_bytes, is_image_line, bytes_of_lines, image_of, image_in, ReadsInImage, ReadsUnmarked}
 use Rattle.rv_streams.specs.Image.{ReadsFrontOfImage}
 use Rattle.rv_streams.specs.Image.{StopsAtFault}
@@ -117,7 +117,7 @@ some_and (Some bytes) P h = (bytes, refl, h)
 
 -- a failed read leaves sound lines and the front of one
 pub SpellsImage-read : (unread left rest kept image : List ℕ) → SpellsImage unread left false image → length image ≤ 33554432
-    → ReadsText left rest kept → ReadsInImage unread rest kept
+    → ReadsLineText left rest kept → ReadsInImage unread rest kept
 SpellsImage-read unread left rest kept image so_far few begun = record {
   lines = so_far.lines;
   others = left;

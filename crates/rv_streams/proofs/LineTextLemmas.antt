@@ -3,20 +3,20 @@ use Rattle.std.proofs.Common.{◌≡◌, ◌≢◌, ℕ, ◌+◌, ◌<◌, ◌�
 use Rattle.std.proofs.Common.{sym, ◌∙◌, ap, arith, append_assoc, append-nil, add-one}
 use Rattle.std.proofs.lemmas.List.{take-append-le, take_all, take-take, length-take, length-append}
 use Rattle.rv_text.specs.Lines.{has_feed, lines_of, through_last_feed, after_line, after_lines}
-use Rattle.rv_streams.specs.LineText.{ReadsText, TakesLine, ReadsLines}
+use Rattle.rv_streams.specs.LineText.{ReadsLineText, TakesLine, ReadsLines}
 use Rattle.rv_text.specs.Lines.{without_return}
 use Rattle.rv_text.proofs.LineLemmas.{has_feed-append, eq_false, through_last_feed-append_feed, lines_of-line, lines_of-last, cut-kept, lines_of-append}
 use Rattle.rv_text.proofs.LineLemmas.{after_line-feed, after_line-open, after_lines-more, through_last_feed-append, through_last_feed-append_open}
 
 -- what is held is read already
-pub ReadsText-none : (held left : List ℕ) → length held ≤ 122 → has_feed held ≡ false → ReadsText (held ++ left) left held
+pub ReadsText-none : (held left : List ℕ) → length held ≤ 122 → has_feed held ≡ false → ReadsLineText (held ++ left) left held
 ReadsText-none held left short open_ = record { text = held; split = refl; unfinished = open_; front = sym (take_all 122 held short) }
 
 pub has_feed-push : (text : List ℕ) (byte : ℕ) → has_feed text ≡ false → byte ≢ 10 → has_feed (text ++ byte ∷ []) ≡ false
 has_feed-push text byte h ne = rw (has_feed-append text (byte ∷ []), h, eq_false byte 10 ne) refl
 
-pub ReadsText-push : (unread old left kept : List ℕ) (byte : ℕ) → ReadsText unread old kept → old ≡ byte ∷ left → byte ≢ 10
-    → length kept < 122 → ReadsText unread left (kept ++ byte ∷ [])
+pub ReadsText-push : (unread old left kept : List ℕ) (byte : ℕ) → ReadsLineText unread old kept → old ≡ byte ∷ left → byte ≢ 10
+    → length kept < 122 → ReadsLineText unread left (kept ++ byte ∷ [])
 ReadsText-push unread old left kept byte reads next ne room =
     let len : min 122 (length reads.text) < 122 = omega (arith, ap length reads.front, length-take 122 reads.text) in
     let all : kept ≡ reads.text = reads.front ∙ take_all 122 reads.text (omega arith) in
@@ -27,8 +27,8 @@ ReadsText-push unread old left kept byte reads next ne room =
       front = ap (λ t. t ++ byte ∷ []) all ∙ sym (take_all 122 (reads.text ++ byte ∷ []) short);
     }
 
-pub ReadsText-skip : (unread old left kept : List ℕ) (byte : ℕ) → ReadsText unread old kept → old ≡ byte ∷ left → byte ≢ 10
-    → length kept ≡ 122 → ReadsText unread left kept
+pub ReadsText-skip : (unread old left kept : List ℕ) (byte : ℕ) → ReadsLineText unread old kept → old ≡ byte ∷ left → byte ≢ 10
+    → length kept ≡ 122 → ReadsLineText unread left kept
 ReadsText-skip unread old left kept byte reads next ne full =
     let long : 122 ≤ length reads.text = omega (arith, ap length reads.front, length-take 122 reads.text) in record {
       text = reads.text ++ byte ∷ [];
@@ -38,7 +38,7 @@ ReadsText-skip unread old left kept byte reads next ne full =
     }
 
 -- up to a line feed, a line is taken
-pub TakesLine-feed : (unread left kept shown : List ℕ) (is_at_end : Bool) → ReadsText unread (10 ∷ left) kept → shown ≡ take 121 (without_return kept)
+pub TakesLine-feed : (unread left kept shown : List ℕ) (is_at_end : Bool) → ReadsLineText unread (10 ∷ left) kept → shown ≡ take 121 (without_return kept)
     → TakesLine unread left is_at_end shown
 TakesLine-feed unread left kept shown is_at_end reads front =
     let text = reads.text in
@@ -60,7 +60,7 @@ last_line [] h some = absurd (omega arith)
 last_line (x ∷ xs) h some = lines_of-last x xs h
 
 -- at the end, what is left is a line if it is not empty
-pub TakesLine-end : (unread left kept shown : List ℕ) → ReadsText unread left kept → left ≡ [] → 0 < length kept → shown ≡ take 121 kept
+pub TakesLine-end : (unread left kept shown : List ℕ) → ReadsLineText unread left kept → left ≡ [] → 0 < length kept → shown ≡ take 121 kept
     → TakesLine unread [] true shown
 TakesLine-end unread left kept shown reads none some front =
     let text = reads.text in
@@ -107,7 +107,7 @@ ReadsLines-more unread left rest ends shown lines reads takes =
 
 -- the lines that were taken before an unfinished one are those of the finished text
 pub ReadsLines-through_last_feed : (unread left rest kept : List ℕ) (lines : List (List ℕ)) → ReadsLines unread left false lines
-    → ReadsText left rest kept
+    → ReadsLineText left rest kept
     → (text : List ℕ) × (unread ≡ text ++ rest) × (lines_of (through_last_feed text) ≡ lines)
 ReadsLines-through_last_feed unread left rest kept lines reads begun =
     let text = reads.text ++ begun.text in

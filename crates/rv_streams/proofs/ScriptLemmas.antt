@@ -12,7 +12,7 @@ use Rattle.rv_streams.specs.declared.separator.ScriptEnd.{ScriptEnd}
 use Rattle.rv_streams.specs.declared.separator.ScriptEnd.TheVariants.{Input, Separator}
 use Rattle.rv_streams.specs.Calls.{SourceWorked}
 use Rattle.rv_streams.specs.LineText.{TakesLine, ReadsLines}
-use Rattle.rv_streams.specs.Script.{ends_script, script_lines, within, TakesScript, ReadsScriptEnd, FindsEnd, ReadsThroughSeparator}
+use Rattle.rv_streams.specs.Script.{ends_script, script_lines, is_script_line, TakesScript, ReadsScriptEnd, FindsEnd, ReadsThroughSeparator}
 use Rattle.rv_streams.specs.Separator.{only_word, line_word, is_dashes, is_separator, has_separator}
 use Rattle.rv_streams.specs.Unread.{held, unread}
 use Rattle.rv_text.proofs.CutLines.{if_good-take}
@@ -31,27 +31,27 @@ pub ends_script-shown : (end : ScriptEnd) (left rest : List ℕ) (ends : Bool) (
 ends_script-shown Input left rest ends shown takes = refl
 ends_script-shown Separator left rest ends shown takes = ap is_dashes (sym (line_word-take takes.line) ∙ ap line_word (sym takes.front))
 
-all_within : (lines : List (List ℕ)) → list_all (within Input) lines ≡ true
+all_within : (lines : List (List ℕ)) → list_all (is_script_line Input) lines ≡ true
 all_within [] = refl
 all_within (line ∷ lines) = all_within lines
 
-script_lines-is : (end : ScriptEnd) (lines : List (List ℕ)) → script_lines end lines ≡ take_while (within end) lines
-script_lines-is Input lines = sym (take_while-all (within Input) lines (all_within lines))
+script_lines-is : (end : ScriptEnd) (lines : List (List ℕ)) → script_lines end lines ≡ take_while (is_script_line end) lines
+script_lines-is Input lines = sym (take_while-all (is_script_line Input) lines (all_within lines))
 script_lines-is Separator lines = refl
 
-pub script_lines-all : (end : ScriptEnd) (lines : List (List ℕ)) → list_all (within end) lines ≡ true → script_lines end lines ≡ lines
-script_lines-all end lines inside = script_lines-is end lines ∙ take_while-all (within end) lines inside
+pub script_lines-all : (end : ScriptEnd) (lines : List (List ℕ)) → list_all (is_script_line end) lines ≡ true → script_lines end lines ≡ lines
+script_lines-all end lines inside = script_lines-is end lines ∙ take_while-all (is_script_line end) lines inside
 
-script_lines-stop : (end : ScriptEnd) (lines others : List (List ℕ)) (line : List ℕ) → list_all (within end) lines ≡ true
+script_lines-stop : (end : ScriptEnd) (lines others : List (List ℕ)) (line : List ℕ) → list_all (is_script_line end) lines ≡ true
     → ends_script end line ≡ true → script_lines end (lines ++ line ∷ others) ≡ lines
 script_lines-stop end lines others line inside e = script_lines-is end (lines ++ line ∷ others)
-    ∙ take_while-stop (within end) lines line others inside (ap not e)
+    ∙ take_while-stop (is_script_line end) lines line others inside (ap not e)
 
 -- the script's lines in a front are a front of all of them
 pub script_lines-front : (end : ScriptEnd) (xs ys : List (List ℕ))
     → (others : List (List ℕ)) × (script_lines end (xs ++ ys) ≡ script_lines end xs ++ others)
 script_lines-front Input xs ys = (ys, refl)
-script_lines-front Separator xs ys = take_while-front (within Separator) xs ys
+script_lines-front Separator xs ys = take_while-front (is_script_line Separator) xs ys
 
 or_true : (b : Bool) → (b || true) ≡ true
 or_true true = refl

@@ -1,4 +1,4 @@
--- What one call of a device moved, and how calls of one kind are counted_if: those that failed, the ends that a source
+-- What one call of a device moved, and how calls of one kind are counted: those that failed, the ends that a source
 -- answered, and the parts of which a sink took nothing. (This project's own streams: no standard states them.)
 use Rattle.std.specs.Prelude.{ℕ, ◌+◌, ◌-◌, ◌^◌, ◌≤◌, ◌==◌, nat_lt, min, Bool, false, ◌&&◌, Result, Ok, Err, if◌then◌else◌}
 

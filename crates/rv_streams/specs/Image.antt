@@ -7,7 +7,7 @@ use Rattle.std.specs.Char.{is_digit, digit_value}
 use Rattle.rv_streams.specs.declared.fault.BenchFault.{BenchFault}
 use Rattle.rv_streams.specs.declared.fault.BenchFault.TheVariants.{Hex, TooLong, NoMemory}
 use Rattle.rv_text.specs.Lines.{lines_of, after_lines}
-use Rattle.rv_streams.specs.LineText.{ReadsText, ReadsLines}
+use Rattle.rv_streams.specs.LineText.{ReadsLineText, ReadsLines}
 use Rattle.rv_streams.specs.Separator.{line_word, before_separator}
 
 -- the bytes that pairs of hexadecimal digits write, the high digit first
@@ -48,7 +48,7 @@ pub record ReadsInImage (unread left kept : List ℕ) : Type 0 where
   pub reads : ReadsLines unread others false lines
   pub unmarked : before_separator lines ≡ lines
   pub image : image_of lines ≡ Ok (bytes_of_lines lines)
-  pub begun : ReadsText others left kept
+  pub begun : ReadsLineText others left kept
 
 -- These lines were read, up to the bytes that are left, and none of them is `--`.
 pub record ReadsUnmarked (unread left : List ℕ) (lines : List (List ℕ)) : Type 0 where

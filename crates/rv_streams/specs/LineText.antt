@@ -6,7 +6,7 @@ use Rattle.rv_text.specs.Characters.{line_feed}
 use Rattle.rv_text.specs.Lines.{has_feed, lines_of, through_last_feed, after_line, after_lines}
 
 -- of the unread bytes a text with no line feed was read, up to those that are left, and its first 122 bytes are kept
-pub record ReadsText (unread left kept : List ℕ) : Type 0 where
+pub record ReadsLineText (unread left kept : List ℕ) : Type 0 where
   pub text : List ℕ
   pub split : unread ≡ text ++ left
   pub unfinished : has_feed text ≡ false

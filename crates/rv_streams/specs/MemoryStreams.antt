@@ -4,12 +4,12 @@ use Rattle.rv_streams.specs.declared.memory.MemorySource.{MemorySource}
 use Rattle.rv_streams.specs.declared.memory.MemorySink.{MemorySink}
 
 -- the bytes that are still to come
-abbrev pub rest_of : MemorySource → List ℕ
-rest_of source = source.rest.now
+abbrev pub rest_in_memory : MemorySource → List ℕ
+rest_in_memory source = source.rest.now
 
 -- the bytes that were taken: the front of the buffer
-abbrev pub bytes_of : MemorySink → List ℕ
-bytes_of sink = take sink.taken_len sink.buffer.now
+abbrev pub bytes_taken : MemorySink → List ℕ
+bytes_taken sink = take sink.taken_len sink.buffer.now
 
 -- how many more bytes fit
 abbrev pub room_of : MemorySink → ℕ

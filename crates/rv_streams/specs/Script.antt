@@ -21,13 +21,13 @@ script_lines Input lines = lines
 script_lines Separator lines = before_separator lines
 
 -- a line of the script
-abbrev pub within : ScriptEnd → List ℕ → Bool
-within end line = not (ends_script end line)
+abbrev pub is_script_line : ScriptEnd → List ℕ → Bool
+is_script_line end line = not (ends_script end line)
 
 -- These lines of the script were taken, and none other.
 pub record TakesScript (end : ScriptEnd) (unread left : List ℕ) (is_at_end : Bool) (lines : List (List ℕ)) : Type 0 where
   pub reads : ReadsLines unread left is_at_end lines
-  pub inside : list_all (within end) lines ≡ true
+  pub inside : list_all (is_script_line end) lines ≡ true
 
 module _ {S : Type 0} {g : Ghosts S} where
   -- The source has answered its end, and no line is left.

@@ -2,7 +2,7 @@
 ghost use Rattle.std.specs.Prelude.{◌≡◌, ◌+◌, ◌<◌, ◌≤◌, false, [], ◌++◌, take, length, IsTrue, is_err};
 ghost use Rattle.rv_streams.specs.Device.{counted_if};
 ghost use Rattle.rv_text.specs.Lines.{has_feed};
-ghost use Rattle.rv_streams.specs.LineText.{ReadsText, left_from, stops_at_end};
+ghost use Rattle.rv_streams.specs.LineText.{ReadsLineText, left_from, stops_at_end};
 ghost use Rattle.rv_text.specs.Lines.{without_return};
 
 use crate::device::{DeviceFault, Source};
@@ -39,7 +39,7 @@ pub(crate) enum Stop {
 pub(crate) fn read_text<S: Source>(source: &mut S, line: &mut Line) -> Result<Stop, DeviceFault>
     requires short { length line.old.items ≤ 122 }
     requires unfinished { has_feed line.old.items ≡ false }
-    ensures bytes { S.tells → ReadsText (line.old.items ++ S.remaining source.old) (left_from result (S.remaining source.new)) line.new.items }
+    ensures bytes { S.tells → ReadsLineText (line.old.items ++ S.remaining source.old) (left_from result (S.remaining source.new)) line.new.items }
     ensures end { S.tells → result ≡ Ok Stop.End → S.remaining source.new ≡ [] }
     ensures ends { S.ends source.new ≡ counted_if (stops_at_end result) (S.ends source.old) }
     ensures failures { S.failures source.new ≡ counted_if (is_err result) (S.failures source.old) }

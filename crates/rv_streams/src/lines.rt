@@ -26,7 +26,7 @@ pub struct Lines<S: Source> {
 impl<S: Source> Lines<S> {
     ghost use Rattle.std.specs.Prelude.{◌≡◌, ◌<◌, true, false, [], IsTrue, IfOk, OnOk, OnErr, IfSome, IfNone, OnSome, is_err};
     ghost use Rattle.rv_streams.specs.Device.{counted_if};
-    ghost use Rattle.rv_streams.specs.LineText.{ReadsText, TakesLine};
+    ghost use Rattle.rv_streams.specs.LineText.{ReadsLineText, TakesLine};
     ghost use Rattle.rv_streams.specs.Script.{ends_script, FindsEnd};
     ghost use Rattle.rv_streams.specs.Unread.{held, unread, calls_left, TellsEnd};
 
@@ -88,7 +88,7 @@ impl<S: Source> Lines<S> {
         ensures end { TellsEnd self.old self.new }
         ensures failures { S.failures self.new.source ≡ counted_if (is_err result) (S.failures self.old.source) }
         ensures err { OnErr result ((self.old.is_at_end ≡ false) × (self.new.is_at_end ≡ false)) }
-        ensures kept { S.tells → OnErr result (ReadsText (unread self.old) (S.remaining self.new.source) (held self.new)) }
+        ensures kept { S.tells → OnErr result (ReadsLineText (unread self.old) (S.remaining self.new.source) (held self.new)) }
         ensures emptied { OnOk result (held self.new ≡ []) }
         ensures falls { IfOk result (λ found. OnSome found (calls_left self.new < calls_left self.old)) }
     {
@@ -126,7 +126,7 @@ impl<S: Source> Lines<S> {
         ensures end { TellsEnd self.old self.new }
         ensures failures { S.failures self.new.source ≡ counted_if (is_err result) (S.failures self.old.source) }
         ensures err { OnErr result ((self.old.is_at_end ≡ false) × (self.new.is_at_end ≡ false)) }
-        ensures kept { S.tells → OnErr result (ReadsText (unread self.old) (S.remaining self.new.source) (held self.new)) }
+        ensures kept { S.tells → OnErr result (ReadsLineText (unread self.old) (S.remaining self.new.source) (held self.new)) }
         ensures emptied { OnOk result (held self.new ≡ []) }
         ensures falls { IfOk result (λ found. OnSome found (calls_left self.new < calls_left self.old)) }
     {

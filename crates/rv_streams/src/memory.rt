@@ -1,7 +1,7 @@
 //! A source and a sink over memory that is lent to them. They take no memory of their own, and never fail.
 ghost use Rattle.std.specs.Prelude.{◌≡◌, ◌==◌, ◌&&◌, ◌++◌, ◌+◌, ◌-◌, ◌^◌, ◌≤◌, [], ⊤, true, nat_lt, min, length, take, is_err};
 ghost use Rattle.rv_streams.specs.Device.{moved_count, answers_none, counted_if};
-ghost use Rattle.rv_streams.specs.MemoryStreams.{rest_of, bytes_of, room_of, has_flushed};
+ghost use Rattle.rv_streams.specs.MemoryStreams.{rest_in_memory, bytes_taken, room_of, has_flushed};
 
 use crate::device::{DeviceFault, Sink, Source};
 
@@ -15,7 +15,7 @@ pub struct MemorySource<'a> {
 impl<'a> MemorySource<'a> {
     /// A source of these bytes.
     pub fn new(bytes: &'a [u8]) -> MemorySource<'a>
-        ensures bytes { rest_of result ≡ bytes.entry.now }
+        ensures bytes { rest_in_memory result ≡ bytes.entry.now }
         ensures ends { result.end_count ≡ 0 }
     {
         MemorySource {
@@ -26,7 +26,7 @@ impl<'a> MemorySource<'a> {
 
     /// The bytes that are still to come.
     pub fn rest(&self) -> &[u8]
-        ensures { result.now ≡ rest_of self.now }
+        ensures { result.now ≡ rest_in_memory self.now }
     {
         self.rest
     }
@@ -35,13 +35,13 @@ impl<'a> MemorySource<'a> {
 impl<'a> Source for MemorySource<'a> {
     ghost tells = { ⊤ };
 
-    ghost remaining = { rest_of };
+    ghost remaining = { rest_in_memory };
 
     ghost ends = { λ source. source.end_count };
 
     ghost failures = { λ _. 0 };
 
-    ghost calls_left = { λ source. length (rest_of source) };
+    ghost calls_left = { λ source. length (rest_in_memory source) };
 
     fn read_some(&mut self, buffer: &mut [u8]) -> Result<usize, DeviceFault> {
         let count = self.rest.len().min(buffer.len());
@@ -67,7 +67,7 @@ pub struct MemorySink<'a> {
 impl<'a> MemorySink<'a> {
     /// A sink that fills this buffer.
     pub fn new(buffer: &'a mut [u8]) -> MemorySink<'a>
-        ensures bytes { bytes_of result ≡ [] }
+        ensures bytes { bytes_taken result ≡ [] }
         ensures room { room_of result ≡ length buffer.old }
         ensures flushed { has_flushed result ≡ true }
         ensures refusals { result.refused_parts ≡ 0 }
@@ -82,7 +82,7 @@ impl<'a> MemorySink<'a> {
 
     /// The bytes that were taken.
     pub fn bytes(&self) -> &[u8]
-        ensures { result.now ≡ bytes_of self.now }
+        ensures { result.now ≡ bytes_taken self.now }
     {
         let count = self.taken_len.min(self.buffer.len());
         &self.buffer[..count]
@@ -91,7 +91,7 @@ impl<'a> MemorySink<'a> {
     /// Takes as much of the part as fits, and answers how many bytes: none of a part that has some is a refusal.
     pub(crate) fn fill(&mut self, part: &[u8]) -> usize
         ensures count { result ≡ min (length part.now) (room_of self.old) }
-        ensures bytes { bytes_of self.new ≡ bytes_of self.old ++ take result part.now }
+        ensures bytes { bytes_taken self.new ≡ bytes_taken self.old ++ take result part.now }
         ensures room { room_of self.new + result ≡ room_of self.old }
         ensures flushed { has_flushed self.new ≡ (has_flushed self.old && (result == 0)) }
         ensures refusals { self.new.refused_parts ≡ counted_if ((result == 0) && nat_lt 0 (length part.now)) self.old.refused_parts }
@@ -114,7 +114,7 @@ impl<'a> MemorySink<'a> {
 impl<'a> Sink for MemorySink<'a> {
     ghost tells = { ⊤ };
 
-    ghost taken = { bytes_of };
+    ghost taken = { bytes_taken };
 
     ghost is_flushed = { has_flushed };
 
@@ -125,7 +125,7 @@ impl<'a> Sink for MemorySink<'a> {
     fn write_some(&mut self, part: &[u8]) -> Result<usize, DeviceFault>
         ensures count { result ≡ Ok (min (length part.now) (room_of self.old)) }
         ensures bound { moved_count result ≤ length part.now }
-        ensures bytes { bytes_of self.new ≡ bytes_of self.old ++ take (moved_count result) part.now }
+        ensures bytes { bytes_taken self.new ≡ bytes_taken self.old ++ take (moved_count result) part.now }
         ensures flushed { has_flushed self.new ≡ (has_flushed self.old && (moved_count result == 0)) }
         ensures refusals { self.new.refused_parts ≡ counted_if (answers_none result (length part.now)) self.old.refused_parts }
         ensures failures { 0 ≡ counted_if (is_err result) 0 }

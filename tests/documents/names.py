@@ -1,0 +1,46 @@
+#!/usr/bin/env python3
+"""tests/documents/names.py --check: tells which public definitions have the name of another one, where no reason for it stands here, and
+which reasons are of names that stand once. What the code remembers (specs/Remembered) is not among them: no other crate cites it.
+"""
+import collections
+import importlib.machinery
+import importlib.util
+import os
+import sys
+
+sys.dont_write_bytecode = True
+ROOT = os.path.dirname(os.path.dirname(os.path.dirname(os.path.abspath(__file__))))
+
+LAYER = "the same law or word of the machine, of its commands or of its scripts, each over the values of its own crate"
+REASONS = {
+    **dict.fromkeys(("AnswerAlike", "ConfidentialityLaw", "FastSteps", "IntegrityLaw", "IsFast", "PassBy", "ReturnLaw", "RunningLaw"), LAYER),
+    **dict.fromkeys(("can_scramble", "scrambled"), LAYER),
+    "LacksMemory": "memory that was refused: for a text of assembly, and for an image",
+    "Stepped": "what a step leaves and shows: of a hart with its memory, and of whatever a debugger steps",
+    "at_reset": "the reset of a hart, and that of its control and status registers",
+}
+
+
+def twice():
+    """The names of more than one public definition, with the files."""
+    loader = importlib.machinery.SourceFileLoader("definitions", os.path.join(ROOT, "tools", "definitions"))
+    module = importlib.util.module_from_spec(importlib.util.spec_from_loader("definitions", loader))
+    loader.exec_module(module)
+    found = collections.defaultdict(list)
+    for path, _, names in module.files():
+        if "/Remembered/" not in path:
+            for name in names:
+                found[name].append(path)
+    return {name: paths for name, paths in found.items() if len(paths) > 1}
+
+
+def main():
+    found = twice()
+    told = [f"{name} stands in {' and '.join(paths)}" for name, paths in found.items() if name not in REASONS]
+    told += [f"{name} stands once, and has a reason here" for name in REASONS if name not in found]
+    print("\n".join(told))
+    return 1 if told else 0
+
+
+if __name__ == "__main__":
+    sys.exit(main())
