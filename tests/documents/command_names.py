@@ -1,0 +1,56 @@
+#!/usr/bin/env python3
+"""The commands of a script, as each place has them that names them all: those that the bench reads (rv_script), docs/COMMANDS.md, the
+help of `run`, the model of tests/models, rvlook, and the script of the twin cases. A command that one of them lacks is told.
+
+    tests/documents/command_names.py --check
+"""
+import os
+import re
+import sys
+
+sys.dont_write_bytecode = True
+ROOT = os.path.dirname(os.path.dirname(os.path.dirname(os.path.abspath(__file__))))
+sys.path[1:1] = [ROOT] + [os.path.join(ROOT, "tests", it) for it in ("models", "generators")]
+from look.commands import COMMANDS
+from monitor_bench import FORMS
+from twin_command_cases import EVERY
+
+READ = "crates/rv_script/src/keyword.rt"
+PAGE = "docs/COMMANDS.md"
+HELP = "crates/rv_command_line/src/subcommands.rt"
+OF_HARTS = {"hart", "sched"}  # in the twin cases of two harts
+
+
+def text(path):
+    with open(os.path.join(ROOT, path), encoding="utf-8") as it:
+        return it.read()
+
+
+def of_page(part):
+    """The commands in backquotes of a part of the page."""
+    return {it.split()[0]: it.split()[1:] for it in re.findall(r"`([^`]+)`", part)}
+
+
+def faults():
+    """For each place what it lacks, and what it has beside."""
+    read = set(re.findall(r'\("(\w+)", Keyword::', text(READ)))
+    rows = re.search(r"^\| command \| operands \| reply \|\n\|[-|]+\n((?:\|.*\n)+)", text(PAGE), re.M)[1]
+    page = of_page("".join(row.split("|")[1] for row in rows.splitlines()))
+    meant = of_page(re.search(r"^\| of the chosen hart \|.*\n\|[-|]+\n(.*)", text(PAGE), re.M)[1])
+    told = re.search(r'const FIRST_SCRIPT: &str =.*?Commands of a script(.*?)";', text(HELP), re.S)[1]
+    helped = {word for line in told.splitlines()[1:] for word in re.findall(r"(?:^|, )([a-z]+)", re.split(" {2}", line.strip())[0])}
+    has = {PAGE: set(page), PAGE + ": the chosen hart": set(meant) | {"hart"}, HELP: helped,
+           "tests/models/monitor_bench.py": set(FORMS), "look/commands.py": set(COMMANDS),
+           "tests/generators/twin_command_cases.py": {it.split()[0] for it in EVERY} | OF_HARTS}
+    for place, names in has.items():
+        if names != read:
+            yield "%s: lacks %s, has beside %s" % (place, sorted(read - names), sorted(names - read))
+    for name in read & set(COMMANDS) & set(FORMS):
+        if len(COMMANDS[name].forms) != len(FORMS[name]):
+            yield "%s: %d operands in look/commands.py, %d in the model" % (name, len(COMMANDS[name].forms), len(FORMS[name]))
+
+
+if __name__ == "__main__":
+    found = list(faults())
+    print("\n".join(found) or "the commands are the same in each place")
+    sys.exit(bool(found))
