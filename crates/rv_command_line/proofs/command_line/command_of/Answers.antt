@@ -7,7 +7,8 @@ use Rattle.rv_command_line.proofs.command_line.command_of.Goals as goal
 pub loop-option-preserved : goal.loop-option-preserved
 loop-option-preserved c =
     let first = drop_more c.args.row.now.options.now c.loop-option.option-index _ c.loop-option-test.true in
-    let added = c.in_ok-command.ensures.shape c.option_of.ensures.local ∙ ap (with_rule (app_of c.loop-option.command)) c.option_of.ensures.rule in
+    let added = c.in_ok-command.ensures.shape c.option_of.ensures.local
+    ∙ ap (with_rule (app_of c.loop-option.command)) c.option_of.ensures.rule in
     record {
       app = ap (λ app. fold with_rule app (map rule_in (drop (c.loop-option.option-index + 1) c.args.row.now.options.now))) added
           ∙ (rw first at c.loop-option.invariant.app);
