@@ -8,7 +8,8 @@ use Rattle.rv_asm.specs.LabelMap.{places_of}
 use Rattle.rv_word.specs.Cases.{option_case}
 use Rattle.std.proofs.lemmas.Bool.Decides.{nat_tests}
 use Rattle.rv_asm.specs.Looks.{HasRead, AddsLabel, repeated_with, label_twice}
-use Rattle.rv_asm.specs.Program.{Reading, line_size, words_in, has_label, is_label, place_from, place_in, first_line_fault, own_fault, label_fault, repeated_name}
+use Rattle.rv_asm.specs.Program.{Reading, line_size, words_in, has_label, is_label, place_from, place_in, first_line_fault, own_fault}
+use Rattle.rv_asm.specs.Program.{label_fault, repeated_name}
 use Rattle.rv_asm.specs.declared.first_look.FirstLook.{FirstLook}
 use Rattle.rv_asm.specs.declared.line.Line.{Line}
 use Rattle.rv_asm.specs.declared.fault.AsmFaultKind.TheVariants.{LabelTwice, TooLong}

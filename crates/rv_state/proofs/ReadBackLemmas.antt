@@ -11,7 +11,8 @@ use Rattle.rv_state.specs.Mstatus.{mstatus_word, mstatus_of, mode_of_mpp, sstatu
 use Rattle.rv_state.specs.declared.mstatus.Mstatus.{Mstatus}
 use Rattle.rv_state.specs.Counters.{with_low_half, with_high_half}
 use Rattle.rv_state.specs.CsrState.{CsrState}
-use Rattle.rv_state.specs.CsrTable.{vector_of, csr_of, reading, written, is_trapped, on_register, csr_numbered, least_mode, is_read_only, read_result, write_result}
+use Rattle.rv_state.specs.CsrTable.{vector_of, csr_of, reading, written, is_trapped, on_register, csr_numbered, least_mode, is_read_only}
+use Rattle.rv_state.specs.CsrTable.{read_result, write_result}
 use Rattle.rv_state.specs.Laws.{mstatus_mask, kept, kept_at, ReadsBack}
 use Rattle.rv_state.specs.declared.csr_name.CsrName.{CsrName}
 use Rattle.rv_state.specs.declared.csr_name.CsrName.TheVariants.{Sstatus, Stvec, Sscratch, Sepc, Scause, Stval, Satp}
