@@ -52,21 +52,6 @@ const SPELLINGS: &[(&str, Keyword)] = &[
     ("sched", Keyword::Sched),
 ];
 
-/// Whether two words have the same bytes.
-fn is_same(word: &[u8], other: &[u8]) -> bool
-    ensures { result ≡ bytes_eq word.now other.now }
-{
-    if word.len() != other.len() {
-        return false;
-    }
-    for at in 0..word.len() {
-        if word[at] != other[at] {
-            return false;
-        }
-    }
-    true
-}
-
 impl Keyword {
     /// The keyword that a word spells, if there is one. Upper and lower case differ.
     pub(crate) fn find(word: &[u8]) -> Option<Keyword>
@@ -79,7 +64,7 @@ impl Keyword {
     fn matching(rows: &[(&str, Keyword)], word: &[u8]) -> Option<Keyword>
         ensures { result ≡ option_map (λ (row : List ℕ × Keyword). row.1) (find (λ row. bytes_eq word.now row.0) (map (λ row. (row.0.now, row.1)) rows.now)) }
     {
-        let row = rows.iter().find(|row| is_same(word, row.0.as_bytes()))?;
+        let row = rows.iter().find(|row| word == row.0.as_bytes())?;
         Some(row.1)
     }
 }
