@@ -26,7 +26,7 @@ DATA = re.compile(r'<script type="text/plain" id="data">(.*?)</script>', re.S)
 STEPS = (0, 1, 21, 30, 60, 100, 390, 420)
 WIDTHS = (1600, 390)
 # Of a page of a million steps: bytes, seconds to open, and milliseconds to another step.
-MOST_BYTES, MOST_SECONDS, MOST_MILLISECONDS = 10_000_000, 5, 30
+MOST_BYTES, MOST_SECONDS, MOST_MILLISECONDS = 10_000_000, 10, 30
 
 
 # What the pointer is told at places of the picture.
