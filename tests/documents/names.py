@@ -1,6 +1,6 @@
 #!/usr/bin/env python3
 """tests/documents/names.py --check: tells which public definitions have the name of another one, where no reason for it stands here, and
-which reasons are of names that stand once. What the code remembers (specs/Remembered) is not among them: no other crate cites it.
+which reasons are of names that stand once. What the code remembers (specs/Remembered) is not among them, since no manual has it.
 """
 import collections
 import importlib.machinery
