@@ -33,6 +33,8 @@ class Call(IntEnum):
     exit = 7
 
 
+NUMBERED = {call.value: call for call in Call}
+
 ARGUMENTS = {
     Call.create: ("base", "size", "window", "window_size", "entry"), Call.destroy: ("slot",), Call.run: ("slot",),
     Call.resume: ("slot",), Call.measure: ("slot", "address"), Call.stop: ("value",), Call.exit: ("value",)}
@@ -73,8 +75,7 @@ def cause_name(cause):
 
 def call_of(registers):
     """The call that an ecall with these registers asks the monitor for, or None."""
-    is_call = registers[17] == KEY and Call.create <= registers[16] <= Call.exit
-    return Call(registers[16]) if is_call else None
+    return NUMBERED.get(registers[16]) if registers[17] == KEY else None
 
 
 def size_text(size):

@@ -10,6 +10,8 @@ from .trace import Step, Tracer
 
 SHOWN_REGISTERS = 2  # where more changed, as at a switch, a0 is shown and how many more
 SHOWN_REPLY = 60  # characters of a reply to a line of the script
+ARGUMENT_FORMS = {"base": "%x", "size": "%x", "window": " window %x", "window_size": "%x", "entry": " entry %x", "slot": "e%d",
+                  "address": " to %x"}  # of a call; each other one is told by its name
 A0 = 10
 
 
@@ -198,12 +200,9 @@ class Lines:
 
 def call_text(step):
     """A call, its arguments, and why it is refused where it is."""
-    values = step.call.arguments
-    told = {names.Call.create: "%x %x  window %x %x  entry %x", names.Call.measure: "e%d  to %x", names.Call.stop: "value %x",
-            names.Call.exit: "value %x"}.get(step.call.call, "e%d")
+    text = " ".join(ARGUMENT_FORMS.get(name, name + " %x") % value for name, value in step.call.arguments.items())
     status = step.changed.get(A0)
     refused = names.STATUSES.get(int(status, 16)) if status and step.next.world == step.at.world else None
-    text = told % tuple(values.values())
     return "%s %s%s" % (step.call.call.name, text, ": " + refused if refused else "")
 
 

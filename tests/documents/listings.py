@@ -1,6 +1,6 @@
 #!/usr/bin/env python3
 """tests/documents/listings.py --check: tells where a register, an instruction or a call of the monitor that a definition lists is
-missing, or is another, in a list that no proof compares with it: those of the tests' models, of ./rvlook, of the examples and of the pages.
+missing, or is another, in a list that no proof compares with it: those of the tests, of ./rvlook, of the examples and of the pages.
 """
 import os
 import re
@@ -10,8 +10,13 @@ sys.dont_write_bytecode = True
 ROOT = os.path.dirname(os.path.dirname(os.path.dirname(os.path.abspath(__file__))))
 sys.path[:0] = [ROOT, os.path.join(ROOT, "tests", "models")]
 import instruction_words  # noqa: E402
+import monitor_model  # noqa: E402
 import privileged_hart  # noqa: E402
 from look import names  # noqa: E402
+
+WORLDS = {"Host": "the host", "(Enclave k)": "an enclave"}
+NUMBERS = "no one two three four five six seven eight nine ten eleven twelve".split()
+CALL_TESTS = ("generators/monitor_call_cases", "generators/harts_race_cases", "generators/twin_call_cases", "fuzz/fuzz_inputs", "fuzz/monitor_play")
 
 # Registers that count on without a name of their own in ./rvlook and the assembler: counters of events, and what they count.
 COUNTED = re.compile(r"mhpm")
@@ -40,11 +45,24 @@ def instructions():
 
 
 def calls():
-    """The number of each call of the monitor, and the status of each refusal."""
+    """The number of each call of the monitor, the worlds that each is of, and the status of each refusal."""
     text = text_of("crates/rv_enclaves/specs/Calls.antt")
-    numbers = {name.lower(): int(number) for name, number in re.findall(r"^call_number (\w+) = (\d+)$", text, re.M)}
+    numbers = {name: int(number) for name, number in re.findall(r"^call_number (\w+) = (\d+)$", text, re.M)}
+    rows = re.findall(r"^is_offered (Host|\(Enclave k\)) (\w+) = (true|false)$", text, re.M)
+    worlds = {name.lower(): {WORLDS[it] for it in WORLDS if next(is_of for world, of, is_of in rows if (world, of) in ((it, name), (it, "_"))) == "true"}
+              for name in numbers}
     statuses = {name: int(number, 16) for name, number in re.findall(r"^status_of (\w+) = 0x(\w+)$", text, re.M)}
-    return numbers, statuses
+    return {name.lower(): number for name, number in numbers.items()}, worlds, statuses
+
+
+def refusals():
+    """The refusals of each call in their order, and the files of their rows."""
+    folder, rows, files = "crates/rv_enclaves/specs/", {}, {}
+    for name in sorted(os.listdir(os.path.join(ROOT, folder))):
+        for table, body in re.findall(r"^(\w+_refusals) [^:=\n]*=((?:.*\n)(?:    .*\n)*)", text_of(folder + name), re.M):
+            rows[table], files[table] = re.findall(r", (\w+)\)", body), folder + name
+    tables = re.findall(r"^call_refusals seat shared (\w+) = (\w+|\[\])", text_of("crates/rv_monitor/specs/CallRefusals.antt"), re.M)
+    return {call.lower(): rows.get(table, []) for call, table in tables}, {files[table][len("crates/"):] for _, table in tables if table in files}
 
 
 def numbers_of_row(cell):
@@ -94,29 +112,51 @@ def of_instructions():
         yield f"docs/ASSEMBLER.md or docs/PROMISES.md counts other than {len(known)} instructions"
 
 
+def constant(name):
+    """The name of a constant of C, and of the models, for a refusal."""
+    return re.sub(r"(?<!^)(?=[A-Z])", "_", name).upper()
+
+
 def of_calls():
-    """What is missing or another in lists of the monitor's calls and statuses."""
-    numbers, statuses = calls()
+    """What is missing or another in lists of the monitor's calls."""
+    numbers, worlds, _ = calls()
     header, page = text_of("examples/monitor/calls.h"), text_of("docs/MONITOR.md")
     if {it.name: it.value for it in names.Call} != numbers or {it.name for it in names.ARGUMENTS} != set(numbers):
         yield "Call or ARGUMENTS of look/names.py has other calls"
+    told = {"the host": monitor_model.OF_HOST, "an enclave": monitor_model.OF_ENCLAVE}
+    for name, number in numbers.items():
+        if {world for world, of_world in told.items() if number in of_world} != worlds[name] or getattr(monitor_model, name.upper(), 0) != number:
+            yield f"tests/models/monitor_model.py lacks {name}, or has it of another world"
+        if f"MONITOR_{name.upper()} = {number}" not in header or header.count(f"MONITOR_{name.upper()}") == 1:
+            yield f"examples/monitor/calls.h lacks {name}, or its function"
+        of = worlds[name].pop() if len(worlds[name]) == 1 else "both"
+        if not re.search(rf"^\| {number} \| {name} \| {of} \| ", page, re.M) or not re.search(rf"^### .*\b{name}\b", page, re.M):
+            yield f"docs/MONITOR.md lacks {name} of {of}, or a part of its own"
+        yield from (f"tests/{it}.py lacks {name}" for it in CALL_TESTS
+                    if not re.search(rf"^(?!from |  +[A-Z_, ]+\)$).*(?:\b{name.upper()}\b|\.{name}\()", text_of(f"tests/{it}.py"), re.M))
+    if f"{NUMBERS[len(numbers)]} calls with numbers" not in text_of("docs/AUTHORS.md"):
+        yield f"docs/AUTHORS.md counts other than {NUMBERS[len(numbers)]} calls"
+
+
+def of_refusals():
+    """What is missing or another in lists of the refusals of calls, and of their statuses."""
+    statuses, (of_call, files) = calls()[2], refusals()
+    header, page, laws = text_of("examples/monitor/calls.h"), text_of("docs/MONITOR.md"), text_of("docs/LAWS.md")
     if {name: number for number, name in names.STATUSES.items()} != statuses:
         yield "STATUSES of look/names.py has other statuses"
-    for name, number in numbers.items():
-        if f"MONITOR_{name.upper()} = {number}" not in header:
-            yield f"examples/monitor/calls.h lacks {name}"
-        if not re.search(rf"^\| {number} \| {name} \| ", page, re.M):
-            yield f"docs/MONITOR.md lacks {name}"
     for name, number in statuses.items():
-        constant = re.sub(r"(?<!^)(?=[A-Z])", "_", name).upper()
-        if f"{constant} = {number - 2 ** 32}" not in header:
-            yield f"examples/monitor/calls.h lacks {constant}"
-        if name not in page:
-            yield f"docs/MONITOR.md lacks {name}"
+        if f"{constant(name)} = {number - 2 ** 32}" not in header:
+            yield f"examples/monitor/calls.h lacks {constant(name)}"
+        if getattr(monitor_model, constant(name), 0) != number:
+            yield f"tests/models/monitor_model.py lacks {constant(name)}"
+        of = ", ".join(call for call in of_call if name in of_call[call]) or "all"
+        if f"| {number:x} | {name} | {of} | " not in page:
+            yield f"the table of refusals in docs/MONITOR.md lacks {name} of {of}"
+    yield from (f"docs/LAWS.md lacks {it}, which has the refusals of a call" for it in sorted(files) if it not in laws)
 
 
 def main():
-    told = [*of_registers(), *of_instructions(), *of_calls()]
+    told = [*of_registers(), *of_instructions(), *of_calls(), *of_refusals()]
     print("\n".join(told))
     return 1 if told else 0
 

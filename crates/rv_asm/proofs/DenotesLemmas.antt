@@ -26,10 +26,12 @@ ok_words (Err kind) is = cc
 
 no_fault_first : (fault : List Reading → Reading → Option AsmFaultKind) (before lines : List Reading) (line : Reading)
     → first_line_fault fault before (line ∷ lines) ≡ None → (fault before line ≡ None) × (first_line_fault fault (before ++ line ∷ []) lines ≡ None)
-no_fault_first fault before lines line none = no_fault (fault before line) (fault_after (length before)) (first_line_fault fault (before ++ line ∷ []) lines) none
+no_fault_first fault before lines line none =
+    no_fault (fault before line) (fault_after (length before)) (first_line_fault fault (before ++ line ∷ []) lines) none
 
 no_fault_in : (fault : List Reading → Reading → Option AsmFaultKind) (before front after : List Reading)
-    → first_line_fault fault before (front ++ after) ≡ None → (first_line_fault fault before front ≡ None) × (first_line_fault fault (before ++ front) after ≡ None)
+    → first_line_fault fault before (front ++ after) ≡ None
+    → (first_line_fault fault before front ≡ None) × (first_line_fault fault (before ++ front) after ≡ None)
 no_fault_in fault before [] after none = (refl, rw (append-nil before) none)
 no_fault_in fault before (line ∷ front) after none =
     let first = no_fault_first fault before (front ++ after) line none in

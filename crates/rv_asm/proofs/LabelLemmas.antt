@@ -1,6 +1,6 @@
 -- The map of labels after one more, and the places of labels among one more line.
 use Rattle.std.proofs.Common.{◌≡◌, ◌∙◌, sym, ap, refl, ℕ, ◌+◌, Bool, true, false, cond, List, [], ◌∷◌, ◌++◌, length, Option, Some, None, is_some}
-use Rattle.std.proofs.Common.{option_map, append_assoc, append-nil, length-append, arith, ◌≤◌, ◌<◌, nat_lt, Ok, if◌then◌else◌}
+use Rattle.std.proofs.Common.{option_map, append_assoc, append-nil, length-append, arith, ◌≤◌, nat_lt, Ok, if◌then◌else◌}
 use Rattle.std.specs.Str.{bytes_eq}
 use Rattle.std.proofs.lemmas.Slice.Eq.{bytes_eq-Decides}
 use Rattle.std.proofs.lemmas.List.Sums.{sum_by_push}
@@ -12,7 +12,7 @@ use Rattle.rv_asm.specs.Program.{Reading, line_size, words_in, has_label, is_lab
 use Rattle.rv_asm.specs.Program.{label_fault, repeated_name}
 use Rattle.rv_asm.specs.declared.first_look.FirstLook.{FirstLook}
 use Rattle.rv_asm.specs.declared.line.Line.{Line}
-use Rattle.rv_asm.specs.declared.fault.AsmFaultKind.TheVariants.{LabelTwice, TooLong}
+use Rattle.rv_asm.specs.declared.fault.AsmFaultKind.TheVariants.{LabelTwice}
 use Rattle.rv_asm.specs.declared.fault.AsmFault.{AsmFault}
 use Rattle.rv_asm.specs.declared.fault.AsmFaultKind.{AsmFaultKind}
 
@@ -34,17 +34,6 @@ pub adds_new : (places : List ℕ → Option ℕ) (name other : List ℕ) (words
 adds_new places name other words absent =
     added (bytes_eq name other) (places other) words
     (λ same. sym (ap places ((bytes_eq-Decides name other).0 same)) ∙ none_from_is_some (places name) absent)
-
--- a name that the map had
-old_or_none : {A : Type 0} (o : Option A) (b : Bool) (x : A) → (b ≡ true → is_some o ≡ true) → o ≡ option_case o (cond b (Some x) None) Some
-old_or_none (Some y) b x some = refl
-old_or_none None true x some = let no : false ≡ true = some refl in cc
-old_or_none None false x some = refl
-
-pub adds_old : (places : List ℕ → Option ℕ) (name other : List ℕ) (words : ℕ) → is_some (places name) ≡ true
-    → places other ≡ option_case (places other) (cond (bytes_eq name other) (Some words) None) Some
-adds_old places name other words there =
-    old_or_none (places other) (bytes_eq name other) words (λ same. sym (ap (λ n. is_some (places n)) ((bytes_eq-Decides name other).0 same)) ∙ there)
 
 -- ---- one more line
 
@@ -128,11 +117,6 @@ pub own_fault-none : (before : List Reading) (line : Line) (words : ℕ) → wor
     → own_fault before (Ok line) ≡ None
 own_fault-none before line words is few =
     let fits : nat_lt 65536 (words_in before + line_size (Ok line)) ≡ false = grind (arith, nat_tests) in rw fits refl
-
-pub own_fault-long : (before : List Reading) (line : Line) (words : ℕ) → words ≡ words_in before → 65536 < words + line_size (Ok line)
-    → own_fault before (Ok line) ≡ Some TooLong
-own_fault-long before line words is many =
-    let over : nat_lt 65536 (words_in before + line_size (Ok line)) ≡ true = grind (arith, nat_tests) in rw over refl
 
 -- a line whose label has not stood before
 not_repeated : (look : FirstLook) (before : List Reading) (label : Option (List ℕ)) → HasRead look before

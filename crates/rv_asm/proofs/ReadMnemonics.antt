@@ -17,7 +17,8 @@ use Rattle.rv_asm.specs.declared.mnemonic.Mnemonic.{Mnemonic}
 use Rattle.rv_asm.specs.declared.mnemonic.Mnemonic.TheVariants as mnemonic
 use Rattle.rv_asm.proofs.Plain.{is_piece, IsPiece, IsPiece-from_test}
 
--- the mnemonic of an instruction
+-- ---- the mnemonic of an instruction
+
 abbrev pub mnemonic_of : Instr → Mnemonic
 mnemonic_of (instr.Lui a b) = mnemonic.Lui
 mnemonic_of (instr.Auipc a b) = mnemonic.Auipc
@@ -38,6 +39,8 @@ mnemonic_of instr.Sret = mnemonic.Sret
 mnemonic_of instr.Mret = mnemonic.Mret
 mnemonic_of instr.Wfi = mnemonic.Wfi
 mnemonic_of (instr.SfenceVma a b) = mnemonic.SfenceVma
+
+-- ---- it is a piece of a line
 
 pub piece-name : (i : Instr) → IsPiece (name_of i)
 piece-name i = IsPiece-from_test (name_of i) (test i)
@@ -101,6 +104,8 @@ piece-name i = IsPiece-from_test (name_of i) (test i)
     test instr.Mret = refl
     test instr.Wfi = refl
     test (instr.SfenceVma a b) = refl
+
+-- ---- and is read back
 
 pub read-name : (i : Instr) (rest : List ℕ) → statement_at (name_of i ++ 32 ∷ rest) ≡ statement_of (mnemonic_of i) (operands_in (32 ∷ rest))
 unfolding statement_at mnemonics is_name is_name_byte

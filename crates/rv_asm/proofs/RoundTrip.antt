@@ -152,8 +152,8 @@ assembled-Branch kind rs1 rs2 offset fields =
     let b = read-register rs2 fields.1 in
     let t = read-target 13 offset small (omega arith) in
     let n = branch_offset-signed offset fields.2.0 fields.2.1 in
-    assembled-line (Branch kind rs1 rs2 offset) (register_operand_text rs1) (register_operand_text rs2 ∷ signed_text 13 offset ∷ []) (piece-register rs1 fields.0)
-    (piece-register rs2 fields.1, (piece-signed 13 offset small (omega arith), tt)) (omega arith) (rw (a, b, t, n) refl)
+    assembled-line (Branch kind rs1 rs2 offset) (register_operand_text rs1) (register_operand_text rs2 ∷ signed_text 13 offset ∷ [])
+    (piece-register rs1 fields.0) (piece-register rs2 fields.1, (piece-signed 13 offset small (omega arith), tt)) (omega arith) (rw (a, b, t, n) refl)
 
 assembled-Jalr : (rd rs1 offset : ℕ) → IsInstr (Jalr rd rs1 offset) → assembled (instr_text (Jalr rd rs1 offset)) ≡ Ok (word_of (Jalr rd rs1 offset) ∷ [])
 unfolding instr_text
@@ -254,8 +254,8 @@ unfolding instr_text
 assembled-SfenceVma rs1 rs2 fields =
     let a = read-register rs1 fields.0 in
     let b = read-register rs2 fields.1 in
-    assembled-line (SfenceVma rs1 rs2) (register_operand_text rs1) (register_operand_text rs2 ∷ []) (piece-register rs1 fields.0) (piece-register rs2 fields.1, tt)
-    (omega arith) (rw (a, b) refl)
+    assembled-line (SfenceVma rs1 rs2) (register_operand_text rs1) (register_operand_text rs2 ∷ [])
+    (piece-register rs1 fields.0) (piece-register rs2 fields.1, tt) (omega arith) (rw (a, b) refl)
 
 -- a mnemonic alone
 assembled-alone : (i : Instr) → lines_of (name_of i) ≡ name_of i ∷ []

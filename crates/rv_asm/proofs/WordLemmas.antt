@@ -1,6 +1,6 @@
 -- The second look, line after line.
 use Rattle.std.proofs.Common.{◌≡◌, ◌⊎◌, inl, inr, ◌∙◌, sym, ap, refl, ℕ, ◌+◌, ◌≤◌, nat_lt, Bool, true, false, if◌then◌else◌, List, [], ◌∷◌, ◌++◌}
-use Rattle.std.proofs.Common.{length, length-append, take, Option, Some, None, Result, Ok, Err, IsOk, append_assoc, append-nil, map, arith}
+use Rattle.std.proofs.Common.{length, length-append, take, Option, Some, None, Result, Ok, Err, IsOk, append_assoc, map, arith}
 use Rattle.std.proofs.lemmas.Bool.Decides.{nat_tests}
 use Rattle.std.proofs.lemmas.List.{take_at}
 use Rattle.std.proofs.lemmas.List.Sums.{sum_by_push}
@@ -68,13 +68,6 @@ writes_on labels words new added lines text rest after line has is gives made si
           ∙ rw (here, made) (sym (append_assoc words added (words_from labels (has.before ++ this ∷ []) (readings after))));
     }
 
-pub writes_all : (labels : List ℕ → Option ℕ) (words : List ℕ) (lines : ℕ) (text rest : List ℕ) → HasWrittenUpTo labels words lines text rest
-    → lines_of rest ≡ [] → (words ≡ words_from labels [] (readings text)) × (first_line_fault (name_fault labels) [] (readings text) ≡ None)
-writes_all labels words lines text rest has is = (
-  sym (has.written ∙ ap (λ ls. words ++ words_from labels has.before (map line_read ls)) is ∙ append-nil words),
-  has.named ∙ ap (λ ls. first_line_fault (name_fault labels) has.before (map line_read ls)) is,
-)
-
 pub fails_at : (labels : List ℕ → Option ℕ) (words : List ℕ) (lines : ℕ) (text rest after line : List ℕ) (kind : AsmFaultKind)
     → (has : HasWrittenUpTo labels words lines text rest) → lines_of rest ≡ line ∷ lines_of after
     → line_words labels (length words) (line_read line) ≡ Err kind
@@ -97,7 +90,8 @@ none_through labels words lines text rest after line has is gives =
     let whole : readings text ≡ (has.before ++ this ∷ []) ++ readings after =
     has.split ∙ (ap (λ ls. has.before ++ map line_read ls) is ∙ sym (append_assoc has.before (this ∷ []) (readings after))) in
     let front : take (lines + 1) (readings text) ≡ has.before ++ this ∷ [] =
-    ap (take (lines + 1)) whole ∙ take_at (has.before ++ this ∷ []) (readings after) (lines + 1) (omega (arith, has.count, length-append has.before (this ∷ []))) in
+    ap (take (lines + 1)) whole
+    ∙ take_at (has.before ++ this ∷ []) (readings after) (lines + 1) (omega (arith, has.count, length-append has.before (this ∷ []))) in
     let here : name_fault labels has.before this ≡ None = no_name_fault (line_words labels (words_in has.before) this) (rw (← has.place) gives) in
     ap (first_line_fault (name_fault labels) []) front ∙ (first_fault-push (name_fault labels) [] has.before this ∙ rw (has.none, here) refl)
 

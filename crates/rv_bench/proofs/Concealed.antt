@@ -196,7 +196,8 @@ module _ (e : ℕ) where
 
 conceals_through : (bench : BenchState) → KeepsMonitor bench.target → ConcealsThrough bench
 conceals_through bench kept = record {
-  alike = λ e before part other kept' agree over by. lines_alike e (state_after bench_line bench before) other part (keeps_lines bench before kept) kept' agree over by;
+  alike = λ e before part other kept' agree over by.
+      lines_alike e (state_after bench_line bench before) other part (keeps_lines bench before kept) kept' agree over by;
   at_rest = λ e before part rests over. lines_rest e (state_after bench_line bench before) part (keeps_lines bench before kept) rests over;
 }
 

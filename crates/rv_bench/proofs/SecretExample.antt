@@ -1,7 +1,7 @@
 -- An example of the law of secrets: a script pokes a key into the enclave of slot 0, and its other lines pass over that enclave. Whatever the
 -- key, the output is the same.
 use Rattle.std.proofs.Common.{◌≡◌, inl, inr, List, ℕ, ◌++◌, codes, IfOk, Result, Ok, Err, refl, true}
-use Rattle.rv_enclaves.specs.Blocks.{has}
+use Rattle.rv_platform.specs.Blocks.{has}
 use Rattle.rv_text.specs.GoodLines.{is_text}
 use Rattle.rv_text.specs.Lines.{lines_of, through_last_feed}
 use Rattle.rv_text.specs.Numbers.{number_of_digits}

@@ -13,7 +13,7 @@ use Rattle.rv_elf.specs.declared.elf_fault.ElfFault.{ElfFault}
 use Rattle.rv_command_line.specs.declared.setup.Setup.{Setup}
 use Rattle.rv_memory.specs.declared.ram_fault.RamFault.TheVariants.{BadSize}
 use Rattle.rv_streams.specs.declared.fault.BenchFault.TheVariants.{Image, Ram}
-use Rattle.rv_bench.specs.Loaded.{monitor_harts, memory_loaded, planned, reset_over, started}
+use Rattle.rv_bench.specs.Loaded.{memory_loaded, planned, reset_over, started}
 
 -- a RAM that is made, loaded by the image's plan and given to a bench
 pub started_ok : (image : List ℕ) (setup : Setup) (plan : LoadPlan) (zeros memory : List ℕ) (entry : ℕ) (bench : BenchState)
@@ -66,7 +66,7 @@ reset_keeps : (setup : Setup) (memory : List ℕ) (entry : ℕ) → is_ram_size 
 reset_keeps setup memory entry lawful = go setup.monitored where
   go : (monitored : Bool) → KeepsMonitor (reset_over (record setup { monitored = monitored }) memory entry).target
   go false = tt
-  go true = start_kept memory entry (monitor_harts setup.harts) lawful
+  go true = start_kept memory entry setup.harts lawful
 
 pub started_keeps : (image : List ℕ) (setup : Setup) → IfOk (started image setup) (λ state. KeepsMonitor state.target)
 unfolding started

@@ -42,6 +42,8 @@ use Rattle.rv_bench.proofs.ApartLemmas.{front_after, front_more}
 use Rattle.rv_bench.proofs.Entering.{read_after, write_after}
 use Rattle.rv_bench.proofs.Starts.{no_ram, has_ram, fault_has_ram}
 
+-- ---- the benches that are set apart
+
 -- no enclave can be scrambled, or that of the slot is; over 12 there is no slot
 pub not_apart : (slot : ℕ) (bench : BenchState) → can_scramble slot bench ≡ false → None ≡ set_apart slot bench
 not_apart slot bench none = rw none refl
@@ -63,11 +65,28 @@ set_apart_at P number bench found is holds =
 pub not_numbered : (number : ℕ) (bench : BenchState) → KeepsMonitor bench.target → slot_numbered number ≡ None → set_apart number bench ≡ None
 not_numbered number bench kept none = sym (not_apart number bench (none_numbered number bench.target kept none))
 
+-- ---- the image, and the first script
+
+-- the image was read, and the text through the separator behind it
+pub record ReadsImage {S : Type 0} {g : SourceGhosts S} (old mid : Lines S g) (image : List ℕ) : Type 0 where
+  pub through : ReadsThroughSeparator old mid
+  pub gives : g.tells → image_in (unread old) ≡ Ok image
+  pub ends : TellsEnd old mid
+
+-- the first script was run over the bench of the image, which is another bench then
+pub record RunsFirst {S W : Type 0} {g : SourceGhosts S} (h : SinkGhosts W) (bench : BenchState) (mid : Lines S g) (before : W) : Type 0 where
+  pub next : Lines S g
+  pub between : W
+  pub then : BenchState
+  pub runs : RunsLines h Separator bench mid next before between (Ok tt)
+  pub state : g.tells → then ≡ after_first_script bench (unread mid)
+  pub ends : TellsEnd mid next
+
 module _ {S W : Type 0} {g : SourceGhosts S} (h : SinkGhosts W) (setup : Setup) (slot : ℕ) (image : List ℕ) (old mid : Lines S g) (before : W)
-    (reads : ReadsThroughSeparator old mid) (is : g.tells → image_in (unread old) ≡ Ok image) where
+    (read : ReadsImage old mid image) where
   -- the bench of the input is that of the image
   bench_is : (r : Result BenchState BenchFault) → started image (monitored_setup setup) ≡ r → g.tells → bench_in (monitored_setup setup) (unread old) ≡ r
-  bench_is r starts tells = rw (is tells) starts
+  bench_is r starts tells = rw (read.gives tells) starts
 
   fault_is : (fault : BenchFault) → started image (monitored_setup setup) ≡ Err fault → g.tells → twin_output setup slot (unread old) ≡ Err fault
   fault_is fault starts tells =
@@ -79,13 +98,13 @@ module _ {S W : Type 0} {g : SourceGhosts S} (h : SinkGhosts W) (setup : Setup) 
   output_is bench starts tells =
       ap (λ (m : Result BenchState BenchFault). result_case m (λ bench. Ok (scripts_text slot bench (after_separator (unread old)))) Err)
       (bench_is (Ok bench) starts tells)
-      ∙ ap (λ (t : List ℕ). Ok (scripts_text slot bench t)) (sym (reads.rest tells))
+      ∙ ap (λ (t : List ℕ). Ok (scripts_text slot bench t)) (sym (read.through.rest tells))
 
   -- the benches do not start
   pub not_started : (fault : BenchFault) → Starts image (monitored_setup setup) (Err fault) → RunsTwin h setup slot old mid before before (Err fault)
-  not_started (Ram BadSize) none = (none, reads, fault_is (Ram BadSize) (no_ram image (monitored_setup setup) none), refl)
-  not_started (Ram NoRamMemory) some = (some, reads, λ tells. rw (is tells) refl, refl)
-  not_started (Image fault) faulty = (fault_has_ram image (monitored_setup setup) fault faulty, reads, fault_is (Image fault) faulty, refl)
+  not_started (Ram BadSize) none = (none, read.through, fault_is (Ram BadSize) (no_ram image (monitored_setup setup) none), refl)
+  not_started (Ram NoRamMemory) some = (some, read.through, λ tells. rw (read.gives tells) refl, refl)
+  not_started (Image fault) faulty = (fault_has_ram image (monitored_setup setup) fault faulty, read.through, fault_is (Image fault) faulty, refl)
   not_started _ never = absurd never
 
   module _ (bench : BenchState) (starts : started image (monitored_setup setup) ≡ Ok bench) where
@@ -96,16 +115,16 @@ module _ {S W : Type 0} {g : SourceGhosts S} (h : SinkGhosts W) (setup : Setup) 
       -- the source failed in the first script
       first_read : RunsLines h Separator bench mid new before after (Err Read) → RunsTwin h setup slot old new before after (Err Read)
       first_read run =
-          let same = reads.source in
+          let same = read.through.source in
           let risen = run.0.source in
           let failed : SourceFailed g old.source new.source = omega (arith, risen, same) in (
             record { source = failed; sink = run.0.sink; going = run.0.going },
             λ tells. inr (
-              separator_read old mid new reads script_end run.0.going tells,
+              separator_read old mid new read.through script_end run.0.going tells,
               subst (λ (m : Result BenchState BenchFault). IsOkAnd m (StopsInScripts h setup slot old new before after (after_separator (unread old))))
                   (sym (bench_is (Ok bench) starts tells))
                   (inl (subst (λ (t : List ℕ). StopsAtRead one_bench Separator bench h.tells t (g.remaining new.source) (held new)
-                  (h.taken before) (h.taken after)) (reads.rest tells) (run.1 tells))),
+                  (h.taken before) (h.taken after)) (read.through.rest tells) (run.1 tells))),
             ),
           )
 
@@ -114,7 +133,7 @@ module _ {S W : Type 0} {g : SourceGhosts S} (h : SinkGhosts W) (setup : Setup) 
       first_write run = (
         has_size,
         record {
-          source = run.0.source ∙ reads.source;
+          source = run.0.source ∙ read.through.source;
           sink = run.0.sink;
           emptied = run.0.emptied;
           front = λ tells. subst (λ o. IsOkAnd o (λ text. h.tells → WritesFront (h.taken before) (h.taken after) text))
@@ -124,8 +143,8 @@ module _ {S W : Type 0} {g : SourceGhosts S} (h : SinkGhosts W) (setup : Setup) 
         λ tells.
             subst (λ (m : Result BenchState BenchFault). IsOkAnd m (StopsInScriptsAtWrite h setup slot old new before after (after_separator (unread old))))
             (sym (bench_is (Ok bench) starts tells))
-            (inl (subst (λ (t : List ℕ). StopsAtWrite one_bench Separator bench h.tells t (unread new) (h.taken before) (h.taken after)) (reads.rest tells)
-            (run.1 tells))),
+            (inl (subst (λ (t : List ℕ). StopsAtWrite one_bench Separator bench h.tells t (unread new) (h.taken before) (h.taken after))
+            (read.through.rest tells) (run.1 tells))),
       )
 
       pub first_fails : (fault : BenchFault) → RunsLines h Separator bench mid new before after (Err fault)
@@ -134,15 +153,23 @@ module _ {S W : Type 0} {g : SourceGhosts S} (h : SinkGhosts W) (setup : Setup) 
       first_fails Write run = first_write run
       first_fails _ run = absurd run
 
-    -- the first script was run, and the benches are set apart
-    module _ (next : Lines S g) (between : W) (first : RunsLines h Separator bench mid next before between (Ok tt)) (then : BenchState)
-        (state : g.tells → then ≡ after_first_script bench (unread mid)) (new : Lines S g) (after : W)
-        (image_end : TellsEnd old mid) (first_end : TellsEnd mid next) (second_end : TellsEnd next new) where
+    -- ---- the first script was run, and the benches are set apart
+
+    module _ (ran : RunsFirst h bench mid before) (new : Lines S g) (after : W) (second_end : TellsEnd ran.next new) where
+      abbrev next : Lines S g
+      next = ran.next
+
+      abbrev then : BenchState
+      then = ran.then
+
+      abbrev first : RunsLines h Separator bench mid ran.next before ran.between (Ok tt)
+      first = ran.runs
+
       abbrev apart_at : List ℕ → Option Apart
       apart_at scripts = set_apart slot (after_first_script bench scripts)
 
       apart_is : g.tells → set_apart slot then ≡ apart_at (unread mid)
-      apart_is tells = ap (set_apart slot) (state tells)
+      apart_is tells = ap (set_apart slot) (ran.state tells)
 
       text_is : (text : List ℕ) → (tells : g.tells) → second_text slot (set_apart slot then) (unread next) ≡ text
           → first_text bench (unread mid) ++ text ≡ scripts_text slot bench (unread mid)
@@ -152,7 +179,7 @@ module _ {S W : Type 0} {g : SourceGhosts S} (h : SinkGhosts W) (setup : Setup) 
           ∙ ap (second_text slot (apart_at (unread mid))) (first.reads.rest tells)))
 
       rest_end : TellsEnd mid new
-      rest_end = TellsEnd-more mid next new first_end second_end
+      rest_end = TellsEnd-more mid next new ran.ends second_end
 
       -- what holds of the second script and the benches that are set apart, of both scripts,
       of_rest : g.tells → (P : Option Apart → List ℕ → Type 0) → P (set_apart slot then) (unread next)
@@ -168,20 +195,20 @@ module _ {S W : Type 0} {g : SourceGhosts S} (h : SinkGhosts W) (setup : Setup) 
           subst (λ (m : Result BenchState BenchFault). IsOkAnd m
           (λ bench. P (set_apart slot (after_first_script bench (after_separator (unread old)))) (after_separator (after_separator (unread old))))) (sym
           (bench_is (Ok bench) starts tells))
-          (subst (λ (t : List ℕ). P (apart_at t) (after_separator t)) (reads.rest tells) (of_rest tells P holds))
+          (subst (λ (t : List ℕ). P (apart_at t) (after_separator t)) (read.through.rest tells) (of_rest tells P holds))
 
-      pub second_part : (outcome : Outcome) → RunsSecond h slot (set_apart slot then) next new between after outcome
+      pub second_part : (outcome : Outcome) → RunsSecond h slot (set_apart slot then) next new ran.between after outcome
           → RunsTwin h setup slot old new before after outcome
       second_part (Ok done) run = (
         has_size,
         record {
-          source = run.source ∙ (first.reads.source ∙ reads.source);
+          source = run.source ∙ (first.reads.source ∙ read.through.source);
           sink = record { worked = (run.sink.worked.0 ∙ first.sink.0, run.sink.worked.1 ∙ first.sink.1); flushed = run.sink.flushed };
           emptied = run.emptied;
           read = elim run.read [
             | inl ended ↦ inl (record {
               at_end = ended.at_end;
-              ended = (TellsEnd-more old mid new image_end rest_end).ended ended.at_end;
+              ended = (TellsEnd-more old mid new read.ends rest_end).ended ended.at_end;
               used_up = ended.used_up;
               going = λ tells. of_scripts tells (IsNeverEntered slot) (ended.going tells);
               told = ended.told;
@@ -197,15 +224,15 @@ module _ {S W : Type 0} {g : SourceGhosts S} (h : SinkGhosts W) (setup : Setup) 
         },
       )
       second_part (Err Read) run =
-          let same = first.reads.source ∙ reads.source in
+          let same = first.reads.source ∙ read.through.source in
           let risen = run.0.source in
           let failed : SourceFailed g old.source new.source = omega (arith, risen, same) in (
             record { source = failed; sink = (run.0.sink.0 ∙ first.sink.0, run.0.sink.1 ∙ first.sink.1); going = run.0.going },
             λ tells. inr (
-              separator_read old mid new reads rest_end run.0.going tells,
+              separator_read old mid new read.through rest_end run.0.going tells,
               subst (λ (m : Result BenchState BenchFault). IsOkAnd m (StopsInScripts h setup slot old new before after (after_separator (unread old))))
                   (sym (bench_is (Ok bench) starts tells))
-                  (subst (λ (scripts : List ℕ). StopsInScripts h setup slot old new before after scripts bench) (reads.rest tells)
+                  (subst (λ (scripts : List ℕ). StopsInScripts h setup slot old new before after scripts bench) (read.through.rest tells)
                   (inr (
                     separator_read mid next new first.reads second_end run.0.going tells,
                     of_rest tells Stops
@@ -220,19 +247,19 @@ module _ {S W : Type 0} {g : SourceGhosts S} (h : SinkGhosts W) (setup : Setup) 
       second_part (Err Write) run = (
         has_size,
         record {
-          source = run.0.source ∙ (first.reads.source ∙ reads.source);
+          source = run.0.source ∙ (first.reads.source ∙ read.through.source);
           sink = SinkFailed-after h first.sink run.0.sink;
           emptied = run.0.emptied;
           front = λ tells. subst (λ o. IsOkAnd o (λ text. h.tells → WritesFront (h.taken before) (h.taken after) text))
               (sym (output_is bench starts tells))
               (λ told. subst (WritesFront (h.taken before) (h.taken after)) (text_is _ tells refl)
-              (front_after (h.taken before) (h.taken between) (h.taken after) (first_text bench (unread mid)) _ (first.written tells told)
+              (front_after (h.taken before) (h.taken ran.between) (h.taken after) (first_text bench (unread mid)) _ (first.written tells told)
               (run.0.front tells told)));
         },
         λ tells.
             subst (λ (m : Result BenchState BenchFault). IsOkAnd m (StopsInScriptsAtWrite h setup slot old new before after (after_separator (unread old))))
             (sym (bench_is (Ok bench) starts tells))
-            (subst (λ (scripts : List ℕ). StopsInScriptsAtWrite h setup slot old new before after scripts bench) (reads.rest tells)
+            (subst (λ (scripts : List ℕ). StopsInScriptsAtWrite h setup slot old new before after scripts bench) (read.through.rest tells)
             (inr (of_rest tells Stops (write_after slot (set_apart slot then) h.tells _ _ _ _ _ (first.written tells) (run.1 tells))))),
       ) where
         Stops : Option Apart → List ℕ → Type 0

@@ -12,4 +12,3 @@ pub mod Run
 pub mod Stream
 pub mod Twin
 pub mod TwinLaws
-pub mod MonitorRange

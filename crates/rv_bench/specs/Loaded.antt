@@ -7,15 +7,11 @@ use Rattle.rv_hart.specs.Hart.{at_reset}
 use Rattle.rv_memory.specs.Memory.{is_ram_size}
 use Rattle.rv_memory.specs.declared.ram_fault.RamFault.TheVariants.{BadSize, NoMemory as NoRamMemory}
 use Rattle.rv_monitor.specs.State.{at_start}
-use Rattle.rv_monitor.specs.declared.harts.Harts.{Harts as MonitorHarts}
-use Rattle.rv_monitor.specs.declared.harts.Harts.TheVariants as monitor
 use Rattle.rv_debug.specs.BenchState.{BenchState, bare, monitored as monitored_bench}
 use Rattle.rv_elf.specs.Fields.{magic}
 use Rattle.rv_elf.specs.Loaded.{loaded_memory}
 use Rattle.rv_elf.specs.Plans.{LoadPlan, file_plan, raw_plan}
 use Rattle.rv_elf.specs.declared.elf_fault.ElfFault.{ElfFault}
-use Rattle.rv_command_line.specs.declared.harts.Harts.{Harts}
-use Rattle.rv_command_line.specs.declared.harts.Harts.TheVariants.{One, Two}
 use Rattle.rv_command_line.specs.declared.image_kind.ImageKind.{ImageKind}
 use Rattle.rv_command_line.specs.declared.image_kind.ImageKind.TheVariants.{Auto, Raw, Elf}
 use Rattle.rv_command_line.specs.declared.setup.Setup.{Setup}
@@ -37,15 +33,10 @@ planned image setup =
 abbrev pub memory_loaded : List ℕ → Setup → LoadPlan → List ℕ
 memory_loaded image setup plan = loaded_memory image plan.segments (replicate setup.ram 0)
 
--- the harts that the monitor is over
-abbrev pub monitor_harts : Harts → MonitorHarts
-monitor_harts One = monitor.One
-monitor_harts Two = monitor.Two
-
 -- the bench at reset over a memory: the image alone on one hart in mode M, or the host on each hart above the monitor, with hart 0 chosen
 abbrev pub reset_over : Setup → List ℕ → ℕ → BenchState
 reset_over setup memory entry =
-    if setup.monitored then monitored_bench (at_start memory entry (monitor_harts setup.harts))
+    if setup.monitored then monitored_bench (at_start memory entry setup.harts)
     else bare (record { hart = at_reset entry M; memory = memory })
 
 -- the bench at reset, or the first fault: of the RAM's size, then of the image

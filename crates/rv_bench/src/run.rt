@@ -5,7 +5,6 @@ ghost use Rattle.rv_bench.specs.Answered.{AnswersScript};
 ghost use Rattle.rv_bench.specs.Confidentiality.{ConcealsSecret, ConcealsThrough};
 ghost use Rattle.rv_bench.specs.Integrity.{SparesThrough};
 ghost use Rattle.rv_bench.specs.Loaded.{started};
-ghost use Rattle.rv_bench.specs.MonitorRange.{ReservesMonitorRange};
 ghost use Rattle.rv_bench.specs.Output.{bench_in};
 ghost use Rattle.rv_bench.specs.Run.{RunsBench, RunsLines};
 ghost use Rattle.rv_bench.specs.Stream.{RunsStream};
@@ -84,7 +83,6 @@ pub fn run_bench<S: Source, W: Sink>(
     ensures end { TellsEnd lines.old lines.new }
     ensures integrity { IfOk (started image.now setup.now) SparesThrough }
     ensures conceals { IfOk (started image.now setup.now) ConcealsThrough }
-    ensures reserved { ReservesMonitorRange setup.now.monitored }
 {
     let mut bench = start(alloc, image, setup)?;
     run_script(&mut bench, lines, sink)

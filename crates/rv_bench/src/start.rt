@@ -1,10 +1,9 @@
 //! The bench that an image starts.
 
 ghost use Rattle.std.specs.Prelude.{◌≡◌, ◌%◌, length, IfOk};
-ghost use Rattle.rv_bench.specs.Loaded.{monitor_harts, is_read_as_elf as is_read_as_elf_of, planned as planned_of, reset_over, Starts};
-ghost use Rattle.rv_bench.specs.MonitorRange.{ReservesMonitorRange};
+ghost use Rattle.rv_bench.specs.Loaded.{is_read_as_elf as is_read_as_elf_of, planned as planned_of, reset_over, Starts};
 
-use rv_command_line::{Harts, ImageKind, Setup};
+use rv_command_line::{ImageKind, Setup};
 use rv_debug::Bench;
 use rv_elf::{ElfFault, Plan, is_elf, load, plan, plan_raw};
 use rv_hart::Machine;
@@ -25,7 +24,7 @@ fn is_read_as_elf(kind: ImageKind, image: &[u8]) -> bool
     }
 }
 
-/// What of the image is loaded where: of a monitored bench nothing in the range that its monitor keeps for itself (`reserved`).
+/// What of the image is loaded where: of a monitored bench nothing in the range that its monitor keeps for itself.
 ///
 /// # Errors
 ///
@@ -33,22 +32,11 @@ fn is_read_as_elf(kind: ImageKind, image: &[u8]) -> bool
 fn planned(image: &[u8], setup: &Setup) -> Result<Plan, ElfFault>
     ensures value { result ≡ planned_of image.now setup.now }
     ensures of_these { IfOk result (λ plan. (plan.image_size ≡ length image.now) × (plan.ram_size ≡ setup.now.ram)) }
-    ensures reserved { ReservesMonitorRange setup.now.monitored }
 {
     if is_read_as_elf(setup.kind, image) {
         plan(image, setup.ram, setup.monitored)
     } else {
         plan_raw(image.len(), setup.ram, setup.monitored)
-    }
-}
-
-/// The harts that the monitor is over.
-fn monitor_harts(harts: Harts) -> rv_monitor::Harts
-    ensures { result ≡ monitor_harts harts }
-{
-    match harts {
-        Harts::One => rv_monitor::Harts::One,
-        Harts::Two => rv_monitor::Harts::Two,
     }
 }
 
@@ -58,7 +46,7 @@ fn reset(ram: Ram, entry: u32, setup: &Setup) -> Bench
     ensures { result ≡ reset_over setup.now ram entry }
 {
     if setup.monitored {
-        Bench::monitored(Monitored::new(ram, entry, monitor_harts(setup.harts)))
+        Bench::monitored(Monitored::new(ram, entry, setup.harts))
     } else {
         Bench::bare(Machine::new(ram, entry, Mode::M))
     }

@@ -1,7 +1,5 @@
-mod FaultKinds
-mod Given
-mod Named
+mod Alike
 mod Numbers
-mod Places
+mod Options
+mod Readable
 mod Taken
-mod Truths

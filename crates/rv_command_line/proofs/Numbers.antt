@@ -1,65 +1,56 @@
 -- What a typed getter of `clap` reads of an option's text.
-use Rattle.std.proofs.Common.{cond, ◌≡◌, ◌&&◌, ◌^◌, ℕ, Bool, true, false, List, [], ◌∷◌, length, Option, Some, None, refl, sym, ap}
-use Rattle.std.proofs.Common.{true≢false}
-use Rattle.std.specs.Prelude.{nat_lt, Result, Ok, Err}
-use Rattle.std.specs.List.{list_all}
+use Rattle.std.proofs.Common.{◌≡◌, ◌∙◌, ◌&&◌, ◌∷◌, ◌^◌, ◌<◌, [], ap, Bool, cond, Err, false, length, List, None, ℕ, Ok, Option, refl, Result, Some, true}
+use Rattle.std.proofs.Common.{sym, true≢false}
+use Rattle.std.proofs.lemmas.Bool.Decides.{Decides-and, Decides-ltb}
+use Rattle.std.specs.Bool.{Decides}
 use Rattle.std.specs.Char.{digit_value}
-use Rattle.std.specs.Str.Parse.{AllDigits, ParsesUnsigned, digits_value, without_leading_plus}
-use Rattle.std.proofs.lemmas.Bool.{lt-ltb, ltb-true}
+use Rattle.std.specs.List.{list_all}
+use Rattle.std.specs.Prelude.{nat_lt, option_and_then}
+use Rattle.std.specs.Str.Parse.{AllDigits, digits_value, IsNumeral, ParsesUnsigned, without_leading_plus}
 use Rattle.clap.specs.ValueTests.{is_numeral}
-use Rattle.clap.specs.Words.{ReadsOne}
+use Rattle.clap.proofs.WalkLemmas.{one_text-rows}
+use Rattle.clap.specs.Words.{one_of, one_text, ReadsOne, rows_of, Text}
+use Rattle.clap.specs.declared.parser.matches.Found.{Found}
 use Rattle.rv_command_line.specs.Job.{number_in_text}
 
-pub both : (a b : Bool) → (a && b) ≡ true → (a ≡ true) × (b ≡ true)
-both true b e = (refl, e)
-both false b e = absurd (true≢false (sym e))
+-- what a getter gives of the text that it is given, if it is given one
+pub got : {X : Type 0} (read : Text → Option X) (f : Found) (id : Text) (r : Option X) → (one_text f id ≡ None → r ≡ None)
+    → ((text : Text) → one_text f id ≡ Some text → r ≡ read text) → r ≡ option_and_then read (one_of id (rows_of f))
+got read f id r none some = rw (sym (one_text-rows f id)) (go (one_text f id) refl)
+  where
+    go : (o : Option Text) → one_text f id ≡ o → r ≡ option_and_then read o
+    go None e = none e
+    go (Some text) e = some text e
 
-digits_pass : (ds : List ℕ) → AllDigits 10 ds → list_all (λ d. nat_lt (digit_value d) 10) ds ≡ true
-digits_pass [] h = refl
-digits_pass (d ∷ ds) h = rw (lt-ltb (digit_value d) 10 h.0) (digits_pass ds h.1)
+digits : (ds : List ℕ) → Decides (list_all (λ d. nat_lt (digit_value d) 10) ds) (AllDigits 10 ds)
+digits [] = ((λ e. tt), (λ h. refl))
+digits (d ∷ ds) = Decides-and _ _ (Decides-ltb (digit_value d) 10) (digits ds)
 
-digits_from : (ds : List ℕ) → list_all (λ d. nat_lt (digit_value d) 10) ds ≡ true → AllDigits 10 ds
-digits_from [] e = tt
-digits_from (d ∷ ds) e =
-    let parts = both _ _ e in
-    (ltb-true _ _ parts.0, digits_from ds parts.1)
+module _ (bits : ℕ) (text : Text) where
+  abbrev value : ℕ
+  value = digits_value 10 (without_leading_plus text)
 
-abbrev is_word : ℕ → List ℕ → Bool
-is_word bits ds = is_numeral ds && nat_lt (digits_value 10 ds) (2 ^ bits)
+  abbrev is_word : Bool
+  is_word = is_numeral (without_leading_plus text) && nat_lt value (2 ^ bits)
 
-module _ (bits : ℕ) where
+  word : Decides is_word (IsNumeral 10 (without_leading_plus text) × (value < 2 ^ bits))
+  word = Decides-and _ _ (Decides-and _ _ (Decides-ltb 0 (length (without_leading_plus text))) (digits (without_leading_plus text)))
+      (Decides-ltb value (2 ^ bits))
+
   -- the value that `get_one` reads of a text as a number of so many bits
-  pub reads_number : (E : Type 0) (G : List ℕ → Result ℕ E → Type 0) (text : List ℕ) (r : Option ℕ) → ReadsOne G text r
-      → ((u : List ℕ) (x : Result ℕ E) → G u x → ParsesUnsigned bits 10 u x) → r ≡ number_in_text bits text
-  reads_number E G text (Some n) read only =
-      let ds = without_leading_plus text in
-      let h = only text (Ok n) read in
-      rw (lt-ltb 0 (length ds) h.0.0.0, digits_pass ds h.0.0.1, lt-ltb (digits_value 10 ds) (2 ^ bits) h.0.1) (ap Some h.1)
-  reads_number E G text None read only = go (is_word bits (without_leading_plus text)) refl
+  pub reads_number : {E : Type 0} (G : Text → Result ℕ E → Type 0) (r : Option ℕ) → ReadsOne G text r
+      → ((x : Result ℕ E) → G text x → ParsesUnsigned bits 10 text x) → r ≡ number_in_text bits text
+  reads_number G (Some n) read only = let is = only (Ok n) read in rw (word.1 is.0) (ap Some is.1)
+  reads_number G None read only = go is_word refl
     where
-      go : (b : Bool) → is_word bits (without_leading_plus text) ≡ b → None ≡ number_in_text bits text
-      go false t = rw t refl
-      go true t =
-          let outer = both _ _ t in
-          let inner = both _ _ outer.0 in
-          absurd (only text (Err read.0) read.1 ((ltb-true _ _ inner.0, digits_from (without_leading_plus text) inner.1), ltb-true _ _ outer.1))
+      go : (b : Bool) → is_word ≡ b → None ≡ cond b (Some value) None
+      go true e = absurd (only (Err read.0) read.1 (word.0 e))
+      go false e = refl
 
   -- which number it is, as a fact of a text
-  pub number_reads : (text : List ℕ) → ReadsOne {E = Bool} (λ u x. ParsesUnsigned bits 10 u x) text (number_in_text bits text)
-  number_reads text = go (is_word bits (without_leading_plus text)) refl
+  pub number_reads : ReadsOne {E = Bool} (λ u x. ParsesUnsigned bits 10 u x) text (number_in_text bits text)
+  number_reads = go is_word refl
     where
-      go : (b : Bool) → is_word bits (without_leading_plus text) ≡ b
-          → ReadsOne {E = Bool} (λ u x. ParsesUnsigned bits 10 u x) text (cond b (Some (digits_value 10 (without_leading_plus text))) None)
-      go true t =
-          let outer = both _ _ t in
-          let inner = both _ _ outer.0 in
-          (((ltb-true _ _ inner.0, digits_from (without_leading_plus text) inner.1), ltb-true _ _ outer.1), refl)
-      go false t = (
-        true,
-        λ h. absurd (true≢false
-            (rw (
-              lt-ltb 0 (length (without_leading_plus text)) h.0.0,
-              digits_pass (without_leading_plus text) h.0.1,
-              lt-ltb (digits_value 10 (without_leading_plus text)) (2 ^ bits) h.1,
-            ) at t)),
-      )
+      go : (b : Bool) → is_word ≡ b → ReadsOne {E = Bool} (λ u x. ParsesUnsigned bits 10 u x) text (cond b (Some value) None)
+      go true e = (word.0 e, refl)
+      go false e = (true, λ h. true≢false (sym (word.1 h) ∙ e))

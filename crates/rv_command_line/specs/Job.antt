@@ -6,9 +6,10 @@ use Rattle.std.specs.Str.{bytes_eq}
 use Rattle.std.specs.Str.Parse.{digits_value, without_leading_plus}
 use Rattle.clap.specs.ValueTests.{is_numeral}
 use Rattle.clap.specs.Words.{Row, Text, first_of, one_of, subcommand_of}
+use Rattle.rv_platform.specs.Harts.{counted_harts, number_of_harts}
+use Rattle.rv_platform.specs.declared.harts.Harts.{Harts}
+use Rattle.rv_platform.specs.declared.harts.Harts.TheVariants as harts
 use Rattle.rv_command_line.specs.CommandLine.{kinds, rvbench}
-use Rattle.rv_command_line.specs.declared.harts.Harts.{Harts}
-use Rattle.rv_command_line.specs.declared.harts.Harts.TheVariants as harts
 use Rattle.rv_command_line.specs.declared.image_kind.ImageKind.{ImageKind}
 use Rattle.rv_command_line.specs.declared.image_kind.ImageKind.TheVariants as image
 use Rattle.rv_command_line.specs.declared.job.Job.{Job}
@@ -25,10 +26,7 @@ number_in_text bits text =
     let digits = without_leading_plus text in
     if is_numeral digits && nat_lt (digits_value 10 digits) (2 ^ bits) then Some (digits_value 10 digits) else None
 
--- so many harts, where a bench may have so many
-abbrev pub counted_harts : ℕ → Option Harts
-counted_harts count = if count == 1 then Some harts.One else (if count == 2 then Some harts.Two else None)
-
+-- the harts whose number a text spells
 abbrev pub harts_in_text : Text → Option Harts
 harts_in_text text = option_and_then counted_harts (number_in_text 8 text)
 
@@ -108,13 +106,9 @@ abbrev pub is_lawful_job : Job → Bool
 is_lawful_job (job.Twin setup slot) = setup.monitored && nat_lt slot 13
 is_lawful_job _ = true
 
-abbrev pub is_one : Harts → Bool
-is_one harts.One = true
-is_one harts.Two = false
-
 -- a bench of two harts has the monitor
 abbrev pub has_lawful_harts : Setup → Bool
-has_lawful_harts setup = setup.monitored || is_one setup.harts
+has_lawful_harts setup = setup.monitored || number_of_harts setup.harts == 1
 
 -- and so it is in a job
 abbrev pub has_its_monitor : Job → Bool

@@ -16,7 +16,6 @@
 #![tactic(auto)]
 
 mod command_line;
-mod harts;
 mod image_kind;
 mod job;
 mod reading;
@@ -24,9 +23,9 @@ mod setup;
 mod subcommands;
 mod words_fault;
 
-pub use harts::Harts;
 pub use image_kind::ImageKind;
 pub use job::Job;
 pub use reading::read_words;
+pub use rv_platform::Harts;
 pub use setup::Setup;
 pub use words_fault::WordsFault;

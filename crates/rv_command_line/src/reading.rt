@@ -3,53 +3,53 @@
 ghost use Rattle.std.specs.Prelude.{◌≡◌, if◌then◌else◌, IfErr, IfOk, OnOk, Ok, Err, List, [], codes, option_and_then, true};
 ghost use Rattle.clap.specs.Kinds.{HasKind, Kinds};
 ghost use Rattle.clap.specs.Walk.{texts};
-ghost use Rattle.clap.specs.Words.{first_value, found_of, one_text, rows_of, subcommand_rows_of};
+ghost use Rattle.clap.specs.Words.{first_of, found_of, one_of, rows_of, subcommand_rows_of};
 ghost use Rattle.rv_command_line.specs.Faults.{IsFaultOf};
 ghost use Rattle.rv_command_line.specs.Job.{are_options_read, harts_in_text, has_its_monitor, is_lawful_job, job_of, kind_of, named_job};
 ghost use Rattle.rv_command_line.specs.Job.{number_in_text, run_of, setup_of, truth_in_text, twin_of};
 ghost use Rattle.rv_command_line.specs.Refusals.{refusals_of};
 
 use crate::command_line::rvbench_command;
-use crate::harts::Harts;
 use crate::image_kind::ImageKind;
 use crate::job::Job;
 use crate::setup::Setup;
 use crate::words_fault::WordsFault;
 use clap::error::ErrorKind;
 use clap::{ArgMatches, Error};
+use rv_platform::Harts;
 use std::alloc::Global;
 
 /// The kind of image that the options name, if they name one.
 fn matched_kind(matches: &ArgMatches<'_>) -> Option<ImageKind>
-    ensures { result ≡ option_and_then kind_of (first_value (found_of matches.now) (codes "kind")) }
+    ensures { result ≡ option_and_then kind_of (first_of (codes "kind") (rows_of (found_of matches.now))) }
 {
     ImageKind::named(matches.get_str("kind")?)
 }
 
 /// The number that an option names, if it is given.
 fn matched_number(matches: &ArgMatches<'_>, id: &str) -> Option<u32>
-    ensures { result ≡ option_and_then (number_in_text 32) (one_text (found_of matches.now) id.now) }
+    ensures { result ≡ option_and_then (number_in_text 32) (one_of id.now (rows_of (found_of matches.now))) }
 {
     matches.get_one(id)
 }
 
 /// The small number that an option names, if it is given.
 fn matched_byte(matches: &ArgMatches<'_>, id: &str) -> Option<u8>
-    ensures { result ≡ option_and_then (number_in_text 8) (one_text (found_of matches.now) id.now) }
+    ensures { result ≡ option_and_then (number_in_text 8) (one_of id.now (rows_of (found_of matches.now))) }
 {
     matches.get_one(id)
 }
 
 /// The number of harts that the options name, if they name one.
 fn matched_harts(matches: &ArgMatches<'_>) -> Option<Harts>
-    ensures { result ≡ option_and_then harts_in_text (one_text (found_of matches.now) (codes "harts")) }
+    ensures { result ≡ option_and_then harts_in_text (one_of (codes "harts") (rows_of (found_of matches.now))) }
 {
     Harts::counted(matched_byte(matches, "harts")?)
 }
 
 /// Whether a flag is set, if the command line has it.
 fn matched_flag(matches: &ArgMatches<'_>, id: &str) -> Option<bool>
-    ensures { result ≡ option_and_then truth_in_text (one_text (found_of matches.now) id.now) }
+    ensures { result ≡ option_and_then truth_in_text (one_of id.now (rows_of (found_of matches.now))) }
 {
     matches.get_one(id)
 }

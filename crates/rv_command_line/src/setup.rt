@@ -2,8 +2,8 @@
 
 ghost use Rattle.std.specs.Prelude.{◌≡◌, false};
 
-use crate::harts::Harts;
 use crate::image_kind::ImageKind;
+use rv_platform::Harts;
 
 /// The setup of a bench.
 #[derive(Clone, Copy, Debug, PartialEq, Eq)]

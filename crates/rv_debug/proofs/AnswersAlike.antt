@@ -344,7 +344,8 @@ module _ (e hart : ℕ) (one other : Machine) (agree : AgreeBut e one other) (br
       (ap (nat_lt number) agree.harts)
   alike (Sched schedule) kept kept' blind by =
       let harts = harts_in schedule in
-      sched-answers harts (has_all (count_of one) harts) (has_all (count_of other) harts) (ap (λ (n : ℕ). has_all n harts) agree.harts) kept kept' (all_rest e one by)
+      sched-answers harts (has_all (count_of one) harts) (has_all (count_of other) harts) (ap (λ (n : ℕ). has_all n harts) agree.harts) kept kept'
+      (all_rest e one by)
   alike (Access mode access address width) kept kept' blind by =
       shown _ _ (same-access (seat_of hart one).hart.csrs.pmp mode access address width
       ∙ ap (λ (entries : Entries). access_reply other.shared.memory entries mode access address width) (same_entries kept kept'))

@@ -1,13 +1,15 @@
 -- The loop of a schedule: each turn of it is one step of the hart that its digit names.
 use Rattle.std.proofs.Common.{◌≡◌, ◌<◌, ◌≤◌, ℕ, ◌+◌, ◌==◌, Bool, true, false, cond, bit_or, List, [], ◌∷◌, map, drop, get_or}
 use Rattle.std.proofs.Common.{length, Option, Some, None, refl, sym, ◌∙◌, ap, ap₂, subst, arith}
-use Rattle.std.specs.Int.Bits.{or_zero_r, or_zero_l}
+use Rattle.std.proofs.lemmas.Nat.{or_comm}
+use Rattle.std.proofs.lemmas.Nat.Bits.{bit_at_or, same_from_bits}
+use Rattle.std.specs.Int.{bit_at}
 use Rattle.std.specs.Prelude.{◌^◌, ◌&&◌, nat_lt}
 use Rattle.rv_debug.specs.Prelude.{Bare, Done, HartRan, Monitored, Ran, Scheduled, Target, Trap, hart_of_digit, has_all}
 use Rattle.rv_debug.proofs.Prelude.{AfterRun, AfterTurns, IsBare, and_parts, drop_all, drop_more, ended, harts_of, nat_tests, no_steps}
 use Rattle.rv_debug.proofs.Prelude.{option_or, pc_of, run, step_count, target_stepped, turns, with_chosen, with_own, slots_with, with_step}
-use Rattle.rv_debug.proofs.Prelude.{with_turn}
-use Rattle.rv_debug.proofs.Stepping.{run-once}
+use Rattle.rv_debug.proofs.Prelude.{with_turn, so_far_in}
+use Rattle.rv_debug.specs.Turns.{runs_told}
 use Rattle.rv_debug.proofs.Turns.{after_turns, step_bare}
 
 -- ---- how many harts there are
@@ -22,42 +24,48 @@ turned_harts hart (Monitored machine) = refl
 
 -- ---- one turn
 
-or_none : (trap : Option Trap) → option_or trap None ≡ trap
-or_none None = refl
-or_none (Some trap) = refl
+or_assoc : (a b c : ℕ) → bit_or (bit_or a b) c ≡ bit_or a (bit_or b c)
+or_assoc a b c = same_from_bits _ _ (λ i.
+    rw (bit_at_or (bit_or a b) c i, bit_at_or a b i, bit_at_or a (bit_or b c) i, bit_at_or b c i) (grind arith))
 
-or_slot : (slots : ℕ) (slot : Option ℕ) → bit_or slots (slots_with 0 slot) ≡ slots_with slots slot
-or_slot slots None = or_zero_r slots
-or_slot slots (Some k) = ap (bit_or slots) (or_zero_l (2 ^ k))
+-- a slot that one of two entered is one of those that both did
+first_slot : (own others : ℕ) (slot : Option ℕ) → slots_with (bit_or own others) slot ≡ bit_or (slots_with own slot) others
+first_slot own others None = refl
+first_slot own others (Some k) =
+    or_assoc own others (2 ^ k) ∙ ap (bit_or own) (or_comm others (2 ^ k)) ∙ sym (or_assoc own (2 ^ k) others)
 
--- what a step showed, of a run that is one step
-pub one_step : (target after : Target) (ran : Ran) → run target_stepped pc_of [] [] 1 (no_steps target) ≡ record { state = after; ran = ran }
-    → ended (with_step (no_steps target) (target_stepped target)) Done ≡ record { state = after; ran = ran }
-one_step target after ran is = sym (run-once target_stepped pc_of (no_steps target)) ∙ is
+second_slot : (others own : ℕ) (slot : Option ℕ) → slots_with (bit_or others own) slot ≡ bit_or others (slots_with own slot)
+second_slot others own None = refl
+second_slot others own (Some k) = or_assoc others own (2 ^ k)
 
-pub turn_done : (hart : ℕ) (before : AfterTurns) (none : List ℕ) (seen after : Target) (ran : Ran) (did : Scheduled) → none ≡ []
-    → seen ≡ with_chosen hart before.state
-    → run target_stepped pc_of none none 1 (no_steps seen) ≡ record { state = after; ran = ran }
-    → did.first ≡ with_own 0 hart ran.trap before.did.first → did.second ≡ with_own 1 hart ran.trap before.did.second
-    → did.entered ≡ bit_or before.did.entered ran.entered
-    → with_turn hart before (target_stepped (with_chosen hart before.state)) ≡ after_turns after did
-turn_done hart before none seen after ran did nothing turned is first second entered =
-    let target = with_chosen hart before.state in
-    let last = target_stepped target in
-    let run_is : run target_stepped pc_of [] [] 1 (no_steps target) ≡ record { state = after; ran = ran } =
-    subst (λ (t : Target). run target_stepped pc_of [] [] 1 (no_steps t) ≡ record { state = after; ran = ran }) turned
-    (subst (λ (addresses : List ℕ). run target_stepped pc_of addresses addresses 1 (no_steps seen) ≡ record { state = after; ran = ran }) nothing is) in
-    let end = one_step target after ran run_is in
-    let trap : last.outcome.trap ≡ ran.trap = sym (or_none last.outcome.trap) ∙ ap (λ (r : AfterRun Target). r.ran.trap) end in
-    let slots : slots_with before.did.entered last.entered ≡ bit_or before.did.entered ran.entered =
-    sym (or_slot before.did.entered last.entered) ∙ ap (λ (r : AfterRun Target). bit_or before.did.entered r.ran.entered) end in
-    let make : Target → HartRan → HartRan → ℕ → AfterTurns = λ t a b n. record { state = t; did = record { first = a; second = b; entered = n } } in
-    let own : ℕ → HartRan → Option Trap → HartRan = λ h was t. with_own h hart t was in
-    ap (λ (t : Target). make t (own 0 before.did.first last.outcome.trap) (own 1 before.did.second last.outcome.trap)
-    (slots_with before.did.entered last.entered)) (ap (λ (r : AfterRun Target). r.state) end)
-    ∙ (ap₂ (λ (a b : HartRan). make after a b (slots_with before.did.entered last.entered)) (ap (own 0 before.did.first) trap ∙ sym first)
-    (ap (own 1 before.did.second) trap ∙ sym second)
-    ∙ ap (make after did.first did.second) (slots ∙ sym entered))
+-- what a hart's step leads to, and what its run did then
+abbrev pub GoesOn : ℕ → Target → Ran → Target → Ran → Type 0
+GoesOn hart before ran after now =
+    ended (with_step (so_far_in (with_chosen hart before) ran) (target_stepped (with_chosen hart before))) Done ≡ record { state = after; ran = now }
+
+module _ (before after : Target) (first second now : Ran) where
+  abbrev turned : ℕ → HartRan → HartRan → ℕ → AfterTurns
+  turned hart a b entered =
+      record { state = (target_stepped (with_chosen hart before)).state; did = record { first = a; second = b; entered = entered } }
+
+  pub first_turn : GoesOn 0 before first after now
+      → with_turn 0 (after_turns before (runs_told first second)) (target_stepped (with_chosen 0 before)) ≡ after_turns after (runs_told now second)
+  first_turn is =
+      let last = target_stepped (with_chosen 0 before) in
+      ap (turned 0 (record { steps = first.steps + 1; trap = option_or last.outcome.trap first.trap }) (record { steps = second.steps; trap = second.trap }))
+      (first_slot first.entered second.entered last.entered)
+      ∙ ap (λ (r : AfterRun Target). after_turns r.state (runs_told r.ran second)) is
+
+  pub second_turn : GoesOn 1 before second after now
+      → with_turn 1 (after_turns before (runs_told first second)) (target_stepped (with_chosen 1 before)) ≡ after_turns after (runs_told first now)
+  second_turn is =
+      let last = target_stepped (with_chosen 1 before) in
+      ap (turned 1 (record { steps = first.steps; trap = first.trap }) (record { steps = second.steps + 1; trap = option_or last.outcome.trap second.trap }))
+      (second_slot first.entered second.entered last.entered)
+      ∙ ap (λ (r : AfterRun Target). after_turns r.state (runs_told first r.ran)) is
+
+pub one_more : (hart : ℕ) (before after : Target) (ran now : Ran) → GoesOn hart before ran after now → now.steps ≡ ran.steps + 1
+one_more hart before after ran now is = sym (ap (λ (r : AfterRun Target). r.ran.steps) is)
 
 -- the target after it has as many harts, and stays a machine alone, if it is one
 pub harts_after : (hart : ℕ) (before after : AfterTurns) → with_turn hart before (target_stepped (with_chosen hart before.state)) ≡ after
@@ -68,14 +76,6 @@ harts_after hart before after is =
 pub bare_after : (hart : ℕ) (before after : AfterTurns) → with_turn hart before (target_stepped (with_chosen hart before.state)) ≡ after → IsBare before.state
     → IsBare after.state
 bare_after hart before after is bare = subst (λ (a : AfterTurns). IsBare a.state) is (step_bare hart before.state bare)
-
--- one step more at the most
-pub one_more : (own hart n : ℕ) (trap : Option Trap) (was now : HartRan) → now ≡ with_own own hart trap was → was.steps ≤ n → now.steps ≤ n + 1
-one_more own hart n trap was now is few = let steps = ap (λ (r : HartRan). r.steps) is in go (own == hart) steps where
-  go : (b : Bool) → now.steps ≡ (let r : HartRan = cond b (record { steps = was.steps + 1; trap = option_or trap was.trap }) was in r.steps)
-      → now.steps ≤ n + 1
-  go true is = omega (arith, is, few)
-  go false is = omega (arith, is, few)
 
 -- ---- all turns
 

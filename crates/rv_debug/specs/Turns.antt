@@ -1,8 +1,8 @@
 -- What steps of named harts do, one after another. (This project's own commands.)
-use Rattle.std.specs.Prelude.{ℕ, ◌+◌, ◌==◌, List, [], ◌∷◌}
+use Rattle.std.specs.Prelude.{ℕ, ◌+◌, ◌==◌, bit_or, List, [], ◌∷◌}
 use Rattle.std.specs.Prelude.{Option, None, if◌then◌else◌}
 use Rattle.std.specs.Option.{option_or}
-use Rattle.rv_debug.specs.Prelude.{HartRan, Scheduled, Target, Trap}
+use Rattle.rv_debug.specs.Prelude.{HartRan, Ran, Scheduled, Target, Trap}
 use Rattle.rv_debug.specs.Steps.{Stepped, slots_with}
 use Rattle.rv_debug.specs.Targets.{target_stepped, with_chosen}
 
@@ -17,6 +17,14 @@ nothing_ran = record { steps = 0; trap = None }
 
 abbrev pub no_turns : Target → AfterTurns
 no_turns state = record { state = state; did = record { first = nothing_ran; second = nothing_ran; entered = 0 } }
+
+-- of a run of each hart
+abbrev pub runs_told : Ran → Ran → Scheduled
+runs_told first second = record {
+  first = record { steps = first.steps; trap = first.trap };
+  second = record { steps = second.steps; trap = second.trap };
+  entered = bit_or first.entered second.entered;
+}
 
 -- the steps of a hart and one more, where it is the hart that made it
 abbrev pub with_own : ℕ → ℕ → Option Trap → HartRan → HartRan

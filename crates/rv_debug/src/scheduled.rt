@@ -1,15 +1,15 @@
 //! Steps of two harts, one after another, and what they did.
 
-ghost use Rattle.std.specs.Prelude.{◌≡◌, ◌+◌, ◌<◌, ◌^◌, bit_or, true};
-ghost use Rattle.std.specs.Option.{option_or};
-ghost use Rattle.rv_debug.specs.Turns.{nothing_ran, with_own, turns, no_turns};
+ghost use Rattle.std.specs.Prelude.{◌≡◌, ◌+◌, ◌<◌, ◌≤◌, ◌^◌, bit_or, true, []};
+ghost use Rattle.rv_debug.specs.Turns.{runs_told, with_turn, turns, no_turns};
 ghost use Rattle.rv_script.specs.Schedules.{harts_in, has_all};
-ghost use Rattle.rv_debug.specs.Targets.{harts_of, IsBare, KeepsMonitor};
+ghost use Rattle.rv_debug.specs.Targets.{harts_of, target_stepped, with_chosen, IsBare, KeepsMonitor};
 
 use crate::addresses::Addresses;
-use crate::steps::Ran;
+use crate::free_limits::nowhere;
+use crate::steps::{NO_STEPS, Ran};
 use crate::target::Target;
-use rv_hart::Trap;
+use rv_hart::{Limits, Trap};
 use rv_script::{Schedule, hart};
 
 /// What the steps of one hart did.
@@ -20,12 +20,6 @@ pub(crate) struct HartRan {
     /// The last trap in them, an interrupt included.
     pub(crate) trap: Option<Trap>,
 }
-
-/// Before the first step of a hart.
-const NOTHING: HartRan = HartRan {
-    steps: 0,
-    trap: None,
-};
 
 /// What steps of two harts did.
 #[derive(Clone, Copy)]
@@ -38,33 +32,50 @@ pub(crate) struct Scheduled {
     pub(crate) entered: u16,
 }
 
-impl HartRan {
-    /// Counts one step more.
-    fn add(&mut self, trap: Option<Trap>)
-        requires { self.old.steps < 2 ^ 31 }
-        ensures { self.new ≡ record { steps = self.old.steps + 1; trap = option_or trap self.old.trap } }
-    {
-        self.steps += 1;
-        self.trap = trap.or(self.trap);
+/// What a run of each hart did.
+const fn told(first: &Ran, second: &Ran) -> Scheduled
+    ensures { result ≡ runs_told first.now second.now }
+{
+    Scheduled {
+        first: HartRan {
+            steps: first.steps,
+            trap: first.trap,
+        },
+        second: HartRan {
+            steps: second.steps,
+            trap: second.trap,
+        },
+        entered: first.entered | second.entered,
     }
 }
 
-impl Scheduled {
-    /// Counts one step of a hart.
-    fn add(&mut self, hart: u8, ran: Ran)
-        requires which { hart < 2 }
-        requires first { self.old.first.steps < 2 ^ 31 }
-        requires second { self.old.second.steps < 2 ^ 31 }
-        ensures first { self.new.first ≡ with_own 0 hart ran.trap self.old.first }
-        ensures second { self.new.second ≡ with_own 1 hart ran.trap self.old.second }
-        ensures entered { self.new.entered ≡ bit_or self.old.entered ran.entered }
-    {
-        if hart == 0 {
-            self.first.add(ran.trap);
-        } else {
-            self.second.add(ran.trap);
-        }
-        self.entered |= ran.entered;
+/// Does one step of a hart, and adds it to what the steps of that hart did, of which none is at a break or accesses a watched byte. The
+/// hart is chosen then.
+#[inline(always)]
+fn turn(
+    target: &mut Target,
+    hart: u8,
+    first: &mut Ran,
+    second: &mut Ran,
+    none: &Addresses,
+    limits: &mut Limits,
+)
+    requires none { none.now ≡ [] }
+    requires has { hart < harts_of target.old }
+    requires which { hart < 2 }
+    requires first { first.old.steps < 2 ^ 31 }
+    requires second { second.old.steps < 2 ^ 31 }
+    ensures turned { with_turn hart (record { state = target.old; did = runs_told first.old second.old })
+        (target_stepped (with_chosen hart target.old)) ≡ record { state = target.new; did = runs_told first.new second.new } }
+    ensures first { first.new.steps ≤ first.old.steps + 1 }
+    ensures second { second.new.steps ≤ second.old.steps + 1 }
+    ensures bare { IsBare target.old → bit_or first.old.entered second.old.entered ≡ bit_or first.new.entered second.new.entered }
+    ensures monitor { KeepsMonitor target.old → KeepsMonitor target.new }
+{
+    if hart == 0 {
+        target.step_on(0, first, none, limits);
+    } else {
+        target.step_on(1, second, none, limits);
     }
 }
 
@@ -77,17 +88,19 @@ pub(crate) fn run_schedule(target: &mut Target, schedule: &Schedule) -> Schedule
     ensures monitor { KeepsMonitor target.old → KeepsMonitor target.new }
 {
     let none = Addresses::new();
-    let mut did = Scheduled {
-        first: NOTHING,
-        second: NOTHING,
-        entered: 0,
-    };
+    let mut limits = nowhere();
+    let mut first = NO_STEPS;
+    let mut second = NO_STEPS;
     let digits = schedule.digits();
     for digit in digits {
-        let hart = hart(*digit);
-        target.choose(hart);
-        let ran = target.run(1, &none, &none);
-        did.add(hart, ran);
+        turn(
+            target,
+            hart(*digit),
+            &mut first,
+            &mut second,
+            &none,
+            &mut limits,
+        );
     }
-    did
+    told(&first, &second)
 }

@@ -1,19 +1,20 @@
 //! What commands work on.
 
-ghost use Rattle.std.specs.Prelude.{◌≡◌, ◌<◌, Some, None};
+ghost use Rattle.std.specs.Prelude.{◌≡◌, ◌<◌, ◌^◌, [], Some, None};
 ghost use Rattle.std.specs.Bool.{OnTrue, OnFalse};
 ghost use Rattle.rv_word.specs.Cases.{option_case};
-ghost use Rattle.rv_enclaves.specs.Blocks.{no_block};
+ghost use Rattle.rv_platform.specs.Blocks.{no_block};
 ghost use Rattle.rv_monitor.specs.State.{IsKept};
 ghost use Rattle.rv_debug.specs.Returns.{IsStoredIn};
-ghost use Rattle.rv_debug.specs.Steps.{no_steps, run};
+ghost use Rattle.rv_debug.specs.FastSteps.{so_far_in};
+ghost use Rattle.rv_debug.specs.Steps.{ended, no_steps, run, with_step};
 ghost use Rattle.rv_debug.specs.BothBenches.{TargetsAgreeBut, can_scramble_in, region_in, scrambled_in};
 ghost use Rattle.rv_debug.specs.Targets.{chosen_of, hart_of, harts_of, memory_of, pc_of, target_stepped, with_chosen, register_set, timer_set, poked, IsBare, KeepsMonitor};
 
 use crate::addresses::Addresses;
 use crate::chosen::ChosenHart;
-use crate::steps::{Ran, run_steps};
-use rv_hart::Machine;
+use crate::steps::{Ran, Stop, one_more, run_steps};
+use rv_hart::{Limits, Machine};
 use rv_memory::Ram;
 use rv_monitor::{Block, Slot};
 use rv_pmp::Mode;
@@ -187,6 +188,27 @@ impl Target {
         }
     }
 
+    /// Does one step of a hart, which is chosen then, and adds it to what a run did, of which no step is at a break or accesses a watched
+    /// byte: none is in the set.
+    #[inline(always)]
+    pub(crate) fn step_on(&mut self, hart: u8, ran: &mut Ran, none: &Addresses, limits: &mut Limits)
+        requires has { hart < harts_of self.old }
+        requires few { ran.old.steps < 2 ^ 31 }
+        requires none { none.now ≡ [] }
+        ensures step { ended (with_step (so_far_in (with_chosen hart self.old) ran.old) (target_stepped (with_chosen hart self.old))) Stop.Done
+            ≡ record { state = self.new; ran = ran.new } }
+        ensures bare { IsBare self.old → ran.new.entered ≡ ran.old.entered }
+        ensures monitor { KeepsMonitor self.old → KeepsMonitor self.new }
+    {
+        match self {
+            Target::Bare(machine) => step_bare(machine, ran, none, limits),
+            Target::Monitored(chosen) => {
+                chosen.hart = hart;
+                step_monitored(chosen, ran, none, limits);
+            }
+        }
+    }
+
     /// Does steps until one accesses a watched byte, or else so many are done, or else the next instruction is at a break.
     #[inline(always)]
     pub(crate) fn run(&mut self, count: u32, breaks: &Addresses, watches: &Addresses) -> Ran
@@ -199,6 +221,31 @@ impl Target {
             Target::Monitored(chosen) => run_monitored(chosen, count, breaks, watches),
         }
     }
+}
+
+/// One step more of a machine alone, which enters no enclave.
+#[inline(always)]
+fn step_bare(machine: &mut Machine, ran: &mut Ran, none: &Addresses, limits: &mut Limits)
+    requires few { ran.old.steps < 2 ^ 31 }
+    requires none { none.now ≡ [] }
+    ensures step { ended (with_step (so_far_in (Target.Bare machine.old) ran.old) (target_stepped (Target.Bare machine.old))) Stop.Done
+        ≡ record { state = Target.Bare machine.new; ran = ran.new } }
+    ensures none { ran.new.entered ≡ ran.old.entered }
+{
+    one_more(machine, ran, none, limits);
+}
+
+/// One step more of the chosen hart of a machine under the monitor.
+#[inline(always)]
+fn step_monitored(chosen: &mut ChosenHart, ran: &mut Ran, none: &Addresses, limits: &mut Limits)
+    requires few { ran.old.steps < 2 ^ 31 }
+    requires none { none.now ≡ [] }
+    ensures step { ended (with_step (so_far_in (Target.Monitored chosen.old) ran.old) (target_stepped (Target.Monitored chosen.old))) Stop.Done
+        ≡ record { state = Target.Monitored chosen.new; ran = ran.new } }
+    ensures kept { IsKept chosen.new.state }
+{
+    one_more(chosen, ran, none, limits);
+    chosen.machine.invariant();
 }
 
 /// The steps of a machine alone, which enter no enclave.

@@ -15,6 +15,8 @@ use Rattle.rv_elf.specs.Segments.{has_address, share_a_byte, has_overlap, is_tru
 use Rattle.rv_elf.proofs.ReservedBytes.{not_reserved}
 use Rattle.rv_elf.proofs.SharedBytes.{not_in_other}
 
+-- ---- the memory as a list
+
 -- two functions that agree on some numbers
 map_same : (f g : ℕ → ℕ) (a n : ℕ) → ((b : ℕ) → a ≤ b → b < a + n → f b ≡ g b) → map f (range_with_len a n) ≡ map g (range_with_len a n)
 map_same f g a zero same = refl
@@ -33,6 +35,8 @@ unfolding loaded_memory
 loaded_at image segments memory address low high =
     get_or-map-range_with_len (byte_after image segments memory) ram_base (length memory) (address - ram_base) address 0 (omega (arith, low, high))
     (omega (arith, low))
+
+-- ---- a segment, and the others behind it
 
 none_some : (segment : Segment) (answer : Option Segment) → answer ≡ None → answer ≡ Some segment → ⊥
 none_some segment answer none some = grind arith
@@ -87,6 +91,8 @@ load_none image memory =
     loaded_at image [] memory (ram_base + k) (omega arith) (omega (arith, inside)) in
     let index : ram_base + k - ram_base ≡ k = omega arith in
     rw index at at)
+
+-- ---- the bytes of segments that share none
 
 -- the one segment that has an address is found
 pub found : (segments : List Segment) (segment : Segment) (address : ℕ) → has_overlap segments ≡ false → Contains segments segment
@@ -148,6 +154,8 @@ loads_each image plan old valid size = record {
     | inr outside ↦ byte_outside image plan.segments old address outside
   ];
 }
+
+-- ---- the bytes that no image may use
 
 -- a segment that fits has no reserved address
 apart_of : (whole sized inside met : Bool) → (not whole && not sized && not (not (inside && not met))) ≡ true → met ≡ false

@@ -5,15 +5,18 @@ ghost use Rattle.rv_elf.specs.Places.{first_address as first_address_of, has_pla
 ghost use Rattle.rv_elf.specs.Places.{meets_reserved as meets_reserved_of};
 
 use rv_memory::RAM_BASE;
-
-/// The address behind the range that a monitor keeps for itself, 80000000 to 8000FFFF.
-const MONITOR_END: u32 = 0x8001_0000;
+use rv_platform::{Block, monitor_block};
 
 /// The first address that an image may use: 80000000, the first of RAM, or 80010000 where a monitor is below.
 pub(crate) fn first_address(monitored: bool) -> u32
     ensures { result ≡ first_address_of monitored }
 {
-    if monitored { MONITOR_END } else { RAM_BASE }
+    let monitor = monitor_block();
+    if monitored {
+        monitor.base + monitor.size
+    } else {
+        RAM_BASE
+    }
 }
 
 /// Whether so many bytes from an address on lie inside a RAM of this size.
@@ -25,12 +28,15 @@ fn lies_inside(ram_size: u32, address: u32, count: u32) -> bool
 }
 
 /// Whether one of so many bytes from an address on is in the range of a monitor, where there is one.
-#[tactic(auto, using(crate::proofs::ReservedBytes::meets, crate::proofs::ReservedBytes::misses))]
+#[tactic(auto, unfolding(crate::specs::Places::meets_reserved))]
 fn meets_reserved(monitored: bool, address: u32, count: u32) -> bool
     ensures { result ≡ meets_reserved_of monitored address count }
 {
-    let end = u64::from(address) + u64::from(count);
-    monitored && count != 0 && address < MONITOR_END && end > u64::from(RAM_BASE)
+    let bytes = Block {
+        base: address,
+        size: count,
+    };
+    monitored && monitor_block().meets(bytes)
 }
 
 /// Whether so many bytes from an address on may be there: inside a RAM of this size, and none of them in the range of a monitor.

@@ -70,24 +70,6 @@ same_write hidden m n address bytes m' n' agree here there =
       ]);
     }
 
--- a write where nothing is hidden leaves what is
-pub hidden_kept : (hidden : ℕ → Bool) (m : List ℕ) (address : ℕ) (bytes m' : List ℕ) → write m address bytes ≡ Some m'
-    → IsSeen hidden address (length bytes)
-    → (i : ℕ) → hidden (ram_base + i) ≡ true → get_or m' i 0 ≡ get_or m i 0
-hidden_kept hidden m address bytes m' written seen i is =
-    let one = write-is m address bytes m' written in
-    let index = address - ram_base in
-    let within : index + length bytes ≤ length m = omega (arith, one.0, one.1) in
-    rw one.2 (elim (cases_lt i index) [
-      | inl below ↦ index-below m index bytes i within below
-      | inr above ↦ elim (cases_lt i (index + length bytes)) [
-        | inl inner ↦
-            let shown = seen (ram_base + i) (omega (arith, one.0)) (omega (arith, one.0)) in
-            let never : true ≡ false = sym is ∙ shown in cc
-        | inr past ↦ index-above m index bytes i within past
-      ]
-    ])
-
 pub read-none : (m : List ℕ) (address count : ℕ) → is_inside m address count ≡ false → read m address count ≡ None
 unfolding read
 read-none m address count outside = rw outside refl

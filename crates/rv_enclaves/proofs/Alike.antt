@@ -15,11 +15,11 @@ use Rattle.rv_enclaves.proofs.Prelude.{Slots, context_at, created, destroyed, fi
 use Rattle.rv_enclaves.proofs.Prelude.{measured, measurement_at, measurement_of, meets, new_slot, option_case, recorded, region, region_of, slot_at}
 use Rattle.rv_enclaves.proofs.Prelude.{with_bytes_at, with_context, with_slot, with_state, zeroed}
 use Rattle.rv_enclaves.proofs.Agreement.{IsSeen, inside-is, same_read, read-none, write-alike, zeros-alike}
-use Rattle.rv_enclaves.proofs.BlockLaws.{meets_at}
+use Rattle.rv_platform.proofs.BlockLaws.{meets_at}
 use Rattle.rv_enclaves.proofs.SavedLists.{same_at_set, same_after_set, length_after}
 use Rattle.rv_enclaves.proofs.Refusals.{MayCreate, IsTaken}
-use Rattle.rv_enclaves.proofs.Slots.{at_other, free_from}
-use Rattle.rv_enclaves.proofs.Sound.{free_slot_from}
+use Rattle.rv_enclaves.proofs.Slots.{at_other, at_same, free_from}
+use Rattle.rv_enclaves.proofs.Sound.{free_slot_from, live_in_range}
 
 -- ---- what agrees
 
@@ -78,16 +78,22 @@ module _ (e : ℕ) (table : Slots) (m n : List ℕ) (cs ds : Contexts) (agree : 
   abbrev there : Shared
   there = record { memory = n; table = table; contexts = ds }
 
-  -- slot e is as before
-  pub still : (after : Slots) (m' n' : List ℕ) (cs' ds' : Contexts) → slot_at after e ≡ slot_at table e
+  -- slot e is live, and its region is as before
+  with_region : (after : Slots) (m' n' : List ℕ) (cs' ds' : Contexts) → region after e ≡ region table e → is_live after e ≡ true
       → AgreeOutside (is_private table e) m' n' → SameContexts e cs' ds'
       → SharedButFor e (record { memory = m'; table = after; contexts = cs' }) (record { memory = n'; table = after; contexts = ds' })
-  still after m' n' cs' ds' same agree' saved' = record {
+  with_region after m' n' cs' ds' same lives agree' saved' = record {
     table = refl;
-    memory = let P : Option SlotInfo → Type 0 = λ o. AgreeOutside (has (region_of o)) m' n' in subst P (sym same) agree';
+    memory = subst (λ (b : Block). AgreeOutside (has b) m' n') (sym same) agree';
     contexts = saved';
-    gone = λ dead. absurd (both_ways _ dead (ap (λ (o : Option SlotInfo). is_some o) same ∙ live));
+    gone = λ dead. absurd (both_ways _ dead lives);
   }
+
+  -- slot e is as before
+  still : (after : Slots) (m' n' : List ℕ) (cs' ds' : Contexts) → slot_at after e ≡ slot_at table e
+      → AgreeOutside (is_private table e) m' n' → SameContexts e cs' ds'
+      → SharedButFor e (record { memory = m'; table = after; contexts = cs' }) (record { memory = n'; table = after; contexts = ds' })
+  still after m' n' cs' ds' same = with_region after m' n' cs' ds' (ap region_of same) (ap (λ (o : Option SlotInfo). is_some o) same ∙ live)
 
   pub as_before : SharedButFor e here there
   as_before = still table m n cs ds refl agree saved
@@ -163,21 +169,30 @@ module _ (e : ℕ) (table : Slots) (m n : List ℕ) (cs ds : Contexts) (agree : 
       let bytes = measurement_at table k in
       still table (with_bytes_at m address bytes) (with_bytes_at n address bytes) cs ds refl (write-alike (is_private table e) m n address bytes agree) saved
 
-  -- ---- a switch of another slot
+  -- ---- a switch
 
-  state_other : (k : ℕ) (state : EnclaveState) → e ≢ k → slot_at (with_state table k state) e ≡ slot_at table e
-  state_other k state other = of_slot (slot_at table k)
+  -- slot e is live after it too, and its region is as before
+  state_keeps : length table ≡ 13 → (k : ℕ) (state : EnclaveState)
+      → (region (with_state table k state) e ≡ region table e) × (is_live (with_state table k state) e ≡ true)
+  state_keeps count k state = of_slot (slot_at table k) refl
     where
-      of_slot : (o : Option SlotInfo)
-          → slot_at (option_case o table (λ info. with_slot table k (Some (record info { state = state })))) e ≡ slot_at table e
-      of_slot None = refl
-      of_slot (Some info) = at_other table k e (Some (record info { state = state })) other
+      of_slot : (o : Option SlotInfo) → slot_at table k ≡ o
+          → (let after = option_case o table (λ info. with_slot table k (Some (record info { state = state }))) in
+          (region after e ≡ region table e) × (is_live after e ≡ true))
+      of_slot None is = (refl, live)
+      of_slot (Some info) is =
+          let new = Some (record info { state = state }) in
+          elim (cases_eq e k) [
+            | inl own ↦
+                let there = at_same table k new (omega (arith, count, live_in_range table k info count is)) in
+                rw own (ap region_of there ∙ sym (ap region_of is), ap (λ (o : Option SlotInfo). is_some o) there)
+            | inr other ↦
+                let same = at_other table k e new other in (ap region_of same, ap (λ (o : Option SlotInfo). is_some o) same ∙ live)
+          ]
 
-  pub switched_alike : (k : ℕ) (state : EnclaveState) (c : Option Context) → e ≢ k
-      → SharedButFor e (record here {
-        table =
-            with_state table k state;
-        contexts = with_context cs k c;
-      }) (record there { table = with_state table k state; contexts = with_context ds k c })
-  switched_alike k state c other =
-      still (with_state table k state) m n (with_context cs k c) (with_context ds k c) (state_other k state other) agree (contexts_with e cs ds k c saved)
+  pub switched_alike : length table ≡ 13 → (k : ℕ) (state : EnclaveState) (c : Option Context)
+      → (let after = with_state table k state in
+      SharedButFor e (record here { table = after; contexts = with_context cs k c }) (record there { table = after; contexts = with_context ds k c }))
+  switched_alike count k state c =
+      let kept = state_keeps count k state in
+      with_region (with_state table k state) m n (with_context cs k c) (with_context ds k c) kept.0 kept.1 agree (contexts_with e cs ds k c saved)

@@ -1,6 +1,5 @@
 pub mod Prelude
 pub mod Kept
-pub mod BlockLaws
 pub mod Slots
 pub mod Valid
 pub mod Refusals

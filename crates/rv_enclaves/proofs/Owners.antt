@@ -4,19 +4,18 @@ use Rattle.std.proofs.Common.{inr, arith, lit<, lit≤}
 use Rattle.std.specs.Prelude.{◌%◌, ◌==◌, ◌&&◌, nat_le, nat_lt}
 use Rattle.std.proofs.Math.Nat.{div-eq_of_lt}
 use Rattle.std.proofs.lemmas.List.FromFn.{get_or-map-range_with_len}
-use Rattle.std.proofs.lemmas.Bool.{cases_eq, cond-true, cond-false, eqb-true, eq-eqb, ne_eqb, lt-ltb, leb-true, cases_Bool, and_parts, or_cases, both_ways}
-use Rattle.std.proofs.lemmas.Bool.{false_from_ne_true}
+use Rattle.std.proofs.lemmas.Bool.{cases_eq, cond-true, cond-false, eqb-true, eq-eqb, ne_eqb, lt-ltb, leb-true, cases_Bool, and_parts, or_cases}
 use Rattle.std.proofs.lemmas.Bool.Decides.{nat_tests}
 use Rattle.rv_pmp.specs.Cfg.{matching_of}
 use Rattle.rv_pmp.specs.Entries.{addr_of, addr_before}
 use Rattle.rv_pmp.specs.Covers.{matches, napot_size, ones_at_end}
 use Rattle.rv_pmp.proofs.VerdictLemmas.{some_from_any}
-use Rattle.rv_enclaves.specs.Blocks.{no_block}
+use Rattle.rv_platform.specs.Blocks.{no_block}
 use Rattle.rv_enclaves.specs.Layout.{Entry, napot, no_permission}
 use Rattle.rv_enclaves.proofs.Prelude.{Block, Enclave, Host, IsLawfulSlot, IsValid, SlotInfo, Slots, World, cfg_of, covers, entry_at, has, host_entry}
-use Rattle.rv_enclaves.proofs.Prelude.{is_block_size, is_host, is_lawful, is_window, is_world_of, layout, meets, monitor_block, ram_base, region}
+use Rattle.rv_enclaves.proofs.Prelude.{is_block_size, is_host, is_lawful, is_window, is_world_of, layout, monitor_block, ram_base, region}
 use Rattle.rv_enclaves.proofs.Prelude.{region_entry, region_of, slot_at, window, window_entry, window_entry_of, window_of}
-use Rattle.rv_enclaves.proofs.BlockLaws.{meets_at}
+use Rattle.rv_platform.proofs.BlockLaws.{apart_at, apart_from}
 use Rattle.rv_enclaves.proofs.Napots.{napot_addr, napot_matches}
 
 -- ---- blocks
@@ -27,13 +26,6 @@ empty_has base size b empty = grind (arith, nat_tests, empty)
 
 pub has_nothing : (b : ℕ) → has no_block b ≡ false
 has_nothing b = empty_has 0 0 b refl
-
--- blocks that do not meet share no byte
-pub apart_at : (x y : Block) (b : ℕ) → meets x y ≡ false → has x b ≡ true → has y b ≡ false
-apart_at x y b none in_x = false_from_ne_true _ (λ in_y. both_ways _ none (meets_at x y b in_x in_y))
-
-pub apart_from : (x y : Block) (b : ℕ) → meets x y ≡ false → has y b ≡ true → has x b ≡ false
-apart_from x y b none in_y = false_from_ne_true _ (λ in_x. both_ways _ none (meets_at x y b in_x in_y))
 
 -- what a valid table keeps apart, byte by byte
 pub record IsApart (slots : Slots) : Type 0 where

@@ -198,6 +198,8 @@ reached_apart memory t w access a n k valid other reached b low high =
           ]
     ]
 
+-- ---- what the entries permit is in reach
+
 module _ (memory : List ℕ) (t : Slots) (w : World) (mode : Mode) (access : Access) (a n : ℕ) (ram_size : length memory ≤ 0x1000000)
     (valid : IsValid memory t) (below : mode ≢ M) (some : 0 < n) (inside : (ram_base ≤ a) × (a + n ≤ ram_base + length memory)) where
   abbrev entries : Entries
@@ -401,5 +403,6 @@ reach_law memory slots world mode access address width valid below inside =
 
 pub apart_law : ApartLaw
 apart_law memory slots world mode access address width k byte valid below inside other permitted low high =
-    permitted_apart memory slots world mode access address (bytes_in width) (small_ram memory valid.ram) valid below (some_bytes width)
-    (inside_is memory address (bytes_in width) inside) k other permitted byte low high
+    let apart = permitted_apart memory slots world mode access address (bytes_in width) (small_ram memory valid.ram) valid below (some_bytes width)
+    (inside_is memory address (bytes_in width) inside) in
+    apart k other permitted byte low high

@@ -8,9 +8,8 @@ use Rattle.rv_enclaves.specs.Create.{create_refusals, is_entry}
 use Rattle.rv_enclaves.specs.Measure.{measure_refusals, may_store_all}
 use Rattle.rv_enclaves.specs.Refusals.{state_refusals, has_state_for}
 use Rattle.rv_enclaves.specs.Table.{free_slot}
-use Rattle.rv_enclaves.specs.declared.call.Call.TheVariants.{Run, Resume, Stop}
 use Rattle.rv_enclaves.specs.declared.slot_info.EnclaveState.TheVariants as states
-use Rattle.rv_enclaves.proofs.Prelude.{Call, Contexts, Create, Destroy, EnclaveState, Entries, Exit, Measure, Proposal, Refusal, Shared, SlotInfo, Slots}
+use Rattle.rv_enclaves.proofs.Prelude.{Call, Contexts, EnclaveState, Entries, Proposal, Refusal, Shared, SlotInfo, Slots}
 use Rattle.rv_enclaves.proofs.Prelude.{first_refusal, is_lawful, is_live, is_running, is_window, new_slot, option_case, overlaps, slot_at}
 use Rattle.rv_enclaves.proofs.Valid.{lawful_by_size, window_by_size}
 
@@ -78,13 +77,7 @@ pub takes_rests : (call : Call) (state : EnclaveState) → takes call state ≡ 
 takes_rests call states.Fresh is = refl
 takes_rests call states.Stopped is = refl
 takes_rests call states.Exited is = refl
-takes_rests Create states.Running is = cc
-takes_rests Destroy states.Running is = cc
-takes_rests Run states.Running is = cc
-takes_rests Resume states.Running is = cc
-takes_rests Measure states.Running is = cc
-takes_rests Stop states.Running is = cc
-takes_rests Exit states.Running is = cc
+takes_rests call states.Running is = cc
 
 -- ---- measure
 

@@ -1,14 +1,15 @@
--- What a table holds after a change of one slot, and which blocks meet.
-use Rattle.std.proofs.Common.{◌≡◌, ◌≢◌, ℕ, zero, suc, ◌+◌, ◌<◌, Bool, true, false, List, [], ◌∷◌, Option, Some, None, length, refl, sym, inl, inr, arith}
+-- What a table holds after a change of one slot, and what create asks of the blocks of its proposal.
+use Rattle.std.proofs.Common.{◌≡◌, ◌≢◌, ℕ, zero, suc, ◌<◌, Bool, true, false, List, [], ◌∷◌, Option, Some, None, length, refl, inl, inr, arith}
 use Rattle.std.proofs.Common.{get_or-set_same, get_or-set_other}
 use Rattle.std.proofs.lemmas.Bool.{cases_lt, lt-ltb}
-use Rattle.std.proofs.lemmas.List.{get_or_past}
-use Rattle.std.specs.Prelude.{slice_index_or, slice_set, ◌&&◌, ◌||◌, nat_lt}
+use Rattle.std.proofs.lemmas.List.{get_or_past, set_past}
+use Rattle.std.specs.Prelude.{slice_index_or, slice_set, ◌||◌}
 use Rattle.std.specs.List.{list_any}
-use Rattle.rv_enclaves.specs.Blocks.{no_block}
+use Rattle.rv_platform.proofs.BlockLaws.{meets_nothing}
 use Rattle.rv_enclaves.specs.Create.{collides}
 use Rattle.rv_enclaves.specs.SlotNumbers.{slot_count, slot_numbered}
-use Rattle.rv_enclaves.proofs.Prelude.{Block, Proposal, SlotInfo, Slots, meets, monitor_block, overlaps, region_of, slot_at, window_of}
+use Rattle.rv_enclaves.proofs.Prelude.{Context, Contexts, EnclaveState, with_context, with_state}
+use Rattle.rv_enclaves.proofs.Prelude.{Proposal, SlotInfo, Slots, meets, monitor_block, overlaps, region_of, slot_at, window_of}
 
 -- ---- lists of options
 
@@ -19,14 +20,20 @@ pub at_other : {A : Type 0} (xs : List (Option A)) (k j : ℕ) (x : Option A) �
     → slice_index_or (slice_set xs k x) j None ≡ slice_index_or xs j None
 at_other {A} xs k j x other = get_or-set_other {A = Option A} xs k j x None other
 
+-- no slot has the number past the last, so nothing is set there
+pub state_past : (slots : Slots) (state : EnclaveState) → length slots ≡ slot_count → with_state slots slot_count state ≡ slots
+state_past slots state count =
+    let none : slot_at slots slot_count ≡ None = get_or_past {X = Option SlotInfo} slots slot_count None (omega (arith, count)) in rw none refl
+
+pub context_past : (contexts : Contexts) (c : Option Context) → length contexts ≡ slot_count → with_context contexts slot_count c ≡ contexts
+context_past contexts c count = set_past {X = Option Context} contexts slot_count c (omega (arith, count))
+
 -- no slot has a number past the last
 pub none_past : (slots : Slots) (number : ℕ) → length slots ≡ slot_count → slot_numbered number ≡ None → slot_at slots number ≡ None
 none_past slots number count none = elim (cases_lt number slot_count) [
   | inl inside ↦ let is = rw (lt-ltb number slot_count inside) at none in cc
   | inr past ↦ get_or_past {X = Option SlotInfo} slots number None (omega (arith, count, past))
 ]
-
--- ---- blocks
 
 pub or-first : (a b : Bool) → (a || b) ≡ false → a ≡ false
 or-first true b is = is
@@ -36,36 +43,12 @@ pub or-second : (a b : Bool) → (a || b) ≡ false → b ≡ false
 or-second true b is = cc
 or-second false b is = is
 
-and-none : (a : Bool) → (a && false) ≡ false
-and-none true = refl
-and-none false = refl
-
-and-true : (s : Bool) → s ≡ (s && true)
-and-true true = refl
-and-true false = refl
-
-four : (p q r s : Bool) → (p && (q && (r && s))) ≡ (q && (p && (s && r)))
-four true true true s = and-true s
-four true true false s = sym (and-none s)
-four true false r s = refl
-four false true r s = refl
-four false false r s = refl
-
 -- what holds of no element holds of none at a place
 pub none_at : {A : Type 0} (p : Option A → Bool) (xs : List (Option A)) (k : ℕ) → p None ≡ false → list_any p xs ≡ false
     → p (slice_index_or xs k None) ≡ false
 none_at p [] k nothing none = nothing
 none_at p (x ∷ xs) zero nothing none = or-first (p x) (list_any p xs) none
 none_at p (x ∷ xs) (suc k) nothing none = none_at p xs k nothing (or-second (p x) (list_any p xs) none)
-
-pub meets_symmetric : (a b : Block) → meets a b ≡ meets b a
-meets_symmetric a b = four (nat_lt 0 a.size) (nat_lt 0 b.size) (nat_lt a.base (b.base + b.size)) (nat_lt b.base (a.base + a.size))
-
-pub meets_nothing : (a : Block) → meets a no_block ≡ false
-meets_nothing a = and-none (nat_lt 0 a.size)
-
-pub nothing_meets : (a : Block) → meets no_block a ≡ false
-nothing_meets a = refl
 
 -- ---- what create asks
 

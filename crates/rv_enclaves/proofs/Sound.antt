@@ -14,11 +14,12 @@ use Rattle.rv_enclaves.specs.Table.{free_slot}
 use Rattle.rv_enclaves.specs.declared.call.Call.TheVariants as calls
 use Rattle.rv_enclaves.proofs.Prelude.{AreApart, Block, Context, Enclave, EnclaveState, Host, IsSound, Proposal, Running, Shared, SlotInfo, Slots, World}
 use Rattle.rv_enclaves.proofs.Prelude.{can_go_on, context_at, created, destroyed, first_context, has, is_held, is_lawful, is_running, is_window, is_world_of}
-use Rattle.rv_enclaves.proofs.Prelude.{length-write, measured, measurement_at, measurement_of, new_slot, option_case, overlaps, recorded, region, runs}
+use Rattle.rv_enclaves.proofs.Prelude.{length-write, measured, measurement_at, measurement_of, new_slot, option_case, overlaps, recorded}
+use Rattle.rv_enclaves.proofs.Prelude.{region, running_slot, runs}
 use Rattle.rv_enclaves.proofs.Prelude.{slot_at, window, with_bytes_at, with_context, with_slot, with_state, write, zeroed}
 use Rattle.rv_enclaves.specs.CallLaws.{CallsKeepLaw}
 use Rattle.rv_enclaves.proofs.Refusals.{MayCreate, IsTaken, may_create, may_take, takes_rests}
-use Rattle.rv_enclaves.proofs.Slots.{at_same, at_other, IsFree, free_from}
+use Rattle.rv_enclaves.proofs.Slots.{at_same, at_other, context_past, IsFree, free_from, state_past}
 use Rattle.rv_enclaves.proofs.Valid.{Fits, valid_with, nothing_fits, own_fits, valid_by_size}
 
 abbrev running_in : Option SlotInfo → Bool
@@ -236,17 +237,26 @@ module _ (beside : List World) where
       (λ j other. alone j k other)
       (λ j own. apart_from k j none own, sound.apart.1))
 
-  pub left_sound : (shared : Shared) (k : ℕ) (info : SlotInfo) (state : EnclaveState) (kept : Context) → IsSound shared (Enclave k ∷ beside)
-      → slot_at shared.table k ≡ Some info
+  running_live : (o : Option SlotInfo) → running_in o ≡ true → (info : SlotInfo) × (o ≡ Some info)
+  running_live None is = cc
+  running_live (Some info) is = (info, refl)
+
+  -- the enclave that runs leaves; where the host does, nothing changes
+  pub left_sound : (shared : Shared) (world : World) (state : EnclaveState) (kept : Context) → IsSound shared (world ∷ beside)
       → is_running state ≡ false → can_go_on kept ≡ true
-      → IsSound (record shared { table = with_state shared.table k state; contexts = with_context shared.contexts k (Some kept) }) (Host ∷ beside)
-  left_sound shared k info state kept sound is rests held =
+      → (let k = running_slot world in
+      IsSound (record shared { table = with_state shared.table k state; contexts = with_context shared.contexts k (Some kept) }) (Host ∷ beside))
+  left_sound shared Host state kept sound rests held =
+      rw (state_past shared.table state sound.valid.count, context_past shared.contexts (Some kept) sound.contexts.count) sound
+  left_sound shared (Enclave k) state kept sound rests held =
       let own : (k == k) ≡ true = eq-eqb k k refl in
+      let live = running_live (slot_at shared.table k) (sound.running k ∙ rw own refl) in
+      let info = live.0 in
       let kept_is : true ≡ is_held (Some (record info { state = state })) = rw rests refl in
       let none : list_any (is_world_of k) beside ≡ false = sound.apart.0 k own in
-      rw (with_state_is shared.table k info state is)
+      rw (with_state_is shared.table k info state live.1)
       (sound_with shared (Enclave k ∷ beside) (Host ∷ beside) k (Some (record info { state = state })) (Some kept) shared.memory sound
-      (live_in_range shared.table k info sound.valid.count is) refl (own_fits shared.memory shared.table k info state sound.valid is) kept_is held
+      (live_in_range shared.table k info sound.valid.count live.1) refl (own_fits shared.memory shared.table k info state sound.valid live.1) kept_is held
       (rests ∙ sym none) (λ j other. sym (alone j k other))
       (λ j own. let never : false ≡ true = own in cc, sound.apart.1))
 

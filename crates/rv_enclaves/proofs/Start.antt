@@ -9,7 +9,7 @@ use Rattle.rv_enclaves.specs.Sound.{shared_at_start}
 use Rattle.rv_enclaves.specs.Table.{no_slots}
 use Rattle.rv_enclaves.proofs.Prelude.{AreApart, Context, IsLawfulSlot, IsSound, IsValid, SlotInfo, World, can_go_on, context_at, is_held, is_ram_size}
 use Rattle.rv_enclaves.proofs.Prelude.{is_running, is_world_of, meets, monitor_block, option_case, region, region_of, slot_at, window, window_of}
-use Rattle.rv_enclaves.proofs.Slots.{meets_nothing}
+use Rattle.rv_platform.proofs.BlockLaws.{meets_nothing}
 
 nothing_at : {A : Type 0} (k : ℕ) → get_or {A = Option A} (replicate 13 None) k None ≡ None
 nothing_at {A} k = elim (cases_lt k 13) [

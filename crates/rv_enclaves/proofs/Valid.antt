@@ -4,7 +4,8 @@ use Rattle.std.specs.Prelude.{◌&&◌, nat_le, ◌==◌, ◌%◌, ◌||◌}
 use Rattle.std.proofs.lemmas.Bool.{cases_eq}
 use Rattle.rv_enclaves.proofs.Prelude.{Block, EnclaveState, IsLawfulSlot, IsValid, SlotInfo, Slots, is_block_size, is_lawful, is_ram_size, is_window, meets}
 use Rattle.rv_enclaves.proofs.Prelude.{monitor_block, ram_base, region, region_of, slot_at, window, window_of, with_slot}
-use Rattle.rv_enclaves.proofs.Slots.{at_same, at_other, meets_symmetric, meets_nothing, nothing_meets}
+use Rattle.rv_platform.proofs.BlockLaws.{meets_symmetric, meets_nothing, nothing_meets}
+use Rattle.rv_enclaves.proofs.Slots.{at_same, at_other}
 
 -- what may stand in slot k
 pub record Fits (memory : List ℕ) (slots : Slots) (k : ℕ) (o : Option SlotInfo) : Type 0 where

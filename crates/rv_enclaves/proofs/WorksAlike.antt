@@ -20,7 +20,7 @@ pub record WorksAlike (e : ℕ) (one other : Shared) : Type 0 where
   pub destroys : (k : ℕ) → IsTaken one.table Destroy k → SharedButFor e (destroyed one k) (destroyed other k)
   pub measures : (k address : ℕ) → SharedButFor e (measured one k address) (measured other k address)
   pub contexts : (k : ℕ) → k ≢ e → kept_context one.contexts k ≡ kept_context other.contexts k
-  pub switches : (k : ℕ) (state : EnclaveState) (c : Option Context) → e ≢ k → SharedButFor e (switched one k state c) (switched other k state c)
+  pub switches : (k : ℕ) (state : EnclaveState) (c : Option Context) → SharedButFor e (switched one k state c) (switched other k state c)
 
 -- what is equal works alike
 equal_work : (e : ℕ) (shared : Shared) → WorksAlike e shared shared
@@ -30,7 +30,7 @@ equal_work e shared = record {
   destroys = λ k taken. itself e _;
   measures = λ k address. itself e _;
   contexts = λ k other. refl;
-  switches = λ k state c other. itself e _;
+  switches = λ k state c. itself e _;
 }
 
 -- where e is live
@@ -44,7 +44,7 @@ module _ (e : ℕ) (table : Slots) (m n : List ℕ) (cs ds : Contexts) (agree : 
     destroys = λ k taken. destroyed_alike e table m n cs ds agree saved live k one.valid taken;
     measures = measured_alike e table m n cs ds agree saved live;
     contexts = λ k other. let same = saved.others k other in rw same refl;
-    switches = switched_alike e table m n cs ds agree saved live;
+    switches = switched_alike e table m n cs ds agree saved live one.valid.count;
   }
 
 pub works_alike : (e : ℕ) (one other : Shared) (worlds : List World) → IsSound one worlds → IsSound other worlds → SharedButFor e one other

@@ -9,7 +9,7 @@ use Rattle.rv_enclaves.specs.declared.refusal.Refusal.{Refusal}
 use Rattle.rv_enclaves.specs.declared.refusal.Refusal.TheVariants.{NotSupported, BadRegion, BadWindow, Overlap, BadEntry, NoSlot, NoEnclave, BadState}
 use Rattle.rv_enclaves.specs.declared.refusal.Refusal.TheVariants.{BadAddress}
 use Rattle.rv_enclaves.specs.declared.slot_info.EnclaveState.{EnclaveState}
-use Rattle.rv_enclaves.specs.declared.slot_info.EnclaveState.TheVariants.{Fresh, Stopped, Exited}
+use Rattle.rv_enclaves.specs.declared.slot_info.EnclaveState.TheVariants.{Fresh, Running, Stopped, Exited}
 use Rattle.rv_enclaves.specs.declared.world.World.{World}
 use Rattle.rv_enclaves.specs.declared.world.World.TheVariants.{Host, Enclave}
 
@@ -49,8 +49,9 @@ asked_call world a7 a6 =
 abbrev pub asked_in : World → List ℕ → Option Call
 asked_in world regs = asked_call world (register regs 17) (register regs 16)
 
--- the states that a call takes an enclave in
+-- the states that a call takes an enclave in; none takes one that runs
 abbrev pub takes : Call → EnclaveState → Bool
+takes _ Running = false
 takes Destroy Fresh = true
 takes Destroy Stopped = true
 takes Destroy Exited = true

@@ -7,11 +7,12 @@ use Rattle.sha2.specs.Sha256.{sha256}
 use Rattle.rv_word.specs.Cases.{option_case}
 use Rattle.rv_memory.specs.Memory.{read, bytes_of}
 use Rattle.rv_state.specs.Registers.{register}
-use Rattle.rv_enclaves.specs.Blocks.{has, meets, is_lawful, no_block, monitor_block}
+use Rattle.rv_platform.specs.Blocks.{has, meets, no_block, monitor_block}
+use Rattle.rv_enclaves.specs.LawfulBlocks.{is_lawful}
 use Rattle.rv_enclaves.specs.Contexts.{first_context, with_context}
 use Rattle.rv_enclaves.specs.SlotNumbers.{slot_count}
 use Rattle.rv_enclaves.specs.Table.{Slots, free_slot, with_slot, is_window}
-use Rattle.rv_enclaves.specs.declared.block.Block.{Block}
+use Rattle.rv_platform.specs.declared.block.Block.{Block}
 use Rattle.rv_enclaves.specs.declared.proposal.Proposal.{Proposal}
 use Rattle.rv_enclaves.specs.declared.refusal.Refusal.{Refusal}
 use Rattle.rv_enclaves.specs.declared.refusal.Refusal.TheVariants.{BadRegion, BadWindow, Overlap, BadEntry, NoSlot}

@@ -3,9 +3,9 @@
 use Rattle.std.specs.Prelude.{ℕ, ◌+◌, ◌-◌, ◌/◌, ◌==◌, nat_lt, if◌then◌else◌, map, Option, Some, None}
 use Rattle.std.specs.List.{range_with_len}
 use Rattle.rv_pmp.specs.Entries.{Entries}
-use Rattle.rv_enclaves.specs.Blocks.{monitor_block}
+use Rattle.rv_platform.specs.Blocks.{monitor_block}
 use Rattle.rv_enclaves.specs.Table.{Slots, slot_at, is_world_of}
-use Rattle.rv_enclaves.specs.declared.block.Block.{Block}
+use Rattle.rv_platform.specs.declared.block.Block.{Block}
 use Rattle.rv_enclaves.specs.declared.slot_info.SlotInfo.{SlotInfo}
 use Rattle.rv_enclaves.specs.declared.world.World.{World}
 use Rattle.rv_enclaves.specs.declared.world.World.TheVariants.{Host, Enclave}

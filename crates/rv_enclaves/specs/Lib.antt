@@ -1,5 +1,4 @@
-pub mod Blocks
-pub mod BlockLaws
+pub mod LawfulBlocks
 pub mod SlotNumbers
 pub mod Table
 pub mod Calls

@@ -6,9 +6,10 @@ use Rattle.std.specs.Option.{is_none}
 use Rattle.std.specs.List.{range_with_len, find, list_any}
 use Rattle.rv_word.specs.Cases.{option_case}
 use Rattle.rv_memory.specs.Memory.{is_ram_size}
-use Rattle.rv_enclaves.specs.Blocks.{has, meets, is_lawful, monitor_block, no_block}
+use Rattle.rv_platform.specs.Blocks.{has, meets, monitor_block, no_block}
+use Rattle.rv_enclaves.specs.LawfulBlocks.{is_lawful}
 use Rattle.rv_enclaves.specs.SlotNumbers.{slot_count}
-use Rattle.rv_enclaves.specs.declared.block.Block.{Block}
+use Rattle.rv_platform.specs.declared.block.Block.{Block}
 use Rattle.rv_enclaves.specs.declared.slot_info.EnclaveState.{EnclaveState}
 use Rattle.rv_enclaves.specs.declared.slot_info.EnclaveState.TheVariants.{Running}
 use Rattle.rv_enclaves.specs.declared.slot_info.SlotInfo.{SlotInfo}
@@ -77,6 +78,11 @@ is_host (Enclave k) = false
 abbrev pub is_world_of : ℕ → World → Bool
 is_world_of k Host = false
 is_world_of k (Enclave j) = j == k
+
+-- the slot whose enclave runs; while the host does, the number of none
+abbrev pub running_slot : World → ℕ
+running_slot Host = slot_count
+running_slot (Enclave k) = k
 
 -- ---- what is true in every state
 

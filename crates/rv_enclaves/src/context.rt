@@ -1,10 +1,12 @@
 //! What a world keeps while it does not run.
 
-ghost use Rattle.std.specs.Prelude.{◌≡◌};
+ghost use Rattle.std.specs.Prelude.{◌≡◌, Some};
+ghost use Rattle.rv_enclaves.specs.Table.{running_slot};
 ghost use Rattle.rv_enclaves.specs.Contexts.{first_context as first_context_of, exited_context as exited_context_of, no_supervisor as no_supervisor_of, with_context, context_at as context_at_of, kept_context as kept_context_of, with_answer};
 
 use crate::slot::{SLOT_COUNT, Slot};
 use crate::slot_info::SlotInfo;
+use crate::world::World;
 use rv_pmp::Mode;
 use rv_state::{Regs, SContext};
 use rv_word::Reg;
@@ -91,6 +93,16 @@ pub fn kept_context(contexts: &Contexts, slot: Slot) -> Context
     ensures { result ≡ kept_context_of contexts.now slot }
 {
     context_at(contexts, slot).unwrap_or(exited_context())
+}
+
+/// Keeps the context of the enclave that runs in a world; where the host does, there is none.
+#[tactic(auto, using(crate::proofs::Slots::context_past))]
+pub fn keep_running(contexts: &mut Contexts, world: &World, context: Context)
+    ensures { contexts.new ≡ with_context contexts.old (running_slot world.now) (Some context) }
+{
+    if let Some(slot) = world.slot() {
+        set_context(contexts, slot, Some(context));
+    }
 }
 
 /// Sets what is kept for a slot.

@@ -5,14 +5,15 @@ ghost use Rattle.rv_memory.specs.Memory.{is_inside, bytes_of};
 ghost use Rattle.rv_enclaves.specs.Create.{created, create_refusals, new_slot, measurement_of, bytes_of_block, recorded, with_enclave};
 ghost use Rattle.rv_enclaves.specs.Refusals.{first_refusal};
 
-use crate::block::Block;
 use crate::context::{first_context, set_context};
+use crate::lawful_block::is_lawful;
 use crate::proposal::Proposal;
 use crate::refusal::Refusal;
 use crate::shared::Shared;
 use crate::slot::Slot;
 use crate::slot_info::{EnclaveState, SlotInfo};
 use rv_memory::Ram;
+use rv_platform::Block;
 use rv_word::le_bytes;
 use sha2::{Digest, Sha256};
 
@@ -40,7 +41,7 @@ fn check_create(shared: &Shared, new: &Proposal) -> Result<Slot, Refusal>
         (λ refusal. first_refusal (create_refusals shared.now new.now) ≡ Some refusal) }
     ensures inside { IfOk result (λ _. is_inside shared.now.memory new.now.region.base new.now.region.size ≡ true) }
 {
-    if !new.region.is_lawful(&shared.memory) {
+    if !is_lawful(new.region, &shared.memory) {
         return Err(Refusal::BadRegion);
     }
     if !new.has_lawful_window(&shared.memory) {

@@ -4,13 +4,13 @@ ghost use Rattle.std.specs.Prelude.{◌≡◌, None, Some, MatchResult};
 ghost use Rattle.rv_enclaves.specs.Destroy.{destroyed, without, zeroed};
 ghost use Rattle.rv_enclaves.specs.Refusals.{first_refusal, state_refusals};
 
-use crate::block::Block;
 use crate::call::Call;
 use crate::context::set_context;
 use crate::refusal::Refusal;
 use crate::shared::Shared;
 use crate::slot::Slot;
 use rv_memory::Ram;
+use rv_platform::Block;
 
 impl Shared {
     /// Ends the enclave of the slot of a number, which does not run: zeroes its region, and forgets its record and its context. It is refused as
@@ -37,7 +37,7 @@ fn forget(shared: &mut Shared, slot: Slot, region: Block)
 }
 
 /// Makes the bytes of a block 0.
-#[tactic(auto, unfolding(crate::specs::Blocks::is_lawful, rv_memory::specs::Memory::write))]
+#[tactic(auto, unfolding(crate::specs::LawfulBlocks::is_lawful, rv_memory::specs::Memory::write))]
 fn zero(memory: &mut Ram, block: Block)
     ensures { memory.new ≡ zeroed memory.old block }
 {

@@ -1,13 +1,7 @@
 //! Laws of the table of enclaves and of its entries, for any crate above to cite. Each is proved of the definitions in `specs/`.
 
-ghost use Rattle.rv_enclaves.specs.BlockLaws.{MeetsLaw};
 ghost use Rattle.rv_enclaves.specs.CallLaws.{CallsAlikeLaw, CallsKeepLaw, ScrambledLaw, ScrambledTwiceLaw};
 ghost use Rattle.rv_enclaves.specs.Reach.{ApartLaw, ReachLaw};
-
-/// Two blocks meet exactly where there is a byte that both have.
-pub const fn blocks_meet()
-    ensures { MeetsLaw }
-{}
 
 /// Reach: under the entries of a valid table and a world, S and U do an access to bytes in RAM exactly where it is in reach.
 pub const fn reach()

@@ -4,11 +4,11 @@ ghost use Rattle.std.specs.Prelude.{◌≡◌, Some, MatchOption};
 ghost use Rattle.rv_enclaves.specs.Layout.{Entry as EntryOf, napot as napot_of, entry_at as entry_at_of, region_entry as region_entry_of, window_entry_of, unused as unused_of, layout, mie_of};
 ghost use Rattle.rv_enclaves.specs.Unlocked.{IsUnlocked};
 
-use crate::block::{Block, monitor_block};
 use crate::slot::Slot;
 use crate::slot_info::SlotInfo;
 use crate::table::Table;
 use crate::world::World;
+use rv_platform::{Block, monitor_block};
 use rv_pmp::Pmp;
 
 /// NAPOT without a permission, with those to read and write, and with all.

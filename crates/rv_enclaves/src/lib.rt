@@ -5,11 +5,11 @@
 //! The definitions in `specs/` say all of it; docs/MONITOR.md says it for those who write hosts and enclaves.
 #![tactic(auto)]
 
-mod block;
 mod call;
 mod context;
 mod create;
 mod destroy;
+mod lawful_block;
 pub mod laws;
 mod layout;
 mod measure;
@@ -22,12 +22,14 @@ mod slot_info;
 mod table;
 mod world;
 
-pub use block::Block;
 pub use call::{Call, asked_call};
-pub use context::{Context, Contexts, exited_context, kept_context, set_answer, set_context};
+pub use context::{
+    Context, Contexts, exited_context, keep_running, kept_context, set_answer, set_context,
+};
 pub use layout::write_layout;
 pub use proposal::Proposal;
 pub use refusal::Refusal;
+pub use rv_platform::Block;
 pub use shared::Shared;
 pub use slot::{SLOT_COUNT, Slot};
 pub use slot_info::{EnclaveState, SlotInfo};

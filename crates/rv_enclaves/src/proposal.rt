@@ -4,9 +4,10 @@ ghost use Rattle.std.specs.Prelude.{◌≡◌};
 ghost use Rattle.rv_enclaves.specs.Table.{is_window};
 ghost use Rattle.rv_enclaves.specs.Create.{proposed, is_entry, collides as collides_with};
 
-use crate::block::{Block, no_block};
+use crate::lawful_block::is_lawful;
 use crate::slot_info::SlotInfo;
 use rv_memory::Ram;
+use rv_platform::{Block, no_block};
 use rv_state::Regs;
 use rv_word::Reg;
 
@@ -49,7 +50,7 @@ impl Proposal {
     pub(crate) fn has_lawful_window(&self, memory: &Ram) -> bool
         ensures { result ≡ is_window memory.now self.now.window }
     {
-        self.window.base == 0 && self.window.size == 0 || self.window.is_lawful(memory)
+        self.window.base == 0 && self.window.size == 0 || is_lawful(self.window, memory)
     }
 
     /// Whether the entry is a multiple of 4 in the region.

@@ -4,12 +4,12 @@ ghost use Rattle.std.specs.Prelude.{◌≡◌, if◌then◌else◌};
 ghost use Rattle.std.specs.Option.{option_map};
 ghost use Rattle.rv_enclaves.specs.Scramble.{can_scramble, complemented_registers, complemented_context, complemented_block, scrambled_shared};
 
-use crate::block::Block;
 use crate::context::{Context, context_at, set_context};
 use crate::shared::Shared;
 use crate::slot::Slot;
 use crate::slot_info::EnclaveState;
 use rv_memory::Ram;
+use rv_platform::Block;
 use rv_state::Regs;
 use rv_word::Reg;
 

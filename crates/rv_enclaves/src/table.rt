@@ -1,17 +1,19 @@
 //! The table of enclaves.
 
-ghost use Rattle.std.specs.Prelude.{◌≡◌, Some, None, MatchOption, MatchResult};
+ghost use Rattle.std.specs.Prelude.{◌≡◌, Some, None, MatchOption, MatchResult, length};
 ghost use Rattle.std.specs.List.{list_any};
 ghost use Rattle.rv_enclaves.specs.Create.{overlaps as overlaps_of, collides};
 ghost use Rattle.rv_enclaves.specs.Refusals.{first_refusal, state_refusals};
-ghost use Rattle.rv_enclaves.specs.Table.{slot_at as slot_at_of, free_slot as free_slot_of, with_slot, with_state};
+ghost use Rattle.rv_enclaves.specs.SlotNumbers.{slot_count};
+ghost use Rattle.rv_enclaves.specs.Table.{slot_at as slot_at_of, free_slot as free_slot_of, running_slot, with_slot, with_state};
 
-use crate::block::monitor_block;
 use crate::call::Call;
 use crate::proposal::Proposal;
 use crate::refusal::Refusal;
 use crate::slot::{SLOT_COUNT, Slot};
 use crate::slot_info::{EnclaveState, SlotInfo};
+use crate::world::World;
+use rv_platform::monitor_block;
 use std::marker::Model;
 
 /// The table of enclaves: thirteen slots, 0 to 12, each free or with the record of a live enclave.
@@ -85,6 +87,17 @@ impl Table {
         self.slots[usize::from(slot.number())] = info;
     }
 
+    /// Sets how far the enclave is that runs in a world; where the host does, there is none.
+    #[tactic(auto, using(crate::proofs::Slots::state_past))]
+    pub fn set_running_state(&mut self, world: &World, state: EnclaveState)
+        ensures { self.new ≡ with_state self.old (running_slot world.now) state }
+    {
+        counts(&self.slots);
+        if let Some(slot) = world.slot() {
+            self.set_state(slot, state);
+        }
+    }
+
     /// Sets how far the enclave of a slot is, if it is live.
     pub fn set_state(&mut self, slot: Slot, state: EnclaveState)
         ensures { self.new ≡ with_state self.old slot state }
@@ -123,6 +136,11 @@ impl Table {
         self.slots.iter().any(|slot| new.collides(slot))
     }
 }
+
+/// That there are thirteen slots. It does nothing.
+const fn counts(slots: &[Option<SlotInfo>; SLOT_COUNT])
+    ensures { length slots.now ≡ slot_count }
+{}
 
 /// The slot of a number and its record, if its enclave is live; over 12 there is none.
 #[tactic(auto, using(crate::proofs::Slots::none_past))]

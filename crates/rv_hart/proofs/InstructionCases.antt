@@ -73,7 +73,7 @@ changed-by hart P changes kind rd source operand csr word =
       | Err fault ↦ tt
     ]
 
-executed-by : (hart : Hart) (P : Hart → Type 0) → Changes hart P → (instr : Instr) (word loaded : ℕ) → IfOk (executed instr hart word loaded) P
+executed-by : (hart : Hart) (P : Hart → Type 0) → Changes hart P → (instr : Instr) (word loaded : ℕ) → IfOk (executed hart word loaded instr) P
 unfolding executed
 executed-by hart P changes (Lui rd imm) word loaded = changes.computes _ _
 executed-by hart P changes (Auipc rd imm) word loaded = changes.computes _ _
@@ -99,12 +99,12 @@ executed-by hart P changes (SfenceVma rs1 rs2) word loaded =
     allowed-by P (unless_refused hart.mode hart.csrs.mstatus.tvm) word (advanced hart) (λ _. changes.computes _ _)
 
 pub by_changes : (hart : Hart) (P : Hart → Type 0) → Changes hart P → (instr : Instr) (word loaded : ℕ) (after : Hart)
-    → executed instr hart word loaded ≡ Ok after → P after
+    → executed hart word loaded instr ≡ Ok after → P after
 by_changes hart P changes instr word loaded after is = subst (λ (r : Result Hart Trap). IfOk r P) is (executed-by hart P changes instr word loaded)
 
 -- an instruction whose store is done ends in no exception
 pub store_retires : (instr : Instr) (hart : Hart) (address value word : ℕ) (width : Width)
-    → request instr hart ≡ requests.Store address width value → executed instr hart word 0 ≡ Ok (advanced hart)
+    → request instr hart ≡ requests.Store address width value → executed hart word 0 instr ≡ Ok (advanced hart)
 unfolding request executed
 store_retires (Store kind rs1 rs2 offset) hart address value word width is = refl
 store_retires _ hart address value word width is = cc

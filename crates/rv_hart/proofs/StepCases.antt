@@ -130,14 +130,14 @@ asked_step state word instr access here = rw (here.decode.fetch.pending, here.de
 pub record Cases (state : State) (P : Stepped → Type 0) : Type 0 where
   pub trap : (touched : Touched) (trap : Trap) → MayTouchAll state touched → touched.stored ≡ None
       → P (over state.memory (trap_end state.hart touched trap))
-  pub no_access : (instr : Instr) (word : ℕ) (after : Hart) → MayTouchAll state (fetch_of state.hart) → executed instr state.hart word 0 ≡ Ok after
+  pub no_access : (instr : Instr) (word : ℕ) (after : Hart) → MayTouchAll state (fetch_of state.hart) → executed state.hart word 0 instr ≡ Ok after
       → P (over state.memory (retired_end state.hart (fetch_of state.hart) (written_csr instr) after))
   pub load : (instr : Instr) (word address : ℕ) (width : Width) (number : ℕ) (after : Hart) → MayTouchAll state (load_of state.hart address width)
-      → Loads state address width (Ok number) → executed instr state.hart word number ≡ Ok after
+      → Loads state address width (Ok number) → executed state.hart word number instr ≡ Ok after
       → P (over state.memory (retired_end state.hart (load_of state.hart address width) (written_csr instr) after))
   pub store : (instr : Instr) (word address : ℕ) (width : Width) (value : ℕ) (memory : List ℕ) (after : Hart)
       → MayTouchAll state (store_of state.hart address width)
-      → Stores state address width value (Ok memory) → executed instr state.hart word 0 ≡ Ok after
+      → Stores state address width value (Ok memory) → executed state.hart word 0 instr ≡ Ok after
       → P (over memory (retired_end state.hart (store_of state.hart address width) (written_csr instr) after))
 
 -- an instruction retires, or ends in its exception
@@ -169,9 +169,9 @@ touches-store state word address width value memory here is =
     record { fetched = (touches-fetch state word here).fetched; loaded = tt; stored = (done.0, done.1) }
 
 stores-without-trap : (state : State) (word : ℕ) (instr : Instr) (address : ℕ) (width : Width) (value : ℕ) (trap : Trap) (P : Type 0)
-    → Asks state word instr (Store address width value) → executed instr state.hart word 0 ≡ Err trap → P
+    → Asks state word instr (Store address width value) → executed state.hart word 0 instr ≡ Err trap → P
 stores-without-trap state word instr address width value trap P here is =
-    let done : executed instr state.hart word 0 ≡ Ok (advanced state.hart) = store_retires instr state.hart address value word width here.request in
+    let done : executed state.hart word 0 instr ≡ Ok (advanced state.hart) = store_retires instr state.hart address value word width here.request in
     let never : Ok (advanced state.hart) ≡ Err trap = sym done ∙ is in cc
 
 pub by_cases : (state : State) (P : Stepped → Type 0) → Cases state P → P (step state)
@@ -181,16 +181,16 @@ by_cases state P cases = by_ways state P (record {
   illegal = λ word here. cases.trap (fetch_of state.hart) _ (touches-fetch state word here.fetch) refl;
   no_access = λ word instr here.
       let may = touches-fetch state word here.decode.fetch in
-      by-end state.hart (fetch_of state.hart) (written_csr instr) (λ ended. P (over state.memory ended)) (executed instr state.hart word 0)
+      by-end state.hart (fetch_of state.hart) (written_csr instr) (λ ended. P (over state.memory ended)) (executed state.hart word 0 instr)
       (λ after is. cases.no_access instr word after may is) (λ trap is. cases.trap _ trap may refl);
   load = λ word instr address width number here is.
       let may = touches-load state word address width number here.decode.fetch is in
-      by-end state.hart (load_of state.hart address width) (written_csr instr) (λ ended. P (over state.memory ended)) (executed instr state.hart word number)
+      by-end state.hart (load_of state.hart address width) (written_csr instr) (λ ended. P (over state.memory ended)) (executed state.hart word number instr)
       (λ after done. cases.load instr word address width number after may is done) (λ trap done. cases.trap _ trap may refl);
   load_refused = λ word instr address width fault here is. cases.trap (fetch_of state.hart) _ (touches-fetch state word here.decode.fetch) refl;
   store = λ word instr address width value memory here is.
       let may = touches-store state word address width value memory here.decode.fetch is in
-      by-end state.hart (store_of state.hart address width) (written_csr instr) (λ ended. P (over memory ended)) (executed instr state.hart word 0)
+      by-end state.hart (store_of state.hart address width) (written_csr instr) (λ ended. P (over memory ended)) (executed state.hart word 0 instr)
       (λ after done. cases.store instr word address width value memory after may is done)
       (λ trap done. stores-without-trap state word instr address width value trap _ here done);
   store_refused = λ word instr address width value fault here is. cases.trap (fetch_of state.hart) _ (touches-fetch state word here.decode.fetch) refl;
@@ -199,7 +199,7 @@ by_cases state P cases = by_ways state P (record {
 -- a law of the hart alone: the step ends in a trap, or an instruction retires
 pub by_hart : (state : State) (P : Stepped → Type 0)
     → ((touched : Touched) (trap : Trap) → P (over state.memory (trap_end state.hart touched trap)))
-    → ((memory : List ℕ) (touched : Touched) (instr : Instr) (word loaded : ℕ) (after : Hart) → executed instr state.hart word loaded ≡ Ok after
+    → ((memory : List ℕ) (touched : Touched) (instr : Instr) (word loaded : ℕ) (after : Hart) → executed state.hart word loaded instr ≡ Ok after
     → P (over memory (retired_end state.hart touched (written_csr instr) after)))
     → P (step state)
 by_hart state P traps retires = by_cases state P (record {

@@ -56,50 +56,51 @@ abbrev pub returned_from_supervisor : Hart → Hart
 returned_from_supervisor hart =
     record hart { csrs = after_sret hart.csrs; pc = hart.csrs.sepc; mode = mode_of_spp hart.csrs.mstatus.spp }
 
--- ---- the short forms of the listing
+-- ---- the access of an instruction
 
--- the value of a register
-abbrev pub x : Hart → ℕ → ℕ
-x hart rs = register hart.regs rs
-
--- the next instruction comes next, and nothing else changes
-abbrev pub proceeds : Hart → Result Hart Trap
-proceeds hart = Ok (advanced hart)
-
--- and a register is written
-abbrev pub gives : Hart → ℕ → ℕ → Result Hart Trap
-gives hart rd value = Ok (with_result hart rd value)
-
--- pc and an offset of so many bits
-abbrev pub relative : Hart → ℕ → ℕ → ℕ
-relative hart offset width = sum_of hart.pc (sign_extended offset width)
-
--- ---- the listing
-
--- the one access of an instruction
+-- the one access
 unfoldable pub request : Instr → Hart → Request
 request (Load kind rd rs1 offset) hart = requests.Load (address_of hart rs1 offset) (load_width kind)
-request (Store kind rs1 rs2 offset) hart = requests.Store (address_of hart rs1 offset) (store_width kind) (x hart rs2)
+request (Store kind rs1 rs2 offset) hart = requests.Store (address_of hart rs1 offset) (store_width kind) (register hart.regs rs2)
 request _ hart = requests.Nothing
 
--- the hart after the instruction that the word spells is executed, with the number that its load gave, or its exception
-unfoldable pub executed : Instr → Hart → ℕ → ℕ → Result Hart Trap
-executed (Lui rd imm) hart word loaded = gives hart rd imm
-executed (Auipc rd imm) hart word loaded = gives hart rd (sum_of hart.pc imm)
-executed (Jal rd offset) hart word loaded = jumped hart rd (relative hart offset 21)
-executed (Jalr rd rs1 offset) hart word loaded = jumped hart rd (made_even (address_of hart rs1 offset))
-executed (Branch kind rs1 rs2 offset) hart word loaded = branched hart (is_taken kind (x hart rs1) (x hart rs2)) (relative hart offset 13)
-executed (Load kind rd rs1 offset) hart word loaded = gives hart rd (load_value kind loaded)
-executed (Store kind rs1 rs2 offset) hart word loaded = proceeds hart
-executed (OpImm kind rd rs1 imm) hart word loaded = gives hart rd (op_imm_value kind (x hart rs1) (sign_extended imm 12))
-executed (ShiftImm kind rd rs1 shamt) hart word loaded = gives hart rd (shift_value kind (x hart rs1) shamt)
-executed (Op kind rd rs1 rs2) hart word loaded = gives hart rd (op_value kind (x hart rs1) (x hart rs2))
-executed (Fence fm pred succ rd rs1) hart word loaded = proceeds hart
-executed (Csr kind rd rs1 csr) hart word loaded = unless_illegal word (csr_changed hart kind rd rs1 (x hart rs1) csr)
-executed (CsrImm kind rd uimm csr) hart word loaded = unless_illegal word (csr_changed hart kind rd uimm uimm csr)
-executed Ecall hart word loaded = Err (environment_call hart.mode)
-executed Ebreak hart word loaded = Err (breakpoint hart.pc)
-executed Sret hart word loaded = where_allowed (unless_refused hart.mode hart.csrs.mstatus.tsr) word (returned_from_supervisor hart)
-executed Mret hart word loaded = where_allowed (is_machine hart.mode) word (returned_from_machine hart)
-executed Wfi hart word loaded = where_allowed (unless_refused hart.mode hart.csrs.mstatus.tw) word (advanced hart)
-executed (SfenceVma rs1 rs2) hart word loaded = where_allowed (unless_refused hart.mode hart.csrs.mstatus.tvm) word (advanced hart)
+-- ---- the listing, over the hart, the word that spells the instruction and the number that its load gave
+
+module _ (hart : Hart) (word loaded : ℕ) where
+  -- the value of a register
+  abbrev pub x : ℕ → ℕ
+  x rs = register hart.regs rs
+
+  -- pc and an offset of so many bits
+  abbrev pub relative : ℕ → ℕ → ℕ
+  relative offset width = sum_of hart.pc (sign_extended offset width)
+
+  -- the next instruction comes next, and nothing else changes
+  abbrev pub proceeds : Result Hart Trap
+  proceeds = Ok (advanced hart)
+
+  -- and a register is written
+  abbrev pub gives : ℕ → ℕ → Result Hart Trap
+  gives rd value = Ok (with_result hart rd value)
+
+  -- the hart after an instruction is executed, or its exception
+  unfoldable pub executed : Instr → Result Hart Trap
+  executed (Lui rd imm) = gives rd imm
+  executed (Auipc rd imm) = gives rd (sum_of hart.pc imm)
+  executed (Jal rd offset) = jumped hart rd (relative offset 21)
+  executed (Jalr rd rs1 offset) = jumped hart rd (made_even (address_of hart rs1 offset))
+  executed (Branch kind rs1 rs2 offset) = branched hart (is_taken kind (x rs1) (x rs2)) (relative offset 13)
+  executed (Load kind rd rs1 offset) = gives rd (load_value kind loaded)
+  executed (Store kind rs1 rs2 offset) = proceeds
+  executed (OpImm kind rd rs1 imm) = gives rd (op_imm_value kind (x rs1) (sign_extended imm 12))
+  executed (ShiftImm kind rd rs1 shamt) = gives rd (shift_value kind (x rs1) shamt)
+  executed (Op kind rd rs1 rs2) = gives rd (op_value kind (x rs1) (x rs2))
+  executed (Fence fm pred succ rd rs1) = proceeds
+  executed (Csr kind rd rs1 csr) = unless_illegal word (csr_changed hart kind rd rs1 (x rs1) csr)
+  executed (CsrImm kind rd uimm csr) = unless_illegal word (csr_changed hart kind rd uimm uimm csr)
+  executed Ecall = Err (environment_call hart.mode)
+  executed Ebreak = Err (breakpoint hart.pc)
+  executed Sret = where_allowed (unless_refused hart.mode hart.csrs.mstatus.tsr) word (returned_from_supervisor hart)
+  executed Mret = where_allowed (is_machine hart.mode) word (returned_from_machine hart)
+  executed Wfi = where_allowed (unless_refused hart.mode hart.csrs.mstatus.tw) word (advanced hart)
+  executed (SfenceVma rs1 rs2) = where_allowed (unless_refused hart.mode hart.csrs.mstatus.tvm) word (advanced hart)

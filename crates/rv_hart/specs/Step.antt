@@ -96,7 +96,7 @@ access_then hart memory (Store address width value) follows =
 -- Execute: the instruction, whose access is done, retires, or ends in its exception.
 abbrev pub from_execute : Hart → Touched → ℕ → Instr → ℕ → Ended
 from_execute hart touched word instr loaded =
-    retired_or_trapped hart touched (written_csr instr) (executed instr hart word loaded)
+    retired_or_trapped hart touched (written_csr instr) (executed hart word loaded instr)
 
 -- ---- the step
 

@@ -1,13 +1,16 @@
 -- What holds after every step. RISC-V Privileged Architecture 20211203, sections 3.1.6.3 (MPRV) and 3.1.6 to 3.1.16 (trap entry);
 -- Unprivileged ISA 20191213, section 1.6: a trap is precise.
-use Rattle.std.specs.Prelude.{◌≡◌, ℕ, List, length, false, Option, Some, None, IfSome, IfNone}
+use Rattle.std.specs.Prelude.{◌≡◌, ◌%◌, ℕ, List, length, false, Option, Some, None, IfSome, IfNone}
 use Rattle.rv_word.specs.Widths.{bytes_in}
 use Rattle.rv_memory.specs.Changes.{ChangesOnly}
 use Rattle.rv_memory.specs.declared.touched.Span.{Span}
 use Rattle.rv_state.specs.MachineParts.{machine_parts}
 use Rattle.rv_state.specs.Interrupts.{is_machine}
+use Rattle.rv_state.specs.Registers.{register}
+use Rattle.rv_hart.specs.Confinement.{IsConfined}
 use Rattle.rv_hart.specs.Hart.{trapped, step_counted}
 use Rattle.rv_hart.specs.HartState.{Hart}
+use Rattle.rv_hart.specs.Permitted.{TouchesPermitted}
 use Rattle.rv_hart.specs.State.{State, Stepped}
 
 -- Where a step ends in a trap, the hart is as before but for the trap and the counting of the step, and every byte is as before:
@@ -45,3 +48,14 @@ ChangesIn old new (Some span) = ChangesOnly old new span.addr (bytes_in span.len
 abbrev pub ChangesStored : State → Stepped → Type 0
 ChangesStored before after =
     (length after.state.memory ≡ length before.memory) × ChangesIn before.memory after.state.memory after.outcome.touched.stored
+
+-- all of it, by the state before a step and what the step leaves and shows
+pub record ObeysHartLaws (before : State) (after : Stepped) : Type 0 where
+  pub x0 : register after.state.hart.regs 0 ≡ 0
+  pub aligned : after.state.hart.pc % 4 ≡ 0
+  pub trap_keeps : TrapKeeps before after
+  pub mprv : KeepsMprvClear before after
+  pub machine_parts : KeepsMachineParts before after
+  pub memory : ChangesStored before after
+  pub permitted : TouchesPermitted before after
+  pub confined : IsConfined before after

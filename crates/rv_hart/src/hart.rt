@@ -44,9 +44,7 @@ impl Hart {
     ghost use Rattle.rv_hart.specs.Lending.{HartLendsRegs, HartLendsCsrs};
     ghost use Rattle.rv_state.specs.Registers.{register};
     ghost use Rattle.rv_hart.specs.State.{state_of, ended_in, over, stepped};
-    ghost use Rattle.rv_hart.specs.StepLaws.{TrapKeeps, KeepsMprvClear, KeepsMachineParts, ChangesStored};
-    ghost use Rattle.rv_hart.specs.Permitted.{TouchesPermitted};
-    ghost use Rattle.rv_hart.specs.Confinement.{IsConfined};
+    ghost use Rattle.rv_hart.specs.StepLaws.{ObeysHartLaws};
     ghost use Rattle.rv_hart.specs.Step.{step, from_decode, from_access, retired_or_trapped, from_execute, trap_end, retired_end, fetch_of, data_mode};
 
     /// The hart at reset with the entry next, in this mode.
@@ -131,23 +129,20 @@ impl Hart {
     /// and 9; Privileged Architecture, sections 3.1.6 to 3.1.16, 3.3 and 4.2.1). It never refuses, and takes no memory of the
     /// host's.
     ///
-    /// In every state x0 is 0 and pc a multiple of 4. A trap changes what every trap changes, and nothing else. MPRV stays 0
-    /// below mode M. From below mode M, with MPRV 0, only a trap leads to mode M, and any other step leaves the registers of
-    /// mode M, the entries and the timer line as they are. The memory keeps its size, and changes in the bytes that the step says
-    /// it stored alone. The step depends on no byte of memory but those that it says it fetched and loaded. The entries permit
-    /// every byte that it says it fetched, loaded or stored, in the mode that decides that access (Privileged Architecture,
-    /// sections 3.1.6.3 and 3.7.1).
+    /// `meaning` is all of it. Of what follows, `laws` is what every step obeys:
+    /// - `x0` and `aligned`: x0 is 0 and pc a multiple of 4;
+    /// - `trap_keeps`: a trap changes what every trap changes, and nothing else;
+    /// - `mprv`: MPRV stays 0 below mode M;
+    /// - `machine_parts`: from below mode M, with MPRV 0, only a trap leads to mode M, and any other step leaves the registers of mode M,
+    ///   the entries and the timer line as they are;
+    /// - `memory`: the memory keeps its size, and changes in the bytes that the step says it stored alone;
+    /// - `permitted`: the entries permit every byte that it says it fetched, loaded or stored, in the mode that decides that access
+    ///   (Privileged Architecture, sections 3.1.6.3 and 3.7.1);
+    /// - `confined`: the step depends on no byte of memory but those that it says it fetched and loaded.
     #[inline(always)]
     pub fn step(&mut self, ram: &mut Ram) -> StepOutcome
         ensures meaning { step (state_of self.old ram.old) ≡ stepped self.new ram.new result }
-        ensures x0 { register self.new.regs 0 ≡ 0 }
-        ensures aligned { self.new.pc % 4 ≡ 0 }
-        ensures trap_keeps { TrapKeeps (state_of self.old ram.old) (stepped self.new ram.new result) }
-        ensures mprv { KeepsMprvClear (state_of self.old ram.old) (stepped self.new ram.new result) }
-        ensures machine_parts { KeepsMachineParts (state_of self.old ram.old) (stepped self.new ram.new result) }
-        ensures memory { ChangesStored (state_of self.old ram.old) (stepped self.new ram.new result) }
-        ensures permitted { TouchesPermitted (state_of self.old ram.old) (stepped self.new ram.new result) }
-        ensures confined { IsConfined (state_of self.old ram.old) (stepped self.new ram.new result) }
+        ensures laws { ObeysHartLaws (state_of self.old ram.old) (stepped self.new ram.new result) }
     {
         self.step_at::<Self>(ram)
     }
@@ -157,14 +152,7 @@ impl Hart {
     #[inline(always)]
     pub(crate) fn step_at<Site>(&mut self, ram: &mut Ram) -> StepOutcome
         ensures meaning { step (state_of self.old ram.old) ≡ stepped self.new ram.new result }
-        ensures x0 { register self.new.regs 0 ≡ 0 }
-        ensures aligned { self.new.pc % 4 ≡ 0 }
-        ensures trap_keeps { TrapKeeps (state_of self.old ram.old) (stepped self.new ram.new result) }
-        ensures mprv { KeepsMprvClear (state_of self.old ram.old) (stepped self.new ram.new result) }
-        ensures machine_parts { KeepsMachineParts (state_of self.old ram.old) (stepped self.new ram.new result) }
-        ensures memory { ChangesStored (state_of self.old ram.old) (stepped self.new ram.new result) }
-        ensures permitted { TouchesPermitted (state_of self.old ram.old) (stepped self.new ram.new result) }
-        ensures confined { IsConfined (state_of self.old ram.old) (stepped self.new ram.new result) }
+        ensures laws { ObeysHartLaws (state_of self.old ram.old) (stepped self.new ram.new result) }
     {
         let outcome = self.step_once::<Site>(ram);
         self.invariant();

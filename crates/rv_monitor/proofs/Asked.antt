@@ -8,11 +8,11 @@ use Rattle.rv_enclaves.specs.declared.proposal.Proposal.{Proposal}
 use Rattle.rv_monitor.specs.Prelude.{AgreeOutside, Call, Cause, Context, Contexts, Create, Outcome, Running, Seat, Shared, Slots}
 use Rattle.rv_monitor.specs.Prelude.{StepOutcome, Trap, bytes_of_block, context_at, created, destroyed, exited_context, first_context}
 use Rattle.rv_monitor.specs.Prelude.{kept_context, measured, measured_slot, measurement_at, measurement_of, new_slot, option_case}
-use Rattle.rv_monitor.specs.Prelude.{proposed, ram_base, recorded, region, status_of, step, with_context, with_slot, with_state, write}
+use Rattle.rv_monitor.specs.Prelude.{proposed, ram_base, recorded, region, running_slot, step, with_context, with_slot, with_state, write}
 use Rattle.rv_monitor.specs.declared.next.Next.{Next}
 use Rattle.rv_monitor.proofs.Prelude.{AskedLaw, AskedStepLaw, Handled, Machine, MonitoredState, MonitoredStepped, SameAsked, SameWhereSame}
 use Rattle.rv_monitor.proofs.Prelude.{SameWork, a0, a1, answered, asked_by, bare_state, both_ways, cases_eq, entered_slot, eq-eqb, handled}
-use Rattle.rv_monitor.proofs.Prelude.{is_entering, left_slot, monitored_step, ne_eqb, returned, returned_to, seat_at_start, seated}
+use Rattle.rv_monitor.proofs.Prelude.{is_entering, left, monitored_step, ne_eqb, returned, returned_to, seat_at_start, seated}
 use Rattle.rv_monitor.proofs.Prelude.{seen_by, enclave_state_after, step_of, with_layout}
 use Rattle.rv_monitor.proofs.Places.{is_trapping}
 use Rattle.rv_monitor.proofs.TrapSteps.{seat_after, trapped_step}
@@ -102,20 +102,17 @@ module _ (table : Slots) (m n : List ℕ) (cs ds : Contexts) (size : length m �
     entering_call call enters asks = let is = asks_for call asks in rw is enters
 
     handled_same : Works (handled seat here trap) (handled seat there trap)
-    unfolding left_slot
+    unfolding left
     handled_same = by_work_of_both seat trap table m n cs ds Works (record {
-      refuses = λ refusal. answered_same here there (status_of refusal) 0 untouched;
+      answers = λ status result. answered_same here there status result untouched;
       creates = λ asks may. answered_same _ _ 0 (new_slot table) (created_same (proposed seat.hart.regs) (asked.measured (asks_for Create asks)));
       destroys = λ asks taken. answered_same _ _ 0 0 (destroyed_same (a0 seat));
       measures = λ asks may. answered_same _ _ 0 0 (measured_same (measured_slot seat.world (a0 seat)) (a1 seat));
       enters = λ call asks enters host taken. enters_same (asked.entered (entering_call call enters asks));
-      leaves = λ k host runs kept.
-          record {
-            seat = refl;
-            next = refl;
-            shared = with_kept (with_state table k (enclave_state_after trap.cause seat.hart.regs)) k (Some (kept_by trap.cause seat));
-          };
-      stays = record { seat = refl; next = refl; shared = untouched };
+      leaves =
+          let k = running_slot seat.world in
+          let after = with_state table k (enclave_state_after trap.cause seat.hart.regs) in
+          record { seat = refl; next = refl; shared = with_kept after k (Some (kept_by trap.cause seat)) };
       forwards = record { seat = refl; next = refl; shared = untouched };
     }) size
 
@@ -178,7 +175,7 @@ asked_step_law hart machine other trap seats trapped trapped_too same =
     let after = (monitored_step (seen_by hart other)).state in
     record {
       seats = ap (λ (m : Machine). m.seats) here.state
-          ∙ ap (λ (all : List Seat). put all (monitored_step (seen_by hart machine)).state.shared.table (monitored_step (seen_by hart machine)).state.seat) seats
+          ∙ ap (λ (all : List Seat). let first = (monitored_step (seen_by hart machine)).state in put all first.shared.table first.seat) seats
           ∙ ap₂ (put other.seats) table one.seat ∙ sym (ap (λ (m : Machine). m.seats) there.state);
       entered = ap (λ (o : Outcome). o.entered) here.outcome ∙ one.entered ∙ sym (ap (λ (o : Outcome). o.entered) there.outcome);
       shared = subst (λ (m : Machine). SameWhereSame machine.shared other.shared m.shared (step_of hart other).state.shared) (sym here.state)

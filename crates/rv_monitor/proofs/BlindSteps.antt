@@ -20,9 +20,10 @@ module _ (e : ℕ) (state : MonitoredState) (kept : IsOwn state) (other : is_wor
       → IsSeen hidden span.addr (bytes_in span.len)
   seen mode access span below may byte low high =
       let entries = kept.layout.entries in
-      permitted_apart state.shared.memory state.shared.table state.seat.world mode access span.addr (bytes_in span.len)
+      let apart = permitted_apart state.shared.memory state.shared.table state.seat.world mode access span.addr (bytes_in span.len)
       (small_ram state.shared.memory kept.valid.ram) kept.valid (below_M mode below) (some_bytes span.len)
-      (inside_is state.shared.memory span.addr (bytes_in span.len) may.0) e other (rw (← entries) may.1) byte low high
+      (inside_is state.shared.memory span.addr (bytes_in span.len) may.0) in
+      apart e other (rw (← entries) may.1) byte low high
 
   same_in : (mode : Mode) (access : Access) (touched : Option Span) (n : List ℕ) → is_machine mode ≡ false → MayTouch before mode access touched
       → AgreeOutside hidden before.memory n → SameIn before.memory n touched

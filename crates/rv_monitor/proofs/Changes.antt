@@ -1,17 +1,17 @@
 -- A step changes the bytes that its instruction stored, the region that a destroy clears, or those that a measure puts.
-use Rattle.std.proofs.Common.{◌≡◌, ◌≢◌, ℕ, ◌+◌, ◌<◌, ◌≤◌, ◌⊎◌, true, false, List, [], length, replicate, Option, Some, None, IfSome, refl, sym}
+use Rattle.std.proofs.Common.{◌≡◌, ℕ, ◌+◌, ◌<◌, ◌≤◌, ◌⊎◌, true, false, List, [], length, replicate, Option, Some, None, IfSome, refl, sym}
 use Rattle.std.proofs.Common.{◌∙◌, ap, subst, inl, inr, arith}
 use Rattle.std.specs.Prelude.{is_some}
 use Rattle.rv_pmp.proofs.VerdictLemmas.{each_from_all}
 use Rattle.rv_memory.proofs.MemoryLaws.{byte_at-write}
-use Rattle.rv_enclaves.specs.declared.block.Block.{Block}
+use Rattle.rv_platform.specs.declared.block.Block.{Block}
 use Rattle.rv_monitor.specs.Prelude.{Byte, Call, Destroy, IsLawfulSlot, IsValid, Measure, S, Seat, Shared, Span, Stepped, Trap, World}
 use Rattle.rv_monitor.specs.Prelude.{Write, asked_in, byte_at, bytes_from, bytes_in, created, data_mode, destroyed, first_refusal, has}
 use Rattle.rv_monitor.specs.Prelude.{is_inside, is_live, layout, may_store, may_store_all, measure_refusals, measured, measured_slot}
 use Rattle.rv_monitor.specs.Prelude.{option_case, permits, region, slot_at, step, verdict, with_bytes_at, with_slot, write, zeroed}
 use Rattle.rv_monitor.proofs.Prelude.{ByMonitor, ChangeLaw, Entries, IsChanged, IsConfined, IsMeasured, IsOwn, IsStoredInReach, IsTaken}
 use Rattle.rv_monitor.proofs.Prelude.{MayTouch, MonitoredState, SlotInfo, Stores, TouchesPermitted, a0, a1, and_from, and_parts, at_same}
-use Rattle.rv_monitor.proofs.Prelude.{bare_state, both_ways, cases_Bool, cases_lt, confined, entered_slot, handled, is_call, le-leb, left_slot}
+use Rattle.rv_monitor.proofs.Prelude.{bare_state, both_ways, cases_Bool, cases_lt, confined, entered_slot, handled, is_call, le-leb, left}
 use Rattle.rv_monitor.proofs.Prelude.{length-replicate, live_in_range, lt-ltb, reach_law, touches_permitted}
 use Rattle.rv_monitor.proofs.KeptReaches.{below_M, data_below, kept_reach}
 use Rattle.rv_monitor.proofs.StepKept.{agrees_itself}
@@ -120,9 +120,9 @@ module _ (seat : Seat) (shared : Shared) (valid : IsValid shared.memory shared.t
   by_call call after asks (inr changed) = let is = asks.is_call in inr (rw is refl, changed)
 
   handled_changes : ChangedBy (handled seat shared trap).shared
-  unfolding created entered_slot left_slot
+  unfolding created entered_slot left
   handled_changes = by_work seat trap shared (λ h. ChangedBy h.shared) (record {
-    refuses = λ refusal. inl refl;
+    answers = λ status result. inl refl;
     creates = λ asks may. inl refl;
     destroys = λ asks taken. by_call Destroy (destroyed shared (a0 seat)) asks (destroyed_changes seat shared byte valid asks.asked taken);
     measures = λ asks may.
@@ -130,8 +130,7 @@ module _ (seat : Seat) (shared : Shared) (valid : IsValid shared.memory shared.t
         (measured_changes seat shared valid byte asks.asked may.live
         (subst (λ (entries : Entries). may_store_all shared.memory entries (a1 seat) ≡ true) laid may.stores));
     enters = λ call asks enters host taken. inl refl;
-    leaves = λ k host runs is. inl refl;
-    stays = inl refl;
+    leaves = inl refl;
     forwards = inl refl;
   })
 

@@ -1,5 +1,5 @@
 -- The harts, whose steps take turns in any order, by the laws of one step.
-use Rattle.std.proofs.Common.{◌≡◌, ℕ, ◌⊎◌, ◌==◌, true, false, List, [], ◌∷◌, Option, Some, None, refl, sym, ◌∙◌, ap, ap₂, subst, inl, inr}
+use Rattle.std.proofs.Common.{◌≡◌, ℕ, ◌==◌, true, false, List, [], ◌∷◌, Option, Some, None, refl, sym, ◌∙◌, ap, ap₂, subst, inl, inr}
 use Rattle.rv_monitor.specs.Prelude.{Outcome, Seat, Trap, is_world_of}
 use Rattle.rv_monitor.proofs.Prelude.{EntryLaw, Handled, Machine, MachineStepped, MonitoredState, MonitoredStepped, NotOwnLaw, RunsOnNone}
 use Rattle.rv_monitor.proofs.Prelude.{SchedLaw, cases_Bool, cases_eq, cases_lt, count_of, enters, eq-eqb, eqb-true, handled}
@@ -16,7 +16,8 @@ pub sched_law : SchedLaw
 sched_law e [] one other here there agree not_own = record { outcomes = refl; state = agree; not_own = tt }
 sched_law e (hart ∷ harts) one other here there agree not_own =
     let first = confidentiality hart one here e other there agree not_own.0 in
-    let rest = sched_law e harts (step_of hart one).state (step_of hart other).state (kept_law hart one here) (kept_law hart other there) first.state not_own.1 in
+    let rest = sched_law e harts (step_of hart one).state (step_of hart other).state (kept_law hart one here) (kept_law hart other there)
+    first.state not_own.1 in
     let add : Outcome → List Outcome → List Outcome = λ x xs. x ∷ xs in
     let seats = agree.seats hart in
     record {

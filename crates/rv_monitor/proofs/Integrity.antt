@@ -1,14 +1,15 @@
 -- A step leaves what is private to an enclave that is not the world of its hart, where it neither enters nor ends it.
-use Rattle.std.proofs.Common.{◌≡◌, ◌≢◌, ℕ, ◌==◌, true, false, Option, Some, None, refl, sym, ◌∙◌, ap, inl, inr, arith}
+use Rattle.std.proofs.Common.{◌≡◌, ◌≢◌, ◌<◌, ℕ, ◌==◌, true, false, Option, Some, None, refl, sym, ap, inl, inr, arith}
 use Rattle.std.specs.Prelude.{is_some}
-use Rattle.rv_enclaves.proofs.Owners.{apart_at}
+use Rattle.rv_platform.proofs.BlockLaws.{apart_at}
 use Rattle.rv_enclaves.specs.declared.proposal.Proposal.{Proposal}
-use Rattle.rv_monitor.specs.Prelude.{Context, Destroy, EnclaveState, IsValid, Running, Seat, Shared, Slots, Trap, Write, byte_at, bytes_in}
+use Rattle.rv_monitor.specs.Prelude.{Context, Destroy, Enclave, EnclaveState, Host, IsValid, Running, Seat, Shared, Slots, Trap, Write, byte_at, bytes_in}
 use Rattle.rv_monitor.specs.Prelude.{context_at, created, destroyed, first_context, has, is_live, is_world_of, measured, new_slot}
-use Rattle.rv_monitor.specs.Prelude.{option_case, proposed, recorded, region, register, slot_at, with_context, with_slot, with_state}
+use Rattle.rv_monitor.specs.Prelude.{World, option_case, proposed, recorded, region, register, running_slot, slot_at, with_context, with_slot}
+use Rattle.rv_monitor.specs.Prelude.{with_state}
 use Rattle.rv_monitor.proofs.Prelude.{Handled, IntegrityLaw, IsOwn, IsSpared, IsTaken, MayCreate, MonitoredState, SlotInfo, a0, at_other}
-use Rattle.rv_monitor.proofs.Prelude.{at_same, both_ways, cases_eq, entered_slot, enters, eq-eqb, free_slot_from, handled, left_slot}
-use Rattle.rv_monitor.proofs.Prelude.{live_in_range, monitored_step, reached_apart, seen_by, enclave_state_after}
+use Rattle.rv_monitor.proofs.Prelude.{at_same, both_ways, cases_eq, entered_slot, enters, eq-eqb, free_slot_from, handled, left}
+use Rattle.rv_monitor.proofs.Prelude.{live_in_range, monitored_step, ne_eqb, reached_apart, seen_by, enclave_state_after}
 use Rattle.rv_monitor.proofs.Beside.{seat_spared}
 use Rattle.rv_monitor.proofs.Changes.{changes}
 use Rattle.rv_monitor.proofs.Kept.{own_kept}
@@ -33,12 +34,21 @@ other_state k j shared state c apart =
     let other : k ≢ j = λ same. both_ways _ apart (eq-eqb j k (sym same)) in
     record { slot = state_by shared.table k j (slot_at shared.table j) state other; context = at_other shared.contexts j k c other }
 
+-- the slot that runs is no other than the world's
+runs_other : (k : ℕ) (world : World) → k < 13 → is_world_of k world ≡ false → (running_slot world == k) ≡ false
+runs_other k Host inside rests = ne_eqb 13 k (λ same. omega (arith, inside, same))
+runs_other k (Enclave j) inside rests = rests
+
 -- where the monitor does not enter it, and it is live after it
 abbrev Keeps : ℕ → Shared → Handled → Type 0
 Keeps k before h = enters k h.next.entered ≡ false → is_live h.shared.table k ≡ true → KeepsSlot k before h.shared
 
 module _ (k : ℕ) (seat : Seat) (shared : Shared) (valid : IsValid shared.memory shared.table) (rests : is_world_of k seat.world ≡ false)
     (live : is_live shared.table k ≡ true) where
+  live_below : (o : Option SlotInfo) → slot_at shared.table k ≡ o → is_some o ≡ true → k < 13
+  live_below None is lives = cc
+  live_below (Some info) is lives = live_in_range shared.table k info valid.count is
+
   created_keeps : (new : Proposal) → MayCreate shared new → KeepsSlot k shared (created shared new)
   unfolding created
   created_keeps new may =
@@ -61,16 +71,16 @@ module _ (k : ℕ) (seat : Seat) (shared : Shared) (valid : IsValid shared.memor
   ]
 
   handled_keeps : (trap : Trap) → Keeps k shared (handled seat shared trap)
-  unfolding measured entered_slot left_slot
+  unfolding measured entered_slot left
   handled_keeps trap = by_work seat trap shared (Keeps k shared) (record {
-    refuses = λ refusal passes stays. record { slot = refl; context = refl };
+    answers = λ status result passes stays. record { slot = refl; context = refl };
     creates = λ asks may passes stays. created_keeps (proposed seat.hart.regs) may;
     destroys = λ asks taken passes stays. destroyed_keeps (a0 seat) taken stays;
     measures = λ asks may passes stays. record { slot = refl; context = refl };
     enters = λ call asks enters host taken passes stays. other_state k (a0 seat) shared Running None passes;
-    leaves = λ j host runs is passes stays.
-        other_state k j shared (enclave_state_after trap.cause seat.hart.regs) (Some (kept_by trap.cause seat)) (sym (ap (is_world_of k) runs) ∙ rests);
-    stays = λ passes stays. record { slot = refl; context = refl };
+    leaves = λ passes stays.
+        other_state k (running_slot seat.world) shared (enclave_state_after trap.cause seat.hart.regs) (Some (kept_by trap.cause seat))
+        (runs_other k seat.world (live_below (slot_at shared.table k) refl live) rests);
     forwards = λ passes stays. record { slot = refl; context = refl };
   })
 

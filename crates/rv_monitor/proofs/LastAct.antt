@@ -3,7 +3,7 @@ use Rattle.std.proofs.Common.{◌≡◌, ◌<◌, ℕ, suc, List, [], ◌∷◌,
 use Rattle.std.specs.Prelude.{map, slice_index_or}
 use Rattle.rv_monitor.specs.Prelude.{Cause, Seat, Shared, Slots, Trap}
 use Rattle.rv_monitor.proofs.Prelude.{Entries, Handled, IsUnlocked, IsSeated, entered_slot, forwarded, forwarded_csrs, handled_cause}
-use Rattle.rv_monitor.proofs.Prelude.{left_slot, seat_at_start, seated, with_layout}
+use Rattle.rv_monitor.proofs.Prelude.{left, seat_at_start, seated, with_layout}
 use Rattle.rv_monitor.proofs.Works.{by_pieces}
 
 -- ---- where they are set already
@@ -35,16 +35,15 @@ abbrev pub entries_of : Handled → Entries
 entries_of h = h.seat.hart.csrs.pmp
 
 pub work_entries : (seat : Seat) (shared : Shared) (trap : Trap) → entries_of (handled_cause seat shared trap trap.cause) ≡ seat.hart.csrs.pmp
-unfolding entered_slot left_slot forwarded_csrs
+unfolding entered_slot left forwarded_csrs
 work_entries seat shared trap =
     by_pieces seat trap shared.table shared.memory shared.memory shared.contexts shared.contexts (λ h _. entries_of h ≡ seat.hart.csrs.pmp) (record {
-      refuses = λ refusal. refl;
+      answers = λ status result. refl;
       creates = λ asks may. refl;
       destroys = λ asks taken. refl;
       measures = λ asks may. refl;
       enters = λ call asks enters host taken. refl;
-      leaves = λ k host runs kept. refl;
-      stays = refl;
+      leaves = refl;
       forwards = refl;
     }) refl
 

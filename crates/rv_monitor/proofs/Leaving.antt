@@ -4,12 +4,12 @@ use Rattle.std.proofs.Math.Bool.{or-false}
 use Rattle.rv_state.specs.declared.cause.Cause.TheVariants as causes
 use Rattle.rv_monitor.specs.Prelude.{Cause, Context, Enclave, Host, Outcome, Seat, StepOutcome, Trap, can_go_on, is_set, step}
 use Rattle.rv_monitor.proofs.Prelude.{Handled, IsOwn, LeaveLaw, MonitoredState, MonitoredStepped, bare_state, handled, kept_after, left_hart}
-use Rattle.rv_monitor.proofs.Prelude.{left_shared, left_slot, monitored_step, reason, returned, seen_by, enclave_state_after, value, with_layout}
+use Rattle.rv_monitor.proofs.Prelude.{left, left_shared, monitored_step, returned, seen_by, with_layout}
 use Rattle.rv_monitor.proofs.Kept.{own_kept}
 use Rattle.rv_monitor.proofs.Places.{is_trapping, laid_by, step_seen}
 use Rattle.rv_monitor.proofs.Switched.{aligned_again}
 use Rattle.rv_monitor.proofs.TrapSteps.{seat_after, trapped_step}
-use Rattle.rv_monitor.proofs.Works.{by_work, kept_by, leaving, lowered_by}
+use Rattle.rv_monitor.proofs.Works.{by_work, kept_by, leave_of, lowered_by}
 
 -- ---- the monitor's work
 
@@ -20,9 +20,7 @@ module _ (before : MonitoredState) (k : ℕ) (host : Context) (runs : before.sea
   seat = seat_after before.seat trap
 
   abbrev leaving_with : Context → Handled
-  leaving_with context =
-      left_slot (lowered_by trap.cause seat) before.shared k (enclave_state_after trap.cause before.seat.hart.regs) context host
-      (reason trap.cause before.seat.hart.regs) (value trap.cause before.seat.hart.regs)
+  leaving_with context = left (lowered_by trap.cause seat) before.shared (record (leave_of trap.cause seat) { kept = context })
 
   abbrev leaving_now : Handled
   leaving_now = leaving_with (kept_after trap.cause before.seat.hart)
@@ -36,27 +34,17 @@ module _ (before : MonitoredState) (k : ℕ) (host : Context) (runs : before.sea
   abbrev Goes : Handled → Type 0
   Goes h = (h.seat.world ≡ Enclave k) ⊎ (h ≡ with_layout leaving_now)
 
-  leaves_so : (j : ℕ) (context : Context) → before.seat.world ≡ Enclave j → before.seat.host_context ≡ Some context
-      → Goes (with_layout (leaving trap.cause seat before.shared (Enclave j) (Some context)))
-  leaves_so j context runs_too kept_too =
-      let slots : Enclave j ≡ Enclave k = sym runs_too ∙ runs in
-      let same : j ≡ k = cc in
-      let hosts : Some context ≡ Some host = sym kept_too ∙ kept in
-      let same_host : context ≡ host = cc in
-      inr (rw (same, same_host) (ap (λ (kept : Context). with_layout (leaving_with kept)) (kept_is trap.cause)))
-
   enters_never : before.seat.world ≡ Host → (P : Type 0) → P
   enters_never is P = let never : Host ≡ Enclave k = sym is ∙ runs in cc
 
   work_goes : Goes (handled seat before.shared trap)
   work_goes = by_work seat trap before.shared Goes (record {
-    refuses = λ refusal. inl runs;
+    answers = λ status result. inl runs;
     creates = λ asks may. inl runs;
     destroys = λ asks taken. inl runs;
     measures = λ asks may. inl runs;
     enters = λ call asks enters is taken. enters_never is _;
-    leaves = leaves_so;
-    stays = inl runs;
+    leaves = inr (ap (λ (kept : Context). with_layout (leaving_with kept)) (kept_is trap.cause));
     forwards = inl runs;
   })
 
@@ -71,12 +59,12 @@ module _ (before : MonitoredState) (k : ℕ) (host : Context) (runs : before.sea
   Left after = (after.state ≡ left_state) × (after.outcome.entered ≡ None)
 
   returned_left : (outcome : StepOutcome) → IsOwn before → Left (returned outcome (with_layout leaving_now))
-  unfolding left_slot
+  unfolding left
   returned_left outcome all =
       let P : Option Context → Type 0 = λ o. IfSome o (λ c. can_go_on c ≡ true) in
       let aligned = aligned_again host.mode host.pc (subst P kept all.host.held) in
       let mprv = all.layout.mprv in
-      (rw (aligned, or-false (is_set before.seat.hart.csrs.mcountinhibit 0), mprv) refl, refl)
+      (rw (runs, kept, aligned, or-false (is_set before.seat.hart.csrs.mcountinhibit 0), mprv) refl, refl)
 
   left_or_not : (outcome : StepOutcome) (h : Handled) → IsOwn before → Goes h → h.seat.world ≡ Host → Left (returned outcome h)
   left_or_not outcome h all (inl stays) gone = let never : Enclave k ≡ Host = sym stays ∙ gone in cc

@@ -99,9 +99,9 @@ step_count hart machine = by_hart hart machine (λ after. count_of after.state �
 pub step_seen : (hart : ℕ) (machine : Machine) → hart < count_of machine → seen_after hart (step_of hart machine) ≡ monitored_step (seen_by hart machine)
 step_seen hart machine has =
     let after = monitored_step (seen_by hart machine) in
-    ap (seen_after hart) (inside hart machine has)
-    ∙ ap (λ (seat : Seat). let seen : MonitoredStepped = record { state = record { seat = seat; shared = after.state.shared }; outcome = after.outcome } in seen)
-    (own_seat hart machine after hart refl has)
+    let seen : Seat → MonitoredStepped =
+    λ seat. record { state = record { seat = seat; shared = after.state.shared }; outcome = after.outcome } in
+    ap (seen_after hart) (inside hart machine has) ∙ ap seen (own_seat hart machine after hart refl has)
 
 -- what a step leaves of the seats beside, in what knows nothing of the entries and mie
 pub step_beside : {X : Type 0} (of : Seat → X) → ((slots : Slots) (seat : Seat) → of (seated slots seat) ≡ of seat) → (hart j : ℕ) (machine : Machine)

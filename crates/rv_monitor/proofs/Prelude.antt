@@ -30,8 +30,8 @@ pub use Rattle.rv_monitor.specs.Step.{trapped_mode, trapped_pc, unhandled, with_
 unfoldable pub use Rattle.rv_monitor.specs.Step.{call_handled, called, forwarded_csrs, handled, monitored_step, performed, step_of}
 unfoldable pub use Rattle.rv_monitor.specs.Step.{timer_stopped}
 pub use Rattle.rv_monitor.specs.SwitchLaws.{StaysOrSwitches, SwitchLaw, reason, value}
-pub use Rattle.rv_monitor.specs.Switches.{Handled, left_by, saved}
-unfoldable pub use Rattle.rv_monitor.specs.Switches.{entered_slot, left, left_slot}
+pub use Rattle.rv_monitor.specs.Switches.{Handled, kept_host, saved}
+unfoldable pub use Rattle.rv_monitor.specs.Switches.{entered_slot, left}
 pub use Rattle.rv_pmp.specs.Entries.{Entries, cfg_of}
 pub use Rattle.std.proofs.lemmas.Bool.{and_from, and_parts, both_ways, cases_Bool, cases_eq, cases_lt, cond-false, cond-true, eq-eqb}
 pub use Rattle.std.proofs.lemmas.Bool.{eqb-true, false≢true, le-leb, lt-ltb, ne_eqb}

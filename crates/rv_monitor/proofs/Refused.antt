@@ -1,6 +1,5 @@
 -- A call that is refused changes nothing but a0, a1, pc, and what every trap and return change.
 use Rattle.std.proofs.Common.{◌≡◌, ℕ, List, slice_set, Option, Some, None, refl, sym, ◌∙◌, ap, subst, arith}
-use Rattle.std.specs.Prelude.{◌||◌}
 use Rattle.std.proofs.Math.Bool.{or-false}
 use Rattle.rv_state.specs.declared.cause.Cause.TheVariants as causes
 use Rattle.rv_monitor.specs.Prelude.{Call, Cause, EnvironmentCallFromS, NotSupported, Outcome, Refusal, Seat, Shared, StepOutcome, Trap}

@@ -1,11 +1,11 @@
 -- What a step does to the world and to what is kept of the host.
 use Rattle.std.proofs.Common.{◌≡◌, ℕ, ◌==◌, ◌⊎◌, true, false, List, Option, Some, None, IfSome, refl, sym, ap, ◌∙◌, subst, inl, inr, arith}
-use Rattle.std.specs.Prelude.{◌%◌, ◌&&◌, not}
+use Rattle.std.specs.Prelude.{◌%◌, ◌&&◌, is_some, not}
 use Rattle.rv_state.specs.declared.s_context.SContext.{SContext}
-use Rattle.rv_monitor.specs.Prelude.{Context, CsrState, Enclave, Host, IsStored, KeepsOwn, Mode, S, Seat, Shared, StepOutcome, Trap}
+use Rattle.rv_monitor.specs.Prelude.{Context, CsrState, Enclave, Host, IsStored, KeepsOwn, Mode, S, Seat, Shared, StepOutcome, Trap, World}
 use Rattle.rv_monitor.specs.Prelude.{aligned_to_4, can_go_on, is_host, is_machine, s_context, step, with_answer, with_s_context}
 use Rattle.rv_monitor.proofs.Prelude.{Handled, HostIsStored, KeepsHost, MonitoredState, StaysOrSwitches, SwitchLaw, a0, and_parts, bare_state}
-use Rattle.rv_monitor.proofs.Prelude.{both_ways, entered_slot, handled, left_slot, monitored_step, nat_tests, past_call, reason, returned}
+use Rattle.rv_monitor.proofs.Prelude.{both_ways, entered_slot, handled, kept_host, left, monitored_step, nat_tests, past_call, reason, returned}
 use Rattle.rv_monitor.proofs.Prelude.{saved, value}
 use Rattle.rv_monitor.proofs.TrapSteps.{by_step, seat_after}
 use Rattle.rv_monitor.proofs.Works.{by_work}
@@ -26,15 +26,11 @@ pub record EntersFrom (seat : Seat) (h : Handled) : Type 0 where
 
 -- the host is told two words
 pub record LeavesFor (seat : Seat) (trap : Trap) (h : Handled) : Type 0 where
-  pub slot : ℕ
-  pub host : Context
-  pub from_enclave : seat.world ≡ Enclave slot
-  pub kept : seat.host_context ≡ Some host
   pub world : h.seat.world ≡ Host
-  pub regs : h.seat.hart.regs ≡ with_answer host.regs (reason trap.cause seat.hart.regs) (value trap.cause seat.hart.regs)
-  pub pc : h.next.pc ≡ host.pc
-  pub mode : h.next.mode ≡ host.mode
-  pub supervisor : s_context h.seat.hart.csrs ≡ s_context (with_s_context seat.hart.csrs host.supervisor)
+  pub regs : h.seat.hart.regs ≡ with_answer (kept_host seat).regs (reason trap.cause seat.hart.regs) (value trap.cause seat.hart.regs)
+  pub pc : h.next.pc ≡ (kept_host seat).pc
+  pub mode : h.next.mode ≡ (kept_host seat).mode
+  pub supervisor : s_context h.seat.hart.csrs ≡ s_context (with_s_context seat.hart.csrs (kept_host seat).supervisor)
   pub forgotten : h.seat.host_context ≡ None
   pub entered : h.next.entered ≡ None
 
@@ -42,27 +38,14 @@ abbrev pub Turns : Seat → Trap → Handled → Type 0
 Turns seat trap h = StaysIn seat h ⊎ (EntersFrom seat h ⊎ LeavesFor seat trap h)
 
 pub handled_turns : (seat : Seat) (shared : Shared) (trap : Trap) → Turns seat trap (handled seat shared trap)
-unfolding entered_slot left_slot
+unfolding entered_slot left
 handled_turns seat shared trap = by_work seat trap shared (Turns seat trap) (record {
-  refuses = λ refusal. inl (record { world = refl; host = refl; entered = refl });
+  answers = λ status result. inl (record { world = refl; host = refl; entered = refl });
   creates = λ asks may. inl (record { world = refl; host = refl; entered = refl });
   destroys = λ asks taken. inl (record { world = refl; host = refl; entered = refl });
   measures = λ asks may. inl (record { world = refl; host = refl; entered = refl });
   enters = λ call asks enters host taken. inr (inl (record { slot = a0 seat; from_host = host; world = refl; host = refl; entered = refl }));
-  leaves = λ k host runs kept. inr (inr (record {
-    slot = k;
-    host = host;
-    from_enclave = runs;
-    kept = kept;
-    world = refl;
-    regs = refl;
-    pc = refl;
-    mode = refl;
-    supervisor = refl;
-    forgotten = refl;
-    entered = refl;
-  }));
-  stays = inl (record { world = refl; host = refl; entered = refl });
+  leaves = inr (inr (record { world = refl; regs = refl; pc = refl; mode = refl; supervisor = refl; forgotten = refl; entered = refl }));
   forwards = inl (record { world = refl; host = refl; entered = refl });
 })
 
@@ -119,30 +102,41 @@ same_context : (host : Context) (regs : List ℕ) (pc : ℕ) (mode : Mode) (supe
 same_context host regs pc mode supervisor told_regs regs_is pc_is mode_is supervisor_is = rw (regs_is, pc_is, mode_is, supervisor_is) refl
 
 module _ (state : MonitoredState) (kept : KeepsHost state.seat) (stored : HostIsStored state.seat) (trap : Trap) where
+  -- the host's context is kept just where an enclave leaves
+  returned_leaves : (outcome : StepOutcome) (h : Handled) → outcome.trap ≡ Some trap → LeavesFor (seat_after state.seat trap) trap h
+      → (world : World) (o : Option Context) → state.seat.world ≡ world → state.seat.host_context ≡ o → is_some o ≡ not (is_host world)
+      → StaysOrSwitches state (returned outcome h)
+  returned_leaves outcome h trapped_is leaves Host None runs kept_is same =
+      inl (record { world = leaves.world ∙ sym runs; host = leaves.forgotten ∙ sym kept_is; entered = leaves.entered })
+  returned_leaves outcome h trapped_is leaves Host (Some host) runs kept_is same = cc
+  returned_leaves outcome h trapped_is leaves (Enclave k) None runs kept_is same = cc
+  returned_leaves outcome h trapped_is leaves (Enclave k) (Some host) runs kept_is same =
+      let P : Option Context → Type 0 = λ o. IfSome o (λ c. can_go_on c ≡ true) in
+      let held : can_go_on host ≡ true = subst P kept_is kept.held in
+      let host_stored : IsStored host.supervisor = subst KeptStored kept_is stored in
+      let told = rw kept_is at leaves in
+      inr (inr (record {
+        slot = k;
+        host = host;
+        trap = trap;
+        from_enclave = runs;
+        kept = kept_is;
+        trapped = trapped_is;
+        world = told.world;
+        again = same_context host h.seat.hart.regs (aligned_to_4 h.next.pc) h.next.mode (s_context h.seat.hart.csrs) _ told.regs
+            (ap aligned_to_4 told.pc ∙ aligned_again host.mode host.pc held) told.mode
+            (told.supervisor ∙ stored_again state.seat.hart.csrs host.supervisor host_stored);
+        forgotten = told.forgotten;
+        entered = told.entered;
+      }))
+
   returned_turns : (outcome : StepOutcome) (h : Handled) → outcome.trap ≡ Some trap
       → Turns (seat_after state.seat trap) trap h → StaysOrSwitches state (returned outcome h)
   returned_turns outcome h trapped_is (inl stays) = inl (record { world = stays.world; host = stays.host; entered = stays.entered })
   returned_turns outcome h trapped_is (inr (inl enters)) =
       inr (inl (record { slot = enters.slot; from_host = enters.from_host; world = enters.world; host = enters.host; entered = enters.entered }))
   returned_turns outcome h trapped_is (inr (inr leaves)) =
-      let host = leaves.host in
-      let P : Option Context → Type 0 = λ o. IfSome o (λ c. can_go_on c ≡ true) in
-      let held : can_go_on host ≡ true = subst P leaves.kept kept.held in
-      let host_stored : IsStored host.supervisor = subst KeptStored leaves.kept stored in
-      inr (inr (record {
-        slot = leaves.slot;
-        host = host;
-        trap = trap;
-        from_enclave = leaves.from_enclave;
-        kept = leaves.kept;
-        trapped = trapped_is;
-        world = leaves.world;
-        again = same_context host h.seat.hart.regs (aligned_to_4 h.next.pc) h.next.mode (s_context h.seat.hart.csrs) _ leaves.regs
-            (ap aligned_to_4 leaves.pc ∙ aligned_again host.mode host.pc held) leaves.mode
-            (leaves.supervisor ∙ stored_again state.seat.hart.csrs host.supervisor host_stored);
-        forgotten = leaves.forgotten;
-        entered = leaves.entered;
-      }))
+      returned_leaves outcome h trapped_is leaves state.seat.world state.seat.host_context refl refl kept.kept
 
 pub switch_law : SwitchLaw
 switch_law state kept stored = by_step state (StaysOrSwitches state)

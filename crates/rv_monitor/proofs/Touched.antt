@@ -1,5 +1,5 @@
 -- What a step's instruction touches is in the reach of the world that runs.
-use Rattle.std.proofs.Common.{◌≡◌, ◌≢◌, ◌⊎◌, ℕ, false, Option, Some, None, Result, Ok, Err, refl, sym, ◌∙◌, subst, inl, inr}
+use Rattle.std.proofs.Common.{◌≡◌, ◌⊎◌, ℕ, false, Option, Some, None, Result, Ok, Err, refl, sym, ◌∙◌, subst, inl, inr}
 use Rattle.rv_hart.proofs.StepCases.{by_ways}
 use Rattle.rv_memory.specs.declared.touched.Touched.{Touched}
 use Rattle.rv_monitor.specs.Prelude.{Access, Fetch, Hart, Mode, Read, Span, State, Stepped, Trap, Word, Write, data_mode, is_machine}

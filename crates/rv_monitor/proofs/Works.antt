@@ -6,10 +6,11 @@ use Rattle.rv_state.specs.declared.cause.Cause.TheVariants as causes
 use Rattle.rv_monitor.specs.Prelude.{Call, Cause, Context, Contexts, Create, Destroy, Enclave, EnvironmentCallFromS, Exception, Exit, Host}
 use Rattle.rv_monitor.specs.Prelude.{Measure, NotSupported, Refusal, Resume, Run, Seat, Shared, Slots, Stop, Trap, World, asked_call}
 use Rattle.rv_monitor.specs.Prelude.{asked_in, call_key, call_number, calls, created, destroyed, exited_context, first_refusal, is_offered}
-use Rattle.rv_monitor.specs.Prelude.{kept_context, measured, measured_slot, new_slot, option_case, proposed, register}
+use Rattle.rv_monitor.specs.Prelude.{kept_context, measured, measured_slot, new_slot, option_case, proposed, register, status_of}
+use Rattle.rv_monitor.specs.declared.leave.Leave.{Leave}
 use Rattle.rv_monitor.proofs.Prelude.{Handled, IsTaken, MayCreate, MayMeasure, a0, a1, and_parts, answered, call_handled, call_refusals}
 use Rattle.rv_monitor.proofs.Prelude.{called, cases_Bool, cond-false, cond-true, entered_slot, find, forwarded, handled, handled_cause}
-use Rattle.rv_monitor.proofs.Prelude.{handled_exception, is_entering, left, left_by, line_after, may_create, may_measure, may_take}
+use Rattle.rv_monitor.proofs.Prelude.{handled_exception, is_entering, left, line_after, may_create, may_measure, may_take}
 use Rattle.rv_monitor.proofs.Prelude.{nat_tests, past_call, performed, reason, refused, same_create_refusals, same_measure_refusals, saved}
 use Rattle.rv_monitor.proofs.Prelude.{enclave_state_after, stopped_context, timer_stopped, trapped_mode, trapped_pc, value, with_layout}
 
@@ -72,10 +73,17 @@ abbrev pub lowered_by : Cause → Seat → Seat
 lowered_by cause seat =
     record seat { hart = record seat.hart { csrs = record seat.hart.csrs { timer = line_after cause seat.hart.csrs.timer } } }
 
-abbrev pub leaving : Cause → Seat → Shared → World → Option Context → Handled
-leaving cause seat shared world host =
-    left_by (lowered_by cause seat) shared (enclave_state_after cause seat.hart.regs) (kept_by cause seat) (reason cause seat.hart.regs)
-    (value cause seat.hart.regs) world host
+-- how it leaves
+abbrev pub leave_of : Cause → Seat → Leave
+leave_of cause seat = record {
+  state = enclave_state_after cause seat.hart.regs;
+  kept = kept_by cause seat;
+  reason = reason cause seat.hart.regs;
+  value = value cause seat.hart.regs;
+}
+
+abbrev pub leaving : Cause → Seat → Shared → Handled
+leaving cause seat shared = left (lowered_by cause seat) shared (leave_of cause seat)
 
 abbrev pub entering : Seat → Shared → Handled
 entering seat shared = entered_slot seat shared (a0 seat) (kept_context shared.contexts (a0 seat)) (past_call seat)
@@ -92,7 +100,8 @@ module _ (seat : Seat) (trap : Trap) (table : Slots) (m n : List ℕ) (cs ds : C
   Both work = P (work here) (work there)
 
   pub record Pieces : Type 0 where
-    pub refuses : (refusal : Refusal) → Both (λ shared. refused seat shared refusal)
+    -- a refusal, or a call that changes nothing that is shared
+    pub answers : (status result : ℕ) → Both (λ shared. answered seat shared status result)
     pub creates : AsksFor seat trap.cause Create → MayCreate here (proposed seat.hart.regs)
         → Both (λ shared. answered seat (created shared (proposed seat.hart.regs)) 0 (new_slot shared.table))
     pub destroys : AsksFor seat trap.cause Destroy → IsTaken table Destroy (a0 seat) → Both (λ shared. answered seat (destroyed shared (a0 seat)) 0 0)
@@ -100,25 +109,16 @@ module _ (seat : Seat) (trap : Trap) (table : Slots) (m n : List ℕ) (cs ds : C
         → Both (λ shared. answered seat (measured shared (measured_slot seat.world (a0 seat)) (a1 seat)) 0 0)
     pub enters : (call : Call) → AsksFor seat trap.cause call → is_entering (Some call) ≡ true → seat.world ≡ Host → IsTaken table call (a0 seat)
         → Both (entering seat)
-    pub leaves : (k : ℕ) (host : Context) → seat.world ≡ Enclave k → seat.host_context ≡ Some host
-        → Both (λ shared. leaving trap.cause seat shared (Enclave k) (Some host))
-    pub stays : Both (λ shared. leaving trap.cause seat shared Host None)
+    pub leaves : Both (leaving trap.cause seat)
     pub forwards : Both (λ shared. forwarded seat shared trap)
 
   module _ (pieces : Pieces) (size : length m ≡ length n) where
-    by-left : (world : World) (host : Option Context) → seat.world ≡ world → seat.host_context ≡ host
-        → Both (λ shared. leaving trap.cause seat shared world host)
-    by-left Host host at is = pieces.stays
-    by-left (Enclave k) None at is = pieces.stays
-    by-left (Enclave k) (Some host) at is = pieces.leaves k host at is
-
-    by-leaving : (cause : Cause) → trap.cause ≡ cause → Both (λ shared. leaving cause seat shared seat.world seat.host_context)
-    by-leaving cause is =
-        subst (λ (c : Cause). Both (λ shared. leaving c seat shared seat.world seat.host_context)) is (by-left seat.world seat.host_context refl refl)
+    by-leaving : (cause : Cause) → trap.cause ≡ cause → Both (leaving cause seat)
+    by-leaving cause is = subst (λ (c : Cause). Both (leaving c seat)) is pieces.leaves
 
     by-asked : (call : Call) → AsksFor seat trap.cause call → first_refusal (call_refusals seat here call) ≡ None
         → Both (λ shared. performed seat shared call)
-    unfolding performed left
+    unfolding performed
     by-asked Create asks none = pieces.creates asks (may_create here (proposed seat.hart.regs) none)
     by-asked Destroy asks none = pieces.destroys asks (may_take table Destroy (a0 seat) none)
     by-asked Run asks none =
@@ -144,7 +144,7 @@ module _ (seat : Seat) (trap : Trap) (table : Slots) (m n : List ℕ) (cs ds : C
     by-rows : (o : Option Refusal) (one other : Handled) → (o ≡ None → P one other)
         → P (option_case o one (refused seat here)) (option_case o other (refused seat there))
     by-rows None one other done = done refl
-    by-rows (Some refusal) one other done = pieces.refuses refusal
+    by-rows (Some refusal) one other done = pieces.answers (status_of refusal) 0
 
     by-called : (call : Call) → AsksFor seat trap.cause call → Both (λ shared. called seat shared call)
     unfolding called
@@ -154,7 +154,7 @@ module _ (seat : Seat) (trap : Trap) (table : Slots) (m n : List ℕ) (cs ds : C
 
     by-call : (o : Option Call) → asked_in seat.world seat.hart.regs ≡ o → trap.cause ≡ causes.Exception EnvironmentCallFromS
         → Both (λ shared. option_case o (refused seat shared NotSupported) (called seat shared))
-    by-call None is by_ecall = pieces.refuses NotSupported
+    by-call None is by_ecall = pieces.answers (status_of NotSupported) 0
     by-call (Some call) is by_ecall = by-called call (record { is_call = by_ecall; asked = is })
 
     by-exception : (exception : Exception) → trap.cause ≡ causes.Exception exception → Both (λ shared. handled_exception seat shared trap exception)
@@ -163,7 +163,7 @@ module _ (seat : Seat) (trap : Trap) (table : Slots) (m n : List ℕ) (cs ds : C
     by-exception _ is = pieces.forwards
 
     by-cause : (cause : Cause) → trap.cause ≡ cause → Both (λ shared. handled_cause seat shared trap cause)
-    unfolding timer_stopped left
+    unfolding timer_stopped
     by-cause (causes.Interrupt interrupt) is = by-leaving (causes.Interrupt interrupt) is
     by-cause (causes.Exception exception) is = by-exception exception is
 

@@ -1,5 +1,5 @@
 -- The names of other crates and of the Rust types that definitions and proofs here cite, passed on from one place. Declares nothing.
-pub use Rattle.rv_enclaves.specs.Blocks.{has}
+pub use Rattle.rv_platform.specs.Blocks.{has}
 pub use Rattle.rv_enclaves.specs.Calls.{asked_in, call_key, call_number, calls, is_offered, status_of}
 unfoldable pub use Rattle.rv_enclaves.specs.Calls.{asked_call}
 pub use Rattle.rv_enclaves.specs.Contexts.{Contexts, IsStored, can_go_on, context_at, exited_context, kept_context, with_answer}
@@ -19,7 +19,7 @@ unfoldable pub use Rattle.rv_enclaves.specs.Refusals.{state_refusals}
 pub use Rattle.rv_enclaves.specs.SharedButFor.{AgreeOutside, SharedButFor, is_private}
 pub use Rattle.rv_enclaves.specs.Sound.{AreApart, IsSound, shared_at_start}
 pub use Rattle.rv_enclaves.specs.Table.{IsLawfulSlot, IsValid, Slots, is_host, is_live, is_running, is_world_of, no_slots, region}
-pub use Rattle.rv_enclaves.specs.Table.{region_of, slot_at, with_slot, with_state}
+pub use Rattle.rv_enclaves.specs.Table.{region_of, running_slot, slot_at, with_slot, with_state}
 pub use Rattle.rv_enclaves.specs.declared.call.Call.{Call}
 pub use Rattle.rv_enclaves.specs.declared.call.Call.TheVariants.{Create, Destroy, Exit, Measure, Resume, Run, Stop}
 pub use Rattle.rv_enclaves.specs.declared.context.Context.{Context}

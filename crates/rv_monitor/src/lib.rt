@@ -9,15 +9,15 @@
 
 mod context;
 mod handler;
-mod harts;
 pub mod laws;
 mod layout;
+mod leave;
 mod monitored;
 mod next;
 mod outcome;
 mod seat;
 
-pub use harts::Harts;
 pub use monitored::Monitored;
 pub use outcome::Outcome;
-pub use rv_enclaves::{Block, EnclaveState, Slot, SlotInfo, Table, World};
+pub use rv_enclaves::{EnclaveState, Slot, SlotInfo, Table, World};
+pub use rv_platform::{Block, Harts};

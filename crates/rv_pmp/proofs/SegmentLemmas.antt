@@ -13,6 +13,8 @@ use Rattle.rv_pmp.specs.declared.segments.Segments.{Segments}
 use Rattle.rv_pmp.specs.Remembered.Segments.{owner, is_within, start_of, reach_of, AreBounds, AreInOrder, AreOwned}
 use Rattle.rv_pmp.proofs.OwnerLemmas.{bool_same, owner_alike}
 
+-- ---- one segment goes on, or one more begins
+
 -- where a segment begins, by the list of ends
 abbrev begin : List ℕ → ℕ → ℕ
 begin ends k = if k == 0 then 0 else slice_index ends (k - 1)
@@ -103,6 +105,8 @@ module _ (covering : ℕ → ℕ → Bool) (old : Segments) (start end : ℕ) (o
         ];
       }
 
+-- ---- bounds between which no range begins or ends
+
 -- the bounds in order
 pub bounds_in_order : (ranges : EntryRanges) (xs ys : List ℕ) → IsPermutation xs ys → AreBounds ranges xs → AreBounds ranges ys
 bounds_in_order ranges xs ys moved all = record {
@@ -162,6 +166,8 @@ module _ (ranges : EntryRanges) (bounds : List ℕ) (start end k : ℕ) (all : A
     | inl is ↦ is
     | inr past ↦ let found = all.last in omega (arith, before found.0 (omega (arith, found.1)), get_or_default_zero bounds found.0 (2 ^ 35) found.1, found.2)
   ]
+
+-- ---- the segment that has a byte
 
 module _ (s : Segments) (order : AreInOrder s) where
   rise : (i j : ℕ) → i ≤ j → j < s.count → slice_index s.ends i ≤ slice_index s.ends j

@@ -9,6 +9,8 @@ use Rattle.rv_pmp.specs.Entries.{Entries}
 use Rattle.rv_pmp.specs.Covers.{covers}
 use Rattle.rv_pmp.specs.Verdicts.{decider, verdict, verdict_by, decided, undecided}
 
+-- ---- tests of any and of all
+
 -- a number that passes settles `any`
 pub any_at : (p : ℕ → Bool) (a n b : ℕ) → a ≤ b → b < a + n → p b ≡ true → list_any p (range_with_len a n) ≡ true
 any_at p a zero b low high passes = absurd (omega arith)
@@ -77,6 +79,8 @@ some_from_all p a (suc n) fails = elim (cases_Bool (p a)) [
   | inr here ↦ (a, omega arith, omega arith, here)
 ]
 
+-- ---- the first that passes
+
 -- the first that passes is found
 pub find_at : (p : ℕ → Bool) (a n i : ℕ) → a ≤ i → i < a + n → p i ≡ true → ((j : ℕ) → a ≤ j → j < i → p j ≡ false) → find p (range_with_len a n) ≡ Some i
 find_at p a zero i low high passes first = absurd (omega arith)
@@ -134,6 +138,8 @@ find_cases p a (suc n) = elim (cases_Bool (p a)) [
     )
   ]
 ]
+
+-- ---- the verdict
 
 -- the least entry that covers some byte decides
 pub verdict_decided : (e : Entries) (mode : Mode) (access : Access) (bytes : List ℕ) (i : ℕ) → i < 16 → list_any (covers e i) bytes ≡ true

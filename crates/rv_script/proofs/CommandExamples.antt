@@ -15,6 +15,8 @@ use Rattle.rv_script.specs.declared.command.CommandFault.{CommandFault}
 use Rattle.rv_script.specs.declared.command.CommandFault.TheVariants.{BadLine, UnknownCommand, BadOperand}
 use Rattle.rv_script.specs.Command.{keyword_of, meaning_of, parse_of}
 
+-- ---- lines, and what they are
+
 abbrev examples : List (List ℕ × Result Command CommandFault)
 examples =
     (codes "", Ok Blank)
@@ -58,6 +60,7 @@ examples =
     ∷ (codes "access U x 0 1", Ok (Access U Fetch 0 Byte))
     ∷ (codes "timer on", Ok (Timer true))
     ∷ (codes "timer off", Ok (Timer false))
+    -- ---- no command
     ∷ (codes "fly", Err UnknownCommand)
     ∷ (codes "Step 1", Err UnknownCommand)
     ∷ (codes "Run 1", Err UnknownCommand)
@@ -78,6 +81,7 @@ examples =
     ∷ (codes "Access M r 0 1", Err UnknownCommand)
     ∷ (codes "Timer on", Err UnknownCommand)
     ∷ (codes "--", Err UnknownCommand)
+    -- ---- other operands
     ∷ (codes "step 0", Err BadOperand)
     ∷ (codes "step 1000001", Err BadOperand)
     ∷ (codes "step 00000001", Err BadOperand)
@@ -157,6 +161,8 @@ examples =
     ∷ (codes "step 1\r", Err BadLine)
     ∷ (0 ∷ [], Err BadLine)
     ∷ []
+
+-- ---- by computation
 
 pub examples_hold : map (λ e. parse_of e.0) examples ≡ map (λ e. e.1) examples
 unfolding parse_of meaning_of keyword_of words_of is_text number_of_digits decimal_of hexadecimal_of csr_number_of byte_of_text

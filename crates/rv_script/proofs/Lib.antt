@@ -1,3 +1,4 @@
 pub mod Keywords
 pub mod Commands
 mod CommandExamples
+pub mod Schedules

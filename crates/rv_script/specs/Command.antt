@@ -6,8 +6,8 @@ use Rattle.std.specs.List.{starts_with}
 use Rattle.std.specs.Str.{bytes_eq}
 use Rattle.rv_text.specs.GoodLines.{is_good_line}
 use Rattle.rv_text.specs.Words.{words_of}
-use Rattle.rv_enclaves.specs.Blocks.{no_block}
-use Rattle.rv_enclaves.specs.declared.block.Block.{Block}
+use Rattle.rv_platform.specs.Blocks.{no_block}
+use Rattle.rv_platform.specs.declared.block.Block.{Block}
 use Rattle.rv_script.specs.Numbers.{hexadecimal_of, csr_number_of, byte_of_text, decimal_of}
 use Rattle.rv_script.specs.Within.{within}
 use Rattle.rv_script.specs.Schedules.{hart_named, schedule_of}

@@ -49,11 +49,11 @@ pub(crate) fn hart_operand(operand: &[u8]) -> Option<u8>
     }
 }
 
-/// Whether each of these digits names a hart below this number.
+/// Whether each of these digits names a hart below this number. None names a third.
 fn name_only(digits: &[u8], harts: u8) -> bool
     ensures { result ≡ list_all (λ digit. nat_lt (hart_of_digit digit) harts) digits.now }
 {
-    digits.iter().all(|digit| hart(*digit) < harts)
+    harts >= 2 || digits.iter().all(|digit| hart(*digit) < harts)
 }
 
 /// The harts whose steps follow one another: of 1 to 64 steps, whether each is made by hart 0 or by hart 1.

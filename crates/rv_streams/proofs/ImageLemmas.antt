@@ -14,7 +14,7 @@ use Rattle.rv_streams.specs.Image.{bytes_of_digits, line_bytes, is_image_line, b
 use Rattle.rv_streams.specs.Image.{ReadsFrontOfImage}
 use Rattle.rv_streams.specs.Image.{StopsAtFault}
 use Rattle.rv_streams.specs.Separator.{line_word, is_separator, before_separator}
-use Rattle.rv_streams.proofs.LineTextLemmas.{ReadsLines-none, ReadsLines-more}
+use Rattle.rv_streams.proofs.LineTextLemmas.{ReadsLines-more}
 use Rattle.rv_streams.specs.Script.{TakesScript}
 use Rattle.rv_streams.proofs.ScriptLemmas.{line_word-take, ends_script-shown, ReadsScript}
 use Rattle.rv_streams.proofs.TakeWhileLemmas.{take_while-all, take_while-stop, take_while-pass, list_all-push, list_all-stop}
@@ -26,15 +26,6 @@ pub record SpellsImage (unread left : List ℕ) (is_at_end : Bool) (image : List
   pub unmarked : list_all (λ line. not (is_separator line)) lines ≡ true
   pub sound : list_all is_image_line lines ≡ true
   pub spelled : image ≡ bytes_of_lines lines
-
-pub SpellsImage-none : (unread : List ℕ) (is_at_end : Bool) → SpellsImage unread unread is_at_end []
-SpellsImage-none unread is_at_end = record {
-  lines = [];
-  reads = ReadsLines-none unread is_at_end;
-  unmarked = refl;
-  sound = refl;
-  spelled = refl;
-}
 
 -- the lines are not at their end
 pub SpellsImage-going : (unread left : List ℕ) (is_at_end : Bool) (image : List ℕ) → SpellsImage unread left is_at_end image → is_at_end ≡ false

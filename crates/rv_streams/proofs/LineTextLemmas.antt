@@ -2,11 +2,11 @@
 use Rattle.std.proofs.Common.{◌≡◌, ◌≢◌, ℕ, ◌+◌, ◌<◌, ◌≤◌, Bool, true, false, List, [], ◌∷◌, ◌++◌, length, take, min, refl}
 use Rattle.std.proofs.Common.{sym, ◌∙◌, ap, arith, append_assoc, append-nil, add-one}
 use Rattle.std.proofs.lemmas.List.{take-append-le, take_all, take-take, length-take, length-append}
-use Rattle.rv_text.specs.Lines.{has_feed, lines_of, through_last_feed, after_line, after_lines}
+use Rattle.rv_text.specs.Lines.{has_feed, lines_of, after_line, after_lines}
 use Rattle.rv_streams.specs.LineText.{ReadsLineText, TakesLine, ReadsLines}
 use Rattle.rv_text.specs.Lines.{without_return}
 use Rattle.rv_text.proofs.LineLemmas.{has_feed-append, eq_false, through_last_feed-append_feed, lines_of-line, lines_of-last, cut-kept, lines_of-append}
-use Rattle.rv_text.proofs.LineLemmas.{after_line-feed, after_line-open, after_lines-more, through_last_feed-append, through_last_feed-append_open}
+use Rattle.rv_text.proofs.LineLemmas.{after_line-feed, after_line-open, after_lines-more, through_last_feed-append}
 
 -- what is held is read already
 pub ReadsText-none : (held left : List ℕ) → length held ≤ 122 → has_feed held ≡ false → ReadsLineText (held ++ left) left held
@@ -104,15 +104,3 @@ ReadsLines-more unread left rest ends shown lines reads takes =
       all = reads.all ∙ (ap (λ t. lines ++ t) takes.lines ∙ sym (append_assoc lines (line ∷ []) (lines_of rest)));
       rest = takes.rest ∙ (sym one ∙ ap (λ n. after_lines n unread) (sym (length-append lines (line ∷ []))));
     }
-
--- the lines that were taken before an unfinished one are those of the finished text
-pub ReadsLines-through_last_feed : (unread left rest kept : List ℕ) (lines : List (List ℕ)) → ReadsLines unread left false lines
-    → ReadsLineText left rest kept
-    → (text : List ℕ) × (unread ≡ text ++ rest) × (lines_of (through_last_feed text) ≡ lines)
-ReadsLines-through_last_feed unread left rest kept lines reads begun =
-    let text = reads.text ++ begun.text in
-    let done : through_last_feed text ≡ reads.text = through_last_feed-append_open reads.text begun.text begun.unfinished ∙ reads.whole refl in (
-      text,
-      reads.split ∙ (ap (λ t. reads.text ++ t) begun.split ∙ sym (append_assoc reads.text begun.text rest)),
-      ap lines_of done ∙ reads.are_lines,
-    )

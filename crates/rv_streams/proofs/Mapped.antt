@@ -1,6 +1,6 @@
 -- What a call whose error is mapped gave.
 use Rattle.std.proofs.Common.{◌≡◌, Result, Ok, Err, refl, sym, ◌∙◌, ap, subst}
-use Rattle.std.specs.Result.{MatchResult, IsOkAnd, IsErrAnd, OnOk, OnErr}
+use Rattle.std.specs.Result.{MatchResult, IsOkAnd, IsErrAnd}
 use Rattle.std.proofs.lemmas.Result.{err_from_is_err_and}
 
 -- an `Ok` was one
@@ -15,10 +15,6 @@ pub err_mapped : {A E F : Type 0} (Q : E → F → Type 0) (r : Result A E) (s :
 err_mapped Q (Ok y) s f cases is = let e : s ≡ Ok y = cases in cc
 err_mapped Q (Err e) s f cases is = (e, refl)
 
--- the error that a `?` passes on as it is
-pub err_passed : {A E : Type 0} (r : Result A E) (e f : E) → IsErrAnd r (λ x. x ≡ e) → r ≡ Err f → e ≡ f
-err_passed r e f passed is = let bad = err_from_is_err_and r passed in let was : bad.0 ≡ e = bad.2 in let got : r ≡ Err bad.0 = bad.1 in cc
-
 -- what holds of an error holds of the result that a `?` passes it on with
 pub passed_on : {T E : Type 0} (P : Result T E → Type 0) (r : Result T E) (e : E) → IsErrAnd r (λ x. x ≡ e) → P (Err e) → P r
 passed_on P r e passed p = let bad = err_from_is_err_and r passed in subst P (sym (bad.1 ∙ ap Err bad.2)) p
@@ -30,22 +26,6 @@ pub mapped : {A E F : Type 0} (P : Result A F → Type 0) (Q : E → F → Type 
 mapped P Q f (Ok y) s cases only ok err = subst P (sym cases) (ok y refl)
 mapped P Q f (Err e) s cases only ok err =
     let bad = err_from_is_err_and s cases in subst P (sym (bad.1 ∙ ap Err (only e bad.0 bad.2))) (err e refl)
-
--- what holds anyway holds at an `Ok`
-pub OnOk-always : {A E P : Type 0} (r : Result A E) → P → OnOk r P
-OnOk-always (Ok x) p = p
-OnOk-always (Err e) p = tt
-
--- and at an `Err`
-pub OnErr-always : {A E P : Type 0} (r : Result A E) → P → OnErr r P
-OnErr-always (Ok x) p = tt
-OnErr-always (Err e) p = p
-
--- what follows from what an `Ok` has, once the error is mapped
-pub OnOk-mapped : {A E F P Q : Type 0} (R : E → F → Type 0) (r : Result A E) (s : Result A F) → MatchResult r (λ y. s ≡ Ok y) (λ e. IsErrAnd s (R e))
-    → (P → Q) → OnOk r P → OnOk s Q
-OnOk-mapped {Q = Q} R (Ok y) s cases then p = subst (λ s. OnOk s Q) (sym cases) (then p)
-OnOk-mapped {Q = Q} R (Err e) s cases then p = let bad = err_from_is_err_and s cases in subst (λ s. OnOk s Q) (sym bad.1) tt
 
 -- a value that is known
 pub IsOkAnd-at : {A E : Type 0} (r : Result A E) (x : A) (P : A → Type 0) → r ≡ Ok x → P x → IsOkAnd r P

@@ -20,6 +20,8 @@ use Rattle.rv_text.proofs.LineLemmas.{after_lines-more}
 use Rattle.rv_streams.proofs.LineTextLemmas.{ReadsLines-more}
 use Rattle.rv_streams.proofs.TakeWhileLemmas.{take_while-all, take_while-stop, take_while-front}
 
+-- ---- the lines of a script, and the one that ends it
+
 -- a line of which 121 bytes are shown has the word of those
 pub line_word-take : (line : List ℕ) → line_word (take 121 line) ≡ line_word line
 unfolding line_word
@@ -63,6 +65,8 @@ has_separator-there : (lines others : List (List ℕ)) (line unread : List ℕ) 
 has_separator-there lines others line unread all e = subst IsTrue (sym (ap (list_any is_separator) all
     ∙ (list_any-append is_separator lines (line ∷ others)
     ∙ ap (λ b. list_any is_separator lines || (b || list_any is_separator others)) e))) (or_true (list_any is_separator lines))
+
+-- ---- a script that was read
 
 -- These are all lines of the script, and at most the one that ends it was read with them.
 pub record ReadsScript (end : ScriptEnd) (unread left : List ℕ) (lines : List (List ℕ)) : Type 0 where
@@ -113,6 +117,8 @@ ReadsScript-through end unread left rest ends shown lines so_far takes e =
           ∙ script_lines-stop end lines (lines_of rest) takes.line so_far.inside last;
       rest = reads.rest ∙ ap (λ n. after_lines n unread) (length-append lines (takes.line ∷ []));
     }
+
+-- ---- of a source, through the end that was found
 
 module _ {S : Type 0} {g : Ghosts S} (old mid new : Lines S g) where
   -- where no line of the script was left, these are all

@@ -52,7 +52,3 @@ lines-whole (x ∷ xs) some is = lines_of-last x xs (all_taken (x ∷ xs) is)
 
 pub no_return-other : (line front : List ℕ) (last : ℕ) → line ≡ front ++ last ∷ [] → last ≢ 13 → line ≡ without_return line
 no_return-other line front last is other = rw is (sym (without_return-other front last other))
-
-pub no_return-empty : (line : List ℕ) → length line ≡ 0 → line ≡ without_return line
-no_return-empty [] none = refl
-no_return-empty (x ∷ xs) none = absurd (omega (arith, none))

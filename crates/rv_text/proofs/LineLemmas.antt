@@ -6,6 +6,8 @@ use Rattle.std.proofs.lemmas.Bool.{cases_lt}
 use Rattle.rv_text.specs.Lines.{has_feed, starts_with_feed, onto_first, lines_of, through_last_feed, after_line, after_lines}
 use Rattle.rv_text.specs.Lines.{without_return}
 
+-- ---- line feeds, and the text through the last one
+
 or_assoc : (a b c : Bool) → a || (b || c) ≡ (a || b) || c
 or_assoc true b c = refl
 or_assoc false b c = refl
@@ -45,9 +47,7 @@ through_last_feed-cons x xs = go (nat_eq x 10 || has_feed xs) where
   go true e = (refl, cc)
   go false e = cc
 
-or_false-right : (a b : Bool) → a || b ≡ true → a ≡ false → b ≡ true
-or_false-right true b h e = cc
-or_false-right false b h e = h
+-- ---- the lines of finished lines and of what follows
 
 onto_first-some : (x : ℕ) (ls : List (List ℕ)) → onto_first x ls ≡ [] → ⊥
 onto_first-some x [] e = cc
@@ -94,6 +94,8 @@ or_none false b h = (refl, h)
 and_false : (b : Bool) → b && false ≡ false
 and_false true = refl
 and_false false = refl
+
+-- ---- one line
 
 -- finished texts make a finished text
 pub through_last_feed-append : (xs ys : List ℕ) → through_last_feed xs ≡ xs → through_last_feed ys ≡ ys → through_last_feed (xs ++ ys) ≡ xs ++ ys
@@ -152,6 +154,8 @@ take-without_return (suc n) (x ∷ []) h = absurd (omega arith)
 take-without_return (suc n) (x ∷ y ∷ ys) h =
     rw (and_false (nat_eq x 13)) (ap (λ (t : List ℕ). x ∷ t) (take-without_return n (y ∷ ys) (omega arith)))
 
+-- ---- what is shown of a line
+
 -- the front that is kept of a line shows as much as the line
 pub cut-kept : (xs : List ℕ) → take 121 (without_return (take 122 xs)) ≡ take 121 (without_return xs)
 cut-kept xs = elim (cases_lt 122 (length xs)) [
@@ -187,6 +191,8 @@ shown-other text front last e h = take-min 121 text ∙ ap (take 121) (e ∙ (sy
 pub shown-empty : (text : List ℕ) → length text ≡ 0 → take (min (length text) 121) text ≡ take 121 (without_return text)
 shown-empty [] h = refl
 shown-empty (x ∷ xs) h = absurd (omega arith)
+
+-- ---- what follows a line
 
 -- what follows a text with no line feed and a line feed
 pub after_line-feed : (xs ys : List ℕ) → has_feed xs ≡ false → after_line (xs ++ 10 ∷ ys) ≡ ys

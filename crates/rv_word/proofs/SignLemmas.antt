@@ -1,14 +1,11 @@
 -- The signed value of a word by cases, and as std's cast has it.
-use Rattle.std.proofs.Common.{◌≡◌, ℕ, suc, ◌+◌, ◌^◌, ◌<◌, ◌≤◌, pos, negsuc, arith}
+use Rattle.std.proofs.Common.{◌≡◌, ℕ, ◌^◌, ◌<◌, pos, arith}
 use Rattle.std.specs.Int.{w32, cast_signed}
 use Rattle.std.proofs.lemmas.Int.{ints}
 use Rattle.rv_word.specs.Word.{signed}
 
 pub signed-low : (n : ℕ) → n < 2 ^ 31 → signed n ≡ pos n
 signed-low n low = grind (arith, ints)
-
-pub signed-high : (n m : ℕ) → n + suc m ≡ 2 ^ 32 → suc m ≤ 2 ^ 31 → signed n ≡ negsuc m
-signed-high n m complement high = grind (arith, ints)
 
 pub signed-is : (n : ℕ) → n < 2 ^ 32 → signed n ≡ cast_signed w32 n
 signed-is n fits = grind (arith, ints)

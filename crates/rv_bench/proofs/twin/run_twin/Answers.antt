@@ -13,26 +13,43 @@ returns-in_err-benches-clause-outcome g c =
     passed_on (RunsTwin g.W.Sink c.args.setup.now c.args.slot c.args.lines.now c.read_image.new.lines c.args.sink.now c.args.sink.now)
     c.from_residual-in_err-benches.result _ c.from_residual-in_err-benches.ensures.1
     (not_started g.W.Sink c.args.setup.now c.args.slot c.as_slice.result.now c.args.lines.now c.read_image.new.lines c.args.sink.now
-    c.in_ok-image.ensures.outcome.0 (λ tells. c.in_ok-image.ensures.outcome.2 tells ∙ ap Ok (sym c.as_slice.ensures.value)) _ c.in_err-benches.ensures)
+    (record {
+      through = c.in_ok-image.ensures.outcome.0;
+      gives = λ tells. c.in_ok-image.ensures.outcome.2 tells ∙ ap Ok (sym c.as_slice.ensures.value);
+      ends = c.in_ok-image.ensures.end;
+    }) _ c.in_err-benches.ensures)
 
 pub returns-in_err-run_lines-clause-outcome : goal.returns-in_err-run_lines-clause-outcome
 returns-in_err-run_lines-clause-outcome g c =
     passed_on (RunsTwin g.W.Sink c.args.setup.now c.args.slot c.args.lines.now c.run_lines.new.lines c.args.sink.now c.run_lines.new.sink)
     c.from_residual-in_err-run_lines.result _ c.from_residual-in_err-run_lines.ensures.1
     (first_fails g.W.Sink c.args.setup.now c.args.slot c.as_slice.result.now c.args.lines.now c.read_image.new.lines c.args.sink.now
-    c.in_ok-image.ensures.outcome.0 (λ tells. c.in_ok-image.ensures.outcome.2 tells ∙ ap Ok (sym c.as_slice.ensures.value))
+    (record {
+      through = c.in_ok-image.ensures.outcome.0;
+      gives = λ tells. c.in_ok-image.ensures.outcome.2 tells ∙ ap Ok (sym c.as_slice.ensures.value);
+      ends = c.in_ok-image.ensures.end;
+    })
     _ c.in_ok-benches.ensures _ _ c.run_lines.ensures.end _ c.in_err-run_lines.ensures.outcome)
 
 pub returns-clause-outcome : goal.returns-clause-outcome
 returns-clause-outcome g c =
     let first = c.in_ok-run_lines.ensures.outcome in
     second_part g.W.Sink c.args.setup.now c.args.slot c.as_slice.result.now c.args.lines.now c.read_image.new.lines c.args.sink.now
-    c.in_ok-image.ensures.outcome.0 (λ tells. c.in_ok-image.ensures.outcome.2 tells ∙ ap Ok (sym c.as_slice.ensures.value))
-    _ c.in_ok-benches.ensures c.run_lines.new.lines c.run_lines.new.sink
-    (one_bench-runs g.W.Sink first c.run_lines.ensures.end (λ _. refl) (refl, refl) (λ is. cc)) _
-    (one_bench-state g.W.Sink first c.run_lines.ensures.end)
-    c.run_second.new.lines c.run_second.new.sink c.in_ok-image.ensures.end c.run_lines.ensures.end c.run_second.ensures.end
-    c.run_second.result c.run_second.ensures.outcome
+    (record {
+      through = c.in_ok-image.ensures.outcome.0;
+      gives = λ tells. c.in_ok-image.ensures.outcome.2 tells ∙ ap Ok (sym c.as_slice.ensures.value);
+      ends = c.in_ok-image.ensures.end;
+    })
+    _ c.in_ok-benches.ensures
+    (record {
+      next = c.run_lines.new.lines;
+      between = c.run_lines.new.sink;
+      then = _;
+      runs = one_bench-runs g.W.Sink first c.run_lines.ensures.end (λ _. refl) (refl, refl) (λ is. cc);
+      state = one_bench-state g.W.Sink first c.run_lines.ensures.end;
+      ends = c.run_lines.ensures.end;
+    })
+    c.run_second.new.lines c.run_second.new.sink c.run_second.ensures.end c.run_second.result c.run_second.ensures.outcome
 
 pub returns-in_err-run_lines-clause-end : goal.returns-in_err-run_lines-clause-end
 returns-in_err-run_lines-clause-end g c = TellsEnd-more _ _ _ c.in_ok-image.ensures.end c.run_lines.ensures.end

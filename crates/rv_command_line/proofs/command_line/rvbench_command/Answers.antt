@@ -1,11 +1,25 @@
-use Rattle.std.proofs.Common.{refl}
-use Rattle.rv_command_line.proofs.Places.{told_faults, told_free, told_simple, told_subcommand}
+use Rattle.std.proofs.Common.{◌≡◌, ◌∙◌, ap, Err, IfOk, List, Ok, refl, Result, true}
+use Rattle.clap.specs.Words.{app_of, fault_of, is_simple, is_simple_and_free, subcommand_of, Text}
+use Rattle.clap.specs.Walk.{texts}
+use Rattle.clap.specs.declared.builder.command.Command.{Command}
+use Rattle.rv_command_line.specs.CommandLine.{faults_of, kind_names, Names, program, rvbench}
+use Rattle.rv_command_line.proofs.Options.{program_alike}
 use Rattle.rv_command_line.proofs.command_line.rvbench_command.Goals as goal
 
-pub returns : goal.returns
-returns c = record {
-  simple = told_simple _ refl c.with_subcommands.result c.with_subcommands.ensures;
-  free = told_free _ refl c.with_subcommands.result c.with_subcommands.ensures;
-  faults = told_faults _ refl c.with_subcommands.result c.with_subcommands.ensures;
-  subcommand = told_subcommand _ refl c.with_subcommands.result c.with_subcommands.ensures;
+told : {E : Type 0} (names : Names) → texts names.now ≡ kind_names → (r : Result Command E) → IfOk r (λ command. app_of command ≡ program names)
+    → record {
+      simple : IfOk r (λ command. is_simple (app_of command) ≡ true);
+      free : IfOk r (λ command. is_simple_and_free (app_of command) ≡ true);
+      faults : IfOk r (λ command. (words : List Text) → fault_of (app_of command) words ≡ faults_of words);
+      subcommand : IfOk r (λ command. (words : List Text) → subcommand_of (app_of command) words ≡ subcommand_of rvbench words);
+    }
+told names alike (Ok command) e = record {
+  simple = ap is_simple e;
+  free = ap is_simple_and_free e;
+  faults = λ words. ap (λ a. fault_of a words) e ∙ (program_alike names alike words).0;
+  subcommand = λ words. ap (λ a. subcommand_of a words) e ∙ (program_alike names alike words).1;
 }
+told names alike (Err error) none = record { simple = tt; free = tt; faults = tt; subcommand = tt }
+
+pub returns : goal.returns
+returns c = told _ refl c.with_subcommands.result c.with_subcommands.ensures

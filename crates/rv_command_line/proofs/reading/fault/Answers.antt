@@ -1,16 +1,26 @@
-use Rattle.std.proofs.Common.{rules, ◌≡◌, ◌∙◌, ap, sym, not}
+use Rattle.std.proofs.Common.{◌≡◌, ◌∙◌, ◌∷◌, [], Bool, inl, inr, not, refl, sym, true}
+use Rattle.std.proofs.Math.Bool.{or-true}
+use Rattle.std.specs.List.{list_any}
+use Rattle.clap.specs.Kinds.{IsAmong, Kinds}
+use Rattle.clap.specs.declared.error.kind.ErrorKind.{ErrorKind}
 use Rattle.clap.specs.declared.error.kind.ErrorKind.TheVariants as kind
-use Rattle.clap.specs.Values.{kind_of}
 use Rattle.rv_command_line.specs.Faults.{is_help}
-use Rattle.rv_command_line.proofs.FaultKinds.{kind_any, no_help}
 use Rattle.rv_command_line.proofs.reading.fault.Goals as goal
 
+among : (test : ErrorKind → Bool) (k : ErrorKind) (faults : Kinds) → test k ≡ true → IsAmong k faults → list_any test faults ≡ true
+among test k [] holds h = absurd h
+among test k (x ∷ xs) holds (inl e) = rw (sym e, holds) refl
+among test k (x ∷ xs) holds (inr h) = rw (among test k xs holds h) (or-true (test x))
+
+-- any kind but the request for help is a mistake
+no_help : (k : ErrorKind) → (k ≡ kind.DisplayHelp → ⊥) → not (is_help k) ≡ true
+no_help kind.DisplayHelp other = absurd (other refl)
+no_help _ other = refl
+
 pub returns-in-Ok : goal.returns-in-Ok
-returns-in-Ok c faults = kind_any is_help faults c.args.error.now (ap is_help asked) (λ e. search (rules, sym e ∙ asked))
-  where
-    asked : kind_of c.args.error.now ≡ kind.DisplayHelp
-    asked = sym c.kind.ensures ∙ c.in-DisplayHelp.is
+returns-in-Ok c faults (inl memory) = let asked = sym c.kind.ensures ∙ c.in-DisplayHelp.is in cc
+returns-in-Ok c faults (inr h) = among is_help _ faults (rw (sym c.kind.ensures ∙ c.in-DisplayHelp.is) refl) h
 
 pub returns-in_default : goal.returns-in_default
-returns-in_default c faults = kind_any (λ k. not (is_help k)) faults c.args.error.now
-    (no_help _ (λ e. c.in_default.not-DisplayHelp (c.kind.ensures ∙ e))) (λ e. c.in_default.not-OutOfMemory (c.kind.ensures ∙ e))
+returns-in_default c faults (inl memory) = absurd (c.in_default.not-OutOfMemory (c.kind.ensures ∙ memory))
+returns-in_default c faults (inr h) = among (λ k. not (is_help k)) _ faults (no_help _ (λ e. c.in_default.not-DisplayHelp (c.kind.ensures ∙ e))) h

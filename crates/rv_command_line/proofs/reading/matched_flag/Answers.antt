@@ -1,13 +1,22 @@
-use Rattle.std.proofs.Common.{◌≡◌, ℕ, List, Option, Some, None, refl}
-use Rattle.std.specs.Prelude.{option_and_then}
-use Rattle.clap.specs.Words.{found_of, one_text}
+use Rattle.std.proofs.Common.{◌≡◌, Bool, codes, false, List, None, ℕ, Option, refl, Some, true}
+use Rattle.std.proofs.lemmas.Bool.{false_from_ne_true}
+use Rattle.std.proofs.lemmas.Slice.Eq.{bytes_eq-Decides}
+use Rattle.std.specs.Str.{bytes_eq}
+use Rattle.std.specs.Str.Parse.{ParsesBool}
+use Rattle.clap.specs.Words.{found_of, ReadsOne}
+use Rattle.rv_command_line.proofs.Numbers.{got}
 use Rattle.rv_command_line.specs.Job.{truth_in_text}
-use Rattle.rv_command_line.proofs.Truths.{reads_truth}
 use Rattle.rv_command_line.proofs.reading.matched_flag.Goals as goal
 
-pub returns : goal.returns
-returns c = read _ refl
+-- the value that `get_one::<bool>` reads of a text
+reads_truth : (E : Type 0) (text : List ℕ) (r : Option Bool) → ReadsOne {E = E} ParsesBool text r → r ≡ truth_in_text text
+reads_truth E text (Some true) read = rw read refl
+reads_truth E text (Some false) read = rw read refl
+reads_truth E text None read = rw (other (codes "true") read.1.0, other (codes "false") read.1.1) refl
   where
-    read : (o : Option (List ℕ)) → one_text (found_of c.args.matches.now) c.args.id.now ≡ o → c.get_one.result ≡ option_and_then truth_in_text o
-    read None none = c.get_one.ensures.none none
-    read (Some text) some = reads_truth _ text c.get_one.result (c.get_one.ensures.value text some)
+    other : (t : List ℕ) → (text ≡ t → ⊥) → bytes_eq text t ≡ false
+    other t differs = false_from_ne_true (bytes_eq text t) (λ e. differs ((bytes_eq-Decides text t).0 e))
+
+pub returns : goal.returns
+returns c = got truth_in_text (found_of c.args.matches.now) c.args.id.now c.get_one.result c.get_one.ensures.none
+    (λ text e. reads_truth _ text _ (c.get_one.ensures.value text e))

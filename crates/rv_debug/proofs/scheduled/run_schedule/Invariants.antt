@@ -1,19 +1,20 @@
-use Rattle.std.proofs.Common.{◌≡◌, ◌≤◌, true}
+use Rattle.std.proofs.Common.{◌≡◌, ◌≤◌, bit_or, true}
 use Rattle.rv_debug.specs.Prelude.{has_all}
 use Rattle.rv_debug.proofs.Prelude.{IsBare, KeepsMonitor, harts_of, no_turns, turns}
 use Rattle.rv_debug.proofs.ScheduleLoop.{rest}
+use Rattle.rv_debug.specs.Turns.{runs_told}
 use Rattle.rv_debug.proofs.Turns.{after_turns}
 use Rattle.rv_debug.proofs.scheduled.run_schedule.Given as goal
 
 -- the turns so far, and those that are left
 abbrev pub invariant-loop-digit : goal.invariant-loop-digit
 invariant-loop-digit l = record {
-  turns : turns (rest 0 l.digits) (no_turns l.fn.target) ≡ turns (rest l.digit-index l.digits) (after_turns l.target l.did);
+  turns : turns (rest 0 l.digits) (no_turns l.fn.target) ≡ turns (rest l.digit-index l.digits) (after_turns l.target (runs_told l.first l.second));
   has : has_all (harts_of l.target) (rest l.digit-index l.digits) ≡ true;
   harts : harts_of l.target ≡ harts_of l.fn.target;
-  first : l.did.first.steps ≤ l.digit-index;
-  second : l.did.second.steps ≤ l.digit-index;
+  first : l.first.steps ≤ l.digit-index;
+  second : l.second.steps ≤ l.digit-index;
   bare : IsBare l.fn.target → IsBare l.target;
-  none : IsBare l.fn.target → l.did.entered ≡ 0;
+  none : IsBare l.fn.target → bit_or l.first.entered l.second.entered ≡ 0;
   monitor : KeepsMonitor l.fn.target → KeepsMonitor l.target;
 }

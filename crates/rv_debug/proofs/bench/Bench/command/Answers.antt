@@ -6,7 +6,9 @@ use Rattle.rv_debug.proofs.Isolation.{tells_reach, changes_memory, spares_restin
 use Rattle.rv_debug.proofs.bench.Bench.command.Goals as goal
 
 has : (c : goal.After-stored) → chosen_of c.args.self.now.target < harts_of c.args.self.now.target
-has c = subst (λ (target : Target). chosen_of target < harts_of target) (ap (λ (bench : BenchState). bench.target) c.self.view_is) (subst (λ (n : ℕ). n < harts_of c.self.inside.target) c.chosen.ensures.chosen c.chosen.ensures.has)
+has c =
+    let inside = subst (λ (n : ℕ). n < harts_of c.self.inside.target) c.chosen.ensures.chosen c.chosen.ensures.has in
+    subst (λ (target : Target). chosen_of target < harts_of target) (ap (λ (bench : BenchState). bench.target) c.self.view_is) inside
 
 pub returns-clause-reach : goal.returns-clause-reach
 returns-clause-reach c =

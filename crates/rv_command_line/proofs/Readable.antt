@@ -1,0 +1,88 @@
+-- The rows of options whose values are read.
+use Rattle.std.proofs.Common.{◌∷◌, ◌≡◌, ◌||◌, ◌++◌, [], Bool, codes, cond, false, List, Option, option_map, refl, Some, sym, true}
+use Rattle.std.proofs.lemmas.List.Folds.{list_all-append}
+use Rattle.std.proofs.lemmas.Slice.Eq.{bytes_eq-Decides}
+use Rattle.std.specs.List.{AllByRecursion, list_all}
+use Rattle.std.specs.Option.{option_map_or}
+use Rattle.std.specs.Prelude.{find, is_some, option_and_then, slice_get}
+use Rattle.std.specs.Str.{bytes_eq}
+use Rattle.clap.proofs.WalkLemmas.{both}
+use Rattle.clap.specs.Values.{read_as}
+use Rattle.clap.specs.Walk.{first_of, more_values, one_of, Row, row_text, Text, with_values, without}
+use Rattle.clap.specs.declared.builder.value_parser.Reading.{Reading}
+use Rattle.clap.specs.declared.builder.value_parser.Reading.TheVariants as reading
+use Rattle.clap.specs.declared.parser.matches.ValueSource.{ValueSource}
+use Rattle.rv_command_line.specs.Job.{harts_in_text, is_slot, kind_of, number_in_text, truth_in_text}
+
+-- how the value of an option is read, by the option's id
+abbrev pub how : Text → Reading
+how id = cond (bytes_eq id (codes "ram") || bytes_eq id (codes "harts") || bytes_eq id (codes "slot")) reading.WithoutMinus reading.AsWritten
+
+-- and whether a text is the value of one
+abbrev pub is_read : Text → Text → Bool
+is_read id text =
+    cond (bytes_eq id (codes "kind")) (is_some (kind_of text))
+    (cond (bytes_eq id (codes "ram")) (is_some (number_in_text 32 text))
+    (cond (bytes_eq id (codes "harts")) (is_some (harts_in_text text))
+    (cond (bytes_eq id (codes "monitor")) (is_some (truth_in_text text))
+    (cond (bytes_eq id (codes "slot")) (is_slot text) true))))
+
+abbrev pub are_values : Text → List Text → Bool
+are_values id = list_all (λ v. is_read id (read_as (how id) v))
+
+abbrev pub GoodRow : Row → Type 0
+GoodRow r = (r.reading ≡ how r.id) × (are_values r.id r.values ≡ true)
+
+abbrev pub Good : List Row → Type 0
+Good = AllByRecursion GoodRow
+
+pub either_good : (b : Bool) (rows others : List Row) → Good rows → Good others → Good (cond b rows others)
+either_good true rows others good other = good
+either_good false rows others good other = other
+
+pub without_good : (id : Text) (rows : List Row) → Good rows → Good (without id rows)
+without_good id [] good = tt
+without_good id (r ∷ rs) good = go (bytes_eq r.id id) (without_good id rs good.1)
+  where
+    go : (b : Bool) → Good (without id rs) → Good (cond b rs (r ∷ without id rs))
+    go true rest = good.1
+    go false rest = (good.0, rest)
+
+pub values_good : (id : Text) (s : ValueSource) (values : List Text) (rows : List Row) → are_values id values ≡ true → Good rows
+    → Good (with_values id (how id) s values rows)
+values_good id s values [] new good = ((refl, new), tt)
+values_good id s values (r ∷ rs) new good = go (bytes_eq r.id id) refl (values_good id s values rs new good.1)
+  where
+    go : (b : Bool) → bytes_eq r.id id ≡ b → Good (with_values id (how id) s values rs)
+        → Good (cond b (more_values s values r ++ rs) (r ∷ with_values id (how id) s values rs))
+    go true e rest =
+        let same = (bytes_eq-Decides r.id id).0 e in
+        ((good.0.0, rw (list_all-append (λ v. is_read r.id (read_as (how r.id) v)) r.values values, good.0.1, same) new), good.1)
+    go false e rest = (good.0, rest)
+
+-- what is so of each good row of an id is so of the one that is found
+row_read : (id : Text) (text : Row → Option Text) → ((r : Row) → r.id ≡ id → GoodRow r → option_map_or (is_read id) (text r) true ≡ true)
+    → (rows : List Row) → Good rows → option_map_or (is_read id) (option_and_then text (find (λ r. bytes_eq r.id id) rows)) true ≡ true
+row_read id text each [] good = refl
+row_read id text each (r ∷ rs) good = go (bytes_eq r.id id) refl (row_read id text each rs good.1)
+  where
+    go : (b : Bool) → bytes_eq r.id id ≡ b → option_map_or (is_read id) (option_and_then text (find (λ r. bytes_eq r.id id) rs)) true ≡ true
+        → option_map_or (is_read id) (option_and_then text (cond b (Some r) (find (λ r. bytes_eq r.id id) rs))) true ≡ true
+    go true e rest = each r ((bytes_eq-Decides r.id id).0 e) good.0
+    go false e rest = rest
+
+-- the first of values that are read, as it is read
+first_read : (id : Text) (vs : List Text) → are_values id vs ≡ true
+    → option_map_or (is_read id) (option_map (read_as (how id)) (slice_get vs 0)) true ≡ true
+first_read id [] e = refl
+first_read id (v ∷ vs) e = (both (is_read id (read_as (how id) v)) (are_values id vs) e).0
+
+pub one_read : (id : Text) (rows : List Row) → Good rows → option_map_or (is_read id) (one_of id rows) true ≡ true
+one_read id = row_read id row_text (λ r same good. rw (good.0, sym same) (first_read r.id r.values good.1))
+
+pub kind_read : (rows : List Row) → Good rows → option_map_or (is_read (codes "kind")) (first_of (codes "kind") rows) true ≡ true
+kind_read = row_read (codes "kind") (λ r. slice_get r.values 0) (λ r same good. first r.values (rw same at good.1))
+  where
+    first : (vs : List Text) → are_values (codes "kind") vs ≡ true → option_map_or (is_read (codes "kind")) (slice_get vs 0) true ≡ true
+    first [] e = refl
+    first (v ∷ vs) e = (both (is_read (codes "kind") v) (are_values (codes "kind") vs) e).0
