@@ -12,7 +12,7 @@ from .replies import ran_of, register_values
 from .run import End, Stretch
 from .show import Style, place_text, run_object
 
-BATCH = 200  # steps of the enclave in one exchange
+MOST_STEPS = 200  # of the enclave in one exchange
 PATIENCE = 1000000  # steps in which the host has to enter it
 ROW = 64  # bytes that `mem` shows at once
 
@@ -92,16 +92,22 @@ def commands_for(step, is_stopped, is_first):
 
 def interrupted(replay, steps, every):
     """The same steps with the timer before every one of them that is on turn; behind the first difference they are only counted."""
-    outcome, numbered = Outcome(), enumerate(steps)
+    outcome = Outcome()
     with Progress() as progress:
-        while True:
-            part = list(itertools.islice(numbered, BATCH))
-            if not part:
-                return outcome
+        for part in parts_of(enumerate(steps)):
             outcome.steps += len(part)
             progress.tell("%d steps, %d stops", outcome.steps, outcome.stops)
             if not outcome.differs:
                 compare(replay, part, every, outcome)
+    return outcome
+
+
+def parts_of(steps):
+    """Steps for one exchange each. The first are few, since behind a difference each of them may cost the host's whole patience."""
+    count = 1
+    while part := list(itertools.islice(steps, count)):
+        yield part
+        count = min(2 * count, MOST_STEPS)
 
 
 def compare(replay, part, every, outcome):

@@ -18,7 +18,7 @@ PAGES = ("README.md", "docs/TUTORIAL.md")
 LEFT_OUT = ("./check", "./prove", "apt-get")
 BLOCK = re.compile(r"(?:^    .*\n|^\n(?=    ))+", re.M)
 SESSION = "(gdb) "
-SECONDS = 300
+SECONDS = 900  # for a block: the unproved program is slow, and a machine may have other work
 
 
 def blocks(text):

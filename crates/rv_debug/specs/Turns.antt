@@ -18,7 +18,7 @@ nothing_ran = record { steps = 0; trap = None }
 abbrev pub no_turns : Target → AfterTurns
 no_turns state = record { state = state; did = record { first = nothing_ran; second = nothing_ran; entered = 0 } }
 
--- of a run of each hart
+-- what is told of two runs, one of each hart
 abbrev pub runs_told : Ran → Ran → Scheduled
 runs_told first second = record {
   first = record { steps = first.steps; trap = first.trap };
