@@ -34,9 +34,26 @@ help_has ' *--ram <BYTES>' help run
 help_has ' *--kind <' help run
 help_has ' *--monitor ' help run
 help_has ' *--harts <HARTS>' help run
-help_has 'Example: ' twin --help
+for subcommand in '' run twin asm dis; do help_has 'Example: ' $subcommand --help; done
+
+# example_runs NAME WANTED WORD...: the example in the help of the words, run as it stands, writes a last line that begins so.
+example_runs() {
+  local name=$1 wanted=$2 example
+  shift 2
+  example=$("$program" "$@" --help | sed -n "s/^  \(printf '.*\) | rvbench\(.*\)$/\1 | \"\$program\"\2/p")
+  if ! eval "$example" > "$scratch/out" 2> "$scratch/errors" || ! tail -1 "$scratch/out" | grep -q "^$wanted"; then
+    fail "example of $name" "$example: $(tail -1 "$scratch/out")"
+  else
+    pass
+  fi
+}
+
+example_runs rvbench 'x1=ffffffff$'
+example_runs run 'pc=80000004$' run
+example_runs twin 'twin end 4$' twin
+example_runs asm 'e39e00fe$' asm
+example_runs dis 'fff00093 addi x1, x0, -1$' dis
 for option in '--slot <K>' '--kind <' '--ram <BYTES>' '--harts <HARTS>'; do help_has " *$option" twin --help; done
 help_has 'Usage: rvbench run' run --ram 65536 --help
 help_has 'Usage: rvbench run' run --harts 2 --help
-help_has 'Example: ' run --help
 for name in step run break watch reg csr mem dis pmp, enclaves hart; do help_has "  $name " run --help; done

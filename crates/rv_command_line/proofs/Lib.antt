@@ -1,4 +1,5 @@
 mod Alike
+mod InTurn
 mod Numbers
 mod Options
 mod Readable

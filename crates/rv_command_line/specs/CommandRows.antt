@@ -1,7 +1,9 @@
 -- What `clap` is told by the rows of the program's table of commands and options.
-use Rattle.std.specs.Prelude.{map}
+use Rattle.std.specs.Prelude.{◌≡◌, false, map}
 use Rattle.std.specs.Option.{option_map_or}
 use Rattle.clap.specs.Words.{App, Rule, Shape}
+use Rattle.clap.specs.declared.builder.command.Command.{Command}
+use Rattle.clap.specs.declared.builder.command.Command.TheViews.{out-Command as fields_of}
 use Rattle.rv_command_line.specs.CommandLine.{command, flag_rule, valued}
 use Rattle.rv_command_line.specs.declared.subcommands.CommandRow.{CommandRow}
 use Rattle.rv_command_line.specs.declared.subcommands.OptionRow.{OptionRow}
@@ -14,3 +16,7 @@ app_in row = command row.name.now (map rule_in row.options.now)
 
 abbrev pub shape_in : CommandRow → Shape
 shape_in row = (app_in row).top
+
+-- a command whose options are no options of its subcommands
+abbrev pub IsLocal : Command → Type 0
+IsLocal command = (fields_of command).has_globals ≡ false

@@ -1,18 +1,18 @@
 //! The command line, as `clap` is told of it: a command for the program, and one for each subcommand.
 
-ghost use Rattle.std.specs.Prelude.{◌≡◌, false, fold, IfOk, List, map, true};
-ghost use Rattle.clap.specs.Words.{Text, app_of, fault_of, is_simple, is_simple_and_free, new_app, rule_of};
-ghost use Rattle.clap.specs.Words.{subcommand_of, with_subcommand};
+ghost use Rattle.std.specs.Prelude.{◌≡◌, false, IfOk, List, map, true};
+ghost use Rattle.std.specs.List.{All};
+ghost use Rattle.clap.specs.Words.{Text, app_of, fault_of, is_simple, is_simple_and_free, new_app, rule_of, shape_of, subcommand_of};
 ghost use Rattle.clap.specs.declared.builder.command.Command.TheViews.{out-Command as fields_of};
 ghost use Rattle.rv_command_line.specs.CommandLine.{faults_of, rvbench};
-ghost use Rattle.rv_command_line.specs.CommandRows.{app_in, rule_in, shape_in};
+ghost use Rattle.rv_command_line.specs.CommandRows.{IsLocal, app_in, rule_in, shape_in};
 
 use crate::subcommands::{CommandRow, OptionRow, PROGRAM, SUBCOMMANDS};
 use clap::{Arg, ArgAction, Command};
 use std::alloc::{AllocError, Global};
 
-/// A command, or that memory was refused for it.
-type Made<'a> = Result<Command<'a>, AllocError>;
+/// What was made, or that memory was refused for it.
+type Made<T> = Result<T, AllocError>;
 
 /// The option of a row.
 fn option_of<'a>(alloc: Global, row: &OptionRow<'a>) -> Arg<'a>
@@ -31,15 +31,13 @@ fn named_command<'a>(alloc: Global, row: &CommandRow<'a>) -> Command<'a>
     ensures app { app_of result ≡ new_app row.now.name.now }
     ensures local { (fields_of result).has_globals ≡ false }
 {
-    let command = Command::new(alloc, row.name).about(row.about);
-    match row.after_help {
-        Some(text) => command.after_help(text),
-        None => command,
-    }
+    Command::new(alloc, row.name)
+        .about(row.about)
+        .after_help(row.after_help)
 }
 
 /// The command of a row, with its options.
-fn command_of<'a>(alloc: Global, row: &CommandRow<'a>) -> Made<'a>
+fn command_of<'a>(alloc: Global, row: &CommandRow<'a>) -> Made<Command<'a>>
     ensures app { IfOk result (λ command. app_of command ≡ app_in row.now) }
     ensures local { IfOk result (λ command. (fields_of command).has_globals ≡ false) }
 {
@@ -50,26 +48,20 @@ fn command_of<'a>(alloc: Global, row: &CommandRow<'a>) -> Made<'a>
     Ok(command)
 }
 
-/// The command with the subcommand of a row.
-fn with_subcommand<'a>(alloc: Global, command: Command<'a>, row: &CommandRow<'a>) -> Made<'a>
-    ensures { IfOk result (λ made. app_of made ≡ with_subcommand (app_of command.entry) (app_in row.now).top) }
+/// The commands of these rows.
+fn commands_of<'a>(alloc: Global, rows: &[CommandRow<'a>]) -> Made<Vec<Command<'a>>>
+    ensures shapes { IfOk result (λ commands. map shape_of commands.items ≡ map shape_in rows.now) }
+    ensures local { IfOk result (λ commands. All IsLocal commands.items) }
 {
-    command.subcommand(command_of(alloc, row)?)
-}
-
-/// The command of a row, with a subcommand for each of these rows.
-fn with_subcommands<'a>(alloc: Global, row: &CommandRow<'a>, rows: &[CommandRow<'a>]) -> Made<'a>
-    ensures { IfOk result (λ made. app_of made ≡ fold with_subcommand (new_app row.now.name.now) (map shape_in rows.now)) }
-{
-    let mut command = named_command(alloc, row);
+    let mut commands = Vec::new(alloc);
     for row in rows {
-        command = with_subcommand(alloc, command, row)?;
+        commands.push(command_of(alloc, row)?)?;
     }
-    Ok(command)
+    Ok(commands)
 }
 
 /// The command line of the program.
-pub(crate) fn rvbench_command<'a>(alloc: Global) -> Made<'a>
+pub(crate) fn rvbench_command<'a>(alloc: Global) -> Made<Command<'a>>
     ensures simple { IfOk result (λ command. is_simple (app_of command) ≡ true) }
     ensures free { IfOk result (λ command. is_simple_and_free (app_of command) ≡ true) }
     ensures faults { IfOk result (λ command. (words : List Text)
@@ -77,5 +69,6 @@ pub(crate) fn rvbench_command<'a>(alloc: Global) -> Made<'a>
     ensures subcommand { IfOk result (λ command. (words : List Text)
         → subcommand_of (app_of command) words ≡ subcommand_of rvbench words) }
 {
-    with_subcommands(alloc, &PROGRAM, SUBCOMMANDS)
+    let subcommands = commands_of(alloc, SUBCOMMANDS)?;
+    named_command(alloc, PROGRAM).subcommands(subcommands)
 }

@@ -16,7 +16,7 @@ pub(crate) struct CommandRow<'a> {
     pub(crate) name: &'a str,
     pub(crate) about: &'a str,
     /// What its help ends with.
-    pub(crate) after_help: Option<&'a str>,
+    pub(crate) after_help: &'a str,
     pub(crate) options: &'a [OptionRow<'a>],
 }
 
@@ -61,6 +61,14 @@ const FIRST_TWIN: &str =
     Example: a host creates an enclave, both hosts destroy theirs, and both find its region cleared:\n  \
     printf '7300000073000000\\n--\\nsetreg 17 0a454e43\\nsetreg 16 1\\nsetreg 10 80020000\\nsetreg 11 1000\\n\
     setreg 14 80020000\\nstep 1\\n--\\nsetreg 16 2\\nsetreg 10 0\\nstep 1\\nmem 80020000 4\\n' | rvbench twin";
+
+/// What the help of `asm` ends with: a first input.
+const FIRST_SOURCE: &str = "Example: a loop of two instructions:\n  \
+    printf 'loop: addi x1, x1, -1\\n bne x1, x0, loop\\n' | rvbench asm";
+
+/// What the help of `dis` ends with: a first input.
+const FIRST_IMAGE: &str = "Example: the word ffff0093, lowest byte first:\n  \
+    printf '9300f0ff\\n' | rvbench dis";
 
 /// What help says of `--kind`.
 const HELP_OF_KIND: &str =
@@ -119,10 +127,10 @@ const HARTS_OF_TWIN: OptionRow<'_> = OptionRow {
 };
 
 /// The program.
-pub(crate) const PROGRAM: CommandRow<'_> = CommandRow {
+pub(crate) const PROGRAM: &CommandRow<'_> = &CommandRow {
     name: "rvbench",
     about: ABOUT_PROGRAM,
-    after_help: Some(FIRST_EXAMPLE),
+    after_help: FIRST_EXAMPLE,
     options: &[],
 };
 
@@ -131,25 +139,25 @@ pub(crate) const SUBCOMMANDS: &[CommandRow<'_>] = &[
     CommandRow {
         name: "run",
         about: ABOUT_RUN,
-        after_help: Some(FIRST_SCRIPT),
+        after_help: FIRST_SCRIPT,
         options: &[KIND, RAM, MONITOR, HARTS_OF_RUN],
     },
     CommandRow {
         name: "twin",
         about: ABOUT_TWIN,
-        after_help: Some(FIRST_TWIN),
+        after_help: FIRST_TWIN,
         options: &[SLOT, KIND, RAM, HARTS_OF_TWIN],
     },
     CommandRow {
         name: "asm",
         about: "Read lines of assembly, and write the image in hexadecimal",
-        after_help: None,
+        after_help: FIRST_SOURCE,
         options: &[],
     },
     CommandRow {
         name: "dis",
         about: "Read an image in hexadecimal, and write its lines of assembly",
-        after_help: None,
+        after_help: FIRST_IMAGE,
         options: &[],
     },
 ];

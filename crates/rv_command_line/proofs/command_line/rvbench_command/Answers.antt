@@ -3,6 +3,7 @@ use Rattle.clap.specs.Words.{app_of, fault_of, is_simple, is_simple_and_free, su
 use Rattle.clap.specs.Walk.{texts}
 use Rattle.clap.specs.declared.builder.command.Command.{Command}
 use Rattle.rv_command_line.specs.CommandLine.{faults_of, kind_names, Names, program, rvbench}
+use Rattle.rv_command_line.proofs.InTurn.{told_in_turn}
 use Rattle.rv_command_line.proofs.Options.{program_alike}
 use Rattle.rv_command_line.proofs.command_line.rvbench_command.Goals as goal
 
@@ -22,4 +23,8 @@ told names alike (Ok command) e = record {
 told names alike (Err error) none = record { simple = tt; free = tt; faults = tt; subcommand = tt }
 
 pub returns : goal.returns
-returns c = told _ refl c.with_subcommands.result c.with_subcommands.ensures
+returns c =
+    let made = c.in_ok-subcommands in
+    told _ refl c.subcommands.result
+    (told_in_turn _ _ made.subcommands.items c.named_command.result c.named_command.ensures.app made.ensures.shapes made.ensures.local
+    c.subcommands.result c.subcommands.ensures)
