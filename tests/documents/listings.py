@@ -1,6 +1,7 @@
 #!/usr/bin/env python3
 """tests/documents/listings.py --check: tells where a register, an instruction or a call of the monitor that a definition lists is
-missing, or is another, in a list that no proof compares with it: those of the tests, of ./rvlook, of the examples and of the pages.
+missing, or is another, in a list that no proof compares with it: those of the tests, of ./rvlook, of the examples and of the pages;
+and where a count of instructions is another.
 """
 import os
 import re
@@ -98,8 +99,14 @@ def of_registers():
             yield f"CSRS of look/names.py has {name} for {known[number]}"
 
 
+def operations():
+    """How many operations rv_hart does at once."""
+    variants = text_of("crates/rv_hart/src/decoded.rt").split("enum Operation {\n", 1)[1].split("\n}", 1)[0]
+    return len(set(re.findall(r"^    (\w+),$", variants, re.M)) - {"Fresh", "Other"})
+
+
 def of_instructions():
-    """What is missing or too much in lists of instructions."""
+    """What is missing or too much in lists of instructions, and counts of them that are another."""
     known = instructions()
     model = {it.split()[0] for it in [*instruction_words.ROWS, *instruction_words.WHOLE]} - {".word", "fence.tso"}
     page = set(re.findall(r"`([a-z][\w.]*)\b[^`]*`", text_of("docs/ISA.md").split("## Instructions", 1)[1].split("\n\n", 2)[1]))
@@ -108,8 +115,16 @@ def of_instructions():
     yield from (f"tests/models/instruction_words.py has {it}, which is no instruction" for it in sorted(model - known))
     yield from (f"the table of docs/ISA.md lacks {it}" for it in sorted(known - page))
     yield from (f"docs/ASSEMBLER.md lacks {it}" for it in sorted(known) if not re.search(rf"`{re.escape(it)}\b", assembler))
-    if str(len(known)) not in re.findall(r"the (\d+) instructions", assembler + text_of("docs/PROMISES.md")):
-        yield f"docs/ASSEMBLER.md or docs/PROMISES.md counts other than {len(known)} instructions"
+    for name, begins in (("tests/scripts/refused_texts", r"^\d+ \d+ "), ("crates/rv_input_tests/src/disassembler_tests.rt", '"')):
+        text = text_of(name)
+        yield from (f"{name} lacks {it}" for it in sorted(known) if not re.search(rf'{begins}{re.escape(it)}(?:[ "]|$)', text, re.M))
+    for name, form, what, count in (
+            ("crates/rv_encoding/specs/Listing.antt", r"^-- The (\d+) instructions", "instructions", len(known)),
+            ("docs/ASSEMBLER.md", r"the (\d+) instructions", "instructions", len(known)),
+            ("docs/PROMISES.md", r"the (\d+) rows", "rows", len(known)),
+            ("docs/ARCHITECTURE.md", r"\b(?:one of|(?:one|none) of the) (\d+)\b", "operations", operations())):
+        if set(re.findall(form, text_of(name), re.M)) != {str(count)}:
+            yield f"{name} counts other than {count} {what}"
 
 
 def constant(name):
