@@ -235,11 +235,13 @@ def fences():
 
 
 def what_is_no_instruction():
-    dis("words_of_no_instruction", [
-        0, 1, 2, 3, 0xFFFFFFFF, 0xFFFFFFFE, 0x12345678, 0x0000100F, 0x0000200F, 0x0000700F, 0x02009093, 0x4000D092, 0x42105093,
+    words = [
+        0, 1, 2, 0xFFFFFFFF, 0xFFFFFFFE, 0x12345678, 0x0000100F, 0x0000200F, 0x0000700F, 0x02009093, 0x4000D092, 0x42105093,
         0x02105093, 0x40209093, 0xC0105093, 0x00001067, 0x00007067, 0x00002063, 0x00003063, 0x00003003, 0x00006003, 0x00007003,
         0x00003023, 0x00004023, 0x00007023, 0x40001033, 0x40002033, 0x40004033, 0x40006033, 0x40007033, 0x04000033, 0x08000033,
-        0x42000033, 0x80000033, 0xFE000033, 0x00004073])
+        0x42000033, 0x80000033, 0xFE000033, 0x00004073]
+    assert all(disassembled(word).startswith(".word ") for word in words)
+    dis("words_of_no_instruction", words)
     dis("neighbours_of_whole_words", [
         word ^ 1 << bit for word in WHOLE.values() if word & 0x7F == 0x73 for bit in range(32)] + [
         0x00200073, 0x10000073, 0x7B200073, 0x12000073, 0x12000073 | 31 << 15, 0x12000073 | 31 << 20, 0x12000073 | 1 << 7,
