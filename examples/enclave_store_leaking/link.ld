@@ -21,6 +21,7 @@ SECTIONS
     .text : { *(.text.start) *(.text .text.*) *(.rodata .rodata.* .srodata .srodata.*) } > HOST :host
     .data : ALIGN(16) { *(.data .data.* .sdata .sdata.*) } > HOST :data
     .bss : { *(.sbss .sbss.*) *(.bss .bss.*) *(COMMON) } > HOST :data
+    host_stack_bottom = ALIGN(16);
     .enclave :
     {
         *(.enclave.text.start) *(.enclave.text .enclave.text.*)
@@ -28,6 +29,7 @@ SECTIONS
         . = ALIGN(16);
         *(.enclave.data .enclave.data.* .enclave.sdata .enclave.sdata.* .enclave.sbss .enclave.sbss.* .enclave.bss .enclave.bss.*)
     } > REGION :enclave
+    application_stack_bottom = ALIGN(16);
     host_stack_top = ORIGIN(HOST) + LENGTH(HOST);
     region_base = ORIGIN(REGION);
     region_size = LENGTH(REGION);
@@ -35,5 +37,6 @@ SECTIONS
     window_size = LENGTH(WINDOW);
     runtime_stack_top = ORIGIN(REGION) + LENGTH(REGION);
     application_stack_top = ORIGIN(REGION) + LENGTH(REGION) - 512;
+    runtime_stack_bottom = application_stack_top;
     /DISCARD/ : { *(.comment) *(.note .note.*) *(.eh_frame*) *(.riscv.attributes) *.attributes *(.enclave.eh_frame*) }
 }

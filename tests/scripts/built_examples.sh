@@ -22,7 +22,7 @@ has() {
 if [[ $(clang --version 2> "$scratch/out") == *"version 14."* ]] && has ld.lld llvm-nm llvm-objcopy llvm-objdump; then
   for name in enclave_adds enclave_bug enclave_hmac enclave_hmac_attacked enclave_refused enclave_store enclave_store_leaking \
     enclave_timer monitor_at_rest two_harts; do
-    "$examples/monitor/build" $name > "$scratch/out" 2>&1
+    "$examples/monitor/build" $name > "$scratch/stacks" 2> "$scratch/out"
     expect "build of $name" 0 $? /dev/null "$scratch/out"
     for part in image listing stdin; do
       cmp "$here/../examples/$name/$part" "$examples/$name/$part" > "$scratch/out"
@@ -101,9 +101,9 @@ for compiler in clang gcc; do
   is_refused "an enclave without a function" "build: no source has what is used: __udivdi3
   memcpy, memmove, memset and memcmp are given; every other function a file of the folder must have
   a name with two underscores before it is the compiler's own, as __udivdi3 for a division of 64 bits" --$compiler "$missing"
-  "$examples/monitor/build" --$compiler "$given" > "$scratch/out" 2>&1
+  "$examples/monitor/build" --$compiler "$given" > "$scratch/stacks" 2> "$scratch/out"
   expect "build of an enclave that has no memcpy, --$compiler" 0 $? /dev/null "$scratch/out"
-  CFLAGS=-DADDED=7 "$examples/monitor/build" --$compiler "$more" > "$scratch/out" 2>&1
+  CFLAGS=-DADDED=7 "$examples/monitor/build" --$compiler "$more" > "$scratch/stacks" 2> "$scratch/out"
   expect "build of more files, with CFLAGS, --$compiler" 0 $? /dev/null "$scratch/out"
   for folder in "$given" "$more"; do
     halt=$(sed -n 's/^\([0-9a-f]*\)  halt$/\1/p' "$folder/listing")
@@ -118,7 +118,7 @@ for compiler in clang gcc; do
   echo 0 > "$scratch/wanted"
   cmp "$scratch/wanted" "$scratch/out" > "$scratch/compared"
   expect "stores of bytes, --$compiler" 0 $? "$scratch/wanted" "$scratch/out"
-  "$examples/monitor/build" --$compiler "$own" "$scratch/own.elf" > "$scratch/out" 2>&1
+  "$examples/monitor/build" --$compiler "$own" "$scratch/own.elf" > "$scratch/stacks" 2> "$scratch/out"
   expect "build of an enclave with a memcpy of its own, --$compiler" 0 $? /dev/null "$scratch/out"
   grep -c '^00002000  region_size$' "$own/listing" > "$scratch/out"
   echo 1 > "$scratch/wanted"
@@ -127,7 +127,7 @@ for compiler in clang gcc; do
   echo "80030000: d2 04 00 00 e1 10 00 00 b3 15 00 00" > "$scratch/wanted"
   expect "its run, --$compiler" 0 $? "$scratch/wanted" "$scratch/out"
   # the HMAC, by whichever compiler: the codes that Python gives
-  "$examples/monitor/build" --$compiler enclave_hmac > "$scratch/out" 2>&1
+  "$examples/monitor/build" --$compiler enclave_hmac > "$scratch/stacks" 2> "$scratch/out"
   expect "build of enclave_hmac, --$compiler" 0 $? /dev/null "$scratch/out"
   codes=$(sed -n 's/^\([0-9a-f]*\)  codes$/\1/p' "$examples/enclave_hmac/listing")
   halt=$(sed -n 's/^\([0-9a-f]*\)  halt$/\1/p' "$examples/enclave_hmac/listing")
