@@ -6,7 +6,9 @@ trip, not one for each.
 import fcntl
 import os
 import select
+import signal
 import subprocess
+import sys
 import time
 from functools import lru_cache
 
@@ -31,12 +33,20 @@ def program_path():
 
 
 def built_program():
-    """The program that ./prove has built, or an unproved one; which is told on standard error."""
+    """The program that ./prove has built, or an unproved one, which is built now if there is none. Ends the build on SIGTERM and Ctrl-C."""
     finder = os.path.join(os.path.dirname(os.path.dirname(os.path.abspath(__file__))), "tools", "program")
-    done = subprocess.run([finder, "rvlook"], stdin=subprocess.DEVNULL, stdout=subprocess.PIPE, text=True, check=False)
-    if done.returncode:
+    with subprocess.Popen([finder, "rvlook"], stdin=subprocess.DEVNULL, stdout=subprocess.PIPE, text=True) as building:
+        old = signal.signal(signal.SIGTERM, lambda *_: sys.exit(128 + signal.SIGTERM))
+        try:
+            path = building.communicate()[0]
+        except BaseException:
+            building.terminate()
+            raise
+        finally:
+            signal.signal(signal.SIGTERM, old)
+    if building.returncode:
         raise Fault("there is no program; ./prove builds it, or RVBENCH names another")
-    return done.stdout.rstrip("\n")
+    return path.rstrip("\n")
 
 
 def widen(*pipes):

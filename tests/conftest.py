@@ -1,4 +1,4 @@
-"""Fixtures that the tests of rvlook share: how rvlook is run, and the programs that it is run on.
+"""Fixtures that the tests share: how rvlook is run, and the programs that it is run on.
 
 `RVBENCH` names the built program. A test program is a folder of `tests/rvlook/programs`: its C sources, and the image and the listing that
 `examples/monitor/build` made of them, so that the tests need no compiler.
@@ -11,9 +11,9 @@ from pathlib import Path
 
 import pytest
 
-ROOT = Path(__file__).resolve().parents[2]
+ROOT = Path(__file__).resolve().parents[1]
 RVLOOK = ROOT / "rvlook"
-PROGRAMS = Path(__file__).resolve().parent / "programs"
+PROGRAMS = ROOT / "tests" / "rvlook" / "programs"
 BUILD = ROOT / "examples" / "monitor" / "build"
 SECONDS = 120
 
