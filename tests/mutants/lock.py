@@ -1,0 +1,92 @@
+"""`mutants.lock`: the texts over which the prover last rejected the mutants.
+
+It has a line for each crate: its name, the number of its mutants, and a digest. The digest is of the sources, definitions and proofs of the crate
+and of the crates below it, of their lines in crates.txt, of the mutants, of the scripts that judge them, and of the kit. An equal digest means
+that these mutants were rejected over just these texts.
+"""
+import hashlib
+import os
+import re
+import subprocess
+
+from mutants import read as read_mutants
+
+HERE = os.path.dirname(os.path.realpath(__file__))
+FILE = f"{HERE}/mutants.lock"
+# The scripts that judge a mutant.
+JUDGES = ("copies.py", "mutants.py", "prover.py", "trial.py")
+# Of the mutants of unchanged crates, one in so many is tried.
+PARTS = 12
+TITLE = "# crate, mutants, digest of all that the result depends on; written by tests/mutants/run --all\n"
+
+
+class Unreadable(Exception):
+    """Why `mutants.lock` cannot be read."""
+
+
+def kit_line():
+    """The identity of the Rattle kit."""
+    return subprocess.run(["rt", "version"], capture_output=True, text=True, check=True).stdout.strip()
+
+
+def digest(crate, kit):
+    """The digest of all that the result of the crate's mutants depends on."""
+    of = hashlib.sha256(kit.encode())
+    for it in [crate, *sorted(crate.below(), key=lambda it: it.name)]:
+        libraries = sorted([*it.of_kit, *(dep.name for dep in it.deps)])
+        of.update(f"\0{it.name}: {' '.join(libraries)}".encode())
+        for part in ("src", "specs", "proofs"):
+            add_files(of, f"{it.folder}/{part}")
+    for mutant in sorted(read_mutants(crate.name)[0], key=lambda it: it.name):
+        of.update(f"\0{mutant!r}".encode())
+    for it in JUDGES:
+        add_file(of, HERE, it)
+    return of.hexdigest()
+
+
+def add_files(of, folder):
+    for at, folders, names in os.walk(folder):
+        folders.sort()
+        for name in sorted(names):
+            add_file(of, folder, os.path.relpath(f"{at}/{name}", folder))
+
+
+def add_file(of, folder, name):
+    with open(f"{folder}/{name}", "rb") as it:
+        text = it.read()
+    of.update(f"\0{name}\0{len(text)}\0".encode())
+    of.update(text)
+
+
+def read():
+    """The digest of each crate that the lock file has."""
+    found = {}
+    if not os.path.exists(FILE):
+        return found
+    with open(FILE, encoding="utf-8") as it:
+        lines = [line for line in it.read().split("\n") if line and not line.startswith("#")]
+    for line in lines:
+        match = re.fullmatch(r"(\w+) (\d+) ([0-9a-f]{64})", line)
+        if not match or match[1] in found:
+            raise Unreadable(f"the line '{line}' is no crate with its count and digest, or a second one of a crate")
+        found[match[1]] = match[3]
+    return found
+
+
+def write(found):
+    """Writes the digest of each crate."""
+    with open(FILE, "w", encoding="utf-8") as it:
+        it.write(TITLE + "".join(f"{crate} {len(read_mutants(crate)[0])} {of}\n" for crate, of in sorted(found.items())))
+
+
+def sample(mutants, commit):
+    """One in PARTS of these mutants: neighbours, so that few crates are proved for them. The hash of the commit chooses which."""
+    part = int(commit, 16) % PARTS
+    first, end = (len(mutants) * it // PARTS for it in (part, part + 1))
+    return mutants[first:end]
+
+
+def commit(root):
+    """The hash of the commit that is checked out."""
+    ran = subprocess.run(["git", "rev-parse", "HEAD"], cwd=root, capture_output=True, text=True)
+    return ran.stdout.strip() if ran.returncode == 0 else hashlib.sha1(b"no commit").hexdigest()
