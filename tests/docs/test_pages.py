@@ -1,0 +1,38 @@
+"""The pages: no leftovers of another markup, and counts in the text that agree with the tree."""
+import re
+from pathlib import Path
+
+import pytest
+
+ROOT = Path(__file__).resolve().parents[2]
+PAGES = sorted([ROOT / "README.md", *ROOT.glob("docs/**/*.md"), *ROOT.glob("examples/**/*.md"), *ROOT.glob("tests/**/*.md")])
+NUMBERS = {name: number for number, name in enumerate((
+    "zero one two three four five six seven eight nine ten eleven twelve thirteen fourteen fifteen sixteen seventeen eighteen nineteen "
+    "twenty").split())}
+COUNTED = re.compile(r"\b(%s)\s+(?:\[)?attacks\b|\[(%s) attacks\]" % ("|".join(NUMBERS), "|".join(NUMBERS)), re.I)
+
+
+def prose(page):
+    """The lines of a page outside of code blocks, without code spans."""
+    lines, is_code = [], False
+    for line in page.read_text(encoding="utf-8").split("\n"):
+        if line.startswith("```"):
+            is_code = not is_code
+        elif not is_code and not line.startswith("    "):
+            lines.append(re.sub(r"`[^`]*`", "`", line))
+    return lines
+
+
+@pytest.mark.parametrize("page", PAGES, ids=lambda it: str(it.relative_to(ROOT)))
+def test_no_roff_or_html_remains(page):
+    for line in prose(page):
+        assert not re.match(r"[.'][A-Za-z]{1,2}(\s|$)", line), line
+        assert not re.search(r"</?[a-z]+[^>]*>", line.replace("<->", "")), line
+
+
+def test_the_number_of_attacks_is_right():
+    folders = [it for it in (ROOT / "examples" / "attacks").iterdir() if it.is_dir()]
+    told = [(page.name, match) for page in PAGES for match in COUNTED.finditer("\n".join(prose(page)))]
+    assert len(told) >= 3
+    for page, match in told:
+        assert NUMBERS[(match[1] or match[2]).lower()] == len(folders), page
