@@ -32,7 +32,7 @@ def test_no_roff_or_html_remains(page):
 
 def test_the_number_of_attacks_is_right():
     folders = [it for it in (ROOT / "examples" / "attacks").iterdir() if it.is_dir()]
-    told = [(page.name, match) for page in PAGES for match in COUNTED.finditer("\n".join(prose(page)))]
-    assert len(told) >= 3
-    for page, match in told:
-        assert NUMBERS[(match[1] or match[2]).lower()] == len(folders), page
+    twins = [it for it in folders if (it / "words").read_text().startswith("twin")]
+    found = [(page.name, NUMBERS[(match[1] or match[2]).lower()]) for page in PAGES for match in COUNTED.finditer("\n".join(prose(page)))]
+    assert {number for _, number in found} <= {len(folders), len(twins)}, found
+    assert sum(number == len(folders) for _, number in found) >= 3, found
