@@ -7,6 +7,7 @@ import json
 import os
 import shutil
 import subprocess
+import tempfile
 from pathlib import Path
 
 import pytest
@@ -16,6 +17,13 @@ RVLOOK = ROOT / "rvlook"
 PROGRAMS = ROOT / "tests" / "rvlook" / "programs"
 BUILD = ROOT / "examples" / "monitor" / "build"
 SECONDS = 120
+
+
+def pytest_configure(config):
+    """Gives all workers one folder for the generated cases, which the first one that needs it fills."""
+    if not os.environ.get("MADE_CASES"):
+        os.environ["MADE_CASES"] = tempfile.mkdtemp(prefix="rvbench-cases-")
+        config.add_cleanup(lambda: shutil.rmtree(os.environ["MADE_CASES"], ignore_errors=True))
 
 
 @pytest.fixture(scope="session")

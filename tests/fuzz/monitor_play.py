@@ -6,9 +6,9 @@ stop, exit and are destroyed in one script; the code of all worlds is ecalls, ac
 one enclave, which must answer alike. With --beside it is cut in two where an enclave runs on one of two harts: there one secret after another
 is put into its region and its registers, and the second part, which is of the other hart, must be answered the same whichever it is.
 
-    tests/fuzz/monitor_play.py PROGRAM [--twin | --beside] [--harts H] [--seed S] [--count N] [--lines L]
+    python3 -m fuzz.monitor_play PROGRAM [--twin | --beside] [--harts H] [--seed S] [--count N] [--lines L]
                                                                                                   N scripts of L lines, from this seed on
-    tests/fuzz/monitor_play.py --alone ..                                                         plays the model alone
+    python3 -m fuzz.monitor_play --alone ..                                                         plays the model alone
 
 Where a reply differs, the script is made as small as it gets and printed, with both replies. The last line counts the scripts.
 """
@@ -20,13 +20,11 @@ import random
 import subprocess
 import sys
 
-sys.dont_write_bytecode = True
-sys.path += [sys.path[0] + it for it in ("/../models", "/../generators")]
-from instruction_words import assemble
-from monitor_bench import Bench, Twins, parsed, wanted
-from monitor_case import input_of
-from monitor_model import CREATE, DESTROY, EXIT, HOST_ENTRY, KEY, MEASURE, RESUME, RUN, STOP
-from privileged_hart import NUMBER, ONES, S, START
+from models.instruction_words import assemble
+from models.monitor_bench import Bench, Twins, parsed, wanted
+from generators.monitor_case import input_of
+from models.monitor_model import CREATE, DESTROY, EXIT, HOST_ENTRY, KEY, MEASURE, RESUME, RUN, STOP
+from models.privileged_hart import NUMBER, ONES, S, START
 
 MEMORY = 0x40000
 PAST = START + MEMORY

@@ -2,9 +2,9 @@
 """Makes the cases of asm and dis: every statement, operand and border, labels and lines, and the text of every
 kind of word.
 
-    tests/generators/assembler.py                      writes their digests and samples anew
-    tests/generators/assembler.py --check              tells whether they are what this script writes, and refused_texts as it says
-    tests/generators/assembler.py --check-with-llvm    tells whether llvm-mc gives the same word for each statement
+    python3 -m generators.assembler                      writes their digests and samples anew
+    python3 -m generators.assembler --check              tells whether they are what this script writes, and refused_texts as it says
+    python3 -m generators.assembler --check-with-llvm    tells whether llvm-mc gives the same word for each statement
 
 Nothing here comes from the bench: the assembler and the disassembler that the cases follow are in assembly_model.py.
 """
@@ -13,14 +13,12 @@ import random
 import re
 import sys
 
-sys.dont_write_bytecode = True
-sys.path.append(sys.path[0] + "/../models")
-import case_files
-from assembly_model import (ABI_NAMES, CSRS, CUTS, MATCHES, PLAIN, REGISTERS, ROWS, STATEMENTS, WHOLE, X_NAMES, assembled,
+from generators import case_files
+from models.assembly_model import (ABI_NAMES, CSRS, CUTS, MATCHES, PLAIN, REGISTERS, ROWS, STATEMENTS, WHOLE, X_NAMES, assembled,
                             disassembled, signed)
-from instruction_words import named
+from models.instruction_words import named
 
-REFUSED = os.path.join(os.path.dirname(os.path.dirname(os.path.abspath(__file__))), "scripts", "refused_texts")
+REFUSED = os.path.join(os.path.dirname(os.path.dirname(os.path.abspath(__file__))), "cli", "refused_texts")
 BRANCHES, LOADS, STORES, IMMEDIATES, SHIFTS, PRODUCTS, CSR_ROWS, CSR_NUMBERS = (
     named(kind) for kind in ("branch", "load", "store", "immediate", "shift", "register", "csr", "csr_number"))
 SETS = ["".join(letter for i, letter in enumerate("iorw") if letters & 8 >> i) or "0" for letters in range(16)]

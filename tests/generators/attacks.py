@@ -4,8 +4,8 @@ attack.s, or the folder's program.s, are assembled by assembly_model.py to the f
 script of its stdin, and the model of monitor_bench.py writes its stdout. Where the script has a secret, a second input, other, has another
 one: each byte and word of it is the complement.
 
-    tests/generators/attacks.py            builds all of them
-    tests/generators/attacks.py --check    tells whether they are as it builds them, and whether each attack fails: both benches answer
+    python3 -m generators.attacks            builds all of them
+    python3 -m generators.attacks --check    tells whether they are as it builds them, and whether each attack fails: both benches answer
                                            each line alike, both secrets have the same output, or the enclave that runs comes to its end
                                            and has counted to 32
 
@@ -14,11 +14,9 @@ Nothing here comes from the bench.
 import os
 import sys
 
-sys.dont_write_bytecode = True
-sys.path.append(sys.path[0] + "/../models")
-from assembly_model import assembled, disassembled, lines_of, read_line, words_of
-from monitor_bench import cut_at, wanted
-from monitor_model import HOST_ENTRY
+from models.assembly_model import assembled, disassembled, lines_of, read_line, words_of
+from models.monitor_bench import cut_at, wanted
+from models.monitor_model import HOST_ENTRY
 
 ROOT = os.path.dirname(os.path.dirname(os.path.dirname(os.path.abspath(__file__))))
 EXAMPLES = os.path.join(ROOT, "examples")

@@ -7,8 +7,8 @@ import hashlib
 import os
 import sys
 
-import case_format
-from instruction_words import differing_from_llvm
+from models import case_format
+from models.instruction_words import differing_from_llvm
 
 CASES = os.path.join(os.path.dirname(os.path.dirname(os.path.abspath(__file__))), "cases")
 DIGESTS = os.path.join(CASES, "digests")

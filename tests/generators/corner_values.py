@@ -3,9 +3,9 @@
 one for each trap that it takes in mode M, since nothing goes on after a trap: there is no memory at 0. The instructions of
 Zicsr and the other privileged ones are in csr_table.py and traps.py.
 
-    tests/generators/corner_values.py                      writes its digest and sample anew
-    tests/generators/corner_values.py --check              tells whether they are what this script writes
-    tests/generators/corner_values.py --check-with-llvm    tells whether llvm-mc gives the same word for each assembly text
+    python3 -m generators.corner_values                      writes its digest and sample anew
+    python3 -m generators.corner_values --check              tells whether they are what this script writes
+    python3 -m generators.corner_values --check-with-llvm    tells whether llvm-mc gives the same word for each assembly text
 
 Nothing here comes from the bench. Results are computed by the formulas of instruction_results.py, and cut to 32 bits at the end;
 where an instruction goes, which bytes it loads and stores, and what it traps with, is written out for each group below. Words are
@@ -14,11 +14,9 @@ which it cannot spell.
 """
 import sys
 
-sys.dont_write_bytecode = True
-sys.path.append(sys.path[0] + "/../models")
-import case_files
-from instruction_results import RESULT, TAKEN
-from instruction_words import WHOLE, assemble, named
+from generators import case_files
+from models.instruction_results import RESULT, TAKEN
+from models.instruction_words import WHOLE, assemble, named
 
 START, PAST, ONES = 0x80000000, 0x80100000, 0xFFFFFFFF  # the first byte of RAM, the first one behind it, all ones
 CORNERS = [0, 1, 2, 0x12345678, 0x7FFFFFFF, 0x80000000, ONES]

@@ -2,20 +2,18 @@
 """Makes the cases of csr_table: what each number of a control and status register reads, what a write leaves, and
 which accesses are illegal, from each mode.
 
-    tests/generators/csr_table.py                      writes its digest and sample anew
-    tests/generators/csr_table.py --check              tells whether they are what this script writes
-    tests/generators/csr_table.py --check-with-llvm    tells whether llvm-mc gives the same word for each assembly text
+    python3 -m generators.csr_table                      writes its digest and sample anew
+    python3 -m generators.csr_table --check              tells whether they are what this script writes
+    python3 -m generators.csr_table --check-with-llvm    tells whether llvm-mc gives the same word for each assembly text
 
 Nothing here comes from the bench: the table and the hart that the cases follow are in privileged_hart.py.
 """
 import sys
 
-sys.dont_write_bytecode = True
-sys.path.append(sys.path[0] + "/../models")
-import case_files
-from instruction_words import named
-from privileged_case import Case, Returning
-from privileged_hart import (KEPT, M, MCAUSE, MEPC, MIE_CSR, MIP, MSCRATCH, MSTATUS, MTVAL, NUMBER, ONES, PMPADDR, PMPCFG,
+from generators import case_files
+from models.instruction_words import named
+from generators.privileged_case import Case, Returning
+from models.privileged_hart import (KEPT, M, MCAUSE, MEPC, MIE_CSR, MIP, MSCRATCH, MSTATUS, MTVAL, NUMBER, ONES, PMPADDR, PMPCFG,
                              S, SATP, SSTATUS, TABLE, TVM, U)
 
 MISSING = [0x000, 0x001, 0x0FF, 0x101, 0x102, 0x103, 0x107, 0x13F, 0x145, 0x17F, 0x181, 0x1FF, 0x200, 0x2FF, 0x307, 0x311,

@@ -3,20 +3,18 @@
 first, sets of 32 addresses and one more, poke, hart and sched of the one hart, every malformed line of these commands, and long
 scripts of them.
 
-    tests/generators/debugger.py                      writes its digest and sample anew
-    tests/generators/debugger.py --check              tells whether they are what this script writes
-    tests/generators/debugger.py --check-with-llvm    tells whether llvm-mc gives the same word for each assembly text
+    python3 -m generators.debugger                      writes its digest and sample anew
+    python3 -m generators.debugger --check              tells whether they are what this script writes
+    python3 -m generators.debugger --check-with-llvm    tells whether llvm-mc gives the same word for each assembly text
 
 Nothing here comes from the bench: replies are those of the model of monitor_bench.py, over a bare hart. Where a reply is written here, by
 hand, the model gives the same.
 """
 import sys
 
-sys.dont_write_bytecode = True
-sys.path.append(sys.path[0] + "/../models")
-import case_files
-from instruction_words import assemble, named
-from monitor_bench import Bench
+from generators import case_files
+from models.instruction_words import assemble, named
+from models.monitor_bench import Bench
 
 START, PAST, ONES = 0x80000000, 0x80100000, 0xFFFFFFFF
 AREA = START + 0x2000  # data, behind the code

@@ -3,10 +3,10 @@
 and tests/fuzz/mutated_images: each fault of an ELF file, alone and in company, the borders of each field, a file that is cut to each
 length, what is loaded where, and what is not looked at.
 
-    tests/generators/elf.py                      writes them anew
-    tests/generators/elf.py --check              tells whether they are what this script writes
-    tests/generators/elf.py --check-with-llvm    tells whether llvm-mc gives the same word for the instruction in them
-    tests/generators/elf.py --company            prints the files with two faults as constants, for a test of the loader
+    python3 -m generators.elf                      writes them anew
+    python3 -m generators.elf --check              tells whether they are what this script writes
+    python3 -m generators.elf --check-with-llvm    tells whether llvm-mc gives the same word for the instruction in them
+    python3 -m generators.elf --company            prints the files with two faults as constants, for a test of the loader
 
 Nothing here comes from the bench: which faults a file has and what it loads is worked out in elf_model.py. Where a case is
 made for a fault, its number stands here too, and both must agree.
@@ -14,13 +14,11 @@ made for a fault, its number stands here too, and both must agree.
 import os
 import sys
 
-sys.dont_write_bytecode = True
-sys.path.append(sys.path[0] + "/../models")
-import case_files
-from assembly_model import disassembled
-from elf_files import CODE, elf, header, place_of, program_header, segment, text, with_bytes, with_fields, with_words
-from elf_model import ADDI, END, HEADER, MAGIC, ONES, RAM, START, answer, faults, field, is_no_instruction
-from elf_mutations import looks, mutated, rows
+from generators import case_files
+from models.assembly_model import disassembled
+from generators.elf_files import CODE, elf, header, place_of, program_header, segment, text, with_bytes, with_fields, with_words
+from models.elf_model import ADDI, END, HEADER, MAGIC, ONES, RAM, START, answer, faults, field, is_no_instruction
+from generators.elf_mutations import looks, mutated, rows
 
 ROWS = os.path.join(os.path.dirname(os.path.dirname(os.path.abspath(__file__))), "fuzz", "mutated_images")
 GOOD = elf(segment(START, CODE, 8))

@@ -1,5 +1,5 @@
 """ELF files as bytes, made of program headers and fields, and changed at places; for the cases of elf.py."""
-from elf_model import FIELDS, HEADER, LOAD, MAGIC, PROGRAM_HEADER, START, WORDS
+from models.elf_model import FIELDS, HEADER, LOAD, MAGIC, PROGRAM_HEADER, START, WORDS
 
 CODE = bytes.fromhex("9300f0ff")  # addi x1, x0, -1
 USUAL = {"magic": int.from_bytes(MAGIC, "little"), "class": 1, "data": 1, "ident_version": 1, "ident_rest": 0, "type": 2,

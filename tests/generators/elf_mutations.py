@@ -3,8 +3,8 @@ files for cases of elf.py.
 """
 import random
 
-from elf_files import CODE, elf, place_of, segment, text, with_bytes
-from elf_model import END, FIELDS, HEADER, LOAD, ONES, RAM, START, answer, program_headers
+from generators.elf_files import CODE, elf, place_of, segment, text, with_bytes
+from models.elf_model import END, FIELDS, HEADER, LOAD, ONES, RAM, START, answer, program_headers
 
 PARTS = [segment(START, CODE + bytes.fromhex("10203040"), 0x10), segment(START + 0x10, bytes.fromhex("5060708090a0"), 0x1C),
          segment(START + 8, b"", 0x40, type=4), segment(START + 0x40, bytes.fromhex("b0c0d0e0")), segment(START + 0x14, b"", 0)]

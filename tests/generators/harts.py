@@ -2,23 +2,21 @@
 """Makes the cases of two harts, harts_*: races of every two calls, one on each hart; hart and sched at their
 borders, of two harts, of one, and of two benches; what each hart has of its own and what both share; a host beside an enclave that runs.
 
-    tests/generators/harts.py                      writes their digests and samples anew
-    tests/generators/harts.py --check              tells whether they are what this script writes
-    tests/generators/harts.py --check-with-llvm    tells whether llvm-mc gives the same word for each assembly text
+    python3 -m generators.harts                      writes their digests and samples anew
+    python3 -m generators.harts --check              tells whether they are what this script writes
+    python3 -m generators.harts --check-with-llvm    tells whether llvm-mc gives the same word for each assembly text
 
 Nothing here comes from the bench: replies are those of the model of monitor_bench.py, and what each call answers is written out
 by hand beside it.
 """
 import sys
 
-sys.dont_write_bytecode = True
-sys.path.append(sys.path[0] + "/../models")
-import case_files
-import harts_beside_cases
-import harts_command_cases
-import harts_race_cases
-import harts_twin_cases
-from monitor_case import Case
+from generators import case_files
+from generators import harts_beside_cases
+from generators import harts_command_cases
+from generators import harts_race_cases
+from generators import harts_twin_cases
+from generators.monitor_case import Case
 
 
 def main(arguments):

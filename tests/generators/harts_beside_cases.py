@@ -1,9 +1,9 @@
 """The host of one hart beside an enclave that runs on the other and stores to its region, its stack and its window: the host loads and
 stores at both borders and inside, creates, measures and destroys around and over it, in several orders of the steps. Afterwards `mem`
 shows all of the region, byte for byte as it is worked out here: what the enclave has stored, and no other byte."""
-from harts_case import HartsCase, divided
-from instruction_words import assemble
-from monitor_model import (BAD_ADDRESS, BAD_STATE, CREATE, DESTROY, HOST_ENTRY, INTERRUPTED, KEY, MEASURE, OVERLAP, RESUME, RUN)
+from generators.harts_case import HartsCase, divided
+from models.instruction_words import assemble
+from models.monitor_model import (BAD_ADDRESS, BAD_STATE, CREATE, DESTROY, HOST_ENTRY, INTERRUPTED, KEY, MEASURE, OVERLAP, RESUME, RUN)
 
 BASE, PAGE, WINDOW, KEPT = 0x80020000, 0x1000, 0x80040000, 0x80060000
 ABOVE, BELOW, ELSEWHERE = BASE + PAGE, BASE - PAGE, BASE + 4 * PAGE

@@ -1,7 +1,7 @@
 """A case of two harts: as those of one bench or of two benches, under --harts."""
-from monitor_case import Case
-from monitor_model import HOST_ENTRY
-from twin_case import TwinCase
+from generators.monitor_case import Case
+from models.monitor_model import HOST_ENTRY
+from generators.twin_case import TwinCase
 
 CODE_OF = (HOST_ENTRY + 4, HOST_ENTRY + 0x400)  # where each hart's host goes on, once they are divided
 

@@ -1,7 +1,7 @@
 """The cases of two harts: hart and sched at their borders, which commands go by the chosen hart, and what each hart has of its own."""
-from harts_case import CODE_OF, HartsCase, divided
-from monitor_case import worked
-from monitor_model import (BAD_STATE, CREATE, DESTROY, EXIT, HOST_ENTRY, MEASURE, NOT_SUPPORTED, NO_ENCLAVE, NO_SLOT, OVERLAP, RESUME,
+from generators.harts_case import CODE_OF, HartsCase, divided
+from generators.monitor_case import worked
+from models.monitor_model import (BAD_STATE, CREATE, DESTROY, EXIT, HOST_ENTRY, MEASURE, NOT_SUPPORTED, NO_ENCLAVE, NO_SLOT, OVERLAP, RESUME,
                            RUN, STOP)
 
 BASE, PAGE, WINDOW = 0x80020000, 0x1000, 0x80040000

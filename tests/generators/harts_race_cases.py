@@ -2,8 +2,8 @@
 of slot 1 that both harts know, and that is entered where both of the two calls are an enclave's."""
 from itertools import combinations_with_replacement
 
-from harts_case import HartsCase, divided
-from monitor_model import (BAD_ADDRESS, BAD_STATE, CREATE, DESTROY, EXIT, EXITED, INTERRUPTED, MEASURE, NO_ENCLAVE, OVERLAP, RESUME, RUN,
+from generators.harts_case import HartsCase, divided
+from models.monitor_model import (BAD_ADDRESS, BAD_STATE, CREATE, DESTROY, EXIT, EXITED, INTERRUPTED, MEASURE, NO_ENCLAVE, OVERLAP, RESUME, RUN,
                            STOP, STOPPED)
 
 BASE, PAGE, WINDOW = 0x80020000, 0x1000, 0x80040000

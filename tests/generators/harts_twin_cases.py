@@ -1,9 +1,9 @@
 """The cases of two benches of two harts that differ in one enclave: what ends a run on either hart, where there is no such enclave, and
 every command and call of the other hart around it."""
-from harts_case import HartsTwinCase, divided
-from monitor_model import BAD_ADDRESS, BAD_STATE, CREATE, DESTROY, MEASURE, OVERLAP, RESUME, RUN, STOP, STOPPED
-from twin_case import WholeTwins
-from twin_command_cases import BASE, EVERY, FIRST, PAGE, WINDOW
+from generators.harts_case import HartsTwinCase, divided
+from models.monitor_model import BAD_ADDRESS, BAD_STATE, CREATE, DESTROY, MEASURE, OVERLAP, RESUME, RUN, STOP, STOPPED
+from generators.twin_case import WholeTwins
+from generators.twin_command_cases import BASE, EVERY, FIRST, PAGE, WINDOW
 
 OTHER = BASE + PAGE
 

@@ -2,23 +2,21 @@
 """Makes the cases of the monitored profile, monitor_*: every refusal of every call at its border and in
 company of the next one, the entries, the switches, the timer, the traps that are passed on, the debugger over it, and images.
 
-    tests/generators/monitor.py                      writes their digests and samples anew
-    tests/generators/monitor.py --check              tells whether they are what this script writes
-    tests/generators/monitor.py --check-with-llvm    tells whether llvm-mc gives the same word for each assembly text
+    python3 -m generators.monitor                      writes their digests and samples anew
+    python3 -m generators.monitor --check              tells whether they are what this script writes
+    python3 -m generators.monitor --check-with-llvm    tells whether llvm-mc gives the same word for each assembly text
 
 Nothing here comes from the bench: replies are those of the model of monitor_bench.py, and what each call answers is written out
 by hand beside it.
 """
 import sys
 
-sys.dont_write_bytecode = True
-sys.path.append(sys.path[0] + "/../models")
-import case_files
-import monitor_bench_cases
-import monitor_call_cases
-import monitor_create_cases
-import monitor_switch_cases
-from monitor_case import Case
+from generators import case_files
+from generators import monitor_bench_cases
+from generators import monitor_call_cases
+from generators import monitor_create_cases
+from generators import monitor_switch_cases
+from generators.monitor_case import Case
 
 
 def main(arguments):

@@ -1,11 +1,11 @@
 """The cases of the debugger over the monitored machine, of images for it, and worked examples whose output is written by hand."""
 import hashlib
 
-from elf_files import elf, segment
-from monitor_case import ECALL, Case, WholeCase, input_of, worked
-from monitor_bench import output
-from monitor_model import DESTROY, EXIT, EXITED, KEY, MEASURE, RESUME, RUN, STOP, STOPPED
-from privileged_hart import ONES
+from generators.elf_files import elf, segment
+from generators.monitor_case import ECALL, Case, WholeCase, input_of, worked
+from models.monitor_bench import output
+from models.monitor_model import DESTROY, EXIT, EXITED, KEY, MEASURE, RESUME, RUN, STOP, STOPPED
+from models.privileged_hart import ONES
 
 BASE, PAGE, PAST = 0x80020000, 0x1000, 0x80100000
 WINDOW = 0x80040000

@@ -1,9 +1,9 @@
 """The cases of destroy, run, resume, measure, stop and exit: what each takes and refuses, from the host and from an enclave, and
 what a refused call leaves alone."""
-from monitor_case import Case
-from monitor_model import (BAD_ADDRESS, BAD_STATE, CREATE, DESTROY, EXIT, EXITED, KEY, MEASURE, NOT_SUPPORTED, NO_ENCLAVE,
+from generators.monitor_case import Case
+from models.monitor_model import (BAD_ADDRESS, BAD_STATE, CREATE, DESTROY, EXIT, EXITED, KEY, MEASURE, NOT_SUPPORTED, NO_ENCLAVE,
                            RESUME, RUN, STOP, STOPPED)
-from privileged_hart import ONES
+from models.privileged_hart import ONES
 
 BASE, PAGE, PAST = 0x80020000, 0x1000, 0x80100000
 WINDOW = 0x80040000

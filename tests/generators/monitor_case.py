@@ -1,10 +1,10 @@
 """A case of the monitored profile: what the program is told, and the replies of the model of monitor_bench.py. The code of the
 host stands in the image, all other code is poked.
 """
-from instruction_words import assemble
-from monitor_bench import Bench, output
-from monitor_model import CREATE, HOST_ENTRY, KEY, RUN
-from privileged_hart import LETTER, NUMBER, ONES
+from models.instruction_words import assemble
+from models.monitor_bench import Bench, output
+from models.monitor_model import CREATE, HOST_ENTRY, KEY, RUN
+from models.privileged_hart import LETTER, NUMBER, ONES
 
 ECALL = ("ecall",)
 CODE = range(HOST_ENTRY, HOST_ENTRY + 0x2000)  # the host's code: in the image, and in no region and no window

@@ -1,10 +1,10 @@
 """The cases of create: every refusal at its border and in company of the next one, the slots, and the measurement."""
 import hashlib
 
-from monitor_case import Case
-from monitor_model import (BAD_ENTRY, BAD_REGION, BAD_WINDOW, CREATE, DESTROY, KEY, MEASURE, NOT_SUPPORTED, NO_SLOT, OVERLAP, RUN,
+from generators.monitor_case import Case
+from models.monitor_model import (BAD_ENTRY, BAD_REGION, BAD_WINDOW, CREATE, DESTROY, KEY, MEASURE, NOT_SUPPORTED, NO_SLOT, OVERLAP, RUN,
                            STOP)
-from privileged_hart import ONES
+from models.privileged_hart import ONES
 
 BASE, PAGE, PAST = 0x80020000, 0x1000, 0x80100000  # a region's base, the least size, the first byte behind RAM
 MONITOR_PAST = 0x80010000

@@ -1,7 +1,7 @@
 """The cases of what goes on between the worlds: the entries, the switches, the timer, and the traps that are passed on."""
-from monitor_case import ECALL, Case
-from monitor_model import CREATE, DESTROY, EXIT, EXITED, INTERRUPTED, MEASURE, RESUME, RUN, STOP, STOPPED
-from privileged_hart import ONES
+from generators.monitor_case import ECALL, Case
+from models.monitor_model import CREATE, DESTROY, EXIT, EXITED, INTERRUPTED, MEASURE, RESUME, RUN, STOP, STOPPED
+from models.privileged_hart import ONES
 
 BASE, PAGE, PAST = 0x80020000, 0x1000, 0x80100000
 WINDOW = 0x80040000

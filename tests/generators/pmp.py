@@ -2,21 +2,19 @@
 """Makes the cases of pmp: verdicts at the borders of sets of PMP entries, what writes to pmpcfg and pmpaddr leave
 under which locks, and fetches, loads and stores across the borders in each mode and under MPRV.
 
-    tests/generators/pmp.py                      writes its digest and sample anew
-    tests/generators/pmp.py --check              tells whether they are what this script writes
-    tests/generators/pmp.py --check-with-llvm    tells whether llvm-mc gives the same word for each assembly text
+    python3 -m generators.pmp                      writes its digest and sample anew
+    python3 -m generators.pmp --check              tells whether they are what this script writes
+    python3 -m generators.pmp --check-with-llvm    tells whether llvm-mc gives the same word for each assembly text
 
 Nothing here comes from the bench: the entries are in pmp_entries.py, the hart that the cases follow in privileged_hart.py.
 """
 import sys
 
-sys.dont_write_bytecode = True
-sys.path.append(sys.path[0] + "/../models")
-import case_files
-from instruction_words import named
-from pmp_entries import NA4, NAPOT, OFF, TOR, L, R, W, X, napot
-from privileged_case import Case, Returning
-from privileged_hart import LETTER, M, MCAUSE, MEPC, MPRV, MSTATUS, MTVAL, ONES, PAST, PMPADDR, PMPCFG, S, START, U, WIDTH
+from generators import case_files
+from models.instruction_words import named
+from models.pmp_entries import NA4, NAPOT, OFF, TOR, L, R, W, X, napot
+from generators.privileged_case import Case, Returning
+from models.privileged_hart import LETTER, M, MCAUSE, MEPC, MPRV, MSTATUS, MTVAL, ONES, PAST, PMPADDR, PMPCFG, S, START, U, WIDTH
 
 MODES = (M, S, U)
 AREA = START + 0x2000  # data, behind the code

@@ -1,16 +1,13 @@
 #!/usr/bin/env python3
 """Prints the table of verdicts at the borders of a few sets of PMP entries, for crates/rv_monitor_tests/src/pmp_tests/verdict_table.rt.
 
-    tests/generators/pmp_verdicts.py > crates/rv_monitor_tests/src/pmp_tests/verdict_table.rt && (cd crates/rv_monitor_tests && rt fmt)
+    python3 -m generators.pmp_verdicts > crates/rv_monitor_tests/src/pmp_tests/verdict_table.rt && (cd crates/rv_monitor_tests && rt fmt)
 
 Each verdict is worked out byte by byte, in pmp_entries.py.
 """
 
-import sys
 
-sys.dont_write_bytecode = True
-sys.path.append(sys.path[0] + "/../models")
-from pmp_entries import NA4, NAPOT, OFF, TOR, Entries, L, R, W, X, napot
+from models.pmp_entries import NA4, NAPOT, OFF, TOR, Entries, L, R, W, X, napot
 
 KINDS = {"Fetch": "x", "Read": "r", "Write": "w"}
 

@@ -1,7 +1,7 @@
 """A case of command-line tests that follows the hart of privileged_hart.py: what the program is told, and the replies of the hart."""
-import case_files
-from instruction_words import assemble
-from privileged_hart import KEPT, LETTER, MEPC, MSTATUS, MTVEC, NUMBER, ONES, Hart
+from generators import case_files
+from models.instruction_words import assemble
+from models.privileged_hart import KEPT, LETTER, MEPC, MSTATUS, MTVEC, NUMBER, ONES, Hart
 
 
 class Case:

@@ -2,19 +2,17 @@
 """Makes the cases of traps, returns, interrupts and counters: each cause from each mode, mret and sret, what is
 illegal below a mode, the order of interrupts, and what steps count.
 
-    tests/generators/traps.py                      writes their digests and samples anew
-    tests/generators/traps.py --check              tells whether they are what this script writes
-    tests/generators/traps.py --check-with-llvm    tells whether llvm-mc gives the same word for each assembly text
+    python3 -m generators.traps                      writes their digests and samples anew
+    python3 -m generators.traps --check              tells whether they are what this script writes
+    python3 -m generators.traps --check-with-llvm    tells whether llvm-mc gives the same word for each assembly text
 
 Nothing here comes from the bench: the hart that the cases follow is in privileged_hart.py.
 """
 import sys
 
-sys.dont_write_bytecode = True
-sys.path.append(sys.path[0] + "/../models")
-import case_files
-from privileged_case import Case, Opened
-from privileged_hart import (M, MCAUSE, MCOUNTINHIBIT, MCYCLE, MEPC, MIE, MINSTRET, MIP, MPIE, MPRV, MSTATUS, MTVAL, MTVEC,
+from generators import case_files
+from generators.privileged_case import Case, Opened
+from models.privileged_hart import (M, MCAUSE, MCOUNTINHIBIT, MCYCLE, MEPC, MIE, MINSTRET, MIP, MPIE, MPRV, MSTATUS, MTVAL, MTVEC,
                              ONES, PAST, S, SEPC, SIE, SPIE, SPP, TSR, TVM, TW, U)
 
 MODES = (M, S, U)

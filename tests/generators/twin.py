@@ -2,20 +2,18 @@
 """Makes the cases of two benches that differ in one enclave, twin_*: every command and every call of the monitor,
 what is not blind at each border of a region, what ends a run, lines, images, and worked examples whose output is written by hand.
 
-    tests/generators/twin.py                      writes their digests and samples anew
-    tests/generators/twin.py --check              tells whether they are what this script writes
-    tests/generators/twin.py --check-with-llvm    tells whether llvm-mc gives the same word for each assembly text
+    python3 -m generators.twin                      writes their digests and samples anew
+    python3 -m generators.twin --check              tells whether they are what this script writes
+    python3 -m generators.twin --check-with-llvm    tells whether llvm-mc gives the same word for each assembly text
 
 Nothing here comes from the bench: replies are those of the model of monitor_bench.py.
 """
 import sys
 
-sys.dont_write_bytecode = True
-sys.path.append(sys.path[0] + "/../models")
-import case_files
-import twin_call_cases
-import twin_command_cases
-from monitor_case import Case
+from generators import case_files
+from generators import twin_call_cases
+from generators import twin_command_cases
+from generators.monitor_case import Case
 
 
 def main(arguments):

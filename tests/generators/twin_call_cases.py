@@ -1,9 +1,9 @@
 """The cases of the monitor's calls over two benches: what a call that names, meets or shows the enclave answers in both."""
-from monitor_case import ECALL
-from monitor_model import (BAD_ADDRESS, BAD_REGION, BAD_STATE, DESTROY, EXIT, EXITED, MEASURE, NO_ENCLAVE, OVERLAP, RESUME, RUN,
+from generators.monitor_case import ECALL
+from models.monitor_model import (BAD_ADDRESS, BAD_REGION, BAD_STATE, DESTROY, EXIT, EXITED, MEASURE, NO_ENCLAVE, OVERLAP, RESUME, RUN,
                            STOP, STOPPED)
-from twin_case import TwinCase
-from twin_command_cases import BASE, HOST, PAGE, PAST, WINDOW, stopped
+from generators.twin_case import TwinCase
+from generators.twin_command_cases import BASE, HOST, PAGE, PAST, WINDOW, stopped
 
 STATES = {"fresh": (), "stopped": (STOP,), "exited": (EXIT,)}
 

@@ -1,8 +1,8 @@
 """A case of two benches: what the program is told, and the replies of the model of monitor_bench.py. Until the benches are apart it
 is a case of the monitored profile; from then on each line goes to both.
 """
-from monitor_bench import Twins, twin_output, wanted
-from monitor_case import CODE, MEMORY, Case, input_of
+from models.monitor_bench import Twins, twin_output, wanted
+from generators.monitor_case import CODE, MEMORY, Case, input_of
 
 
 class TwinCase(Case):

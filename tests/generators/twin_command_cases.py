@@ -1,9 +1,9 @@
 """The cases of the debugger's commands over two benches: replies after a: and b:, faults, what is not blind, lines, images, and what
 ends a run."""
-from elf_files import elf, segment, text as image_text
-from monitor_case import ECALL, input_of
-from monitor_model import CREATE, DESTROY, EXIT, EXITED, KEY, RESUME, RUN, STOP, STOPPED
-from twin_case import TwinCase, WholeTwins
+from generators.elf_files import elf, segment, text as image_text
+from generators.monitor_case import ECALL, input_of
+from models.monitor_model import CREATE, DESTROY, EXIT, EXITED, KEY, RESUME, RUN, STOP, STOPPED
+from generators.twin_case import TwinCase, WholeTwins
 
 BASE, PAGE, PAST = 0x80020000, 0x1000, 0x80100000
 WINDOW, HOST = 0x80040000, 0x80010000

@@ -1,10 +1,8 @@
 """All orders of the steps of two harts, and all moments at which the timer's line may rise, one by one, over the model of the bench: which
 ends there are, how many orders lead to each, and with how few preemptions and timers. Nothing of the bench that is tested is used."""
 import copy
-import sys
 
-sys.dont_write_bytecode = True
-from monitor_bench import Bench
+from models.monitor_bench import Bench
 
 
 FIRST, END = 0x10000, 0x14000  # of the bytes of RAM that a program may touch

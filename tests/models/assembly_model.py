@@ -3,8 +3,8 @@ instruction_words.py, and the numbers of control and status registers those of p
 """
 import re
 
-from instruction_words import FORMATS, ROWS, WHOLE, assemble as encoded
-from privileged_hart import TABLE
+from models.instruction_words import FORMATS, ROWS, WHOLE, assemble as encoded
+from models.privileged_hart import TABLE
 
 BAD_TEXT, UNKNOWN_NAME, BAD_OPERAND, OUT_OF_RANGE, UNKNOWN_LABEL, LABEL_TWICE, TOO_LONG = range(1, 8)
 MOST_WORDS = 65536

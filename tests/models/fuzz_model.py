@@ -1,8 +1,8 @@
 """What the program must write to any input: the models of monitor_bench.py and assembly_model.py, by the program's words. Nothing
 of the bench that is tested is used.
 """
-import monitor_bench
-from assembly_model import assembled, disassembled
+from models import monitor_bench
+from models.assembly_model import assembled, disassembled
 
 
 def of_asm(text):

@@ -9,12 +9,11 @@ import copy
 import re
 import sys
 
-sys.dont_write_bytecode = True
-import elf_model
-from assembly_model import disassembled
-from monitor_hart import HartInMemory
-from monitor_model import HOST_ENTRY, MONITOR_SIZE, SLOTS, Monitored, meet
-from privileged_hart import KEPT, LETTER, M, START
+from models import elf_model
+from models.assembly_model import disassembled
+from models.monitor_hart import HartInMemory
+from models.monitor_model import HOST_ENTRY, MONITOR_SIZE, SLOTS, Monitored, meet
+from models.privileged_hart import KEPT, LETTER, M, START
 
 MOST_ADDRESSES, MOST_STEPS, MOST_SHOWN, MOST_LINE = 32, 1000000, 64, 120
 MODE = {letter: mode for mode, letter in LETTER.items()}

@@ -4,9 +4,9 @@ timer's stop, and the traps that are passed on. SHA-256 is hashlib's. Nothing of
 """
 import hashlib
 
-from monitor_hart import HartInMemory
-from pmp_entries import Entries, napot
-from privileged_hart import MIE_CSR, MEPC, MSTATUS, NUMBER, ONES, S, SIE, SPIE, SPP, START, U
+from models.monitor_hart import HartInMemory
+from models.pmp_entries import Entries, napot
+from models.privileged_hart import MIE_CSR, MEPC, MSTATUS, NUMBER, ONES, S, SIE, SPIE, SPP, START, U
 
 KEY = 0x0A454E43
 MONITOR_SIZE = 0x10000

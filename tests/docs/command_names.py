@@ -2,18 +2,16 @@
 """The commands of a script, as each place has them that names them all: those that the bench reads (rv_script), docs/COMMANDS.md, the
 help of `run`, the model of tests/models, rvlook, and the script of the twin cases. A command that one of them lacks is told.
 
-    tests/documents/command_names.py --check
+    python3 -m docs.command_names --check
 """
 import os
 import re
 import sys
 
-sys.dont_write_bytecode = True
 ROOT = os.path.dirname(os.path.dirname(os.path.dirname(os.path.abspath(__file__))))
-sys.path[1:1] = [ROOT] + [os.path.join(ROOT, "tests", it) for it in ("models", "generators")]
 from look.commands import COMMANDS
-from monitor_bench import FORMS
-from twin_command_cases import EVERY
+from models.monitor_bench import FORMS
+from generators.twin_command_cases import EVERY
 
 READ = "crates/rv_script/src/keyword.rt"
 PAGE = "docs/COMMANDS.md"
@@ -50,7 +48,12 @@ def faults():
             yield "%s: %d operands in look/commands.py, %d in the model" % (name, len(COMMANDS[name].forms), len(FORMS[name]))
 
 
-if __name__ == "__main__":
+def main(_arguments):
+    """Prints what differs; the status."""
     found = list(faults())
     print("\n".join(found) or "the commands are the same in each place")
-    sys.exit(bool(found))
+    return 1 if found else 0
+
+
+if __name__ == "__main__":
+    sys.exit(main(sys.argv[1:]))

@@ -1,5 +1,5 @@
 #!/usr/bin/env python3
-"""tests/documents/monitor_docs.py --check: tells whether the lines of commands and replies in docs/MONITOR.md, docs/AUTHORS.md,
+"""python3 -m docs.monitor_docs --check: tells whether the lines of commands and replies in docs/MONITOR.md, docs/AUTHORS.md,
 docs/COMMANDS.md and examples/attacks/README.md are those of the examples that they name. A part of them begins with the name of its
 example, as `# examples/enclave_adds`; its lines stand in that order in the example's script, each with the reply of the model of
 monitor_bench.py, and perhaps a comment. Of a reply of more lines the first stands there, of `sched` all, with ` / ` between them. Where the
@@ -9,9 +9,7 @@ import os
 import re
 import sys
 
-sys.dont_write_bytecode = True
-sys.path.append(sys.path[0] + "/../models")
-from monitor_bench import FORMS, Bench, Twins, cut_at, image_of, lines_of, setup_of
+from models.monitor_bench import FORMS, Bench, Twins, cut_at, image_of, lines_of, setup_of
 
 ROOT = os.path.dirname(os.path.dirname(os.path.dirname(os.path.abspath(__file__))))
 PAGES = ("docs/MONITOR.md", "docs/AUTHORS.md", "docs/COMMANDS.md", "examples/attacks/README.md")

@@ -1,5 +1,5 @@
 #!/usr/bin/env python3
-"""tests/documents/laws_docs.py --check: tells whether what docs/LAWS.md and docs/PROMISES.md name stands where they say.
+"""python3 -m docs.laws_docs --check: tells whether what docs/LAWS.md and docs/PROMISES.md name stands where they say.
 
 Of LAWS: the files, definitions, functions and clauses of each law are there, those before a file's name in that file; a clause is one of
 the functions named before it, also in the table; and each definition is part of what one of the functions of that law promises. Of
@@ -10,8 +10,7 @@ import os
 import re
 import sys
 
-sys.dont_write_bytecode = True
-from contracts import ROOT, defined_in, definitions, files_of, functions, rests_on, text_of
+from docs.contracts import ROOT, defined_in, definitions, files_of, functions, rests_on, text_of
 
 NAMES = r"(?:`[\w:]+`(?:, and |, | and )?)+"
 

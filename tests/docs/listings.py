@@ -1,5 +1,5 @@
 #!/usr/bin/env python3
-"""tests/documents/listings.py --check: tells where a register, an instruction or a call of the monitor that a definition lists is
+"""python3 -m docs.listings --check: tells where a register, an instruction or a call of the monitor that a definition lists is
 missing, or is another, in a list that no proof compares with it: those of the tests, of ./rvlook, of the examples and of the pages;
 and where a count of instructions is another.
 """
@@ -7,13 +7,11 @@ import os
 import re
 import sys
 
-sys.dont_write_bytecode = True
 ROOT = os.path.dirname(os.path.dirname(os.path.dirname(os.path.abspath(__file__))))
-sys.path[:0] = [ROOT, os.path.join(ROOT, "tests", "models")]
-import instruction_words  # noqa: E402
-import monitor_model  # noqa: E402
-import privileged_hart  # noqa: E402
-from look import names  # noqa: E402
+from models import instruction_words
+from models import monitor_model
+from models import privileged_hart
+from look import names
 
 WORLDS = {"Host": "the host", "(Enclave k)": "an enclave"}
 NUMBERS = "no one two three four five six seven eight nine ten eleven twelve".split()
@@ -115,7 +113,7 @@ def of_instructions():
     yield from (f"tests/models/instruction_words.py has {it}, which is no instruction" for it in sorted(model - known))
     yield from (f"the table of docs/ISA.md lacks {it}" for it in sorted(known - page))
     yield from (f"docs/ASSEMBLER.md lacks {it}" for it in sorted(known) if not re.search(rf"`{re.escape(it)}\b", assembler))
-    for name, begins in (("tests/scripts/refused_texts", r"^\d+ \d+ "), ("crates/rv_input_tests/src/disassembler_tests.rt", '"')):
+    for name, begins in (("tests/cli/refused_texts", r"^\d+ \d+ "), ("crates/rv_input_tests/src/disassembler_tests.rt", '"')):
         text = text_of(name)
         yield from (f"{name} lacks {it}" for it in sorted(known) if not re.search(rf'{begins}{re.escape(it)}(?:[ "]|$)', text, re.M))
     for name, form, what, count in (
@@ -170,11 +168,11 @@ def of_refusals():
     yield from (f"docs/LAWS.md lacks {it}, which has the refusals of a call" for it in sorted(files) if it not in laws)
 
 
-def main():
+def main(_arguments):
     told = [*of_registers(), *of_instructions(), *of_calls(), *of_refusals()]
     print("\n".join(told))
     return 1 if told else 0
 
 
 if __name__ == "__main__":
-    sys.exit(main())
+    sys.exit(main(sys.argv[1:]))

@@ -4,15 +4,15 @@ words and the bytes of its input. Nothing of the bench that is tested is used.
 """
 import re
 
-from assembly_model import ABI_NAMES, CSRS, STATEMENTS, X_NAMES, based, csr, fence_set, register, target
-from elf_files import CODE, elf, segment, with_bytes
-from elf_model import ONES, START, LOAD, program_headers
-from elf_mutations import MUTATED, mutation
-from instruction_words import ROWS, WHOLE, assemble
-from monitor_bench import LIMITS, FORMS
-from monitor_model import CREATE, DESTROY, EXIT, KEY, MEASURE, RESUME, RUN, STOP, meet
-from monitor_play import REGIONS, WINDOWS, Play, TwinPlay
-from privileged_hart import KEPT, MEPC, MSTATUS, MTVEC, PMPADDR, PMPCFG
+from models.assembly_model import ABI_NAMES, CSRS, STATEMENTS, X_NAMES, based, csr, fence_set, register, target
+from generators.elf_files import CODE, elf, segment, with_bytes
+from models.elf_model import ONES, START, LOAD, program_headers
+from generators.elf_mutations import MUTATED, mutation
+from models.instruction_words import ROWS, WHOLE, assemble
+from models.monitor_bench import LIMITS, FORMS
+from models.monitor_model import CREATE, DESTROY, EXIT, KEY, MEASURE, RESUME, RUN, STOP, meet
+from fuzz.monitor_play import REGIONS, WINDOWS, Play, TwinPlay
+from models.privileged_hart import KEPT, MEPC, MSTATUS, MTVEC, PMPADDR, PMPCFG
 
 BLANKS = ("", "", "", "", " ", "\t", "  ", " \t ")
 ENDS = ("\n",) * 12 + ("\r\n",) * 3 + ("\r\r\n", "", " \n")

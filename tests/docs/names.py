@@ -1,5 +1,5 @@
 #!/usr/bin/env python3
-"""tests/documents/names.py --check: tells which public definitions have the name of another one, where no reason for it stands here, and
+"""python3 -m docs.names --check: tells which public definitions have the name of another one, where no reason for it stands here, and
 which reasons are of names that stand once. What the code remembers (specs/Remembered) is not among them, since no manual has it.
 """
 import collections
@@ -8,7 +8,6 @@ import importlib.util
 import os
 import sys
 
-sys.dont_write_bytecode = True
 ROOT = os.path.dirname(os.path.dirname(os.path.dirname(os.path.abspath(__file__))))
 
 LAYER = "the same law or word of the machine, of its commands or of its scripts, each over the values of its own crate"
@@ -34,7 +33,7 @@ def twice():
     return {name: paths for name, paths in found.items() if len(paths) > 1}
 
 
-def main():
+def main(_arguments):
     found = twice()
     told = [f"{name} stands in {' and '.join(paths)}" for name, paths in found.items() if name not in REASONS]
     told += [f"{name} stands once, and has a reason here" for name in REASONS if name not in found]
@@ -43,4 +42,4 @@ def main():
 
 
 if __name__ == "__main__":
-    sys.exit(main())
+    sys.exit(main(sys.argv[1:]))

@@ -1,17 +1,13 @@
-#!/usr/bin/env python3
-"""tests/scripts/hmac_example.py --check: tells whether the codes and the measurement that examples/enclave_hmac and
-examples/enclave_hmac_attacked show are those of Python's hmac and hashlib, over the messages and the key that their sources have.
-"""
+"""The codes and the measurement that the HMAC examples show are those of Python's hmac and hashlib."""
 import hashlib
 import hmac
 import os
 import re
 import struct
-import sys
 
-sys.dont_write_bytecode = True
-sys.path.append(sys.path[0] + "/../models")
-from monitor_bench import cut_at, image_of, lines_of, loaded
+import pytest
+
+from models.monitor_bench import cut_at, image_of, lines_of, loaded
 
 EXAMPLES = os.path.join(os.path.dirname(os.path.dirname(os.path.dirname(os.path.abspath(__file__)))), "examples")
 REGION, REGION_SIZE, WINDOW, WINDOW_SIZE = 0x80020000, 0x2000, 0x80030000, 0x1000
@@ -42,26 +38,11 @@ def measurement(name):
     return hashlib.sha256(struct.pack("<5I", REGION, REGION_SIZE, WINDOW, WINDOW_SIZE, REGION) + region).hexdigest()
 
 
-def wrong_in(name):
-    """What is not in the example's output, of all that it must show."""
+@pytest.mark.parametrize("name", ["enclave_hmac", "enclave_hmac_attacked"])
+def test_codes_and_measurement(name):
     shown = text_of(name, "stdout")
     digests = re.findall("^[0-9a-f]{8}: ((?:[0-9a-f]{2} ?){32})$", shown, re.M)
-    wanted = [hmac.new(key(), it, hashlib.sha256).digest().hex(" ") for it in messages(name)]
-    wrong = ["the code of message %d" % at for at, it in enumerate(wanted) if it not in digests]
-    if " %s\n" % measurement(name) not in shown:
-        wrong.append("the measurement")
-    return wrong, len(wanted) + 1
-
-
-def main(arguments):
-    if arguments != ["--check"]:
-        print(__doc__)
-        return 2
-    found = {name: wrong_in(name) for name in ("enclave_hmac", "enclave_hmac_attacked")}
-    lines = ["differs: %s: %s" % (name, it) for name, (wrong, _) in found.items() for it in wrong]
-    print("\n".join(lines + ["%d compared, %d differ" % (sum(count for _, count in found.values()), len(lines))]))
-    return 1 if lines else 0
-
-
-if __name__ == "__main__":
-    sys.exit(main(sys.argv[1:]))
+    assert messages(name)
+    for message in messages(name):
+        assert hmac.new(key(), message, hashlib.sha256).digest().hex(" ") in digests
+    assert " %s\n" % measurement(name) in shown

@@ -2,7 +2,7 @@
 """Gives the program random inputs, and asks of each that it writes what the models of these tests write: image texts, scripts,
 ELF files, assembler texts, images to disassemble, and scripts of a monitored bench and of two.
 
-    tests/fuzz/fuzz PROGRAM [--seed S] [--count N] [--kind K..] [--most D]    N inputs, in turn of each kind, or of the kinds K
+    python3 -m fuzz.program PROGRAM [--seed S] [--count N] [--kind K..] [--most D]    N inputs, in turn of each kind, or of the kinds K
 
 The inputs of a seed are always the same. Where the program differs, the input is made small, and printed as a case of
 case_format.py with what must be written, and behind it what was written. After D differences it ends. The last line counts.
@@ -15,11 +15,9 @@ import re
 import subprocess
 import sys
 
-sys.dont_write_bytecode = True
-sys.path += [sys.path[0] + it for it in ("/../models", "/../generators")]
-import case_format  # noqa: E402
-import fuzz_model  # noqa: E402
-from fuzz_inputs import KINDS, LONG, drawn  # noqa: E402
+from models import case_format
+from models import fuzz_model
+from fuzz.inputs import KINDS, LONG, drawn
 
 SECONDS, TRIES = 30, 2000
 

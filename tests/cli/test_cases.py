@@ -1,0 +1,30 @@
+"""The command-line cases: the program writes exactly the wanted bytes and ends with the wanted status."""
+import subprocess
+
+import pytest
+
+from cli.cases import all_cases, with_second_hart
+
+SECONDS = 60
+CASES = all_cases()
+BESIDE = with_second_hart(CASES)
+
+
+def check(program, case):
+    done = subprocess.run([program, *case.words], input=case.stdin, stdout=subprocess.PIPE, timeout=SECONDS, check=False)
+    if done.stdout != case.stdout:
+        pairs = enumerate(zip(done.stdout, case.stdout))
+        at = next((i for i, (one, other) in pairs if one != other), min(len(done.stdout), len(case.stdout)))
+        line = case.stdout.count(b"\n", 0, at) + 1
+        pytest.fail("output differs first at byte %d, line %d" % (at + 1, line), pytrace=False)
+    assert done.returncode == case.status
+
+
+@pytest.mark.parametrize("name", CASES)
+def test_case(bench, name):
+    check(bench, CASES[name])
+
+
+@pytest.mark.parametrize("name", BESIDE)
+def test_case_beside_a_second_hart(bench, name):
+    check(bench, BESIDE[name])

@@ -1,0 +1,53 @@
+"""The examples: their sources give their images, and the model gives their outputs."""
+import subprocess
+
+import pytest
+
+from cli.cases import EXAMPLES
+from models import monitor_bench
+
+MONITORED = sorted(it.parent for it in EXAMPLES.glob("**/words"))
+ATTACKS = sorted(it.parent for it in EXAMPLES.glob("attacks/*/attack.s"))
+NAMED = {"ids": lambda it: str(it.relative_to(EXAMPLES))}
+
+
+def output(program, *words, data):
+    return subprocess.run([program, *words], input=data, stdout=subprocess.PIPE, timeout=60, check=True).stdout
+
+
+def test_the_assembly_example_goes_there_and_back(bench):
+    folder = EXAMPLES / "assembly"
+    image, text = (folder / "image").read_bytes(), (folder / "disassembly").read_bytes()
+    assert output(bench, "asm", data=(folder / "program.s").read_bytes()) == image
+    assert output(bench, "dis", data=image) == text
+    assert output(bench, "dis", data=(folder / "stdin").read_bytes()) == text
+    again = b"\n".join(line.split(b" ", 1)[1] for line in text.splitlines()) + b"\n"
+    assert output(bench, "asm", data=again) == image
+
+
+def test_the_elf_example_is_one_where_an_elf_file_is_required(bench):
+    folder = EXAMPLES / "elf"
+    assert output(bench, "run", "--kind", "elf", data=(folder / "stdin").read_bytes()) == (folder / "stdout").read_bytes()
+
+
+@pytest.mark.parametrize("folder", sorted(it.parent for it in EXAMPLES.glob("**/image") if (it.parent / "stdin").exists()), **NAMED)
+def test_the_image_is_before_the_script(folder):
+    assert (folder / "stdin").read_bytes().startswith((folder / "image").read_bytes())
+
+
+@pytest.mark.parametrize("folder", MONITORED, **NAMED)
+def test_the_model_gives_the_output(folder):
+    words = (folder / "words").read_text().split()
+    text, status = monitor_bench.wanted((folder / "stdin").read_bytes().decode("latin-1"), words)
+    assert (text.encode("latin-1"), status) == ((folder / "stdout").read_bytes(), 0)
+
+
+@pytest.mark.parametrize("folder", ATTACKS, **NAMED)
+def test_the_sources_of_an_attack_give_its_image(bench, folder):
+    start = "victim.s" if (folder / "words").read_text().startswith("twin") else "runner.s"
+    text = (folder.parent / start).read_bytes() + (folder / "attack.s").read_bytes()
+    assert output(bench, "asm", data=text) == (folder / "image").read_bytes()
+
+
+def test_the_source_of_the_race_gives_its_image(bench):
+    assert output(bench, "asm", data=(EXAMPLES / "race/program.s").read_bytes()) == (EXAMPLES / "race/image").read_bytes()

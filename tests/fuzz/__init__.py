@@ -1,0 +1,1 @@
+"""Fuzzers of the program: random inputs whose answers the reference models give."""

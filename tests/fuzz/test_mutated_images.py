@@ -1,0 +1,35 @@
+"""Mutated ELF files, of which `mutated_images` has a line each: the program refuses each with its error, or loads it."""
+import subprocess
+from pathlib import Path
+
+ROWS = Path(__file__).with_name("mutated_images")
+
+
+def mutated(digits, edits):
+    """The file's digits with new bytes at places, and cut to a length."""
+    for edit in edits:
+        place, new = edit.split("=")
+        if place == "cut":
+            digits = digits[:2 * int(new)]
+        else:
+            at = 2 * int(place)
+            digits = digits[:at] + new + digits[at + len(new):]
+    return digits
+
+
+def test_each_mutated_image_has_its_error(bench):
+    whole, count, wrong = "", 0, []
+    for line in ROWS.read_text(encoding="ascii").splitlines():
+        fault, *edits = line.split()
+        if fault == "=":
+            whole += edits[0]
+        elif fault != "#":
+            count += 1
+            wanted = (b"", 0) if fault == "0" else (b"rvbench: image %s\n" % fault.encode(), 1)
+            digits = mutated(whole, edits)
+            text = "".join(digits[at:at + 120] + "\n" for at in range(0, len(digits), 120)) or "\n"
+            done = subprocess.run([bench, "run", "--kind", "elf"], input=text.encode(), stdout=subprocess.PIPE, timeout=60, check=False)
+            if (done.stdout, done.returncode) != wanted:
+                wrong.append(line)
+    assert wrong == []
+    assert count > 300

@@ -1,0 +1,71 @@
+"""Stack overflows: `map`, `touch` and `trace` report the first use of a stack outside the range that the symbols give."""
+import shutil
+import subprocess
+
+import pytest
+
+from conftest import BUILD, PROGRAMS, ROOT
+
+FRAME = "rvlook: stack overflow in e0 at step 67, sum: it moves sp to 800209e0, 704 bytes below application_stack_bottom\n"
+SUBCOMMANDS = ("map", "touch", "trace")
+
+
+@pytest.mark.parametrize("subcommand", SUBCOMMANDS)
+def test_a_frame_below_the_stack_is_found(rvlook, program, subcommand):
+    done = rvlook(subcommand, *program("stack_overflow"))
+    assert (done.returncode, done.stderr) == (1, FRAME)
+    assert done.stdout == rvlook(subcommand, "--exit-zero", *program("stack_overflow")).stdout
+
+
+def test_exit_zero_keeps_the_message(rvlook, program):
+    done = rvlook("map", "--exit-zero", *program("stack_overflow"))
+    assert (done.returncode, done.stderr) == (0, FRAME)
+
+
+@pytest.mark.parametrize("name", ["enclave_adds", "enclave_hmac", "enclave_store", "two_harts"])
+def test_the_examples_stay_inside_their_stacks(rvlook, name):
+    folder = ROOT / "examples" / name
+    harts = ["--harts", "2"] if name in ("two_harts", "enclave_store") else []
+    done = rvlook("map", "--monitor", *harts, folder / "stdin", "--symbols", folder / "listing")
+    assert "stack overflow" not in done.stderr
+    assert done.returncode == 0
+
+
+def test_without_symbols_of_a_stack_nothing_is_checked(rvlook, program):
+    done = rvlook("map", "--monitor", program("stack_overflow")[0])
+    assert (done.returncode, done.stderr) == (0, "")
+
+
+@pytest.mark.skipif(not shutil.which("clang"), reason="clang is not installed")
+def test_with_source_lines_the_line_is_reported(rvlook, tmp_path):
+    shutil.copytree(PROGRAMS / "stack_overflow", tmp_path / "stack")
+    elf = tmp_path / "program.elf"
+    subprocess.run([BUILD, tmp_path / "stack", elf], check=True, capture_output=True)
+    done = rvlook("trace", "--monitor", elf)
+    assert "stack overflow in e0 at step 67, application.c:9: it moves sp to" in done.stderr
+
+
+@pytest.mark.skipif(not shutil.which("clang"), reason="clang is not installed")
+def test_a_smaller_buffer_is_no_overflow(rvlook, tmp_path):
+    folder = tmp_path / "stack"
+    shutil.copytree(PROGRAMS / "stack_overflow", folder)
+    source = (folder / "application.c").read_text()
+    (folder / "application.c").write_text(source.replace("#define SIZE 256", "#define SIZE 64"))
+    elf = tmp_path / "program.elf"
+    subprocess.run([BUILD, folder, elf], check=True, capture_output=True)
+    done = rvlook("map", "--monitor", elf)
+    assert (done.returncode, done.stderr) == (0, "")
+
+
+@pytest.mark.skipif(not shutil.which("clang"), reason="clang is not installed")
+def test_a_store_through_sp_above_the_stack_is_found(rvlook, tmp_path):
+    folder = tmp_path / "stack"
+    shutil.copytree(PROGRAMS / "stack_overflow", folder)
+    (folder / "application_store.s").write_text(".globl application_store\napplication_store: sw zero, 512(sp)\n ret\n")
+    (folder / "application.c").write_text(
+        "void application_store(void);\nunsigned application(volatile unsigned *window)\n{\n    application_store();\n    return window[0];\n}\n")
+    elf = tmp_path / "program.elf"
+    subprocess.run([BUILD, folder, elf], check=True, capture_output=True)
+    done = rvlook("touch", "--monitor", elf)
+    assert done.returncode == 1
+    assert " above application_stack_top" in done.stderr and "it stores to 80020ff" in done.stderr
