@@ -1,0 +1,266 @@
+"""`examples/monitor/build`: what it builds by either compiler, what it refuses, the stacks that it reports, and hostile source folders."""
+import os
+import re
+import shutil
+import subprocess
+
+import pytest
+
+from conftest import BUILD, PROGRAMS, ROOT
+
+EXAMPLES = ROOT / "examples"
+LINK = BUILD.with_name("link.ld")
+HAS_CLANG = bool(shutil.which("clang") and shutil.which("ld.lld") and shutil.which("llvm-objcopy"))
+HAS_GCC = bool(shutil.which("riscv64-unknown-elf-gcc"))
+COMPILERS = [pytest.param("--clang", marks=pytest.mark.skipif(not HAS_CLANG, reason="clang, lld or llvm is not installed")),
+             pytest.param("--gcc", marks=pytest.mark.skipif(not HAS_GCC, reason="riscv64-unknown-elf-gcc is not installed"))]
+with_clang = pytest.mark.skipif(not HAS_CLANG, reason="clang, lld or llvm is not installed")
+STORED = ("enclave_adds", "enclave_bug", "enclave_hmac", "enclave_hmac_attacked", "enclave_refused", "enclave_store", "enclave_store_leaking",
+          "enclave_timer", "monitor_at_rest", "two_harts")
+MEMCPY = """void *memcpy(void *to, const void *from, unsigned size)
+{
+    char *out = to;
+    const char *in = from;
+    while (size--)
+        *out++ = *in++;
+    return to;
+}
+"""
+COPYING = """void *memcpy(void *, const void *, unsigned);
+unsigned application(volatile unsigned *window)
+{
+    unsigned numbers[2];
+    memcpy(numbers, (const void *)window, sizeof numbers);
+    return window[2] = numbers[0] + numbers[1];
+}
+"""
+OF_MORE_FILES = """unsigned sum_of(unsigned, unsigned);
+unsigned application_twice(unsigned);
+unsigned application(volatile unsigned *window)
+{
+    return window[2] = application_twice(sum_of(window[0], window[1]));
+}
+"""
+
+
+def build(*arguments, command=BUILD, cwd=ROOT, compiler="--clang", **env):
+    """Runs `build`; gives its `CompletedProcess`."""
+    return subprocess.run([str(command), compiler, *map(str, arguments)], cwd=cwd, capture_output=True, text=True, timeout=120,
+                          env={**os.environ, **env}, check=False)
+
+
+@pytest.fixture
+def folder(tmp_path):
+    """A copy of the sources of `enclave_adds`."""
+    path = tmp_path / "adds"
+    shutil.copytree(ROOT / "examples" / "enclave_adds", path)
+    return path
+
+
+def is_clang_14():
+    done = subprocess.run(["clang", "--version"], capture_output=True, text=True, check=False) if HAS_CLANG else None
+    return bool(done) and "version 14." in done.stdout
+
+
+def write_application(folder, text, host=None):
+    """Gives the folder another application, and a region of 8 KiB; `host` is a text before the host's source."""
+    (folder / "application.c").write_text(text)
+    (folder / "link.ld").write_text(LINK.read_text().replace("80020000, LENGTH = 4K", "80020000, LENGTH = 8K"))
+    if host:
+        (folder / "host.c").write_text(host + (folder / "host.c").read_text())
+
+
+def address_of(folder, name):
+    """The address of a symbol in the listing, as text."""
+    return re.search("^([0-9a-f]{8})  %s$" % name, (folder / "listing").read_text(), re.M)[1]
+
+
+def last_reply(program, folder, *commands):
+    """The last line of a run of the folder's image up to where the host halts."""
+    script = "--\nbreak %s\nrun 1000000\n%s\n" % (address_of(folder, "halt"), "\n".join(commands))
+    done = subprocess.run([program, "run", "--monitor"], input=(folder / "image").read_text() + script, capture_output=True, text=True, check=True)
+    return done.stdout.splitlines()[-1]
+
+
+@pytest.mark.skipif(not is_clang_14(), reason="clang 14 is not installed")
+@pytest.mark.parametrize("name", STORED)
+def test_the_stored_images_are_what_clang_14_builds(tmp_path, name):
+    examples = tmp_path / "examples"
+    shutil.copytree(EXAMPLES, examples, symlinks=True)
+    done = build(name, command=examples / "monitor" / "build")
+    assert (done.returncode, done.stderr) == (0, "")
+    for part in ("image", "listing", "stdin"):
+        assert (examples / name / part).read_bytes() == (EXAMPLES / name / part).read_bytes(), part
+
+
+@pytest.mark.parametrize("compiler", COMPILERS)
+def test_an_enclave_that_uses_a_function_of_the_host_is_refused(folder, compiler):
+    write_application(folder, COPYING.replace("memcpy", "copied"), MEMCPY.replace("memcpy", "copied"))
+    done = build(folder, compiler=compiler)
+    assert (done.returncode, done.stderr) == (1, "build: the enclave uses what only the host has, and may not reach: copied\n")
+
+
+@pytest.mark.parametrize("compiler", COMPILERS)
+def test_an_enclave_that_is_too_large_is_refused(folder, compiler):
+    (folder / "application.c").write_text("unsigned char table[5000] = {1};\n" + (folder / "application.c").read_text())
+    done = build(folder, compiler=compiler)
+    first, second, third = done.stderr.splitlines()
+    assert done.returncode == 1
+    assert re.fullmatch(r"build: REGION of %s is too small by \d+ bytes" % LINK, first)
+    assert second == "  a region or window has a power of two of bytes, 4096 at least, and begins at a multiple of its size"
+    assert third == "  cp %s %s, and there give REGION a larger LENGTH" % (LINK, folder)
+
+
+@pytest.mark.parametrize("compiler", COMPILERS)
+def test_a_function_that_no_source_has_is_reported(folder, compiler):
+    text = (folder / "application.c").read_text().replace("return window[2];", "return __udivdi3(window[2], window[1]);")
+    (folder / "application.c").write_text("unsigned long long __udivdi3(unsigned long long, unsigned long long);\n" + text)
+    done = build(folder, compiler=compiler)
+    assert done.returncode == 1
+    assert done.stderr.startswith("build: no source has what is used: __udivdi3\n  memcpy, memmove, memset and memcmp are given;")
+
+
+@pytest.mark.parametrize("compiler", COMPILERS)
+def test_memcpy_is_given_to_an_enclave_without_one(bench, folder, compiler):
+    write_application(folder, COPYING)
+    assert build(folder, compiler=compiler).returncode == 0
+    assert last_reply(bench, folder, "mem 80030008 4") == "80030008: b3 15 00 00"
+
+
+@pytest.mark.parametrize("compiler", COMPILERS)
+def test_host_and_enclave_may_each_have_a_memcpy(bench, folder, compiler):
+    write_application(folder, MEMCPY + COPYING.split("\n", 1)[1], MEMCPY)
+    assert build(folder, compiler=compiler).returncode == 0
+    assert address_of(folder, "region_size") == "00002000"
+    assert last_reply(bench, folder, "mem 80030000 12") == "80030000: d2 04 00 00 e1 10 00 00 b3 15 00 00"
+
+
+@pytest.mark.parametrize("compiler", COMPILERS)
+def test_all_files_of_a_folder_are_built_with_cflags(bench, folder, compiler):
+    write_application(folder, OF_MORE_FILES)
+    (folder / "sums.c").write_text("unsigned sum_of(unsigned a, unsigned b) { return a + b + ADDED; }\n")
+    (folder / "application_twice.s").write_text(".globl application_twice\napplication_twice: slli a0, a0, 1\n ret\n")
+    done = build(folder, compiler=compiler, CFLAGS="-DADDED=7")
+    assert done.returncode == 0, done.stderr
+    assert last_reply(bench, folder, "mem 80030008 4") == "80030008: 74 2b 00 00"
+
+
+@pytest.mark.parametrize("compiler", COMPILERS)
+def test_a_word_of_the_window_is_stored_by_one_instruction(folder, compiler):
+    assert build(folder, compiler=compiler).returncode == 0
+    assert "  sb " not in (folder / "listing").read_text()
+
+
+@pytest.mark.parametrize("compiler", COMPILERS)
+def test_the_hmac_is_right_by_either_compiler(bench, tmp_path, compiler):
+    folder = tmp_path / "hmac"
+    shutil.copytree(EXAMPLES / "enclave_hmac", folder)
+    assert build(folder, compiler=compiler).returncode == 0
+    codes = last_reply(bench, folder, "mem %s 64" % address_of(folder, "codes")).split(":")[1]
+    assert codes == (EXAMPLES / "enclave_hmac" / "stdout").read_text().splitlines()[-1].split(":")[1]
+
+
+def test_a_folder_that_is_not_there_is_refused(tmp_path):
+    done = build(tmp_path / "nowhere")
+    assert done.returncode == 1
+    assert done.stderr == "build: there is no folder %s, and none of that name in examples\n" % (tmp_path / "nowhere")
+
+
+@with_clang
+def test_each_stack_is_reported(folder):
+    done = build(folder)
+    assert done.returncode == 0, done.stderr
+    assert done.stdout == "build: bytes of stack: host 65216, application 3264, runtime 512\n"
+    assert done.stderr == ""
+
+
+@with_clang
+def test_a_small_stack_is_a_warning(tmp_path):
+    path = tmp_path / "stack"
+    shutil.copytree(PROGRAMS / "stack_overflow", path)
+    done = build(path)
+    assert done.returncode == 0
+    assert done.stderr == ("build: warning: the application has 352 bytes of stack, fewer than 1024: "
+                           "give REGION of link.ld a larger LENGTH\n")
+    assert build("--stack", "300", path).stderr == ""
+
+
+@with_clang
+def test_a_response_file_of_the_compiler_is_a_source(folder):
+    """`@a.c` would hand its words, such as -fplugin=./p.so, to the compiler."""
+    (folder / "@a.c").write_text("-fplugin=./planted.so\n")
+    done = build(folder)
+    assert done.returncode != 0
+    assert "planted.so" not in done.stderr or "plugin" not in done.stderr.split("error")[0]
+    assert "@a.c:1:1: error" in done.stderr
+    (folder / "@a.c").write_text("int planted(void) { return 1; }\n")
+    assert build(folder).returncode == 0
+
+
+@with_clang
+def test_a_source_that_begins_with_a_dash_is_no_option(folder):
+    (folder / "-fplugin=x.c").write_text("int planted(void) { return 1; }\n")
+    done = build(folder)
+    assert done.returncode == 0, done.stderr
+
+
+@with_clang
+@pytest.mark.parametrize("arguments", [("-P",), ("./-P",), ("--", "-P")])
+def test_a_folder_that_begins_with_a_dash_is_no_option(folder, arguments):
+    odd = folder.rename(folder.parent / "-P")
+    done = build(*arguments, cwd=odd.parent)
+    assert done.returncode == 0, done.stderr
+
+
+@with_clang
+@pytest.mark.parametrize("name", ["listing", "image", "stdin"])
+def test_an_output_replaces_a_symbolic_link_and_not_its_target(folder, name):
+    target = folder.parent / "target"
+    target.write_text("--\nstep 1\n")
+    (folder / name).unlink()
+    (folder / name).symlink_to(target)
+    assert build(folder).returncode == 0
+    assert target.read_text() == "--\nstep 1\n"
+    assert not (folder / name).is_symlink()
+
+
+@with_clang
+def test_the_elf_file_replaces_a_symbolic_link_and_not_its_target(folder):
+    target = folder.parent / "target"
+    target.write_text("kept\n")
+    (folder / "program.elf").symlink_to(target)
+    assert build(folder, folder / "program.elf").returncode == 0
+    assert target.read_text() == "kept\n"
+    assert (folder / "program.elf").read_bytes().startswith(b"\x7fELF")
+
+
+@with_clang
+def test_no_temporary_file_is_left(folder):
+    before = {it.name for it in folder.iterdir()}
+    assert build(folder, folder / "program.elf").returncode == 0
+    assert {it.name for it in folder.iterdir()} == before | {"program.elf"}
+
+
+@with_clang
+def test_cdpath_does_not_choose_another_folder(folder, tmp_path):
+    decoy = tmp_path / "elsewhere" / folder.name
+    shutil.copytree(folder, decoy)
+    (decoy / "host.c").write_text("#error decoy\n")
+    done = build(folder.name, cwd=folder.parent, CDPATH=str(decoy.parent))
+    assert done.returncode == 0, done.stderr
+
+
+@with_clang
+def test_build_runs_through_a_symbolic_link(folder, tmp_path):
+    link = tmp_path / "bin" / "build"
+    link.parent.mkdir()
+    link.symlink_to(BUILD)
+    assert build(folder, command=link).returncode == 0
+
+
+@with_clang
+def test_a_source_that_is_no_regular_file_is_refused(folder):
+    os.mkfifo(folder / "pipe.c")
+    done = build(folder)
+    assert done.returncode == 1
+    assert done.stderr == "build: pipe.c is no regular file\n"
