@@ -19,6 +19,11 @@ BUILD = ROOT / "examples" / "monitor" / "build"
 SECONDS = 120
 
 
+def pytest_addoption(parser):
+    """Adds the options of this suite."""
+    parser.addoption("--update-golden", action="store_true", help="write the golden files of rvlook anew")
+
+
 def pytest_configure(config):
     """Gives all workers one folder for the generated cases, which the first one that needs it fills."""
     if not os.environ.get("MADE_CASES"):

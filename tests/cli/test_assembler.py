@@ -1,5 +1,5 @@
 """The assembler and the disassembler: texts that are refused, round trips, and texts of the largest size."""
-import itertools
+import re
 import subprocess
 from pathlib import Path
 
@@ -20,20 +20,11 @@ def answer(program, subcommand, data):
 
 
 def unescaped(text):
-    """The bytes of a text with the escapes of printf's %b."""
-    found, rest = bytearray(), text
-    while rest:
-        if rest[0] != "\\":
-            found += rest[0].encode("latin-1")
-            rest = rest[1:]
-        elif rest[1] == "0":
-            digits = "".join(itertools.takewhile(lambda it: it in "01234567", rest[2:5]))
-            found.append(int(digits or "0", 8))
-            rest = rest[2 + len(digits):]
-        else:
-            found += ESCAPES[rest[1]].encode()
-            rest = rest[2:]
-    return bytes(found)
+    """The bytes of a text with the escapes of printf's %b: \\0 and octal digits, \\x and hexadecimal digits, \\n and its like."""
+    def byte(match):
+        octal, digits, letter = match.groups()
+        return ESCAPES[letter] if letter else chr(int(octal or "0", 8) if octal is not None else int(digits, 16))
+    return re.sub(r"\\(?:0([0-7]{0,3})|x([0-9a-fA-F]{1,2})|(.))", byte, text).encode("latin-1")
 
 
 def refused_texts():
