@@ -86,6 +86,19 @@ def test_final_states_of_random_endless_loops_are_those_of_all_orders(final_stat
         check(final_states, program, plain=True)
 
 
+def test_final_states_beside_one_endless_loop_are_those_of_all_orders(final_states):
+    check(final_states, model.linked(VICTIMS["one load"], VALUES + [NOP, *STORES, ("jal", 3)]))
+
+
+def test_value_that_one_hart_alone_changes_is_reported(final_states):
+    check(final_states, model.linked([("jal", 0)], VALUES + [("sw", 6, 8), ("sw", 7, 8), ("jal", 2)]))
+
+
+def test_values_of_two_independent_endless_loops_are_combined(final_states):
+    first, second = ([("addi", 6, 0, 1), ("sw", 6, at), ("sw", 0, at), ("jal", 1)] for at in (0, 8))
+    check(final_states, model.linked(first, second))
+
+
 def test_there_are_five_hundred_programs():
     assert len(list(loops())) * len(VICTIMS) + 120 >= 500
 
@@ -124,6 +137,55 @@ def test_time_limit_holds(rvlook, tmp_path, first, second, seconds):
     assert time.monotonic() - start < seconds + 1.2
     assert "cut by --seconds" in done.stdout
     assert done.returncode != 0
+
+
+def test_time_limit_holds_in_one_move(rvlook, tmp_path):
+    path = write(tmp_path, model.linked(LONG, LONG))
+    done = rvlook("races", "--monitor", "--harts", "2", "--ram", "131072", path, "--seconds", 1, "--steps", "1000000000", timeout=20)
+    assert "cut by --seconds" in done.stdout
+
+
+def test_time_limit_holds_while_final_states_are_replayed(final_states, monkeypatch):
+    from look import races_replay, races_text
+    monkeypatch.setattr(races_replay.Replays, "check", lambda *_: time.sleep(60))
+    data = model.image_of(model.linked(VICTIMS["one load"], VALUES + [*STORES, ("jal", 2)]))
+    start = time.monotonic()
+    search, ends = final_states(data, *WATCHED, seconds=15)
+    search.limit.seconds = time.monotonic() - start + 1  # one second is left for the replays
+    races_text.replay(search, ends, [])
+    assert ends.is_cut and not ends.ends
+    assert not races_text.is_whole(search, ends)
+
+
+def test_wait_for_the_state_of_a_loop_is_bounded():
+    from look import races_loop
+    from look.faults import Fault
+
+    class Round:  # a hart whose state is its number of steps, in a loop of four
+        hart, context, digest, registers = 0, 0, 0, ()
+
+        def __init__(self, *_):
+            self.done = self.pc = 0
+
+    class Steps:
+        @staticmethod
+        def look(_):
+            return None
+
+        @staticmethod
+        def step(work, *_):
+            work.done, work.pc = work.done + 1, (work.pc + 1) % 4
+            assert work.done < 1000, "it is never given up"
+
+    work, old = Round(), races_loop.Work
+    work.done = 12
+    races_loop.Work = Round
+    try:
+        assert races_loop.first_arrival(Steps, None, work, (3, 0, 0, ()), 5).done == 7
+        with pytest.raises(Fault):
+            races_loop.first_arrival(Steps, None, work, (9, 0, 0, ()), 0)
+    finally:
+        races_loop.Work = old
 
 
 def test_search_is_bounded_on_the_attacker_after_a_nop(final_states):
