@@ -129,8 +129,7 @@ def write(tmp_path, program):
 
 
 @pytest.mark.parametrize("first, second", [(COUNTS, COUNTS), (LONG, COUNTS), (LONG, LONG)], ids=["two counters", "one move", "two moves"])
-@pytest.mark.parametrize("seconds", [2, 4])
-def test_time_limit_holds(rvlook, tmp_path, first, second, seconds):
+def test_time_limit_holds(rvlook, tmp_path, first, second, seconds=3):
     path, start = write(tmp_path, model.linked(first, second)), time.monotonic()
     done = rvlook("races", "--monitor", "--harts", "2", "--ram", "131072", path, "--seconds", seconds, "--steps", "1000000000",
                   "--forbid", "80011000 == 70000000", timeout=60)
@@ -197,8 +196,9 @@ def test_search_is_bounded_on_the_attacker_after_a_nop(final_states):
 # ---- what is claimed
 
 def test_hart_that_counts_for_ever_makes_the_result_not_whole(final_states, monkeypatch):
-    from look import races
+    from look import races, races_machine
     monkeypatch.setattr(races, "MOST_ALONE", 20)
+    monkeypatch.setattr(races_machine, "AHEAD", 64)
     search, ends = final_states(model.image_of(model.linked(VICTIMS["one load"], COUNTS)), *WATCHED)
     assert not search.is_whole()
     assert {it.values[1] for it in ends.ends if it.harts[0][0] == "over"} >= set(range(10))
