@@ -220,6 +220,8 @@ class Search:
         state, last, timers, begun = node.place
         if node.alone > MOST_ALONE:
             self.graph.alone.add((state, last))
+            for hart in range(self.machine.count):
+                self.move(state, hart, node.way)  # so that it is known which harts have ended
             return
         cost, edges = node.cost, self.edges_of(node)
         harts = range(self.machine.count)

@@ -199,7 +199,7 @@ def test_hart_that_counts_for_ever_makes_the_result_not_whole(final_states, monk
     from look import races, races_machine
     monkeypatch.setattr(races, "MOST_ALONE", 20)
     monkeypatch.setattr(races_machine, "AHEAD", 64)
-    search, ends = final_states(model.image_of(model.linked(VICTIMS["one load"], COUNTS)), *WATCHED)
+    search, ends = final_states(model.image_of(model.linked(VICTIMS["one load"], COUNTS)), *WATCHED, steps=200)
     assert not search.is_whole()
     assert {it.values[1] for it in ends.ends if it.harts[0][0] == "over"} >= set(range(10))
 
