@@ -187,10 +187,11 @@ def test_wait_for_the_state_of_a_loop_is_bounded():
         races_loop.Work = old
 
 
-def test_search_is_bounded_on_the_attacker_after_a_nop(final_states):
-    body = VALUES + [NOP, *STORES, ("jal", 3)]
-    search, _ = final_states(model.image_of(model.linked(VICTIMS["one load"], body)), *WATCHED, seconds=20)
-    assert search.is_whole()
+def test_search_is_bounded_on_the_attacker_after_some_nops(final_states):
+    for nops in range(6):
+        body = VALUES + [NOP] * nops + [*STORES, ("jal", 2 + nops)]
+        search, _ = final_states(model.image_of(model.linked(VICTIMS["one load"], body)), *WATCHED, seconds=20)
+        assert search.is_whole(), "%d nops" % nops
 
 
 # ---- what is claimed
