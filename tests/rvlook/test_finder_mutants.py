@@ -30,8 +30,8 @@ MUTANTS = (
            "test_races_endless.py::test_value_that_one_hart_alone_changes_is_reported"),
     Mutant("two harts that go on change the outcome by independent steps", "races_ends.py", "if found.are_hidden and not search.why_cut:",
            "if False:", "test_races_endless.py::test_values_of_two_independent_endless_loops_are_combined"),
-    Mutant("the state that represents a loop has a memory of another state", "races_loop.py", "return Loop(accesses, changes, length), (pc, context, own ^ rest, registers)",
-           "return Loop(accesses, changes, length), (pc, context, work.digest, registers)",
+    Mutant("the state that represents a loop has a memory of another state", "races_loop.py", "(pc, context, own ^ rest, registers)",
+           "(pc, context, work.digest, registers)",
            "test_races_endless.py::test_search_is_bounded_on_the_attacker_after_some_nops"),
     Mutant("the wait for the state that represents a loop is unbounded", "races_loop.py", "if again.done > most:", "if False:",
            "test_races_endless.py::test_wait_for_the_state_of_a_loop_is_bounded"),
@@ -41,8 +41,9 @@ MUTANTS = (
            "return not self.why_cut", "test_races_endless.py::test_hart_that_counts_for_ever_makes_the_result_not_whole"),
     Mutant("a limit of steps ends a loop at the state that represents it", "races.py", "if length and machine.limit:", "if False:",
            "test_races_endless.py::test_limit_of_steps_ends_an_endless_loop_where_the_limit_is"),
-    Mutant("a part of a search has the first round of a loop alone", "races.py", "            low += -((high - self.bounds.first) // length) * length\n            is_late = True\n",
-           "", "test_races_endless.py::test_part_after_the_first_round_of_an_endless_loop_has_its_final_states"),
+    Mutant("a part of a search has the first round of a loop alone", "races.py",
+           "            low += -((high - self.bounds.first) // length) * length\n            is_late = True\n", "",
+           "test_races_endless.py::test_part_after_the_first_round_of_an_endless_loop_has_its_final_states"),
 )
 
 
