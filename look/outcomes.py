@@ -6,6 +6,7 @@ from typing import NamedTuple
 from . import names
 from .faults import Fault
 from .lines import no_symbol
+from .races_machine import operands
 from .replies import enclave_of
 from .show import hex8
 
@@ -50,6 +51,27 @@ class Table(NamedTuple):
 
     def value_in(self, machine, state, _memory):
         return tuple(sorted(states_of(machine, state).items()))
+
+
+class Watched(NamedTuple):
+    """The bytes and the registers, each with its hart, that distinguish final states."""
+    addresses: frozenset = frozenset()
+    registers: frozenset = frozenset()
+
+    def may_change(self, hart, look):
+        """Returns whether a step of a hart may change one of them."""
+        if look.kind in ("call", "timer"):
+            return True
+        if look.kind == "w":
+            return not self.addresses.isdisjoint(range(look.at, look.at + look.width))
+        word = look.key[2]
+        return word is not None and (hart, operands(word)[0]) in self.registers
+
+
+def watched_of(outcome):
+    """Returns what the steps of a hart may change of an outcome."""
+    return Watched(frozenset(at for it in outcome if isinstance(it, Bytes) for at in range(it.at, it.at + it.count)),
+                   frozenset((it.hart, it.number) for it in outcome if isinstance(it, Register)))
 
 
 class Condition(NamedTuple):

@@ -4,14 +4,17 @@ time or another. All other steps commute with those of the other, so no end is l
 it grows. Places that are alike are one; the simplest way to each is found first, by preemptions, timers, switches and steps."""
 import heapq
 import itertools
-import time
 from collections import defaultdict
 from typing import NamedTuple, Optional
 
 from . import names
+from .outcomes import Watched
+from .races_loop import LoopDetector, first_arrival, loop_of
 from .races_machine import State, Work
+from .time_limit import OutOfTime, TimeLimit
 
-MOST_ALONE = 10000  # moves of one hart, one behind another, and it is told that it has not ended
+MOST_ALONE = 10000  # moves of one hart in succession; then it is reported as not ended, and the search is not whole
+SEARCH_SHARE = 0.85  # of the time limit; the rest is for the analysis of the graph and for the replays
 
 
 class Met(NamedTuple):
@@ -25,25 +28,12 @@ class Met(NamedTuple):
 
 
 class Move(NamedTuple):
-    """Such a step, with those around it that affect nobody, or these alone, where `pc` is None: where it leads, and how many steps in all."""
+    """Such a step, with those around it that affect nobody, or these alone, where `pc` is None: where it leads, how many steps in all, and
+    whether memory or the table differed after one of them."""
     state: State
     steps: int
     met: Met
-
-
-class Rounds:
-    """Tells when a hart comes back to where it was: it is compared with what it was some steps before, at ever larger distances (Brent)."""
-
-    def __init__(self):
-        self.mark, self.count, self.next = None, 0, 1
-
-    def comes_back(self, work):
-        """Whether it does with this step; it is asked before each."""
-        is_same = self.mark and work.pc == self.mark[0] and (work.pc, work.context, work.digest, tuple(work.registers)) == self.mark
-        self.count += 1
-        if self.count == self.next and not is_same:
-            self.mark, self.next = (work.pc, work.context, work.digest, tuple(work.registers)), 2 * self.next
-        return bool(is_same)
+    changes: bool
 
 
 class Place(NamedTuple):
@@ -106,11 +96,11 @@ class Touches:
 
 
 class Graph:
-    """The orders of a round: the first node of each vertex, and the edges from it; the moves of each state; where a hart reads again and
-    again what nobody writes; and where one was given up."""
+    """The orders of a round: the first node of each vertex, and the edges from it; the moves of each state; the endless loops in which no
+    other hart can affect a hart, by state and hart; and the states in which a hart was given up, within a move or after many moves alone."""
 
     def __init__(self):
-        self.nodes, self.edges, self.moves, self.waits, self.unended, self.alone = {}, {}, {}, set(), set(), set()
+        self.nodes, self.edges, self.moves, self.loops, self.unended, self.alone = {}, {}, {}, {}, set(), set()
 
 
 class Bounds(NamedTuple):
@@ -128,16 +118,16 @@ class Bounds(NamedTuple):
 
 
 class Search:
-    """All orders within bounds. `plain` leaves a hart before each of its steps; `outcome` has addresses whose bytes tell ends apart."""
+    """All orders within bounds. `plain` switches harts before each step; `outcome` is what distinguishes final states."""
 
-    def __init__(self, machine, bounds=Bounds(), plain=False, outcome=(), seconds=None, tell=lambda _: None):
-        self.machine, self.bounds, self.tell = machine, bounds, tell
-        self.watched = frozenset((*outcome, -1)) if bounds.timers else frozenset()
+    def __init__(self, machine, bounds=Bounds(), plain=False, outcome=Watched(), limit=TimeLimit(), tell=lambda _: None):
+        self.machine, self.bounds, self.tell, self.outcome, self.limit = machine, bounds, tell, outcome, limit
+        self.watched = frozenset((*outcome.addresses, -1)) if bounds.timers else frozenset()
         self.plain = plain or not machine.monitor  # a handler of the bare bench shares its registers with what it stops
+        self.is_outcome_visible = self.plain
         self.met, self.touches, self.rounds = frozenset(), Touches(), 0
-        self.until = None if seconds is None else time.monotonic() + seconds
         self.why_cut, self.whole = None, None  # the last level, of preemptions and timers, of which all was searched
-        self.graph, self.earlier = None, None  # of this round, and of the one that came to that level
+        self.graph, self.earlier, self.reduced = None, None, None  # of this round; of the one that came to that level; before `show_outcome`
         self.reset()
 
     def reset(self):
@@ -146,15 +136,42 @@ class Search:
 
     def run(self):
         """Searches again as long as more bytes turn out to be met; what the bench has replied is known then."""
-        while True:
+        try:
+            with self.limit.until(SEARCH_SHARE):
+                self.run_rounds()
+        except KeyboardInterrupt:
+            self.why_cut = "Ctrl-C"
+        except OutOfTime:
+            self.why_cut = "--seconds"
+        return self
+
+    def run_rounds(self):
+        """Does rounds of the search, up to one in which nothing more is met."""
+        is_done = False
+        while not is_done:
             self.rounds += 1
             self.reset()
-            try:
-                if self.search():
-                    return self
-            except KeyboardInterrupt:
-                self.why_cut = "Ctrl-C"
-                return self
+            is_done = self.search()
+
+    def show_outcome(self):
+        """Makes each step that may change the outcome a dependent one in the rounds that follow, so that each value of it has a node."""
+        self.is_outcome_visible, self.reduced, self.whole, self.earlier = True, self.graph, None, None
+
+    def graphs(self):
+        """Returns the graphs whose final states are reported."""
+        return [it for it in (self.reduced, self.earlier, self.graph) if it]
+
+    def is_hidden(self, hart):
+        """Returns whether independent steps of a hart may change the outcome."""
+        if any(of == hart for of, _ in self.outcome.registers):
+            return True
+        agents = [it for it in self.touches.written if hart in (it, it[0] if isinstance(it, tuple) else it)]
+        stored = set().union(*(self.touches.written[it] for it in agents))
+        return any(it in stored or self.machine.meets(it, 1) for it in self.outcome.addresses - self.met)
+
+    def is_whole(self):
+        """Returns whether all orders within the bounds were searched, and no hart was given up."""
+        return not self.why_cut and not any(it.alone or it.unended for it in self.graphs())
 
     def grows(self):
         """Whether more bytes are met, or more is a region, than this round was searched with."""
@@ -183,9 +200,6 @@ class Search:
             self.graph.nodes.setdefault(self.vertex(node), node)
             self.waiting = len(heap)
             self.tell(self)
-            if self.until and time.monotonic() > self.until:
-                self.why_cut = "--seconds"
-                return True
             for following in self.next_nodes(node):
                 heapq.heappush(heap, (following.cost, next(order), following))
         self.earlier = None
@@ -206,6 +220,8 @@ class Search:
         state, last, timers, begun = node.place
         if node.alone > MOST_ALONE:
             self.graph.alone.add((state, last))
+            for hart in range(self.machine.count):
+                self.move(state, hart, node.way)  # so that it is known which harts have ended
             return
         cost, edges = node.cost, self.edges_of(node)
         harts = range(self.machine.count)
@@ -228,12 +244,17 @@ class Search:
                 yield new
 
     def is_in_part(self, node, hart):
-        """Whether the first switch or timer, which comes here, stands for one within the bounds: it may come as well before any of the steps
-        that nobody is affected by, up to here, or up to the step of the hart's first move."""
+        """Returns whether the first switch or timer, which comes here, represents one within `first` and `last`. It may come as well before
+        any of the independent steps up to here, or up to the step of the hart's first move; and in an endless loop each time round."""
         state, last = node.place.state, node.place.last
         following = self.move(state, hart if last is None else last, node.way)
-        is_late = following is None or node.cost[3] + following.met.before >= self.bounds.first
-        return is_late and (self.bounds.last is None or node.low <= self.bounds.last)
+        low, high = node.low, node.cost[3] + (following.met.before if following else 0)
+        is_late = following is None or high >= self.bounds.first
+        if not is_late and last is not None and self.goes_round(state, last, node.way):
+            length = self.cycles[state, last]
+            low += -((high - self.bounds.first) // length) * length
+            is_late = True
+        return is_late and (self.bounds.last is None or low <= self.bounds.last)
 
     # ---- moves
 
@@ -251,12 +272,13 @@ class Search:
         world = work.own.world
         if world == "host" or work.own.is_line_on or self.machine.is_over(work):
             return None
-        pc = work.pc
+        pc, before = work.pc, (work.digest, work.table)
         work.raise_line()
         look = self.machine.look(work)
         done = self.machine.step(work, look, way)
         self.log(hart, world, pc, look, done)
-        return Move(self.kept(work, done), 1, Met(0, pc, look._replace(kind="timer"), world, is_taken(done)))
+        met = Met(0, pc, look._replace(kind="timer"), world, is_taken(done))
+        return Move(self.kept(work, done), 1, met, (work.digest, work.table) != before)
 
     @staticmethod
     def kept(work, done):
@@ -267,48 +289,45 @@ class Search:
 
     def made(self, state, hart, way):
         """Steps up to one that others could be affected by, this one, and those behind it up to the next such."""
-        machine, work, rounds, met = self.machine, Work(self.machine, state, hart), Rounds(), None
+        machine, work, detector, met = self.machine, Work(self.machine, state, hart), LoopDetector(), None
         behind = lambda: way() + ([(hart, work.done, "")] if work.done else [])
-        done = None
+        done, changes, before, skipped = None, False, (work.digest, work.table), 0
         while not machine.is_over(work):
             look = machine.look(work)
             is_met = self.is_met(work, look)
             if is_met and met:
                 break
-            if not is_met and rounds.comes_back(work):
-                work, loads = self.at_least(state, work, met.before + 1 if met else 0, way)
-                if loads:
-                    self.graph.waits.add((work.kept()._replace(steps=()), hart))
+            length = 0 if is_met else detector.length(work)
+            if length and machine.limit:
+                skipped += work.skip(length)
+                detector = LoopDetector()
+                continue
+            if length:
+                work = self.looped(state, work, length, met.before + 1 if met else 0, behind)
                 break
-            if work.done > self.bounds.steps:
+            if work.done - skipped > self.bounds.steps:
                 self.graph.unended.add((state, hart))
                 return None
             world, pc = work.own.world, work.pc
             done = machine.step(work, look, behind)
+            changes = changes or (work.digest, work.table) != before
             self.log(hart, world, pc, look, done)
             if is_met:
-                met, rounds = Met(work.done - 1, pc, look, world, is_taken(done)), Rounds()
+                met, detector = Met(work.done - 1, pc, look, world, is_taken(done)), LoopDetector()
                 if met.timed and world == "bare":
                     break
         found = self.kept(work, done if met and met.timed else None)
         if not work.done or not met and found._replace(steps=()) == state._replace(steps=()):
             return None
-        return Move(found, work.done, met or Met(work.done, None, None, work.own.world, False))
+        return Move(found, work.done, met or Met(work.done, None, None, work.own.world, False), changes)
 
-    def at_least(self, state, work, first, way):
-        """A hart that goes round by itself, where it first comes to the least place of its round, so that all that come to it are alike; and
-        whether it loads on the round."""
-        machine, found, loads = self.machine, [], False
-        start = work.pc, tuple(work.registers)
-        while not found or found[-1] != start:
-            look = machine.look(work)
-            loads = loads or look.kind == "r"
-            machine.step(work, look, lambda: way() + [(work.hart, work.done, "")])
-            found.append((work.pc, tuple(work.registers)))
-        again = Work(machine, state, work.hart)
-        while again.done < first or (again.pc, tuple(again.registers)) != min(found) or again.digest != work.digest:
-            machine.step(again, machine.look(again), way)
-        return again, loads
+    def looped(self, state, work, length, first, way):
+        """Returns a hart that is in an endless loop where it first comes to the state that represents the loop, and keeps what it does in
+        the loop. So all its states in the loop are one for the search."""
+        loop, wanted = loop_of(self.machine, work, length, way)
+        found = first_arrival(self.machine, state, work, wanted, first)
+        self.graph.loops[found.kept()._replace(steps=()), work.hart] = loop
+        return found
 
     def is_met(self, work, look):
         """Whether others could be affected by a hart's next step, or it by theirs."""
@@ -318,6 +337,8 @@ class Search:
         if met and not met.isdisjoint(range(work.pc, work.pc + 4)):
             return True
         if self.watched and self.is_watched(work.own, look):
+            return True
+        if self.is_outcome_visible and self.outcome.may_change(work.hart, look):
             return True
         if not look.kind or is_inside(work.own, look):
             return False
@@ -348,17 +369,18 @@ class Search:
         return self.move(state, hart, way) is None or self.goes_round(state, hart, way)
 
     def goes_round(self, state, hart, way):
-        """Whether a hart by itself comes back to this state."""
-        chain, steps, asked, move = {}, 0, state, None
+        """Whether a hart by itself comes back to this state; `cycles` has in how many steps, or 0."""
+        chain, passed, asked, move = {}, [0], state, None
         while (state, hart) not in self.cycles and state not in chain and len(chain) <= MOST_ALONE:
             chain[state] = len(chain)
-            move = self.move(state, hart, lambda: way() + ([(hart, steps, "")] if steps else []))
+            move = self.move(state, hart, lambda: way() + ([(hart, passed[-1], "")] if passed[-1] else []))
             if move is None:
                 break
-            state, steps = move.state, steps + move.steps
+            state = move.state
+            passed.append(passed[-1] + move.steps)
         first = chain[state] if state in chain and move else len(chain)
-        self.cycles.update({(it, hart): place >= first for it, place in chain.items()})
-        return self.cycles[asked, hart]
+        self.cycles.update({(it, hart): passed[-1] - passed[first] if place >= first else 0 for it, place in chain.items()})
+        return bool(self.cycles[asked, hart])
 
 
 def is_taken(done):

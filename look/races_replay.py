@@ -26,13 +26,13 @@ class Replays:
 
     def check(self, end):
         """A Fault where the bench comes otherwise; the round that stands behind the schedule is done twice."""
-        machine, state = self.machine, end.node.place.state
+        machine, state = self.machine, end.state
         with machine.at_start() as bench:
             if self.rows is None:
                 self.rows = self.ram(bench)
-            self.done(bench, end, commands_of(end.node.way(), machine.count), state)
+            self.done(bench, end, commands_of(end.way(), machine.count), state)
             for _ in range(2 if end.round else 0):
-                self.done(bench, end, commands_of(end.round_way(), machine.count), state)
+                self.done(bench, end, commands_of(end.round, machine.count), state)
 
     def done(self, bench, end, commands, state):
         """Does commands, and compares what they came to."""
@@ -79,9 +79,9 @@ def script_of(machine, end, outcome, heading):
     """The input of the bench that does an end's schedule again, and shows what tells it from others."""
     setup = machine.setup
     lines = ["# " + heading[:118], "# ./rvbench %s < this file" % " ".join(setup.words())]
-    lines += machine.lines_of_script() + commands_of(end.node.way(), machine.count)
+    lines += machine.lines_of_script() + commands_of(end.way(), machine.count)
     if end.round:
-        lines += ["# from here on it goes round: so it may go on for ever"] + 2 * commands_of(end.round_way(), machine.count)
+        lines += ["# from here on it goes round: so it may go on for ever"] + 2 * commands_of(end.round, machine.count)
     for it in outcome:
         lines += questions_of(it, machine.count)
     return setup.image.text + b"--\n" + "".join(it + "\n" for it in lines).encode("latin-1", "replace")

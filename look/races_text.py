@@ -1,12 +1,13 @@
 """What the word races tells: the ends, each with the simplest order that leads to it, for a person and as objects; and what was covered."""
-from .outcomes import Table, condition_of, number_of, outcomes_of, ranges_of, value_text
+from .outcomes import Table, condition_of, number_of, outcomes_of, ranges_of, value_text, watched_of
 from .faults import Fault
 from .progress import Progress
 from .races import MOST_ALONE, Bounds, Search
-from .races_ends import GOES_ON, LEFT, LONG, OVER, STAYS, WAITS, Ends
+from .races_ends import GOES_ON, GRACE, LEFT, LONG, OVER, SLACK, STAYS, WAITS, search_ends
 from .races_machine import Machine, commands_of
 from .races_replay import Replays, write_scripts
 from .show import Style, hex8, place_text, run_object
+from .time_limit import OutOfTime, TimeLimit
 
 SHOWN = 3  # accesses at the beginning and at the end of a hart's turn
 HOW_TEXT = {WAITS: "waits for ever", GOES_ON: "goes on for ever", LEFT: "is left"}
@@ -39,8 +40,8 @@ class Story:
     def limit(self, hart):
         """How long a hart was let go on."""
         search, state = self.search, self.end.node.place.state
-        graphs = filter(None, (search.earlier, search.graph))
-        return "%d moves alone" % MOST_ALONE if any((state, hart) in it.alone for it in graphs) else counted(search.bounds.steps, "step")
+        is_alone = any((state, hart) in it.alone for it in search.graphs())
+        return "%d moves alone" % MOST_ALONE if is_alone else counted(search.bounds.steps, "step")
 
     def place(self, pc):
         return self.symbols.source(pc) or self.symbols.name(pc) or hex8(pc)
@@ -85,29 +86,31 @@ class Story:
 
     def lines(self, total):
         """The end, line by line, behind its heading."""
-        preemptions, timers, switches, steps = self.end.node.cost
+        preemptions, timers, switches, _ = self.end.node.cost
         parts = [counted(preemptions, "preemption")] + ([counted(timers, "timer")] if self.search.bounds.timers else [])
         yield "  %d of %s; simplest: %s, %s, %s" % (self.end.orders, counted(total, "order"), ", ".join(parts),
-                                                    counted(switches, "switch").replace("switchs", "switches"), counted(steps, "step"))
+                                                    counted(switches, "switch").replace("switchs", "switches"), counted(self.end.steps, "step"))
         yield from ("  " + it for it in self.sentences())
         for turn in self.turns():
             yield "    hart %d, %s" % (turn[0].place.last, counted(sum(it.move.steps for it in turn), "step"))
             lines = [self.access(it) for it in turn if it.move.met.pc is not None]
             yield from lines if len(lines) <= 2 * SHOWN + 1 else \
                 [*lines[:SHOWN], "      ... %d more" % (len(lines) - 2 * SHOWN), *lines[-SHOWN:]]
+        for hart, steps, _ in self.end.tail:
+            yield "    then hart %d, %s" % (hart, counted(steps, "step"))
         if self.end.round:
-            moves = self.end.round_way()
-            yield "    and from there, again and again: " + ", ".join("%s of hart %d" % (counted(steps, "step"), hart) for hart, steps, _ in moves)
+            pieces = self.end.round
+            yield "    and from there, again and again: " + ", ".join("%s of hart %d" % (counted(steps, "step"), hart) for hart, steps, _ in pieces)
 
     def object(self, printer):
         end, count = self.end, self.search.machine.count
-        preemptions, timers, switches, steps = end.node.cost
+        preemptions, timers, switches, _ = end.node.cost
         turns = [dict(hart=turn[0].place.last, steps=sum(it.move.steps for it in turn),
                       touched=[self.touched(it) for it in turn if it.move.met.pc is not None]) for turn in self.turns()]
         printer.object("race", end=end.number, values={it.name: shown(value) for it, value in zip(self.outcome, end.values)},
                        over=[dict(hart=hart, how=how, pc=hex8(pc)) for hart, (how, pc) in enumerate(end.harts)], orders=end.orders,
-                       preemptions=preemptions, timers=timers, switches=switches, steps=steps, told=list(self.sentences()),
-                       schedule=commands_of(end.node.way(), count), round=commands_of(end.round_way(), count) if end.round else [],
+                       preemptions=preemptions, timers=timers, switches=switches, steps=end.steps, told=list(self.sentences()),
+                       schedule=commands_of(end.way(), count), round=commands_of(end.round, count) if end.round else [],
                        turns=turns)
 
     def touched(self, node):
@@ -128,9 +131,8 @@ def shown(value):
     return dict(("e%d" % slot, state) for slot, state in value) if isinstance(value, tuple) else value
 
 
-def covered_text(search, orders):
-    """What was searched, in words that are true."""
-    bounds, graph = search.bounds, search.graph
+def bound_text(bounds):
+    """The bounds of a search, in words."""
     bound = []
     if bounds.preemptions is not None:
         bound.append("at most " + counted(bounds.preemptions, "preemption"))
@@ -139,11 +141,21 @@ def covered_text(search, orders):
     what = " with " + " and ".join(bound) if bound else ""
     if bounds.is_part:
         what += ", left for the first time behind step %d%s" % (bounds.first, " or later" if bounds.last is None else " to %d" % bounds.last)
-    if search.why_cut:
-        text = "cut by %s behind %s%s; wholly searched: %s" % (search.why_cut, counted(orders, "order"), what, level_text(search))
-    else:
-        text = "all %d of %s%s" % (orders, counted(orders, "order"), what)
+    return what
+
+
+def covered_text(search, found):
+    """What was searched. `all` is written only if no order is missing."""
+    what, graph = bound_text(search.bounds), search.graph
     given_up = len(graph.alone) + len(graph.unended)
+    if search.why_cut:
+        text = "cut by %s behind %s%s; wholly searched: %s" % (search.why_cut, counted(found.orders, "order"), what, level_text(search))
+    elif found.is_cut:
+        text = "cut by --seconds after the search, before each end was done again on the bench; %s%s" % (counted(found.orders, "order"), what)
+    elif given_up:
+        text = counted(found.orders, "order") + what
+    else:
+        text = "all %d of %s%s" % (found.orders, counted(found.orders, "order"), what)
     return text + ("; not what comes behind one hart that has not ended alone, %s" % counted(given_up, "place") if given_up else "")
 
 
@@ -163,12 +175,13 @@ def show_races(run, symbols, printer, options, refuse):
     outcome = outcomes_of(options.outcome, conditions, symbols, run.setup.harts)
     ends = [place_of(it, symbols) for it in options.end or ()]
     bounds = Bounds(options.preemptions, options.timers, run.setup.limit, options.first, options.last)
+    limit = TimeLimit(options.seconds)
     machine = Machine(run, ends, options.limit)
-    addresses = {at for it in outcome if hasattr(it, "at") for at in range(it.at, it.at + it.count)}
     try:
         with Progress() as progress:
-            search = Search(machine, bounds, options.plain, addresses, options.seconds, teller(progress)).run()
-        told(search, outcome, conditions, symbols, printer, options, run, refuse)
+            search = Search(machine, bounds, options.plain, watched_of(outcome), limit, teller(progress))
+            found = search_ends(search, lambda it: outcome or [*ranges_of(it.met, symbols), Table()])
+        told(search, found, conditions, symbols, printer, options, run, refuse)
     finally:
         machine.close()
     if search.why_cut == "Ctrl-C":
@@ -191,25 +204,52 @@ def teller(progress):
     return tell
 
 
-def told(search, outcome, conditions, symbols, printer, options, run, refuse):
-    """All ends that were found, each done again on the bench first."""
-    machine, named = search.machine, outcome or [*ranges_of(search.met, symbols), Table()]
-    if search.why_cut == "Ctrl-C":
-        machine.renew()
-    found = Ends(search, named)
-    replays = Replays(machine)
-    for end in found.ends:
-        replays.check(end)
+def told(search, found, conditions, symbols, printer, options, run, refuse):
+    """Reports all final states, each replayed on the bench first."""
+    machine, named = search.machine, found.outcome
+    replay(search, found, conditions)
     places = [{pc for it in found.ends for how, pc in it.harts[hart:hart + 1]} for hart in range(machine.count)]
     stories = [Story(it, named, search, symbols, places) for it in found.ends]
     if options.scripts:
         write_scripts(options.scripts, machine, found.ends, named, lambda end: "end %d: %s" % (
             end.number, stories[end.number - 1].heading()))
-    bad = [(condition, end) for condition in conditions for end in found.ends if condition.holds(end, [it.name for it in named])]
+    bad = forbidden(conditions, found)
     (objects if printer.as_json else texts)(search, found, stories, bad, symbols, printer, run)
     for condition, end in bad:
         refuse("--forbid %s: end %d is so" % (condition.text, end.number))
-    if conditions and not bad and search.why_cut == "--seconds":
+    if not bad and not is_whole(search, found):
+        cut_short(conditions, refuse)
+
+
+def replay(search, found, conditions):
+    """Replays the final states on the bench, those first that are forbidden; leaves out those for which no time is left."""
+    replayed, is_forbidden = [], {id(end) for _, end in forbidden(conditions, found)}
+    try:
+        with search.limit.until(1 + GRACE, SLACK):
+            if search.why_cut or found.is_cut:
+                search.machine.renew()
+            replays = Replays(search.machine)
+            for end in sorted(found.ends, key=lambda it: id(it) not in is_forbidden):
+                replays.check(end)
+                replayed.append(end)
+    except OutOfTime:
+        found.keep(replayed)
+
+
+def forbidden(conditions, found):
+    """The conditions that hold, each with the final state."""
+    named = [it.name for it in found.outcome]
+    return [(condition, end) for condition in conditions for end in found.ends if condition.holds(end, named)]
+
+
+def is_whole(search, found):
+    """Whether all orders within the bounds were searched, and all final states reported."""
+    return search.is_whole() and not found.is_cut
+
+
+def cut_short(conditions, refuse):
+    """Reports that the search is not whole and found nothing forbidden: the one place that decides the exit status of this case."""
+    if conditions:
         refuse("--forbid is not decided: not all was searched")
 
 
@@ -218,7 +258,7 @@ def objects(search, found, stories, bad, symbols, printer, run):
     for story in stories:
         story.object(printer)
     machine, bounds = search.machine, search.bounds
-    printer.object("races", ends=len(stories), orders=found.orders, whole=not search.why_cut, covered=covered_text(search, found.orders),
+    printer.object("races", ends=len(stories), orders=found.orders, whole=is_whole(search, found), covered=covered_text(search, found),
                    forbidden=sorted({end.number for _, end in bad}), preemptions=bounds.preemptions, timers=bounds.timers,
                    met=[dict(address=hex8(it.at), size=it.count, symbol=it.name) for it in ranges_of(search.met, symbols)],
                    places=len(search.done), moves=search.count, rounds=search.rounds, runs=machine.asked, asked=machine.learned)
@@ -235,7 +275,7 @@ def texts(search, found, stories, bad, symbols, printer, _run):
         for line in story.lines(found.orders):
             printer.line(line)
     printer.line()
-    printer.line("%s, each done again on the bench. Covered: %s" % (counted(len(stories), "end"), covered_text(search, found.orders)))
+    printer.line("%s, each done again on the bench. Covered: %s" % (counted(len(stories), "end"), covered_text(search, found)))
     printer.line("%s, %s, in %s; %s of the bench with %s" % (
         counted(len(search.done), "place"), counted(search.count, "move"), counted(search.rounds, "round"),
         counted(search.machine.asked, "run"), counted(search.machine.learned, "step")))
