@@ -136,7 +136,7 @@ class Run:
             self.faults.append((script_line, replies[0]))
         if ran:
             self.add_steps(ran.steps)
-        elif words[0] == "sched" and replies[0].startswith("hart "):
+        elif words[:1] == ["sched"] and replies[0].startswith("hart "):
             self.add_schedule(words[1])
         else:
             done = Line(line, tuple(replies), given=script_line.given)

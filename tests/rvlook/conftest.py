@@ -18,6 +18,17 @@ BUILD = ROOT / "examples" / "monitor" / "build"
 SECONDS = 120
 
 
+def pytest_addoption(parser):
+    """Adds the option for a long run of the fuzzers."""
+    parser.addoption("--fuzz-seconds", type=float, default=0, help="how long each fuzzer of tests/rvlook/fuzz runs (a few examples)")
+
+
+@pytest.fixture
+def fuzz_seconds(request):
+    """How long a fuzzer runs; 0 for a few examples with a fixed seed."""
+    return request.config.getoption("--fuzz-seconds")
+
+
 @pytest.fixture(scope="session")
 def bench():
     """The path of the built program."""

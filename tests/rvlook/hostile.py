@@ -18,7 +18,7 @@ FOLDER = Path(__file__).resolve().parent / "programs" / "hello"
 SOURCE = next(FOLDER.glob("*.c")).name
 FUNCTION = "a_function_with_a_name_of_48_characters_________"
 HELLO = bytes.fromhex((FOLDER / "elf.hex").read_text())
-SECONDS, MEMORY = 30, 1 << 30
+SECONDS, MEMORY = 60, 1 << 30
 FEW = ["--steps", "40"]  # the program halts behind 23
 
 

@@ -70,26 +70,38 @@ DAMAGED = {
     "a line range of zero": patched(SECTIONS[".debug_line"][0] + 14, b"\0"),
     "a symbol as large as memory": with_large_symbol(),
     "a compressed section of a gigabyte": with_compressed_section()}
-WORDS = [["trace"], ["touch"], ["touch", "--lcov"], ["page"]]
+DWARF = ("a sibling that is the entry itself", "a line table without end", "a symbol as large as memory")
 
 
 @pytest.mark.parametrize("what", DAMAGED)
-@pytest.mark.parametrize("words", WORDS, ids=" ".join)
-def test_damaged_file_ends_in_time_and_without_traceback(bench, tmp_path, what, words):
+def test_trace_of_a_damaged_file_is_that_of_the_whole_one(bench, tmp_path, what):
     path = tmp_path / "program.elf"
     path.write_bytes(DAMAGED[what])
-    done = run(bench, *words, path, *FEW, seconds=20)
+    done = run(bench, "trace", path, *FEW)
     check(done)
-    if words == ["trace"]:
-        assert done.status == 0
-        assert b"23 steps: bare stays at 80000008" in done.output
+    assert done.status == 0
+    assert b"23 steps: bare stays at 80000008" in done.output
 
 
-def test_each_cut_of_the_file_ends_without_traceback(bench, tmp_path):
+@pytest.mark.parametrize("what", DWARF)
+@pytest.mark.parametrize("words", [["touch"], ["touch", "--lcov"], ["page"]], ids=" ".join)
+def test_other_readers_of_a_damaged_file_end_in_time(bench, tmp_path, what, words):
     path = tmp_path / "program.elf"
-    for end in range(0, len(HELLO), 97):
-        path.write_bytes(HELLO[:end])
-        check(run(bench, "trace", path, *FEW))
+    path.write_bytes(DAMAGED[what])
+    check(run(bench, *words, path, *FEW))
+
+
+def test_each_cut_of_the_file_has_symbols_or_a_reason(tmp_path, capsys):
+    from look.faults import Fault
+    from look.symbols import symbols_of, told
+    for end in range(4, len(HELLO), 37):
+        told.cache_clear()
+        try:
+            symbols = symbols_of("program.elf", HELLO[:end])
+        except Fault:
+            continue
+        symbols.caller(0x80000018)
+        assert symbols or capsys.readouterr().err.startswith("rvlook: program.elf: no ")
 
 
 def test_reason_that_is_told_is_one_line(bench, tmp_path):

@@ -20,12 +20,11 @@ def elf(tmp_path):
     return write
 
 
-@pytest.mark.parametrize("word", ["trace", "touch", "map", "spike", "lcov"])
+@pytest.mark.parametrize("words", [["trace"], ["touch"], ["touch", "--lcov"]], ids=" ".join)
 @pytest.mark.parametrize("names", [
-    {"function": COMMANDS}, {"function": ESCAPES}, {"function": CONTROLS_OF_ISO}, {"source": ESCAPES + ".c"},
-    {"source": CONTROLS_OF_ISO + b".c"}, {"source": RECORDS}])
-def test_output_has_no_control_character(bench, elf, names, word):
-    words = {"spike": ["trace", "--format", "spike"], "lcov": ["touch", "--lcov"]}.get(word, [word])
+    {"function": COMMANDS, "source": ESCAPES + ".c"}, {"function": ESCAPES, "source": CONTROLS_OF_ISO + b".c"},
+    {"function": CONTROLS_OF_ISO, "source": RECORDS}], ids=["commands", "escapes", "controls"])
+def test_output_has_no_control_character(bench, elf, names, words):
     done = run(bench, *words, elf(**names), *FEW)
     check(done)
     assert done.status == 0
