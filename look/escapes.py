@@ -14,6 +14,11 @@ def visible(text):
     return text if text.isprintable() else "".join(it if it.isprintable() else "<U+%04X>" % ord(it) for it in text)
 
 
+def visible_line(line):
+    """Returns a line of a script as it is shown: a tab, which the bench takes, is a space."""
+    return visible(line.replace("\t", " "))
+
+
 def name_of(data):
     """Returns the name that these bytes of a file are: UTF-8 if they are that, else ISO 8859-1; made visible."""
     try:

@@ -2,7 +2,7 @@
 line is derived; what the bench replies to it is not."""
 from .bench_line import is_malformed, words_of
 from .commands import COMMANDS, Form, is_form, written
-from .escapes import visible
+from .escapes import visible_line
 from .explain import line_fault
 from .faults import NameRefused
 from .image import ScriptLine
@@ -35,8 +35,8 @@ def resolved_line(line, symbols):
 
 def fault_text(line, reply, symbols):
     """What is told of a line that the bench refuses."""
-    return visible("%s: %s: %s: %s" % (line.place, line.given[:LONGEST_SHOWN], reply,
-                                       line.refused or meaning(reply, words_of(line.given), symbols)))
+    meant = line.refused or meaning(reply, words_of(line.given), symbols)
+    return visible_line("%s: %s: %s: %s" % (line.place, line.given[:LONGEST_SHOWN], reply, meant))
 
 
 def meaning(reply, words, symbols):

@@ -2,6 +2,7 @@
 import sys
 
 from .bench_line import lines_of
+from .escapes import visible_line
 from .session import Held, Session, completions
 from .show import Style
 from .timeline import Timeline
@@ -19,7 +20,7 @@ def plain_lines(session):
         if not line:
             sys.stdout.write("\n")
             return
-        sys.stdout.write(line if line.endswith("\n") else line + "\n")
+        sys.stdout.write(visible_line(line.rstrip("\n")) + "\n")
         yield line
 
 

@@ -35,7 +35,7 @@ def test_refused_lines_have_the_replies_of_the_bench(bench, script):
     check(done)
     found = [it for it in map(json.loads, done.output.splitlines()) if it["object"] == "command"]
     assert [reply for it in found for reply in it["replies"]] == wanted
-    assert [it["line"] for it in found] == REFUSED
+    assert [it["given"] for it in found] == REFUSED
     assert done.status == 1
     assert done.errors.count(b": error ") == len(REFUSED)
 
