@@ -84,12 +84,12 @@ def decoded(text):
 
 def image_of(path, kind="auto"):
     """The image in a file. A text of hexadecimal digits is taken as the bench takes it, with the script behind its line `--` if it has
-    one; and so is any other text with such a line, whose faults are the bench's to tell. All other bytes are the image themselves."""
+    one; and so is any other text before such a line, whose faults are the bench's to tell. All other bytes are the image themselves."""
     data = read_file(path)
     cut = separator_in(data)
     head, rest = (data[:cut.start()], data[cut.end():]) if cut else (data, None)
     printable = PRINTABLE.match(data) is not None
-    if TEXT.match(head) or printable and cut:
+    if TEXT.match(head) or cut and PRINTABLE.match(head):
         text = head if head.endswith(b"\n") or not head else ended(head.decode("latin-1")).encode("latin-1")
         before = data.count(b"\n", 0, cut.end()) if cut else 0
         return Image(path, text, decoded(head), script_lines(rest, path, before) if cut else ())

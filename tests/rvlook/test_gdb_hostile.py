@@ -33,9 +33,9 @@ def test_watches_of_any_length_are_refused(bench, elf):
     assert REGISTERS.match(found[4])
 
 
-@pytest.mark.parametrize("checksum", [b"zz", b"00", b"\n\n", b"\xff\xfe"])
-def test_packet_with_a_damaged_checksum_does_not_block_the_link(bench, elf, checksum):
-    found, _ = replies(bench, elf, packet("qC", checksum), packet("g"))
+def test_packet_with_a_damaged_checksum_does_not_block_the_link(bench, elf):
+    damaged = [packet("qC", it) for it in (b"zz", b"00", b"\n\n", b"\xff\xfe")]
+    found, _ = replies(bench, elf, *damaged, packet("g"))
     assert len(found) == 1 and REGISTERS.match(found[0])
 
 
@@ -63,16 +63,17 @@ def test_link_keeps_no_more_than_a_packet():
         os.close(it)
 
 
-@pytest.mark.parametrize("value", ["zzzz", "zzzzzzzz", "1", "00000001\nsetreg 6 5", "0000\n\n00", "-0000001", "0x000001", "000000001"])
-def test_register_takes_a_value_of_eight_digits_alone(bench, elf, value):
-    found, _ = replies(bench, elf, packet("P5=" + value), packet("P5=78563412"), packet("p5"), packet("p6"))
-    assert found == [b"E01", b"OK", b"78563412", b"00000000"]
+def test_register_takes_a_value_of_eight_digits_alone(bench, elf):
+    values = ["zzzz", "zzzzzzzz", "1", "00000001\nsetreg 6 5", "0000\n\n00", "-0000001", "0x000001", "000000001"]
+    found, _ = replies(bench, elf, *[packet("P5=" + it) for it in values], packet("p5"), packet("P5=78563412"), packet("p5"), packet("p6"))
+    assert found == [b"E01"] * len(values) + [b"00000000", b"OK", b"78563412", b"00000000"]
 
 
-@pytest.mark.parametrize("code", ["220516", "22ff1600", "16", "2205220027", "0600", "27", "3e", "21ffff", "2601ff27"])
-def test_condition_that_cannot_be_evaluated_holds(bench, elf, code):
-    text = "Z0,80000024,4;X%x,%s" % (len(code) // 2, code)
-    found, _ = replies(bench, elf, packet(text), packet("vCont;c"))
+def test_condition_that_cannot_be_evaluated_holds(bench, elf):
+    from look.gdb_condition import holds
+    codes = ["220516", "22ff1600", "16", "0600", "27", "3e", "21ffff", "2601ff27", ""]
+    assert all(holds(bytes.fromhex(it), lambda number: [][number], lambda at, count: b"") for it in codes)
+    found, _ = replies(bench, elf, packet("Z0,80000024,4;X4,22ff1600"), packet("vCont;c"))
     assert found[0] == b"OK"
     assert found[-1].startswith(b"T05")
 
@@ -83,13 +84,13 @@ def test_condition_of_no_bits_is_refused_by_the_evaluator():
         extended(5, 0)
 
 
-@pytest.mark.parametrize("line", ["explain -", "explain /dev/stdin", "measure /dev/stdin 80000000 1000 0 0 80000000", "gdb", "rvlook gdb", "rvlook",
-                                  "rvlook rvlook", "entered x y", "catch a b", "step 1\nreg 5", "page --symbols /dev/zero"])
-def test_monitor_line_that_would_wait_is_refused(bench, elf, line):
-    found, _ = replies(bench, elf, monitor(line), packet("g"))
-    assert shown(found)
+def test_monitor_line_that_would_wait_is_refused(bench, elf):
+    lines = ["explain -", "explain /dev/stdin", "measure /dev/stdin 80000000 1000 0 0 80000000", "gdb", "rvlook gdb", "rvlook", "rvlook rvlook",
+             "entered x y", "catch a b", "step 1\nreg 5", "page --symbols /dev/zero"]
+    found, _ = replies(bench, elf, *map(monitor, lines), packet("g"))
+    assert found.count(b"OK") == len(lines)
     assert REGISTERS.match(found[-1])
-    assert found[-2] == b"OK"
+    assert shown(found).count("it is no regular file") == 4
 
 
 def test_line_feed_in_monitor_does_no_command(bench, elf):
