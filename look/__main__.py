@@ -14,6 +14,7 @@ def told(line, status):
 
 def main(words):
     """Does what the words ask for; the status of the program."""
+    take_all_characters()
     try:
         return ended(words)
     except KeyboardInterrupt:
@@ -45,6 +46,13 @@ def ended(words):
     except SystemExit as end:  # behind a help text
         sys.stdout.flush()
         return end.code
+
+
+def take_all_characters():
+    """Has the standard streams take names and lines of any bytes, also where the locale has no encoding for them."""
+    for stream, errors in ((sys.stdin, "surrogateescape"), (sys.stdout, "backslashreplace"), (sys.stderr, "backslashreplace")):
+        if hasattr(stream, "reconfigure"):
+            stream.reconfigure(errors=errors)
 
 
 def drop_output():

@@ -3,12 +3,12 @@ import argparse
 import os
 import re
 import sys
-from difflib import get_close_matches
 
 from .faults import Fault, WordsRefused, tell
 from .guess import asks_for_monitor, has_compressed
 from .image import image_of, script_of
 from .lines import fault_text, no_symbol, resolved_script
+from .nearest import nearest
 from .run import Setup, run_of
 from .show import Printer
 from .symbols import symbols_from
@@ -202,7 +202,7 @@ def do_prompt(arguments):
 def do_gdb(arguments):
     from .gdb import serve_gdb
     setup = setup_of(arguments)
-    serve_gdb(setup, lambda: setup.symbols, arguments.port)
+    serve_gdb(setup, lambda: setup.symbols, arguments.port, arguments.allow_files)
 
 
 def do_explain(arguments):
@@ -216,6 +216,12 @@ def do_page(arguments):
     except ImportError as error:
         raise Fault("the page cannot be made: %s" % error) from None
     page.main(arguments)
+
+
+def page_options(parser):
+    parser.add_argument("--sources", metavar="DIR", action="append", default=[],
+                        help="takes in source files below this folder too, more than once; else those below the folder of the ELF file alone")
+    parser.set_defaults(has_sources=True)
 
 
 def add_word(words, name, do, about, *more):
@@ -294,6 +300,7 @@ def part_options(parser, what):
 
 def gdb_options(parser):
     parser.add_argument("--port", metavar="N", type=int, help="a port of this machine, 0 for any, in place of the standard streams")
+    parser.add_argument("--allow-files", action="store_true", help="lets a debugger on the port read and write files by `monitor`")
 
 
 def measure_word(words):
@@ -331,15 +338,15 @@ def parser_of():
     add_word(words, "races", do_races, "All orders of two harts, all moments of the timer: which ends there are", races_options)
     measure_word(words)
     explain_word(words)
-    add_word(words, "page", do_page, "The run as one page for a browser")
+    add_word(words, "page", do_page, "The run as one page for a browser", page_options)
     add_word(words, "gdb", do_gdb, "The run under a debugger that speaks the GDB remote serial protocol", gdb_options)
     return parser
 
 
 def unknown_word(word):
     """What is told of a first word that is neither a word nor a file."""
-    near = get_close_matches(word, NAMES, 1)
-    return "%s is no word of rvlook, and no file%s; rvlook --help tells the words" % (word, "; near it is %s" % near[0] if near else "")
+    near = nearest(word, NAMES)
+    return "%s is no word of rvlook, and no file%s; rvlook --help tells the words" % (word, "; near it is %s" % near if near else "")
 
 
 def with_secrets(parser, words):

@@ -12,6 +12,7 @@ import sys
 import time
 from functools import lru_cache
 
+from .bench_line import ended, has_reply, is_malformed, words_of
 from .faults import BenchEnded, Fault
 
 PIPE = 1 << 20
@@ -47,6 +48,11 @@ def built_program():
     if building.returncode:
         raise Fault("there is no program; ./prove builds it, or RVBENCH names another")
     return path.rstrip("\n")
+
+
+def is_enclaves(command):
+    """Whether a command is one whose reply may have any number of lines."""
+    return "enclaves" in command and words_of(command)[0] == "enclaves" and not is_malformed(command)
 
 
 def widen(*pipes):
@@ -147,14 +153,17 @@ class Bench:
             raise BenchEnded(line.decode("ascii", "replace"))
         return line
 
-    def reply(self, word):
-        """The lines of one command's reply."""
-        if word == b"enclaves":
+    def reply(self, command):
+        """The lines of one command's reply; a comment has none."""
+        if not has_reply(command):
+            return []
+        if is_enclaves(command):
             return list(iter(self.line, MARKED))
         first = self.line()
         if first.startswith(b"error "):
             return [first]
-        count = self.harts if word == b"sched" else COUNTS.get(word.decode("ascii", "replace"), 1)
+        word = words_of(command)[0]
+        count = self.harts if word == "sched" else COUNTS.get(word, 1)
         return [first] + [self.line() for _ in range(count - 1)]
 
     def ask(self, *commands):
@@ -164,7 +173,9 @@ class Bench:
 
     def give(self, *commands):
         """Gives commands whose replies `told` will read."""
-        text = "".join("%s\n%s\n" % (it, MARK) if it == "enclaves" else it + "\n" for it in commands)
+        if any("\n" in it for it in commands):
+            raise Fault("a command of the bench is one line, and has no line feed")
+        text = "".join(ended(it) + (MARK + "\n" if is_enclaves(it) else "") for it in commands)
         self.send(text.encode("latin-1", "replace"))
 
     def begin(self, *commands):
@@ -177,7 +188,7 @@ class Bench:
 
     def told(self, *commands):
         """The replies to commands that were given."""
-        return [[line.decode("latin-1") for line in self.reply(it.split()[0].encode("latin-1", "replace"))] for it in commands]
+        return [[line.decode("latin-1") for line in self.reply(it)] for it in commands]
 
     def one(self, command):
         """The one line that answers a command."""

@@ -8,11 +8,11 @@ from difflib import get_close_matches
 from typing import Optional
 
 from .bench import COUNTS, program_path
+from .bench_line import LONGEST_LINE, has_reply, is_separator, lines_of, words_of
 from .commands import COMMANDS, is_form, rewritten
 from .faults import Fault
-from .image import read_file
+from .image import bounded, read_file
 
-LONGEST_LINE = 120
 IMAGE_FAULTS = {
     1: ("it begins as an ELF file, or is asked to be one, and has fewer than 52 bytes", "all of the file; or --kind raw"),
     2: ("it does not begin as an ELF file", "--kind raw, or no --kind"),
@@ -61,8 +61,7 @@ def replies_to(words, data):
 def explained(words, data):
     """All faults of an input, in their order."""
     replies = replies_to(words, data)
-    lines = data.decode("latin-1").split("\n")
-    lines = lines[:-1] if lines[-1] == "" else lines
+    lines = lines_of(data.decode("latin-1"))
     last = replies[-1] if replies and replies[-1].startswith("rvbench: ") else None
     if last == "rvbench: command line":
         return command_line_faults(words)
@@ -70,7 +69,7 @@ def explained(words, data):
         return image_faults(lines)
     if last:
         return [whole_fault(last)]
-    cut = next((place for place, line in enumerate(lines) if line.strip() == "--"), None)
+    cut = next((place for place, line in enumerate(lines) if is_separator(line)), None)
     if cut is None:
         return [Explained(0, "", "", "there is no line --, so all of it is an image, and no script", "-- before the first command")]
     return script_faults(list(enumerate(lines[cut + 1:], cut + 2)), replies, words[:1] == ["twin"])
@@ -89,9 +88,9 @@ def whole_fault(reply):
 def image_faults(lines):
     """The first line of the image's text that is no text of an image."""
     for number, line in enumerate(lines, 1):
-        if line.strip() == "--" and len(line) <= LONGEST_LINE:
+        if is_separator(line):
             break
-        found = image_line_fault(line.rstrip("\r"))
+        found = image_line_fault(line)
         if found:
             return [Explained(number, shown(line), "rvbench: hex", *found)]
     return [Explained(0, "", "rvbench: hex", "a line of the image is faulty", None)]
@@ -103,7 +102,7 @@ def image_line_fault(line):
         return "these are bytes, and not their digits", "the file's digits: od -An -v -tx1 -w60 FILE | tr -d ' '; rvlook takes it as it is"
     if len(line) > LONGEST_LINE:
         return "the line has %d bytes, and may have %d" % (len(line), LONGEST_LINE), "shorter lines"
-    words = line.split()
+    words = words_of(line)
     joined = "".join(words)
     if words and (words[0] in COMMANDS or words[0].startswith("#")):
         return "this is of the script, and the image has not ended", "-- in a line before it"
@@ -128,15 +127,15 @@ def script_faults(lines, replies, is_twin):
     """The lines of a script that are answered by a fault."""
     found, place = [], 0
     for number, line in lines:
-        words = line.split()
-        if not words or words[0].startswith("#"):
+        if not has_reply(line):
             continue
+        words = words_of(line)
         reply = replies[place] if place < len(replies) else ""
         if words == ["--"] and is_twin:
             continue
         if reply.startswith("error "):
             place += 1
-            found.append(Explained(number, shown(line.rstrip("\r")), reply, *line_fault(reply, words)))
+            found.append(Explained(number, shown(line), reply, *line_fault(reply, words)))
         else:
             place += marked_count(replies[place:]) or count_of(words, replies[place:])
     return found
@@ -166,7 +165,7 @@ def line_fault(reply, words):
         return operand_fault(words)
     told = {"error line": ("a line has at most 120 bytes, tabs and the bytes 20 to 7e alone", "a shorter line, or plain characters"),
             "error full": ("32 addresses are set already, the most there may be", "%s of one before it" % (
-                "unwatch" if words[0] == "watch" else "clear")),
+                "unwatch" if words[:1] == ["watch"] else "clear")),
             "error csr": ("there is no such control and status register", None),
             "error outside": ("a byte of it is outside RAM", "an address from 80000000 on, or a larger --ram"),
             "error hart": ("the bench has no such hart", "--harts 2, with --monitor"),
@@ -196,13 +195,19 @@ def operand_fault(words):
     if comment is not None:
         return "a comment stands in a line of its own", " ".join(words[:comment + 1])
     if len(operands) != len(command.forms):
-        return "%s has %d operands, and here are %d" % (name, len(command.forms), len(operands)), (name + " " + command.letters).strip()
+        return count_text(name, len(command.forms), len(operands)), (name + " " + command.letters).strip()
     for place, (word, form) in enumerate(zip(operands, command.forms)):
         if not is_form(word, form):
             better = rewritten(word, form)
             fixed = [*operands[:place], better, *operands[place + 1:]] if better else None
             return "%s is not %s" % (word, form.value), " ".join([name, *fixed]) if fixed else None
     return "the operands are not those of %s" % name, name + " " + command.letters
+
+
+def count_text(name, wanted, given):
+    """What is told of a number of operands that a command does not take."""
+    operands = {0: "no operands", 1: "1 operand"}.get(wanted, "%d operands" % wanted)
+    return "%s takes %s, %d given" % (name, operands, given)
 
 
 def command_line_faults(words):
@@ -225,7 +230,7 @@ def word_fault(words, place):
 
 def show_explain(path, words, printer):
     """The faults of an input, and what to write."""
-    data = sys.stdin.buffer.read() if path == "-" else read_file(path)
+    data = bounded(sys.stdin.buffer, "standard input") if path == "-" else read_file(path)
     found = explained(words or ["run"], data)
     for it in found:
         if printer.as_json:

@@ -6,9 +6,10 @@ import sys
 import threading
 
 from . import names
+from .escapes import visible
 from .faults import BenchEnded, Fault
 from .gdb_back import Back
-from .gdb_link import Gone, Link, escaped, hex_of, little, unescaped
+from .gdb_link import Gone, Link, escaped, hex_of, little, number_of, unescaped
 from .gdb_monitor import Monitor
 from .gdb_moves import Moves
 from .gdb_stops import Halt, Watch
@@ -17,12 +18,15 @@ from .run import told_fault
 from .timeline import Timeline
 
 NAME = re.compile(r"[Qqv][A-Za-z]+\??|b[cs]|.", re.S)
-CONDITION = re.compile(r"X([0-9a-f]+),([0-9a-f]+)")
+CONDITION = re.compile(r"X([0-9a-f]{1,4}),([0-9a-f]+)")
+VALUE = re.compile(r"[0-9a-fA-F]{8}\Z")
 BREAKS, WATCHES = ("0", "1"), {"2": ("watch", "w"), "3": ("rwatch", "r"), "4": ("awatch", "rw")}
 FEATURES = ("PacketSize=4000;QStartNoAckMode+;qXfer:features:read+;qXfer:memory-map:read+;qXfer:threads:read+;vContSupported+;"
             "ReverseStep+;ReverseContinue+;ConditionalBreakpoints+")
 MOST_WATCHED = 32
+MOST_READ = 0x2000  # bytes of memory in a reply, whose digits are then as many as PacketSize tells
 PIECE = 2000  # characters of what `monitor` tells, in a packet
+SIGNS = re.compile(r"[#$}*]")  # which no text of an error may have
 GONE = "X09"  # the program was ended
 
 
@@ -34,8 +38,8 @@ class Server:
     """Answers packets. `shown` is the hart that is looked at, `moved` the one that goes on or back (None where any may), `last` the one
     that halted."""
 
-    def __init__(self, link, setup, symbols):
-        self.link, self.setup, self.symbols = link, setup, symbols
+    def __init__(self, link, setup, symbols, has_files=True):
+        self.link, self.setup, self.symbols, self.has_files = link, setup, symbols, has_files
         self.extended = self.over = False
         self.running = self.back = self.commands = None
         self.start()
@@ -44,7 +48,7 @@ class Server:
         """The bench behind its script."""
         self.close()
         self.running = Moves(Timeline.of_script(self.setup), self.link)
-        self.back, self.commands = Back(self.running), Monitor(self.running, self.symbols)
+        self.back, self.commands = Back(self.running), Monitor(self.running, self.symbols, self.has_files)
         self.shown = self.last = self.running.timeline.hart
         self.moved = None
 
@@ -75,7 +79,9 @@ class Server:
             except BenchEnded:
                 self.link.send(GONE if name in MOVING else "E.the bench has ended")
                 raise
-            except (ValueError, IndexError, KeyError, TypeError):
+            except Fault as fault:
+                answer = "E." + SIGNS.sub("?", visible(str(fault)))
+            except (ValueError, LookupError, TypeError, ArithmeticError, MemoryError, RecursionError):
                 answer = "E01"
             if answer is not None:
                 self.link.send(answer)
@@ -92,7 +98,7 @@ class Server:
         made = {("features", "target.xml"): target_text, ("memory-map", ""): lambda: memory_text(self.setup.ram),
                 ("threads", ""): lambda: threads_text(map(self.hart_text, range(self.setup.harts if self.running else 0)))}
         text = made[kind, name]()
-        first, count = (int(it, 16) for it in place.split(","))
+        first, count = map(number_of, place.split(","))
         return ("m" if first + count < len(text) else "l") + escaped(text[first:first + count])
 
     def threads(self, _):
@@ -105,7 +111,7 @@ class Server:
 
     def hart_of(self, thread):
         """The hart of a thread; that which halted where any will do."""
-        hart = self.last if thread in ("", "0", "-1") else int(thread, 16) - 1
+        hart = self.last if thread in ("", "0", "-1") else number_of(thread) - 1
         if not 0 <= hart < self.setup.harts:
             raise Refused("there is no such thread")
         return hart
@@ -127,7 +133,7 @@ class Server:
 
     def read_register(self, rest):
         """Any of REGISTERS."""
-        number = int(rest, 16)
+        number = number_of(rest)
         if number < len(CORE):
             return little(self.moves.view.registers(self.shown)[number])
         if number in (PRIV, WORLD):
@@ -151,17 +157,20 @@ class Server:
     def write_register(self, rest):
         """x1 to x31: no command of the bench writes another."""
         number, value = rest.split("=")
-        if not 0 < int(number, 16) < PC:
-            raise Refused("no command of the bench writes %s" % REGISTERS[int(number, 16)])
+        number = number_of(number)
+        if not 0 < number < PC:
+            raise Refused("no command of the bench writes %s" % REGISTERS[number])
+        if not VALUE.match(value):
+            raise ValueError(value)
         self.changing()
         self.timeline.choose(self.shown)
-        self.moves.tell(["setreg %d %s" % (int(number, 16), little(value))])
+        self.moves.tell(["setreg %d %s" % (number, little(value))])
         return "OK"
 
     def read_memory(self, rest):
         """Bytes, up to the first that is outside."""
-        first, count = (int(it, 16) for it in rest.split(","))
-        found = self.moves.view.bytes(first, count)
+        first, count = map(number_of, rest.split(","))
+        found = self.moves.view.bytes(first, min(count, MOST_READ))
         if count and not found:
             raise Refused("%08x is outside RAM" % first)
         return found.hex()
@@ -176,7 +185,7 @@ class Server:
 
     def write(self, place, data):
         """Bytes, each by a poke; none where one is outside."""
-        first, count = (int(it, 16) for it in place.split(","))
+        first, count = map(number_of, place.split(","))
         if len(data) != count:
             raise Refused("%d bytes in place of %d" % (len(data), count))
         if count and len(self.moves.view.bytes(first, count)) < count:
@@ -188,22 +197,28 @@ class Server:
     # breakpoints and watchpoints
 
     def set_stop(self, rest):
-        kind, first, count = rest.split(";")[0].split(",")
+        kind, first, count = self.stop_of(rest)
         if kind in BREAKS:
             conditions = [bytes.fromhex(it[2])[:int(it[1], 16)] for it in CONDITION.finditer(rest)]
-            self.moves.stops.set_break(self.timeline, kind, int(first, 16), conditions)
-        elif not self.moves.stops.set_watch(self.timeline, Watch(*WATCHES[kind], int(first, 16), int(count, 16))):
+            self.moves.stops.set_break(self.timeline, kind, first, conditions)
+        elif count > MOST_WATCHED or not self.moves.stops.set_watch(self.timeline, Watch(*WATCHES[kind], first, count)):
             print("rvlook: the bench watches %d bytes at most, and these would be more" % MOST_WATCHED, file=sys.stderr, flush=True)
             raise Refused("the bench watches %d bytes at most" % MOST_WATCHED)
         return "OK"
 
     def clear_stop(self, rest):
-        kind, first, count = rest.split(";")[0].split(",")
+        kind, first, count = self.stop_of(rest)
         if kind in BREAKS:
-            self.moves.stops.clear_break(self.timeline, kind, int(first, 16))
+            self.moves.stops.clear_break(self.timeline, kind, first)
         else:
-            self.moves.stops.clear_watch(self.timeline, Watch(*WATCHES[kind], int(first, 16), int(count, 16)))
+            self.moves.stops.clear_watch(self.timeline, Watch(*WATCHES[kind], first, count))
         return "OK"
+
+    @staticmethod
+    def stop_of(rest):
+        """The kind, the address and the length of a break or watch."""
+        kind, first, count = rest.split(";")[0].split(",")
+        return kind, number_of(first), number_of(count)
 
     # on and back
 
@@ -230,7 +245,7 @@ class Server:
         stepping = [hart for hart, action in actions.items() if action[0] in "sSr"]
         if stepping:
             action = actions[stepping[0]]
-            inside = range(*(int(it, 16) for it in action[1:].split(","))) if action[0] == "r" else ()
+            inside = range(*map(number_of, action[1:].split(",", 1))) if action[0] == "r" else ()
             halt = self.moves.step(stepping[0], running, inside)
         else:
             halt = self.moves.go_on(sorted(running))
@@ -256,9 +271,10 @@ class Server:
     def monitor(self, rest):
         """A line of the bench or of the prompt, or a word over what was done up to now."""
         self.changing()
-        self.timeline.choose(self.shown)
+        self.timeline.choose(self.last if self.moves.behind_watches else self.shown)  # lldb reads registers of each hart, and names none here
         text = self.commands.line(bytes.fromhex(rest[1:]).decode("latin-1"))
         self.shown = self.timeline.hart
+        self.last = self.shown if self.moves.behind_watches else self.last
         for first in range(0, len(text), PIECE):
             self.link.send("O" + hex_of(text[first:first + PIECE]))
         return "OK"
@@ -348,13 +364,14 @@ def turn_away(listening):
         print("rvlook: a second debugger came to the port, and was turned away", file=sys.stderr, flush=True)
 
 
-def serve_gdb(setup, symbols, port):
-    """Serves a debugger. `symbols` reads the symbols, which are wanted by `monitor` alone: gdb waits two seconds for the first answer."""
+def serve_gdb(setup, symbols, port, allow_files=False):
+    """Serves a debugger. `symbols` reads the symbols, which are wanted by `monitor` alone: gdb waits two seconds for the first answer.
+    Over a port, on which any program of this machine may come, files are read and written if that is allowed."""
     if port is None:
         signal.signal(signal.SIGINT, signal.SIG_IGN)  # of the terminal that the debugger shares; its own Ctrl-C comes as a byte
     server = None
     try:
-        server = Server(link_of(setup, port), setup, symbols)
+        server = Server(link_of(setup, port), setup, symbols, port is None or allow_files)
         server.serve()
     except Gone:
         print("rvlook: the debugger has gone", file=sys.stderr)

@@ -37,6 +37,8 @@ TWO = {
 
 def extended(value, bits):
     """The low bits, with the highest of them as their sign."""
+    if bits == 0:
+        raise Refused("a value of no bits")
     value &= (1 << bits) - 1
     return value - (1 << bits) if value >> (bits - 1) else value
 
@@ -112,5 +114,5 @@ def holds(code, register, memory):
     """Whether a condition holds; where it cannot be told it does, and the debugger asks it itself."""
     try:
         return bool(Machine(code, register, memory).run())
-    except (Refused, IndexError):
+    except (Refused, IndexError, ValueError):
         return True

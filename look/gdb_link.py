@@ -5,12 +5,16 @@ import re
 import select
 import signal
 import threading
+import time
 
-PACKET = re.compile(rb"\$([^#]*)#([0-9a-fA-F]{2})", re.S)
+PACKET = re.compile(rb"\$([^#$]*)#(..)", re.S)  # a dollar sign in a packet begins another one
+MOST = 1 << 16  # bytes of a packet; what is announced to a debugger is less
+NUMBER = re.compile(r"[0-9a-fA-F]{1,16}\Z")
 ESCAPED = re.compile(r"[#$}*]")
 INTERRUPT = b"\x03"
 HUNG_UP = select.POLLHUP | select.POLLERR | getattr(select, "POLLRDHUP", 0)
-OFTEN = 200  # milliseconds after which it is asked whether it is still to be watched
+OFTEN = 0.2  # seconds after which it is asked whether the debugger has gone
+PATIENCE = 2  # seconds after which a debugger that waits is told that there is still work: lldb waits five for a reply
 
 
 class Gone(Exception):
@@ -36,34 +40,44 @@ class Link:
     def packet(self):
         """The next packet."""
         while True:
-            start = self.buffer.find(b"$")
-            match = PACKET.match(self.buffer, start) if start >= 0 else None
+            match = PACKET.search(self.buffer)
             if not match:
+                self.drop()
                 self.fill()
                 continue
             self.buffer = self.buffer[match.end():]
-            is_right = not self.acknowledged or int(match[2], 16) == sum(match[1]) & 0xFF
+            is_right = not self.acknowledged or match[2].lower() == b"%02x" % (sum(match[1]) & 0xFF)
             if self.acknowledged:
                 self.write(b"+" if is_right else b"-")
             if is_right:
                 return match[1].decode("latin-1")
 
+    def drop(self):
+        """Drops what begins no packet, and a packet that is too long, which is refused as a damaged one."""
+        start = self.buffer.rfind(b"$")
+        self.buffer = self.buffer[start:] if start >= 0 else b""
+        if len(self.buffer) > MOST:
+            self.buffer = b""
+            if self.acknowledged:
+                self.write(b"-")
+
     def interrupted(self):
         """Whether Ctrl-C came while the harts go on: no packet comes then."""
-        if select.select([self.reading], [], [], 0)[0]:
+        if len(self.buffer) < MOST and select.select([self.reading], [], [], 0)[0]:
             self.fill()
         found = self.buffer.startswith(INTERRUPT)
         self.buffer = self.buffer.lstrip(INTERRUPT)
         return found
 
     @contextlib.contextmanager
-    def watched(self):
-        """While something is done that asks nothing of the connection: where that ends, it ends too."""
+    def watched(self, is_impatient=False):
+        """While something is done that asks nothing of the connection: where that ends, it ends too. An impatient debugger is shown a dot
+        from time to time."""
         def end(*_):
             raise Gone
 
         before, done = signal.signal(signal.SIGUSR1, end), threading.Event()
-        watcher = threading.Thread(target=self.watch, args=(done,), daemon=True)
+        watcher = threading.Thread(target=self.watch, args=(done, is_impatient), daemon=True)
         watcher.start()
         try:
             yield
@@ -72,14 +86,17 @@ class Link:
             watcher.join()
             signal.signal(signal.SIGUSR1, before)
 
-    def watch(self, done):
+    def watch(self, done, is_impatient):
         """Wakes the main thread once the debugger has gone."""
-        poll = select.poll()
+        poll, told = select.poll(), time.monotonic()
         poll.register(self.reading, HUNG_UP)
-        while not done.is_set():
-            if any(event & HUNG_UP for _, event in poll.poll(OFTEN)):
+        while not done.wait(OFTEN):
+            if any(event & HUNG_UP for _, event in poll.poll(0)):
                 signal.pthread_kill(threading.main_thread().ident, signal.SIGUSR1)
                 return
+            if is_impatient and time.monotonic() > told + PATIENCE:
+                self.send("O" + hex_of("."))
+                told = time.monotonic()
 
     def send(self, text):
         data = text.encode("latin-1", "replace")
@@ -108,7 +125,15 @@ def unescaped(text):
 
 
 def hex_of(text):
-    return text.encode("latin-1", "replace").hex()
+    """Returns a text for the person as the protocol has it."""
+    return text.encode("utf-8", "replace").hex()
+
+
+def number_of(text):
+    """Returns a hexadecimal number of the protocol; raises ValueError if the text is none. `int` takes signs, blanks and `0x` too."""
+    if not NUMBER.match(text):
+        raise ValueError(text)
+    return int(text, 16)
 
 
 def little(word):

@@ -1,10 +1,14 @@
 """What `monitor` takes: the lines of the bench and of the prompt, the words of rvlook over what was done up to now, and what is asked of
 the bridge itself."""
 import contextlib
+import inspect
 import io
+import os
 
 from .arguments import NAMES, read
+from .bench_line import words_of
 from .commands import COMMANDS, Form, is_form, written
+from .escapes import visible
 from .faults import Fault
 from .gdb_entry import Entry
 from .gdb_moves import FORGOTTEN
@@ -23,41 +27,58 @@ OWN = {
     "schedule": "schedule [W]: the digits, 1 to 64, by which two harts go on in turn, as those of sched",
     "entered": "entered: where the host entered the enclave in which the hart is"}
 STALE = "(gdb shows the registers of before, until `maintenance flush register-cache`; with look/gdb_client.py it reads them anew)\n"
+STALE_IN_LLDB = "(lldb shows the registers of before, until the program goes on)\n"
+READ_FILES, FOLDERS = ("script", "symbols", "file", "input"), ("scripts", "sources")  # arguments that name some
 
 
 class Monitor:
-    """Answers a line of `monitor` over the moves of a debugger. `symbols` reads the symbols."""
+    """Answers a line of `monitor` over the moves of a debugger. `symbols` reads the symbols; with `has_files` a line may name files."""
 
-    def __init__(self, moves, symbols):
+    def __init__(self, moves, symbols, has_files=True):
         self.moves, self.symbols, self.session, self.entry, self.is_fresh = moves, symbols, None, Entry(), False
+        self.has_files = has_files
 
     def line(self, text):
-        """What a line tells."""
-        out, words, moves = io.StringIO(), text.split(), self.moves
+        """What a line tells. What `page` tells beside the page goes to standard error."""
+        out, moves = io.StringIO(), self.moves
         before, told = (moves.timeline, moves.timeline.changes), moves.timeline.was_told
-        with contextlib.redirect_stdout(out), contextlib.redirect_stderr(out):
+        errors = contextlib.nullcontext() if "page" in words_of(text)[:2] else contextlib.redirect_stderr(out)
+        with contextlib.redirect_stdout(out), errors, moves.link.watched(moves.behind_watches):
             try:
-                self.do(words, out)
+                self.do(text, out)
             except Fault as fault:
-                out.write("%s\n" % fault)
+                out.write(visible(str(fault)) + "\n")
             except SystemExit:
                 pass  # the help of a word was told
         if before != (moves.timeline, moves.timeline.changes):
             moves.forget(moves.timeline.position)
             if told and moves.timeline is before[0] and not moves.timeline.was_told:
                 out.write(FORGOTTEN % moves.timeline.position + "\n")
-            out.write("" if self.is_fresh else STALE)
+            out.write("" if self.is_fresh else STALE_IN_LLDB if moves.behind_watches else STALE)
         return out.getvalue()
 
-    def do(self, words, out):
-        if not words or words == ["help"]:
+    def do(self, text, out):
+        words = words_of(text)
+        if "\n" in text:
+            print("monitor takes one line")
+        elif not words or words == ["help"]:
             self.help()
         elif words[0] in OWN:
-            getattr(self, words[0])(*words[1:2])
+            self.own(*words)
         elif words[0] == "rvlook" or words[0] in OTHERS or words[0] in WORDS and not self.is_command(words):
             self.word(words[1:] if words[0] == "rvlook" else words)
         else:
-            self.opened(out).line(" ".join(words))
+            self.opened(out).line(text)
+
+    def own(self, name, *operands):
+        """What is asked of the bridge."""
+        act = getattr(self, name)
+        try:
+            inspect.signature(act).bind(*operands)
+        except TypeError:
+            print(OWN[name])
+            return
+        act(*operands)
 
     @staticmethod
     def is_command(words):
@@ -80,16 +101,34 @@ class Monitor:
 
     def word(self, words):
         """A word of rvlook, over a run of what was done up to now."""
-        if words[:1] and words[0] in OTHERS:
+        words = [it.encode("latin-1", "replace").decode("utf-8", "surrogateescape") for it in words]
+        if not words or words[0] not in (*WORDS, *OTHERS):
+            print("rvlook takes a word over what was done up to now: %s; or %s" % (" ".join(WORDS), " ".join(OTHERS)))
+            return
+        if words[0] in OTHERS:
             arguments = read(words)
+            self.check_files(arguments)
         else:
             timeline = self.moves.timeline
-            arguments = read([*words[:1], timeline.setup.image.name, *words[1:]])
+            arguments = read([words[0], timeline.setup.image.name, *words[1:]])
+            self.check_files(arguments)
+            arguments.has_sources = self.has_files
             limit = arguments.steps if words[0] in FROM_HERE or "--steps" in words else 0
             setup = timeline.setup.with_script(commands_of(timeline.past, 0, timeline.hart), limit)
             arguments.opened = run_of(setup), self.opened().symbols
-        with self.moves.link.watched():
-            arguments.do(arguments)
+        arguments.do(arguments)
+
+    def check_files(self, arguments):
+        """Refuses what names files if a debugger may name none, and files that are not regular: to read one may wait for ever, as it does
+        for the debugger's own input."""
+        read_files = [it for it in (getattr(arguments, name, None) for name in READ_FILES) if it]
+        named = read_files + [it for it in (getattr(arguments, name, None) for name in FOLDERS) if it]
+        if named and not self.has_files:
+            named = named[0] if isinstance(named[0], str) else named[0][0]
+            raise Fault("%s: a debugger on a port may name no file; rvlook gdb --allow-files --port N lets it" % named)
+        for path in read_files:
+            if not os.path.isfile(path):
+                raise Fault("%s: it is no regular file" % path)
 
     # of the bridge
 

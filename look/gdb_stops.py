@@ -90,6 +90,9 @@ class Stops:
         return True
 
     def clear_watch(self, timeline, watch):
+        """Takes a watch away, if it is set."""
+        if watch not in self.watches:
+            return
         self.watches = [it for it in self.watches if it != watch]
         kept = {at for it in self.watches for at in it.bytes}
         timeline.do_all(["unwatch %x" % at for at in watch.bytes if at not in kept])

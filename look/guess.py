@@ -1,6 +1,8 @@
 """What an image says of itself: whether it is made for the monitor, and whether it has instructions that the bench has not."""
 import re
 import struct
+import sys
+from array import array
 
 from .ranges import MONITOR_END
 
@@ -47,6 +49,8 @@ def asks_for_monitor(image, script):
 
 def has_key(data):
     """Whether the words of an image put the monitor's key into a7, and have an ecall."""
-    words = [it[0] for it in struct.iter_unpack("<I", data[:len(data) // 4 * 4])]
+    words = array("I", data[:len(data) // 4 * 4])
+    if sys.byteorder == "big":
+        words.byteswap()
     has_high = any(it & KEY_HIGH_MASK == KEY_HIGH for it in words)
     return has_high and any(it & KEY_LOW_MASK == KEY_LOW for it in words) and ECALL in words

@@ -2,11 +2,16 @@
 import re
 from dataclasses import dataclass
 
+from .bench_line import LONGEST_LINE, ended, is_separator, lines_of
 from .faults import Fault
 
 ELF_MAGIC = b"\x7fELF"
 DIGITS_A_LINE = 120
-SEPARATOR = re.compile(rb"(?m)^[ \t]*--[ \t]*\r?$\n?")
+MOST_BYTES = 33554432  # of an image, as the bench has it
+MOST_READ = 3 * MOST_BYTES  # bytes of a file; two digits for each byte of an image, line ends and a script
+MOST_LINES = 1000000  # of a script
+SEPARATOR = re.compile(rb"(?m)^([ \t]*--[ \t]*)(\r?\n|\Z)")
+MARKS = {b"\xef\xbb\xbf": "utf-8", b"\xff\xfe": "utf-16-le", b"\xfe\xff": "utf-16-be"}  # byte order marks
 TEXT = re.compile(rb"[0-9A-Fa-f \t\r\n]*\Z")
 PRINTABLE = re.compile(rb"[\t\r\n\x20-\x7e]*\Z")
 
@@ -35,12 +40,22 @@ class Image:
 
 
 def read_file(path):
-    """The bytes of a file."""
+    """The bytes of a file, at most MOST_READ."""
     try:
         with open(path, "rb") as file:
-            return file.read()
+            return bounded(file, path)
     except OSError as error:
         raise Fault("%s: %s" % (path, error.strerror)) from None
+    except ValueError as error:  # a NUL in the name
+        raise Fault("%s: %s" % (path, error)) from None
+
+
+def bounded(file, path):
+    """Returns all bytes of an open file; a Fault if there are more than MOST_READ. A device without end is such a file."""
+    data = file.read(MOST_READ + 1)
+    if len(data) > MOST_READ:
+        raise Fault("%s: the file is too long: it has more than %d bytes" % (path, MOST_READ))
+    return data
 
 
 def digits_of(data):
@@ -52,9 +67,11 @@ def digits_of(data):
 
 def script_lines(data, path, before=0):
     """The lines of a script that stands in a file behind so many lines. A line -- in it is for two benches, and left out."""
-    lines = enumerate(data.decode("latin-1").split("\n"), before + 1)
-    return tuple(ScriptLine(line.rstrip("\r"), "%s:%d" % (path, number), line.rstrip("\r")) for number, line in lines
-                 if line.strip() not in ("", "--"))
+    if data.count(b"\n") > MOST_LINES:
+        raise Fault("%s: the script is too long: it has more than %d lines" % (path, MOST_LINES))
+    lines = enumerate(lines_of(data.decode("latin-1")), before + 1)
+    return tuple(ScriptLine(line, "%s:%d" % (path, number), line) for number, line in lines
+                 if line.strip(" \t") and not is_separator(line) or len(line) > LONGEST_LINE)
 
 
 def decoded(text):
@@ -67,17 +84,37 @@ def decoded(text):
 
 def image_of(path, kind="auto"):
     """The image in a file. A text of hexadecimal digits is taken as the bench takes it, with the script behind its line `--` if it has
-    one; and so is any other text with such a line, whose faults are the bench's to tell. All other bytes are the image themselves."""
+    one; and so is any other text before such a line, whose faults are the bench's to tell. All other bytes are the image themselves."""
     data = read_file(path)
-    head, *rest = SEPARATOR.split(data, 1)
+    cut = separator_in(data)
+    head, rest = (data[:cut.start()], data[cut.end():]) if cut else (data, None)
     printable = PRINTABLE.match(data) is not None
-    if TEXT.match(head) or printable and rest:
-        text = head if head.endswith(b"\n") or not head else head + b"\n"
-        before = data[:len(data) - len(rest[0])].count(b"\n") if rest else 0
-        return Image(path, text, decoded(head), script_lines(rest[0], path, before) if rest else ())
-    if printable and kind != "raw":
-        raise Fault("%s: it is a text, and not that of an image; --kind raw takes its bytes" % path)
+    if TEXT.match(head) or cut and PRINTABLE.match(head):
+        text = head if head.endswith(b"\n") or not head else ended(head.decode("latin-1")).encode("latin-1")
+        before = data.count(b"\n", 0, cut.end()) if cut else 0
+        return Image(path, text, decoded(head), script_lines(rest, path, before) if cut else ())
+    if kind != "raw" and (printable or is_marked_text(data)):
+        mark = "" if printable else " with a byte order mark"
+        raise Fault("%s: it is a text%s, and not that of an image; --kind raw takes its bytes" % (path, mark))
+    if len(data) > MOST_BYTES:
+        raise Fault("%s: rvbench: too long: the image has more than %d bytes" % (path, MOST_BYTES))
     return Image(path, digits_of(data), data)
+
+
+def separator_in(data):
+    """Returns where the line `--` is that ends the text of an image, as a match, or None."""
+    return next((it for it in SEPARATOR.finditer(data) if len(it[1]) <= LONGEST_LINE), None)
+
+
+def is_marked_text(data):
+    """Whether the bytes are a text behind a byte order mark, which no image begins with and editors put there unasked."""
+    mark = next((it for it in MARKS if data.startswith(it)), None)
+    if mark is None:
+        return False
+    try:
+        return PRINTABLE.match(data[len(mark):].decode(MARKS[mark]).encode("ascii")) is not None
+    except UnicodeError:
+        return False
 
 
 def script_of(path):

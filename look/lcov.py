@@ -1,4 +1,5 @@
 """The lines and functions that each world executed, as the file of lcov that genhtml takes: a test for each world."""
+from .escapes import visible
 from .faults import Fault
 from .page_sources import files_of
 from .touch import Touches, covered_functions, covered_lines
@@ -11,7 +12,7 @@ def show_lcov(run, symbols, printer, paths):
     touches = Touches(run)
     places = {}
     for path in paths:
-        places.update(files_of(path))
+        places.update((name, visible(file)) for name, file in files_of(path).items())
     for world in touches.worlds():
         lines = covered_lines(touches, world, symbols)
         functions = functions_of(touches, world, symbols)

@@ -1,19 +1,21 @@
 """A line of a script or of the prompt, as the bench takes it: symbols, and the names of registers, become numbers. What was made of a
 line is derived; what the bench replies to it is not."""
-from difflib import get_close_matches
-
+from .bench_line import is_malformed, words_of
 from .commands import COMMANDS, Form, is_form, written
+from .escapes import visible_line
 from .explain import line_fault
 from .faults import NameRefused
 from .image import ScriptLine
+from .nearest import nearest
 
-NEAR = 0.6
+LONGEST_SHOWN = 160  # characters of a line in a message
 
 
 def resolved(line, symbols):
-    """The text for the bench. A name that stands for two addresses is refused; what cannot be told is left to the bench to refuse."""
-    words = line.split()
-    if not words or words[0] not in COMMANDS:
+    """The text for the bench. A name that stands for two addresses is refused; what cannot be told is left to the bench to refuse, and so
+    is a malformed line."""
+    words = words_of(line)
+    if is_malformed(line) or not words or words[0] not in COMMANDS:
         return line
     return written(words[0], words[1:], symbols) or line
 
@@ -33,7 +35,8 @@ def resolved_line(line, symbols):
 
 def fault_text(line, reply, symbols):
     """What is told of a line that the bench refuses."""
-    return "%s: %s: %s: %s" % (line.place, line.given, reply, line.refused or meaning(reply, line.given.split(), symbols))
+    meant = line.refused or meaning(reply, words_of(line.given), symbols)
+    return visible_line("%s: %s: %s: %s" % (line.place, line.given[:LONGEST_SHOWN], reply, meant))
 
 
 def meaning(reply, words, symbols):
@@ -54,5 +57,5 @@ def no_symbol(name, symbols):
     """What is told of a name that is none."""
     if not symbols:
         return "%s is no address, and there are no symbols: an ELF file has them, or --symbols FILE" % name
-    near = get_close_matches(name, symbols.by_name, 1, NEAR)
-    return "there is no symbol %s%s" % (name, "; near it is %s" % near[0] if near else "")
+    near = nearest(name, symbols.by_name)
+    return "there is no symbol %s%s" % (name, "; near it is %s" % near if near else "")

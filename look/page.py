@@ -6,7 +6,7 @@ from .map_text import moment_object
 from .map import moments
 from .page_axis import segments_of
 from .page_data import Collector, Columns, compressed
-from .page_sources import source_texts
+from .page_sources import roots_of, source_texts
 from .run import End
 from .show import end_object, run_object
 from .trace import Step, Tracer
@@ -18,17 +18,17 @@ SCRIPTS = ("page_data.js", "page_chart.js", "page_marks.js", "page_panel.js", "p
 
 def main(arguments):
     """Writes the page of a run to standard output."""
-    from .arguments import run_from
+    from .arguments import opened
     if arguments.json:
         raise Fault("page has no --json: it shows what map --json and trace --json write")
     environment = templates()
-    run = run_from(arguments)
-    symbols = run.setup.symbols
+    run, symbols, printer = opened(arguments)
     found = collected(run, symbols)
-    paths = [it for it in (arguments.symbols, arguments.image) if it]
+    paths = [it for it in (arguments.symbols, arguments.image) if it] if arguments.has_sources else []
+    sources = source_texts(paths, found.source_names(), roots_of(arguments.sources))
     columns = Columns()
-    data = {**found.data(columns), "segments": segments_of(found), "sources": source_texts(paths, found.source_names())}
-    print(environment.get_template("page.html").render(title=found.title, data=compressed(data, columns), scripts=SCRIPTS))
+    data = {**found.data(columns), "segments": segments_of(found), "sources": sources}
+    printer.document(environment.get_template("page.html").render(title=found.title, data=compressed(data, columns), scripts=SCRIPTS))
 
 
 def templates():

@@ -135,15 +135,24 @@ function showRegisters(step) {
   put("registers", grid);
 }
 
+// The name of a file, which may be that of a member of every object, as __proto__ is.
+const sourceTexts = new Map(Object.entries(data.sources));
+
+// The file and the line number of a source line; the name of the file may have a colon.
+function nameAndLine(source) {
+  const at = source.lastIndexOf(":");
+  return [source.slice(0, at), Number(source.slice(at + 1))];
+}
+
 function showSource(step) {
   const site = step ? siteOf(step) : {}, source = site.caller || site.source;
-  const [name, line] = source ? source.split(":") : [null, 0], text = name && data.sources[name];
+  const [name, line] = source ? nameAndLine(source) : [null, 0], text = name === null ? "" : sourceTexts.get(name);
   document.getElementById("below").classList.toggle("paired", Boolean(text));
   if (!text) return put("source");
-  const lines = text.split("\n"), first = Math.max(1, line - SOURCE_BEFORE), last = Math.min(lines.length, Number(line) + SOURCE_BEHIND);
+  const lines = text.split("\n"), first = Math.max(1, line - SOURCE_BEFORE), last = Math.min(lines.length, line + SOURCE_BEHIND);
   const pre = element("pre", "");
   for (let at = first; at <= last; at++)
-    pre.append(element("div", at === Number(line) ? "here" : "", String(at).padStart(4) + "  " + lines[at - 1]));
+    pre.append(element("div", at === line ? "here" : "", String(at).padStart(4) + "  " + lines[at - 1]));
   put("source", element("h3", "", name + (site.caller ? ", in " + site.source : "")), pre);
 }
 

@@ -1,9 +1,14 @@
 """The prompt: lines from a terminal, with the history and the completion of Python's readline, or as they come."""
 import sys
 
+from .bench_line import lines_of
+from .escapes import visible_line
 from .session import Held, Session, completions
 from .show import Style
 from .timeline import Timeline
+
+
+LONGEST_INPUT = 1 << 16  # characters of a line; a longer one is taken in parts
 
 
 def plain_lines(session):
@@ -11,11 +16,11 @@ def plain_lines(session):
     while True:
         sys.stdout.write(session.prompt())
         sys.stdout.flush()
-        line = sys.stdin.readline()
+        line = sys.stdin.readline(LONGEST_INPUT)
         if not line:
             sys.stdout.write("\n")
             return
-        sys.stdout.write(line if line.endswith("\n") else line + "\n")
+        sys.stdout.write(visible_line(line.rstrip("\n")) + "\n")
         yield line
 
 
@@ -49,11 +54,17 @@ def terminal_lines(session):
             return
 
 
+def bytes_text(line):
+    """Returns a line of standard input as the text of ISO 8859-1 that has its bytes, without the line feed."""
+    data = line.encode(sys.stdin.encoding or "utf-8", "surrogateescape")
+    return next(iter(lines_of(data.decode("latin-1"))), "")
+
+
 def done(session, line):
     """Does a line; where Ctrl-C stops it, the bench is brought back to where it was before."""
     position = session.timeline.position
     try:
-        return session.line(line)
+        return session.line(bytes_text(line))
     except KeyboardInterrupt:
         session.held.go(position)
         session.tell("stopped; it is as it was before")

@@ -2,13 +2,15 @@
 control registers, modes and worlds, entries, the table, and each byte of RAM. And the schedule as an input of the bench."""
 import os
 
+from .bench_line import ended
+from .escapes import visible
 from .faults import Fault
 from .outcomes import Bytes, Register
 from .races_machine import ROW, commands_of
 from .replies import ran_of
 from .symbols import RAM_BASE
 
-SHOWN = 60  # characters of the words in a comment
+LONGEST_COMMENT = 118  # characters behind `# `
 
 
 class Replays:
@@ -75,16 +77,21 @@ def questions_of(outcome, count):
     return ["enclaves"]
 
 
+def comment(text):
+    """Returns a comment that the bench takes: one line of at most 120 printable ASCII characters."""
+    return "# " + visible(text).encode("ascii", "backslashreplace").decode("ascii")[:LONGEST_COMMENT]
+
+
 def script_of(machine, end, outcome, heading):
     """The input of the bench that does an end's schedule again, and shows what tells it from others."""
     setup = machine.setup
-    lines = ["# " + heading[:118], "# ./rvbench %s < this file" % " ".join(setup.words())]
+    lines = [comment(heading), comment("./rvbench %s < this file" % " ".join(setup.words()))]
     lines += machine.lines_of_script() + commands_of(end.way(), machine.count)
     if end.round:
         lines += ["# from here on it goes round: so it may go on for ever"] + 2 * commands_of(end.round, machine.count)
     for it in outcome:
         lines += questions_of(it, machine.count)
-    return setup.image.text + b"--\n" + "".join(it + "\n" for it in lines).encode("latin-1", "replace")
+    return setup.image.text + b"--\n" + "".join(map(ended, lines)).encode("latin-1", "replace")
 
 
 def write_scripts(folder, machine, ends, outcome, heading_of):

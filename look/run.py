@@ -8,6 +8,7 @@ import re
 from dataclasses import dataclass, field, replace
 
 from .bench import Bench
+from .bench_line import has_reply, words_of
 from .explain import WHOLE_FAULTS, whole_fault
 from .faults import BenchEnded, Fault
 from .image import Image, ScriptLine
@@ -68,8 +69,23 @@ class Line:
     given: str = ""
 
     @property
+    def is_refused(self):
+        """Whether the bench has refused it."""
+        return bool(self.replies) and self.replies[0].startswith("error ")
+
+    @property
+    def word(self):
+        """The command, or none if it was refused."""
+        return "" if self.is_refused else words_of(self.text)[0]
+
+    @property
     def changes_state(self):
-        return self.text.split()[0] in STATE_WORDS
+        return self.word in STATE_WORDS
+
+    @property
+    def hart(self):
+        """The hart that it chooses, or None."""
+        return int(words_of(self.text)[1]) if self.word == "hart" else None
 
 
 @dataclass(frozen=True)
@@ -111,21 +127,21 @@ class Run:
 
     def play(self, bench, line, script_line):
         """One line of the script, as a part of the plan."""
-        word = line.split()[0]
-        if word.startswith("#"):
+        if not has_reply(line):
             return
+        words = words_of(line)
         replies = bench.ask(line)[0]
         ran = ran_of(replies[0]) if replies else None
         if replies and replies[0].startswith("error "):
             self.faults.append((script_line, replies[0]))
         if ran:
             self.add_steps(ran.steps)
-        elif word == "sched" and replies[0].startswith("hart "):
-            self.add_schedule(line.split()[1])
+        elif words[:1] == ["sched"] and replies[0].startswith("hart "):
+            self.add_schedule(words[1])
         else:
-            self.plan.append(Line(line, tuple(replies), given=script_line.given))
-            if word == "hart" and replies == ["ok"]:
-                self.hart = int(line.split()[1])
+            done = Line(line, tuple(replies), given=script_line.given)
+            self.plan.append(done)
+            self.hart = self.hart if done.hart is None else done.hart
 
     def add_steps(self, count):
         self.plan.append(Steps(count))
@@ -173,11 +189,9 @@ class Run:
     @staticmethod
     def told(bench, line, hart):
         """Tells the bench a line that changes its state; the hart that is chosen from then on."""
-        if line.changes_state and "error" not in "".join(line.replies):
+        if line.changes_state:
             bench.ask(line.text)
-            if line.text.startswith("hart"):
-                return int(line.text.split()[1])
-        return hart
+        return hart if line.hart is None else line.hart
 
     def tail(self, bench, position, hart, last):
         """The steps behind the script, up to where the hart stays or the limit is; then the end."""
@@ -261,10 +275,9 @@ class Replay:
 
     def take(self, line, commands):
         """A line of the script on the way."""
-        if line.changes_state and "error" not in "".join(line.replies):
+        if line.changes_state:
             commands.append(line.text)
-            if line.text.startswith("hart"):
-                self.hart = int(line.text.split()[1])
+        self.hart = self.hart if line.hart is None else line.hart
 
     def lines_up_to_next(self):
         """The script's lines that stand between where it is and the next step."""

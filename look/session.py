@@ -1,20 +1,23 @@
 """What the prompt does with a line: the bench's commands, in which symbols and ABI names may stand, and a few of its own, for what a
 debugger has not."""
 import inspect
-from difflib import get_close_matches
 
 from . import names
+from .bench_line import has_reply, is_malformed, words_of
 from .commands import COMMANDS, Form, is_form
+from .escapes import visible
 from .explain import line_fault
 from .faults import NameRefused
 from .lines import resolved
 from .map import Event, Finder
 from .map_text import moment_text
+from .nearest import nearest
 from .replies import ran_of
 from .run import ALIKE, MOST_STEPS, alike_at_end
 from .show import Style, place_text
 
 CHUNK = 2048  # steps that are looked through at once
+LONGEST_COUNT = 18  # digits of the operand of `back`
 PLACES = (Form.address, Form.value)
 
 OWN = {
@@ -73,12 +76,12 @@ class Session:
 
     def done(self, text):
         """The same; a name that stands for no one address is a fault."""
-        words = text.split()
-        if not words or words[0].startswith("#"):
+        words = words_of(text)
+        if not has_reply(text):
             return True
         if words[0] in ("quit", "exit"):
             return False
-        if words[0] in OWN:
+        if words[0] in OWN and not is_malformed(text):
             self.own(words[0], words[1:])
         else:
             self.command(resolved(text, self.symbols))
@@ -95,6 +98,7 @@ class Session:
         act(*operands)
 
     def tell(self, text, style=None):
+        text = visible(text)
         self.printer.line(self.printer.styled(text, style) if style else text)
 
     def command(self, line):
@@ -103,7 +107,7 @@ class Session:
         for reply in replies:
             self.tell(reply, Style.bad if reply.startswith("error ") else None)
         if replies and replies[0].startswith("error "):
-            self.refused(replies[0], line.split())
+            self.refused(replies[0], words_of(line))
         if replies and ran_of(replies[0]):
             self.where()
 
@@ -112,9 +116,9 @@ class Session:
         meant, write = line_fault(reply, words)
         unknown = self.unknown_symbol(words) if reply == "error operand" else None
         if unknown:
-            near = get_close_matches(unknown, self.symbols.by_name, 1)
+            near = nearest(unknown, self.symbols.by_name)
             meant = "%s is no symbol of the image" % unknown if self.symbols else "%s is no address, and no symbols are known" % unknown
-            write = " ".join(near[0] if it == unknown else it for it in words) if near else \
+            write = " ".join(near if it == unknown else it for it in words) if near else \
                 None if self.symbols else "--symbols FILE behind the image, or an ELF file that has them"
         self.tell("  " + meant)
         if write:
@@ -152,7 +156,7 @@ class Session:
 
     def back(self, count="1"):
         """Steps back, by playing what was done up to there."""
-        if not count.isdigit():
+        if not (count.isascii() and count.isdigit() and len(count) <= LONGEST_COUNT):
             self.tell(OWN["back"])
             return
         self.held.go(max(0, self.timeline.position - int(count)))

@@ -28,6 +28,16 @@ class Printer:
     def line(self, text=""):
         self.stream.write(text.rstrip() + "\n")
 
+    def document(self, text):
+        """Writes a text in UTF-8, whatever the locale has."""
+        stream = getattr(self.stream, "buffer", None)
+        if stream:
+            self.stream.flush()
+            stream.write(text.encode("utf-8", "replace") + b"\n")
+            stream.flush()
+        else:
+            self.stream.write(text + "\n")
+
     def object(self, kind_of_object, **members):
         self.stream.write(json.dumps({"object": kind_of_object, **members}, separators=(",", ":")) + "\n")
 

@@ -2,11 +2,14 @@
 the bench knows no symbols."""
 import io
 import re
+import zlib
 from bisect import bisect_right
 from collections import defaultdict
 from dataclasses import dataclass
 from functools import lru_cache
 
+from .bench_line import lines_of
+from .escapes import name_of, visible
 from .faults import Fault, NameRefused, package_missing, tell
 from .image import ELF_MAGIC, read_file
 
@@ -14,6 +17,11 @@ NM_LINE = re.compile(r"([0-9a-fA-F]{8})\s+(?:[A-Za-z]\s+)?([A-Za-z_.$][\w.$]*)\s
 PREFERRED = ("STT_FUNC", "STT_OBJECT")
 RAM_BASE = 0x80000000
 UNSIZED = 4096  # how far a symbol without a size goes at most
+LEAST_HEADER = 40  # bytes of a section header
+MOST_SECTIONS = 65536
+LONGEST_REASON = 200  # characters of an error of pyelftools that are shown
+MOST_NAMED = 1 << 24  # characters of all names of symbols, which may share the bytes of one string
+MOST_INFLATED = 1 << 26  # bytes of all compressed sections
 
 
 @dataclass(frozen=True)
@@ -76,6 +84,19 @@ class Symbols:
         place = bisect_right(self.line_starts, address) - 1
         return self.lines[place][1] if place >= 0 else None
 
+    def sources_in(self, first, end):
+        """The file and line of each instruction of four bytes from one address on up to another, each row of the line table once; None
+        where there is no line. A size that a file tells may be that of all memory, and the rows are not more for it."""
+        place = max(0, bisect_right(self.line_starts, first) - 1)
+        for at in range(place, len(self.lines)):
+            start = max(self.line_starts[at], first)
+            start += (first - start) % 4
+            following = self.line_starts[at + 1] if at + 1 < len(self.lines) else end
+            if self.line_starts[at] >= end:
+                return
+            if start < min(following, end):
+                yield self.lines[at][1]
+
     def caller(self, address):
         """The file and line of the call that an instruction was inlined for, or None."""
         if self.inlined is None:
@@ -120,8 +141,16 @@ def symbols_of(path, data):
         return Symbols()
     if data.startswith(ELF_MAGIC):
         return elf_symbols(path, data)
-    matches = [NM_LINE.match(line) for line in data.decode("latin-1").splitlines()]
-    return Symbols([Symbol(int(it[1], 16), 0, it[2], False) for it in matches if it])
+    matches = [NM_LINE.match(line) for line in lines_of(decoded(data))]
+    return Symbols([Symbol(int(it[1], 16), 0, visible(it[2]), False) for it in matches if it])
+
+
+def decoded(data):
+    """Returns the text of a listing: UTF-8 if it is that, else ISO 8859-1."""
+    try:
+        return data.decode("utf-8")
+    except UnicodeDecodeError:
+        return data.decode("latin-1")
 
 
 def symbols_from(path, image):
@@ -141,7 +170,7 @@ def elf_symbols(path, data):
     except ImportError:
         told(package_missing("pyelftools", "python3-pyelftools", "there are addresses in place of symbols"))
         return Symbols()
-    file = readable(path, "no symbols", lambda: ELFFile(io.BytesIO(data)))
+    file = readable(path, "no symbols", lambda: checked(ELFFile(io.BytesIO(data)), data))
     if file is None:
         return Symbols()
     knows_all_forms()
@@ -152,12 +181,36 @@ def elf_symbols(path, data):
 
 def readable(path, without, read):
     """What `read` gives; where the file is not as it should be, that is told, and what there is then none of."""
-    from elftools.common.exceptions import ELFError
     try:
         return read()
-    except (ELFError, ValueError, KeyError, TypeError, AttributeError) as error:
-        told("%s: %s, for it is no file that pyelftools reads (%s)" % (path, without, error))
+    except Exception as error:  # pyelftools has no common class for what it cannot read, and lets errors of Python through
+        told("%s: %s, for it is no file that pyelftools reads (%s)" % (path, without, visible(str(error)[:LONGEST_REASON])
+                                                                      or type(error).__name__))
         return None
+
+
+def checked(file, data):
+    """Returns an ELF file whose table of sections is in the file, and whose compressed sections are not too large: pyelftools believes both."""
+    size, count = file["e_shentsize"], file.num_sections()
+    if count > MOST_SECTIONS or count and (size < LEAST_HEADER or file["e_shoff"] + count * size > len(data)):
+        raise ValueError("its table of sections is damaged")
+    inflated = 0
+    for section in file.iter_sections():
+        if section.compressed or section.name.startswith(".zdebug"):
+            inflated += inflated_size(data[section["sh_offset"]:section["sh_offset"] + section["sh_size"]])
+        if inflated > MOST_INFLATED:
+            raise ValueError("its compressed sections have more than %d bytes" % MOST_INFLATED)
+    return file
+
+
+def inflated_size(data):
+    """Returns how many bytes the zlib stream of a compressed section gives, which stands after its header; at most MOST_INFLATED + 1."""
+    for header in (12, 24):  # of ELF; .zdebug has 12 bytes too
+        try:
+            return len(zlib.decompressobj().decompress(data[header:], MOST_INFLATED + 1))
+        except zlib.error:
+            continue
+    return 0
 
 
 @lru_cache(maxsize=None)
@@ -183,33 +236,45 @@ def named(file):
     """The symbols of functions, objects and labels."""
     table = file.get_section_by_name(".symtab")
     sections = {number for number, section in enumerate(file.iter_sections()) if section["sh_flags"] & 2}
+    length = 0
     for symbol in table.iter_symbols() if table else ():
         kind, index = symbol["st_info"]["type"], symbol["st_shndx"]
+        length += len(symbol.name)
+        if length > MOST_NAMED:
+            raise ValueError("its names have more than %d characters" % MOST_NAMED)
         if symbol.name and not symbol.name.startswith(("$", ".L")) and (index in sections) \
                 and kind in (*PREFERRED, "STT_NOTYPE"):
             rank = 0 if kind in PREFERRED else 1 if symbol["st_info"]["bind"] == "STB_GLOBAL" else 2
-            yield Symbol(symbol["st_value"], symbol["st_size"], symbol.name, kind == "STT_FUNC", rank)
+            yield Symbol(symbol["st_value"], symbol["st_size"], visible(symbol.name), kind == "STT_FUNC", rank)
         elif symbol.name and index == "SHN_ABS" and kind == "STT_NOTYPE":
-            yield Symbol(symbol["st_value"], 0, symbol.name, False, 3)
+            yield Symbol(symbol["st_value"], 0, visible(symbol.name), False, 3)
 
 
 def source_lines(file):
     """The rows of all line tables: the address of each and its file and line, or None where a sequence ends."""
     if not file.has_dwarf_info():
         return
-    dwarf = file.get_dwarf_info()
-    for unit in dwarf.iter_CUs():
-        program = dwarf.line_program_for_CU(unit)
-        names = file_names(program) if program else {}
-        states = [entry.state for entry in program.get_entries() if entry.state] if program else []
+    for _, program in line_programs(file.get_dwarf_info()):
+        names = file_names(program)
+        states = [entry.state for entry in program.get_entries() if entry.state]
         yield from ((it.address, None if it.end_sequence or not it.line else "%s:%d" % (names.get(it.file, "?"), it.line))
                     for it in states)
+
+
+def line_programs(dwarf):
+    """Each unit with its line table; a table that more units share comes once."""
+    seen = set()
+    for unit in dwarf.iter_CUs():
+        program = dwarf.line_program_for_CU(unit)
+        if program and program.program_start_offset not in seen:
+            seen.add(program.program_start_offset)
+            yield unit, program
 
 
 def file_names(program):
     """The names of a line table's files by their numbers: from 1 on up to DWARF 4, from 0 on in DWARF 5."""
     first = 0 if program["version"] >= 5 else 1
-    return {first + place: entry.name.decode("utf-8", "replace").split("/")[-1]
+    return {first + place: name_of(entry.name.split(b"/")[-1])
             for place, entry in enumerate(program["file_entry"])}
 
 
@@ -222,20 +287,39 @@ def inlined_calls(file):
     for unit in dwarf.iter_CUs():
         program = dwarf.line_program_for_CU(unit)
         names = file_names(program) if program else {}
-        for entry in outermost(unit.get_top_DIE()):
+        for entry in outermost(dwarf, unit):
             call = entry.attributes
             if "DW_AT_call_file" in call and "DW_AT_call_line" in call:
                 source = "%s:%d" % (names.get(call["DW_AT_call_file"].value, "?"), call["DW_AT_call_line"].value)
                 yield from ((first, end - 1, source) for first, end in ranges_of(dwarf, unit, entry) if first < end)
 
 
-def outermost(entry):
-    """The inlined calls below an entry, and none that is within another."""
-    for child in entry.iter_children():
-        if child.tag == "DW_TAG_inlined_subroutine":
-            yield child
-        elif child.tag in ("DW_TAG_subprogram", "DW_TAG_lexical_block"):
-            yield from outermost(child)
+def outermost(dwarf, unit):
+    """The inlined calls of a unit that are in functions and their blocks alone, and in no other call."""
+    inside = [True]  # for each entry that is open, whether it is the unit, or a function or block in such
+    for entry in entries_of(dwarf, unit):
+        if entry.is_null():
+            inside.pop()
+            if len(inside) <= 1:
+                return
+            continue
+        is_inside = inside[-1]
+        if is_inside and entry.tag == "DW_TAG_inlined_subroutine":
+            yield entry
+        if entry.has_children:
+            inside.append(is_inside and (len(inside) == 1 or entry.tag in ("DW_TAG_subprogram", "DW_TAG_lexical_block")))
+
+
+def entries_of(dwarf, unit):
+    """The entries of a unit in the order of the file, each right after the one before. pyelftools goes by the siblings that entries name,
+    and does not end where one names itself."""
+    from elftools.dwarf.die import DIE
+    unit.get_top_DIE()  # which others need to read indirect values
+    place, end = unit.cu_die_offset, unit.cu_offset + unit.size
+    while place < end:
+        entry = DIE(unit, dwarf.debug_info_sec.stream, place)
+        place += entry.size
+        yield entry
 
 
 def ranges_of(dwarf, unit, entry):

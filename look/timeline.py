@@ -2,6 +2,7 @@
 again by giving them to another bench up to there. Steps are counted over all harts."""
 from dataclasses import dataclass
 
+from .bench_line import has_reply, words_of
 from .replies import ran_of
 from .run import MOST_STEPS
 
@@ -106,7 +107,7 @@ class Timeline:
         """The timeline behind the script of a setup."""
         timeline = Timeline(setup)
         for line in setup.script:
-            if not line.split()[0].startswith("#"):
+            if has_reply(line):
                 timeline.do(line)
         return timeline
 
@@ -160,8 +161,8 @@ class Timeline:
         replies = self.ask(*lines)
         for line, told in zip(lines, replies):
             if told and not told[0].startswith("error "):
-                word = line.split()[0]
-                self.hart = int(line.split()[1]) if word == "hart" else self.hart
+                word = words_of(line)[0]
+                self.hart = int(words_of(line)[1]) if word == "hart" else self.hart
                 self.take(line, self.hart, told)
                 self.keep(word, line, told, turns)
         return replies

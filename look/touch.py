@@ -1,5 +1,5 @@
 """The word touch: what each world read, wrote and executed, beside what it might have."""
-from bisect import bisect_right
+from bisect import bisect_left, bisect_right
 from collections import Counter, defaultdict
 from dataclasses import dataclass
 
@@ -129,22 +129,30 @@ def covered_functions(touches, world, symbols):
 
 def covered_lines(touches, world, symbols):
     """Each source line of the functions of which a world executed some, with how many times its most executed instruction was."""
-    executed = touches.executed(world)
-    counts = {}
+    executed, counts = touches.executed(world), {}
+    addresses = sorted(executed)
     for symbol, size, _ in covered_functions(touches, world, symbols):
-        for address in range(symbol.address, symbol.address + size, 4):
+        first, end = symbol.address, symbol.address + size
+        counts.update((it, counts.get(it, 0)) for it in symbols.sources_in(first, end) if it)
+        for address in addresses[bisect_left(addresses, first):bisect_left(addresses, end)]:
             source = symbols.source(address)
-            if source:
-                counts[source] = max(executed.get(address, 0), counts.get(source, 0))
-    return sorted(counts.items(), key=lambda it: (it[0].split(":")[0], int(it[0].split(":")[1])))
+            if source and (address - first) % 4 == 0:
+                counts[source] = max(executed[address], counts.get(source, 0))
+    return sorted(counts.items(), key=lambda it: place_of(it[0]))
+
+
+def place_of(source):
+    """The file and the line number of a source line. The file's name may have a colon."""
+    name, number = source.rsplit(":", 1)
+    return name, int(number)
 
 
 def by_file(lines):
     """Of each file how many of its lines were executed, how many there are, and the numbers of the others."""
     files = defaultdict(list)
     for source, count in lines:
-        name, number = source.rsplit(":", 1)
-        files[name].append((number, count))
+        name, number = place_of(source)
+        files[name].append((str(number), count))
     for name, found in files.items():
         yield name, sum(count > 0 for _, count in found), len(found), [number for number, count in found if not count]
 

@@ -120,9 +120,9 @@ class Tracer:
         with self.run.replay() as reader, self.run.replay() as teller:
             for item in self.run.stretches():
                 if isinstance(item, Line):
-                    if item.text.split()[0] == "setreg":
+                    if item.word == "setreg":
                         self.harts[self.hart].registers = None
-                    self.hart = int(item.text.split()[1]) if item.changes_state and item.text.startswith("hart") else self.hart
+                    self.hart = self.hart if item.hart is None else item.hart
                     if not item.hidden and self.position + 1 >= self.first:
                         yield Command(self.position, self.hart, item.text, item.replies, item.given)
                 elif isinstance(item, End):

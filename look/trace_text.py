@@ -3,6 +3,7 @@ from dataclasses import dataclass, field
 from typing import Optional
 
 from . import names
+from .escapes import visible_line
 from .instructions import short_form
 from .run import End
 from .show import Style, end_object, end_text, hex8, run_object
@@ -186,8 +187,8 @@ class Lines:
         first = command.replies[0] if command.replies else "(nothing)"
         shown = first if len(first) <= SHOWN_REPLY else first[:SHOWN_REPLY] + " .."
         more = len(command.replies) - 1
-        made = "" if command.line == command.given else "  (%s)" % command.line
-        self.printer.line("%s%s  %s%s" % (self.printer.styled("> " + command.given, Style.aside), made, shown,
+        made = "" if command.line == command.given else "  (%s)" % visible_line(command.line)
+        self.printer.line("%s%s  %s%s" % (self.printer.styled("> " + visible_line(command.given), Style.aside), made, shown,
                                           "  and %d more lines" % more if more > 0 else ""))
 
     def none(self):

@@ -24,6 +24,7 @@ SECONDS = 120
 def pytest_addoption(parser):
     """Adds the options of this suite."""
     parser.addoption("--update-golden", action="store_true", help="write the golden files of rvlook anew")
+    parser.addoption("--fuzz-seconds", type=float, default=0, help="how long each fuzzer of tests/rvlook/fuzz runs (a few examples)")
 
 
 def pytest_configure(config):
@@ -31,6 +32,12 @@ def pytest_configure(config):
     if not os.environ.get("MADE_CASES"):
         os.environ["MADE_CASES"] = tempfile.mkdtemp(prefix="rvbench-cases-")
         config.add_cleanup(lambda: shutil.rmtree(os.environ["MADE_CASES"], ignore_errors=True))
+
+
+@pytest.fixture
+def fuzz_seconds(request):
+    """How long a fuzzer runs; 0 for a few examples with a fixed seed."""
+    return request.config.getoption("--fuzz-seconds")
 
 
 @pytest.fixture(scope="session")

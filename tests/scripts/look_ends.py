@@ -6,10 +6,14 @@ import os
 import re
 import signal
 import subprocess
+import sys
 import tempfile
 import time
 
 from look_checks import PROGRAM, ROOT, expect, report
+
+sys.path.insert(0, os.path.join(ROOT, "tests", "rvlook"))
+from hostile import named  # noqa: E402
 
 LOOK = os.path.join(ROOT, "rvlook")
 ADDS, LISTING = "examples/enclave_adds/image", "examples/enclave_adds/listing"
@@ -36,6 +40,10 @@ class Files:
         self.cycle = self.write("cycle", "732500b06f000000\n")  # mcycle is read
         self.key = self.write("key", "b758450a938838e473000000\n6f000000\n")
         self.text = self.write("text", "no image\n")
+        self.marked = self.write("marked", "\xef\xbb\xbf6f000000\n")
+        self.lines_of_script = self.write("lines", "\n" * 1000001)
+        source = self.write("own.c", "int own;\n")
+        self.with_source = self.write("source.elf", named(source=source).decode("latin-1"))
         self.cut = self.write("cut.elf", "\x7fELF")
         with open(os.path.join(ROOT, ADDS), encoding="ascii") as file:
             data = bytes.fromhex(file.read().split("--")[0])
@@ -94,7 +102,12 @@ def cases(files):
         "FILE:LINE: COMMAND: error operand: there": scripted("man"),
         "FILE:LINE: COMMAND: error operand: NAME": scripted("twice"),
         "FILE: No such": lambda: ran(["map", SUM, "--script", "/none"]),
-        "FILE: it is a text": lambda: ran(["map", files.text]),
+        "FILE: it is a text,": lambda: ran(["map", files.text]),
+        "FILE: it is a text with": lambda: ran(["map", files.marked]),
+        "FILE: the file": lambda: ran(["map", "/dev/zero"]),
+        "FILE: the script": lambda: ran(["map", SUM, "--script", files.lines_of_script]),
+        "the page has": lambda: ran(["page", files.with_source, "--steps", "40"]),
+        "--sources DIR": lambda: ran(["page", SUM, "--sources", "/none"]),
         "FILE: rvbench": lambda: ran(["map", "--kind", "elf", SUM]),
         "FILE: no symbols": lambda: ran(["map", "--symbols", files.cut, SUM]),
         "FILE: there are": lambda: ran(["map", "--symbols", files.text, SUM]),

@@ -1,0 +1,133 @@
+"""What the tests of hostile input share: an ELF file whose names are replaced, and rvlook in a child with a clock and a bound of memory.
+
+The ELF file is that of `programs/hello`, built with `-g -gdwarf-4`; it is kept as digits, so that the tests need no compiler. Its source file
+and one of its functions have names of 49 and 48 characters, in whose place others fit."""
+import os
+import resource
+import signal
+import struct
+import sys
+import tempfile
+import time
+from functools import lru_cache
+from pathlib import Path
+from typing import NamedTuple
+
+ROOT = Path(__file__).resolve().parents[2]
+FOLDER = Path(__file__).resolve().parent / "programs" / "hello"
+SOURCE = next(FOLDER.glob("*.c")).name
+FUNCTION = "a_function_with_a_name_of_48_characters_________"
+HELLO = bytes.fromhex((FOLDER / "elf.hex").read_text())
+SECONDS, MEMORY = 60, 1 << 30
+FEW = ["--steps", "40"]  # the program halts behind 23
+
+
+def fitting(name, length):
+    """Returns a name as bytes, which is not longer than the one that it replaces."""
+    data = name if isinstance(name, bytes) else os.fsencode(name)
+    assert len(data) <= length, "the name does not fit"
+    return data
+
+
+def named(function=None, source=None, data=HELLO):
+    """Returns the ELF file with other names: NULs end that of the function, and slashes are before that of the source file, which is an
+    absolute path then."""
+    if function is not None:
+        data = data.replace(FUNCTION.encode(), fitting(function, len(FUNCTION)).ljust(len(FUNCTION), b"\0"))
+    if source is not None:
+        data = data.replace(SOURCE.encode(), fitting(source, len(SOURCE)).rjust(len(SOURCE), b"/"))
+    return data
+
+
+def sections_of(data):
+    """Returns the offset and the size of each section by its name, and where its header is."""
+    start, = struct.unpack_from("<I", data, 32)
+    size, count, names = struct.unpack_from("<HHH", data, 46)
+    headers = [struct.unpack_from("<10I", data, start + size * it) for it in range(count)]
+    table = headers[names][4]
+    return {data[table + it[0]:data.index(b"\0", table + it[0])].decode(): (it[4], it[5], start + size * at)
+            for at, it in enumerate(headers)}
+
+
+def patched(at, new, data=HELLO):
+    """Returns the file with other bytes at an offset."""
+    return data[:at] + new + data[at + len(new):]
+
+
+class Done(NamedTuple):
+    """How a run of rvlook ended: its status (minus the signal), its output, its errors, seconds, and bytes of memory."""
+    status: int
+    output: bytes
+    errors: bytes
+    seconds: float
+    memory: int
+
+
+def run(bench, *words, stdin=b"", seconds=SECONDS, memory=MEMORY):
+    """Runs rvlook in a forked child, which has its modules already: so a run takes some hundredths of a second."""
+    load()
+    without_limit(bench)
+    with tempfile.TemporaryFile() as given, tempfile.TemporaryFile() as output, tempfile.TemporaryFile() as errors:
+        given.write(stdin)
+        given.seek(0)
+        began, child = time.monotonic(), os.fork()
+        if not child:
+            in_child(bench, [str(it) for it in words], [it.fileno() for it in (given, output, errors)], seconds, memory)
+        _, status, used = os.wait4(child, 0)
+        took = time.monotonic() - began
+        output.seek(0)
+        errors.seek(0)
+        return Done(os.waitstatus_to_exitcode(status), output.read(), errors.read(), took, used.ru_maxrss * 1024)
+
+
+def load():
+    """Imports what a child needs."""
+    if str(ROOT) not in sys.path:
+        sys.path.insert(0, str(ROOT))
+    import elftools.dwarf.dwarfinfo  # noqa: F401
+    import elftools.elf.elffile  # noqa: F401
+    import jinja2  # noqa: F401
+    import look.__main__, look.gdb, look.lcov, look.leak_text, look.map_text, look.page, look.spike, look.trace_text, look.window  # noqa: E401, F401
+
+
+@lru_cache(maxsize=None)
+def without_limit(bench):
+    """Returns a script that runs the program without the bound of memory, which an unproved one with its sanitizer does not run in."""
+    path = os.path.join(tempfile.mkdtemp(prefix="rvlook"), "bench")
+    with open(path, "w", encoding="utf-8") as file:
+        file.write('#!/bin/sh\nulimit -S -v unlimited\nexec "%s" "$@"\n' % bench)
+    os.chmod(path, 0o755)
+    return path
+
+
+def in_child(bench, words, files, seconds, memory):
+    """Does the words, and ends the process."""
+    status = 101
+    try:
+        signal.signal(signal.SIGALRM, signal.SIG_DFL)
+        signal.alarm(seconds)
+        resource.setrlimit(resource.RLIMIT_AS, (memory + (1 << 29), resource.RLIM_INFINITY))
+        for number, file in enumerate(files):
+            os.dup2(file, number)
+        os.environ.update(RVBENCH=without_limit(bench), TERM="dumb")
+        sys.stdin, sys.stdout, sys.stderr = open(0, closefd=False), open(1, "w", closefd=False), open(2, "w", closefd=False)
+        from look.__main__ import main
+        status = main(words)
+        sys.stdout.flush()
+    except BaseException:  # also what only the fork would show
+        import traceback
+        traceback.print_exc()
+    finally:
+        sys.stderr.flush()
+        os._exit(status if isinstance(status, int) else 102)
+
+
+def check(done, notes=()):
+    """What holds for every input: no traceback, an end in time, and lines behind `rvlook: ` without control characters."""
+    told = done.errors.decode("utf-8", "replace")
+    assert "Traceback" not in told, told
+    assert done.status >= 0, "signal %d, %s" % (-done.status, told)
+    assert done.memory < MEMORY
+    for line in told.split("\n")[:-1]:
+        assert line.startswith(("rvlook: ", "rvbench: ", *notes)), told
+        assert line.isprintable(), repr(line)
