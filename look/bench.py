@@ -10,7 +10,7 @@ import subprocess
 import time
 from functools import lru_cache
 
-from .faults import BenchEnded, Fault
+from .faults import BenchEnded, Fault, Unfinished
 
 PIPE = 1 << 20
 SET_PIPE_SIZE = 1031  # F_SETPIPE_SZ of Linux
@@ -35,7 +35,7 @@ def built_program():
     finder = os.path.join(os.path.dirname(os.path.dirname(os.path.abspath(__file__))), "tools", "program")
     done = subprocess.run([finder, "rvlook"], stdin=subprocess.DEVNULL, stdout=subprocess.PIPE, text=True, check=False)
     if done.returncode:
-        raise Fault("there is no program; ./prove builds it, or RVBENCH names another")
+        raise Unfinished("there is no program; ./prove builds it, or RVBENCH names another")
     return done.stdout.rstrip("\n")
 
 
@@ -57,7 +57,7 @@ class Bench:
             self.process = subprocess.Popen([path, *words], stdin=subprocess.PIPE, stdout=subprocess.PIPE, bufsize=0,
                                             start_new_session=True)
         except OSError as error:
-            raise Fault("%s: %s" % (path, error.strerror)) from None
+            raise Unfinished("%s: %s" % (path, error.strerror)) from None
         os.set_blocking(self.process.stdin.fileno(), False)
         widen(self.process.stdin, self.process.stdout)
         self.harts = harts

@@ -9,7 +9,7 @@ from dataclasses import dataclass, field, replace
 
 from .bench import Bench
 from .explain import WHOLE_FAULTS, whole_fault
-from .faults import BenchEnded, Fault
+from .faults import BenchEnded, Fault, Unfinished
 from .image import Image, ScriptLine
 from .replies import ran_of
 from .symbols import Symbols
@@ -291,5 +291,6 @@ def run_of(setup):
 def told_fault(setup, error):
     """The fault of a bench that ended: where it refuses the image, that is told, and what it means."""
     told = str(error)
-    meant = ": " + whole_fault(told).meant if told in WHOLE_FAULTS else ""
-    return Fault("%s: %s%s" % (setup.image.name, told, meant))
+    if told not in WHOLE_FAULTS:
+        return Unfinished("%s: %s" % (setup.image.name, told))
+    return Fault("%s: %s: %s" % (setup.image.name, told, whole_fault(told).meant))
