@@ -61,7 +61,7 @@ def seen(run, secret, is_strict):
                 if stay.left == "exit":
                     return Seen(run, found, stay.last)
     if not found:
-        raise Unfinished("the enclave of slot %d is not entered behind step %d, from which on runs are compared" % (secret.slot, secret.step))
+        raise Unfinished("the enclave of slot %d is never entered after step %d, from which on runs are compared" % (secret.slot, secret.step))
     return Seen(run, found, stays.end.steps, stays.end.why == "limit" and found[-1].left == "nothing")
 
 

@@ -84,7 +84,7 @@ def show_tries(leak):
                     told[number] = (other, two, found)
                 progress.bar(done, len(values), "%d told" % len(told))
                 if until is not None and time.monotonic() > until and done < len(values):
-                    leak.findings.cut_short("--seconds ends leak behind %s of %d" % (pairs_text(done), len(values)))
+                    leak.findings.cut_short("--seconds ends leak after %s of %d" % (pairs_text(done), len(values)))
                     break
     except KeyboardInterrupt:
         cut = True

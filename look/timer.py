@@ -192,8 +192,8 @@ def show_timer(run, symbols, printer, options):
             outcome.differs = next((Differs(outcome.steps, None, a, b) for a, b in pairs if a != b), None)
     (timer_object if printer.as_json else timer_text)(run, symbols, printer, slot, every, outcome)
     if outcome.not_resumed:
-        raise Unfinished("the host does not resume the enclave of slot %d, which the timer stopped before its step %d: nothing is known of "
-                         "the enclave from there on; timer needs a host that resumes" % (slot, outcome.not_resumed.number))
+        raise Unfinished("the host does not resume the enclave of slot %d after the timer stopped it, at its step %d; timer needs a host "
+                         "that resumes it each time" % (slot, outcome.not_resumed.number))
     it = outcome.differs
     findings.add("e%d comes to the same end" % slot, "its step %d: %s in place of %s" % (it.number, it.found, it.wanted) if it else "")
     if last.is_cut:

@@ -2,7 +2,8 @@
 """tests/documents/walk.py [PROGRAM]: walks README.md and docs/TUTORIAL.md from a fresh clone, by their own lines. PROGRAM stands there as
 the proved one; without it there is none, so that the first line builds an unproved one.
 
-A block of indented lines is run by bash in the clone, and ends with status 0; what stands below a line with `$` is what it writes, with a
+A block of indented lines is run by bash in the clone, and each command ends with status 0, or with 1 if it is one of rvlook that may
+find something; what stands below a line with `$` is what it writes, with a
 line `...` for what is left out. Left out are ./check and ./prove, which take long, what is installed, and the sessions of a debugger,
 which scripts/look_gdb_sessions.py types.
 """
@@ -15,6 +16,7 @@ import tempfile
 
 ROOT = os.path.dirname(os.path.dirname(os.path.dirname(os.path.abspath(__file__))))
 PAGES = ("README.md", "docs/TUTORIAL.md")
+FINDS = re.compile(r"^\./rvlook (?:leak|races|timer|window) .*$", re.M)  # status 1 is a finding
 LEFT_OUT = ("./check", "./prove", "apt-get")
 BLOCK = re.compile(r"(?:^    .*\n|^\n(?=    ))+", re.M)
 SESSION = "(gdb) "
@@ -74,6 +76,7 @@ def main(words):
                 text = file.read()
             for script, wanted in blocks(text):
                 count += 1
+                script = FINDS.sub(r"{ \g<0>\n} || [ $? = 1 ]", script)
                 done = subprocess.run(["bash", "-e", "-c", script], cwd=clone, capture_output=True, text=True, env=environment,
                                       timeout=SECONDS, check=False)
                 if done.returncode:

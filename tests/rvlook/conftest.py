@@ -1,6 +1,6 @@
 """Fixtures that the tests of rvlook share: how rvlook is run, and the programs that it is run on.
 
-`RVBENCH` names the built program. A test program is a folder of `tests/rvlook/programs`: its C sources, and the image and the listing that
+`RVBENCH` names the built program. `RVLOOK` names another copy of the script `rvlook`, such as a mutant. A test program is a folder of `tests/rvlook/programs`: its C sources, and the image and the listing that
 `examples/monitor/build` made of them, so that the tests need no compiler.
 """
 import json
@@ -12,7 +12,7 @@ from pathlib import Path
 import pytest
 
 ROOT = Path(__file__).resolve().parents[2]
-RVLOOK = ROOT / "rvlook"
+RVLOOK = Path(os.environ.get("RVLOOK") or ROOT / "rvlook")
 PROGRAMS = Path(__file__).resolve().parent / "programs"
 BUILD = ROOT / "examples" / "monitor" / "build"
 SECONDS = 120
