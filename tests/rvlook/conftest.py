@@ -56,6 +56,12 @@ def program():
 
 
 @pytest.fixture(scope="session")
+def short_program(program):
+    """The same for a program that ends within 2000 steps: on an unproved program it is faster not to look further."""
+    return lambda name: [*program(name), "--steps", "2000"]
+
+
+@pytest.fixture(scope="session")
 def built(tmp_path_factory):
     """The ELF file that `build` makes of a test program now; skips the test if no compiler is installed."""
     if not (shutil.which("clang") and shutil.which("ld.lld")) and not shutil.which("riscv64-unknown-elf-gcc"):

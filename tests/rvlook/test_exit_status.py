@@ -19,20 +19,20 @@ def junit(path):
     return suite.attrib, [(case.attrib["name"], *((it.tag, it.attrib["message"]) for it in case)) for case in suite]
 
 
-def test_leak(rvlook, program):
-    assert rvlook("leak", *program("leak_trap"), *LEAK).returncode == 1
-    assert rvlook("leak", *program("leak_trap"), *NO_LEAK).returncode == 0
+def test_leak(rvlook, short_program):
+    assert rvlook("leak", *short_program("leak_trap"), *LEAK).returncode == 1
+    assert rvlook("leak", *short_program("leak_trap"), *NO_LEAK).returncode == 0
 
 
-def test_leak_of_drawn_secrets(rvlook, program):
-    assert rvlook("leak", *program("leak_trap"), "--at", "secret:4", "--tries", "2").returncode == 1
+def test_leak_of_drawn_secrets(rvlook, short_program):
+    assert rvlook("leak", *short_program("leak_trap"), "--at", "secret:4", "--tries", "2").returncode == 1
     public = [word for it in ("pc", "answer") for word in ("--public", it) if it == "answer"]
-    done = rvlook("leak", *program("window_copies"), "--at", "key:20", "--tries", "2", "--public", "window_base+10", *public)
+    done = rvlook("leak", *short_program("window_copies"), "--at", "key:20", "--tries", "2", "--public", "window_base+10", *public)
     assert (done.returncode, done.stdout) == (0, "alike for 2 pairs in pc, steps, address, answer, window\n")
 
 
-def test_leak_that_seconds_cut(rvlook, program):
-    words = ("leak", *program("window_copies"), "--at", "key:20", "--tries", "500", "--seconds", "0", "--public", "window_base+10")
+def test_leak_that_seconds_cut(rvlook, short_program):
+    words = ("leak", *short_program("window_copies"), "--at", "key:20", "--tries", "500", "--seconds", "0", "--public", "window_base+10")
     done = rvlook(*words)
     assert (done.returncode, done.stderr) == (3, "rvlook: --seconds ends leak after 1 pair of 500\n")
     assert rvlook(*words[:-2]).returncode == 1, "what was found counts more than that not all was compared"
@@ -70,40 +70,40 @@ def test_report_has_no_findings(rvlook, word, tmp_path):
     assert rvlook(word, SUM, "--script", script).returncode == 2
 
 
-def test_refused_line_counts_more_than_a_finding(rvlook, program, tmp_path):
+def test_refused_line_counts_more_than_a_finding(rvlook, short_program, tmp_path):
     script = tmp_path / "script"
     script.write_text("stepp 4\n")
     for more in ((), ("--exit-zero",)):
-        done = rvlook("leak", *program("leak_trap"), *LEAK, "--script", script, *more)
+        done = rvlook("leak", *short_program("leak_trap"), *LEAK, "--script", script, *more)
         assert done.returncode == 2 and done.stdout.endswith("they part in pc, steps, address, window\n")
 
 
 @pytest.mark.parametrize("words", [("leak", "--at", "nowhere", "00", "01"), ("leak", "--at", "secret", "0", "01"), ("leak", "--at", "secret", "00", "0001"),
                                    ("leak", "--at", "secret:4"), ("timer", "--every", "0"), ("window", "--slot", "13")])
-def test_argument_that_cannot_be_used(rvlook, program, words):
-    done = rvlook(words[0], *program("leak_trap"), *words[1:])
+def test_argument_that_cannot_be_used(rvlook, short_program, words):
+    done = rvlook(words[0], *short_program("leak_trap"), *words[1:])
     assert (done.returncode, done.stdout) == (2, "") and done.stderr.startswith("rvlook: ")
 
 
 @pytest.mark.parametrize("words", [("timer", "--steps", "9"), ("window", "--steps", "9"), ("leak", "--steps", "9", *LEAK)])
-def test_no_enclave_within_the_steps(rvlook, program, words):
-    done = rvlook(words[0], *program("leak_trap"), *words[1:])
+def test_no_enclave_within_the_steps(rvlook, short_program, words):
+    done = rvlook(words[0], *short_program("leak_trap"), *words[1:])
     assert (done.returncode, done.stdout) == (3, "")
 
 
-def test_bench_that_ends(rvlook, program):
-    assert rvlook("leak", *program("leak_trap"), *LEAK, env={"RVBENCH": "/bin/true"}).returncode == 3
+def test_bench_that_ends(rvlook, short_program):
+    assert rvlook("leak", *short_program("leak_trap"), *LEAK, env={"RVBENCH": "/bin/true"}).returncode == 3
 
 
-def test_output_that_fails(bench, program):
+def test_output_that_fails(bench, short_program):
     with open("/dev/full", "w", encoding="ascii") as full:
-        done = subprocess.run([RVLOOK, "leak", *program("leak_trap"), *LEAK], stdout=full, stderr=subprocess.PIPE, cwd=ROOT, check=False,
+        done = subprocess.run([RVLOOK, "leak", *short_program("leak_trap"), *LEAK], stdout=full, stderr=subprocess.PIPE, cwd=ROOT, check=False,
                               env={"RVBENCH": bench, "PATH": "/usr/bin:/bin"})
     assert done.returncode == 3
 
 
-def test_interrupt_keeps_its_status(bench, program):
-    words = [RVLOOK, "leak", *program("window_copies"), "--at", "key:20", "--tries", "5000", "--json"]
+def test_interrupt_keeps_its_status(bench, short_program):
+    words = [RVLOOK, "leak", *short_program("window_copies"), "--at", "key:20", "--tries", "5000", "--json"]
     process = subprocess.Popen(words, stdout=subprocess.PIPE, stderr=subprocess.PIPE, cwd=ROOT, env={"RVBENCH": bench, "PATH": "/usr/bin:/bin"},
                                preexec_fn=lambda: signal.signal(signal.SIGINT, signal.default_int_handler))
     with process:
@@ -114,8 +114,8 @@ def test_interrupt_keeps_its_status(bench, program):
 
 
 @pytest.mark.parametrize("words", [("leak", *LEAK), ("leak", "--at", "secret:4", "--tries", "2")])
-def test_exit_zero_changes_the_status_alone(rvlook, program, words):
-    plain, report = (rvlook(words[0], *program("leak_trap"), *words[1:], *more) for more in ((), ("--exit-zero",)))
+def test_exit_zero_changes_the_status_alone(rvlook, short_program, words):
+    plain, report = (rvlook(words[0], *short_program("leak_trap"), *words[1:], *more) for more in ((), ("--exit-zero",)))
     assert (plain.returncode, report.returncode) == (1, 0)
     assert (plain.stdout, plain.stderr) == (report.stdout, report.stderr)
 
@@ -127,20 +127,20 @@ junitparser = pytest.mark.skipif(subprocess.run(["/usr/bin/python3", "-c", "impo
 
 
 @junitparser
-def test_junit_has_a_failure_for_each_part(rvlook, program, tmp_path):
+def test_junit_has_a_failure_for_each_part(rvlook, short_program, tmp_path):
     path = tmp_path / "leak.xml"
-    assert rvlook("leak", *program("leak_trap"), *LEAK, "--junit", path).returncode == 1
+    assert rvlook("leak", *short_program("leak_trap"), *LEAK, "--junit", path).returncode == 1
     suite, cases = junit(path)
     assert (suite["name"], suite["tests"], suite["failures"], suite["errors"]) == ("rvlook leak", "5", "4", "0")
     assert [(it[0], len(it) - 1) for it in cases] == [("pc", 1), ("steps", 1), ("address", 1), ("answer", 0), ("window", 1)]
 
 
 @junitparser
-def test_junit_has_a_case_for_each_pair_activation_and_end(rvlook, program, tmp_path):
+def test_junit_has_a_case_for_each_pair_activation_and_end(rvlook, short_program, tmp_path):
     path = tmp_path / "it.xml"
-    rvlook("leak", *program("leak_trap"), "--at", "secret:4", "--tries", "3", "--junit", path)
+    rvlook("leak", *short_program("leak_trap"), "--at", "secret:4", "--tries", "3", "--junit", path)
     assert [it[0] for it in junit(path)[1]] == ["pair 1", "pair 2", "pair 3"]
-    rvlook("window", *program("window_copies"), "--at", "key:20", "--junit", path)
+    rvlook("window", *short_program("window_copies"), "--at", "key:20", "--junit", path)
     assert junit(path)[1] == [("e0, stay 1", ("failure", "writes      80030010-80030013      4  window_base+10  application+30  depends on the secret"))]
     rvlook(*RACES, "--junit", path)
     assert [it[0] for it in junit(path)[1]][:2] == ["end 1", "end 2"]
@@ -149,25 +149,25 @@ def test_junit_has_a_case_for_each_pair_activation_and_end(rvlook, program, tmp_
 
 
 @junitparser
-def test_junit_has_an_error_if_the_work_is_cut_short(rvlook, program, tmp_path):
+def test_junit_has_an_error_if_the_work_is_cut_short(rvlook, short_program, tmp_path):
     path = tmp_path / "it.xml"
-    done = rvlook("timer", *program("leak_trap"), "--junit", path)
+    done = rvlook("timer", *short_program("leak_trap"), "--junit", path)
     assert done.returncode == 3
     suite, cases = junit(path)
     assert suite["errors"] == "1" and cases[-1][0] == "the run" and cases[-1][1][0] == "error"
-    assert rvlook("timer", *program("leak_trap"), "--slot", "4", "--junit", path).returncode == 3
+    assert rvlook("timer", *short_program("leak_trap"), "--slot", "4", "--junit", path).returncode == 3
     assert junit(path)[1] == [("the run", ("error", "there is no enclave in slot 4"))]
 
 
 @junitparser
-def test_junit_file_that_cannot_be_written(rvlook, program):
-    done = rvlook("leak", *program("leak_trap"), *NO_LEAK, "--junit", "/none/it.xml")
+def test_junit_file_that_cannot_be_written(rvlook, short_program):
+    done = rvlook("leak", *short_program("leak_trap"), *NO_LEAK, "--junit", "/none/it.xml")
     assert (done.returncode, done.stderr) == (3, "rvlook: /none/it.xml: No such file or directory\n")
 
 
-def test_junit_without_its_package(rvlook, program, tmp_path):
+def test_junit_without_its_package(rvlook, short_program, tmp_path):
     (tmp_path / "junitparser.py").write_text("raise ImportError\n")
-    done = rvlook("leak", *program("leak_trap"), *LEAK, "--junit", tmp_path / "it.xml", env={"PYTHONPATH": str(tmp_path)})
+    done = rvlook("leak", *short_program("leak_trap"), *LEAK, "--junit", tmp_path / "it.xml", env={"PYTHONPATH": str(tmp_path)})
     assert (done.returncode, done.stdout) == (3, "")
     assert done.stderr == ("rvlook: junitparser is not there, so --junit cannot write its report; apt-get install python3-junitparser brings it\n")
     assert not (tmp_path / "it.xml").exists()

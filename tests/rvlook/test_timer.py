@@ -6,12 +6,12 @@ STOPS_ONCE = ["poke stops 01", "poke resumes_value 00"]  # and the host does not
 
 
 @pytest.fixture
-def timer(objects, program, tmp_path):
+def timer(objects, short_program, tmp_path):
     """Runs `timer` behind the lines of a script; gives its status and its last object."""
     def run(*lines):
         script = tmp_path / "script"
         script.write_text("".join(line + "\n" for line in lines))
-        status, found = objects("timer", *program("timer_host"), "--script", script)
+        status, found = objects("timer", *short_program("timer_host"), "--script", script)
         return status, found[-1]
     return run
 
@@ -37,10 +37,10 @@ def test_host_that_does_not_resume_is_no_finding(timer, count):
     assert (status, found["same"], found["stops"], found["apart"]["step"]) == (3, None, count + 1, count + 1)
 
 
-def test_message_says_that_the_host_does_not_resume(rvlook, program, tmp_path):
+def test_message_says_that_the_host_does_not_resume(rvlook, short_program, tmp_path):
     script = tmp_path / "script"
     script.write_text("\n".join(PATIENCE) % 3 + "\n")
-    done = rvlook("timer", *program("timer_host"), "--script", script)
+    done = rvlook("timer", *short_program("timer_host"), "--script", script)
     assert done.returncode == 3
     assert "the host does not resume it" in done.stdout and "it does not come to the same end" not in done.stdout
     assert done.stderr == ("rvlook: the host does not resume the enclave of slot 0 after the timer stopped it, at its step 4; timer needs a host "
@@ -58,6 +58,6 @@ def test_enclave_that_stops_with_another_value_is_found(timer):
     assert (status, found["same"], found["apart"]["wanted"]) == (1, False, "x10=00000001 x11=00000024")
 
 
-def test_run_that_steps_cuts_is_told(rvlook, program):
-    done = rvlook("timer", *program("timer_host"), "--steps", "60")
+def test_run_that_steps_cuts_is_told(rvlook, short_program):
+    done = rvlook("timer", *short_program("timer_host"), "--steps", "60")
     assert (done.returncode, done.stderr) == (3, "rvlook: --steps 60 ends the run before the enclave of slot 0 leaves\n")

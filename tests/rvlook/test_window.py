@@ -11,12 +11,12 @@ TAIL, LEAST, TOO_SHORT, ZEROS, WHOLE, TWICE = (1 << bit for bit in range(6))
 
 
 @pytest.fixture
-def window(objects, program, tmp_path):
+def window(objects, short_program, tmp_path):
     """Runs `window` with the leaks of a mask; gives its status and its objects."""
     def run(mask, *words, guesses=0):
         script = tmp_path / "script"
         script.write_text("poke leaks %02x\npoke guesses %02x\n" % (mask, guesses))
-        return objects("window", *program("window_copies"), "--script", script, *words)
+        return objects("window", *short_program("window_copies"), "--script", script, *words)
     return run
 
 
@@ -56,10 +56,10 @@ def test_what_the_host_wrote_itself_is_the_same_with_another_secret(window):
     assert (status, it["at"], it["size"], it["secret"]) == (0, "80030100", 8, False)
 
 
-def test_text_has_the_length_and_the_offset(rvlook, program, tmp_path):
+def test_text_has_the_length_and_the_offset(rvlook, short_program, tmp_path):
     script = tmp_path / "script"
     script.write_text("poke leaks 11\n")
-    lines = rvlook("window", *program("window_copies"), "--script", script, *KEY).stdout.splitlines()
+    lines = rvlook("window", *short_program("window_copies"), "--script", script, *KEY).stdout.splitlines()
     assert [line.split(None, 4)[1:] for line in lines if line.startswith("  copy")] == [
         ["80030800-8003080e", "15", "window_base+800", "bytes 5 to 19 of the secret's 20  depends on the secret"],
         ["80030c00-80030c13", "20", "window_base+c00", "all 20 bytes of the secret  depends on the secret"]]
@@ -86,8 +86,8 @@ def test_copy_of_which_a_part_is_public_is_found(window):
     assert status == 1 and [it["public"] for it in found if it["object"] == "holds"] == [False]
 
 
-def test_public_needs_a_secret(rvlook, program):
-    done = rvlook("window", *program("window_copies"), "--public", ANSWER)
+def test_public_needs_a_secret(rvlook, short_program):
+    done = rvlook("window", *short_program("window_copies"), "--public", ANSWER)
     assert (done.returncode, done.stderr) == (2, "rvlook: --public needs --at PLACE, which says what the secret is\n")
 
 
