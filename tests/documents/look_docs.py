@@ -22,7 +22,7 @@ WORDS = (
     ("map", "--monitor", "examples/enclave_adds/image"),
     ("touch", "--monitor", "examples/enclave_refused/stdin", "--symbols", "examples/enclave_refused/listing"),
     ("trace", "--monitor", "examples/enclave_timer/stdin"), ("map", "examples/pmp/stdin"),
-    ("timer", "--monitor", "examples/enclave_adds/image"),
+    ("timer", "--monitor", "examples/enclave_adds/image"), ("timer", "--monitor", "examples/enclave_timer/image"),
     ("leak", "--monitor", "tests/look/leak/image", "--at", "80020800", "00", "05"),
     ("leak", "--monitor", "tests/look/leak/image", "--at", "80020800:4", "--tries", "3"),
     ("window", "--monitor", "tests/look/window/image", "--at", "80020800:4"),
@@ -82,7 +82,7 @@ def check_objects():
         shapes = json.load(file)["$defs"]
     found = set()
     for words in WORDS:
-        written = objects(*words)
+        written = objects(*words, *(["--exit-zero"] if words[0] in FINDERS and words[:2] != ADDS_TIMER else []), status=3 if words[:2] == ADDS_TIMER else 0)
         for it in written:
             found |= members_of(it, shapes[it["object"]], it["object"])
         if Validator:

@@ -142,6 +142,7 @@ def cases(files):
         "FILE: no symbols": lambda: ran(["map", "--symbols", files.cut, SUM]),
         "FILE: there are": lambda: ran(["map", "--symbols", files.text, SUM]),
         "there is no symbol": lambda: ran(["trace", "--monitor", ADDS, *SYMBOLS, "--function", "man"]),
+        "NAME is no address": lambda: ran(["trace", SUM, "--function", "main"]),
         "PLACE is no": leak("nowhere", "00", "01"),
         "BYTES are": leak("80020800", "0", "01"),
         "no enclave is created": leak("80020800", "00", "01", "--slot", "4"),
