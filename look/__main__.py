@@ -2,7 +2,8 @@
 import os
 import sys
 
-REFUSED = 2  # as argparse and the bench have it
+from .faults import UNFINISHED, Fault
+
 INTERRUPTED, CLOSED = 130, 141  # as a shell tells the signals SIGINT and SIGPIPE
 
 
@@ -24,25 +25,21 @@ def main(words):
         return told("who reads the output has gone", CLOSED)
     except OSError as error:
         drop_output()
-        return told("the output fails: %s" % error.strerror, 1)
+        return told("the output fails: %s" % error.strerror, UNFINISHED)
 
 
 def ended(words):
     """The same, where the output takes what it is given."""
-    from .arguments import read
-    from .faults import Fault, WordsRefused
+    from .arguments import perform, read
     if sys.stdout is None:
-        return told("there is no standard output", 1)
+        return told("there is no standard output", UNFINISHED)
     try:
-        arguments = read(words)
-        arguments.do(arguments)
+        status = perform(read(words))
         sys.stdout.flush()
-        return 1 if arguments.has_faults else 0
-    except WordsRefused as fault:
-        return told(str(fault), REFUSED)
+        return status
     except Fault as fault:
         sys.stdout.flush()  # what was found before it
-        return told(str(fault), 1)
+        return told(str(fault), fault.status)
     except SystemExit as end:  # behind a help text
         sys.stdout.flush()
         return end.code

@@ -4,7 +4,8 @@ import os
 import re
 import sys
 
-from .faults import Fault, WordsRefused, tell
+from .faults import Fault, Unfinished, WordsRefused, tell
+from .findings import Findings, check_junit, write_junit
 from .guess import asks_for_monitor, has_compressed
 from .image import image_of, script_of
 from .lines import fault_text, no_symbol, resolved_script
@@ -104,12 +105,24 @@ def has_monitor(arguments, image, script):
 
 
 def run_from(arguments):
-    """The run; what the bench refuses of its script is told, and the status will be 1."""
+    """The run; what the bench refuses of its script is told, and the status will be 2."""
     run = run_of(setup_of(arguments))
     for line, reply in run.faults:
-        tell(fault_text(line, reply, run.setup.symbols))
-        arguments.has_faults = True
+        arguments.findings.refuse(fault_text(line, reply, run.setup.symbols))
     return run
+
+
+def refuse_bare(arguments, run):
+    """Refuses a run without the bench's own monitor: this subcommand asks that monitor what the enclaves are."""
+    if not run.setup.monitor:
+        raise WordsRefused("%s needs the bench's own monitor, and %s is run bare; --monitor runs it under that one" % (
+            arguments.word, run.setup.image.name))
+
+
+def refuse_empty_part(arguments, least):
+    """Refuses a part of the work that is empty; it begins at `least`, or at --from if that is later."""
+    if arguments.last is not None and arguments.last < max(least, arguments.first):
+        raise WordsRefused("--to %d is before --from %d" % (arguments.last, max(least, arguments.first)))
 
 
 def refuse_json(arguments, option):
@@ -126,6 +139,13 @@ def opened(arguments):
     return run, run.setup.symbols, Printer(arguments.json)
 
 
+def opened_monitored(arguments):
+    """The same, for a subcommand that needs the bench's own monitor."""
+    run, symbols, printer = opened(arguments)
+    refuse_bare(arguments, run)
+    return run, symbols, printer
+
+
 def do_map(arguments):
     from .map_text import show_map
     if arguments.brief:
@@ -136,8 +156,7 @@ def do_map(arguments):
 def do_trace(arguments):
     from .spike import show_spike
     from .trace_text import Filter, show_trace
-    if arguments.last is not None and arguments.last < arguments.first:
-        raise WordsRefused("--to %d is before --from %d" % (arguments.last, arguments.first))
+    refuse_empty_part(arguments, 1)
     if arguments.format == "spike":
         refuse_json(arguments, "--format spike")
     run, symbols, printer = opened(arguments)
@@ -162,30 +181,28 @@ def do_touch(arguments):
 
 def do_leak(arguments):
     from .leak_text import show_leak
-    show_leak(*opened(arguments), arguments)
+    refuse_empty_part(arguments, 1)
+    if arguments.tries is not None and arguments.first > arguments.tries:
+        raise WordsRefused("--from %d is after --tries %d" % (arguments.first, arguments.tries))
+    show_leak(*opened_monitored(arguments), arguments)
 
 
 def do_window(arguments):
     from .window import show_window
-    show_window(*opened(arguments), arguments.slot, arguments.at)
+    if arguments.public and not arguments.at:
+        raise WordsRefused("--public needs --at PLACE, which says what the secret is")
+    show_window(*opened_monitored(arguments), arguments)
 
 
 def do_timer(arguments):
     from .timer import show_timer
-    show_timer(*opened(arguments), arguments.slot, arguments.every)
+    show_timer(*opened_monitored(arguments), arguments)
 
 
 def do_races(arguments):
     from .races_text import show_races
-    if arguments.last is not None and arguments.last < arguments.first:
-        raise WordsRefused("--to %d is before --from %d" % (arguments.last, arguments.first))
-    show_races(*opened(arguments), arguments, lambda line: refuse(arguments, line))
-
-
-def refuse(arguments, line):
-    """What is not as it should be: a line, and the status."""
-    tell(line)
-    arguments.has_faults = True
+    refuse_empty_part(arguments, 0)
+    show_races(*opened(arguments), arguments)
 
 
 def do_measure(arguments):
@@ -207,14 +224,14 @@ def do_gdb(arguments):
 
 def do_explain(arguments):
     from .explain import show_explain
-    show_explain(arguments.input, arguments.words, Printer(arguments.json))
+    show_explain(arguments.input, arguments.words, Printer(arguments.json), arguments.findings)
 
 
 def do_page(arguments):
     try:
         from . import page
     except ImportError as error:
-        raise Fault("the page cannot be made: %s" % error) from None
+        raise Unfinished("the page cannot be made: %s" % error) from None
     page.main(arguments)
 
 
@@ -230,8 +247,14 @@ def add_word(words, name, do, about, *more):
     image_options(parser)
     for options in more:
         options(parser)
-    parser.set_defaults(do=do)
+    parser.set_defaults(do=do, word=name)
     return parser
+
+
+def findings_options(parser):
+    """How what a subcommand found is told to the program that ran it."""
+    parser.add_argument("--exit-zero", dest="is_report", action="store_true", help="end with status 0 in place of 1 if something is found")
+    parser.add_argument("--junit", metavar="FILE", help="write the findings to FILE as JUnit XML, a test case for each question")
 
 
 def trace_options(parser):
@@ -262,8 +285,7 @@ def leak_options(parser):
     parser.usage = "rvlook leak IMAGE --at PLACE [ONE TWO] [OPTIONS]; ONE and TWO are the secrets, in hexadecimal digits"
     parser.set_defaults(secrets=())
     parser.add_argument("--strict", action="store_true", help="the operands of divisions too, which take as long as these say")
-    parser.add_argument("--public", metavar="WHAT", action="append",
-                        help="what may differ, more than once: PLACE[:BYTES] of the window, or of the instructions that make it; answer")
+    public_option(parser)
     parser.add_argument("--tries", metavar="N", type=positive, help="draws N secrets: corner values, single bits, random ones")
     parser.add_argument("--seed", metavar="S", type=int, default=0, help="which random ones (0)")
     part_options(parser, "the secrets of the N that are drawn")
@@ -271,7 +293,13 @@ def leak_options(parser):
 
 def window_options(parser):
     parser.add_argument("--slot", metavar="K", type=int, choices=range(13), help="of the enclave of this slot alone")
-    parser.add_argument("--at", metavar="PLACE", help="a secret, PLACE[:BYTES] in the region: does what is written depend on it")
+    parser.add_argument("--at", metavar="PLACE", help="a secret, as for leak: does what is written depend on it, and where is a copy of it")
+    public_option(parser)
+
+
+def public_option(parser):
+    parser.add_argument("--public", metavar="WHAT", action="append",
+                        help="what may differ, more than once: PLACE[:BYTES] of the window, or of the instructions that make it; answer")
 
 
 def timer_options(parser):
@@ -281,7 +309,7 @@ def timer_options(parser):
 def races_options(parser):
     parser.add_argument("--outcome", metavar="WHAT", action="append",
                         help="what tells ends apart, more than once: PLACE[:BYTES], HART.REGISTER, enclaves, or one, as e0; else all that both touch")
-    parser.add_argument("--forbid", metavar="CONDITION", action="append", help="status 1 if an end is so: 'left != 2', stays, waits, livelock, unended")
+    parser.add_argument("--forbid", metavar="CONDITION", action="append", help="what counts as found, in place of more than one end: 'left != 2', stays, waits, livelock, unended")
     parser.add_argument("--timer", dest="timers", metavar="N", type=count, default=0, help="the timer's line rises so many times at most (0)")
     parser.add_argument("--preemptions", metavar="N", type=count, help="a hart that might go on is left so many times at most (any number)")
     parser.add_argument("--end", metavar="PLACE", action="append", help="a hart is over before this instruction, more than once")
@@ -317,9 +345,10 @@ def explain_word(words):
     parser = words.add_parser("explain", help="an input read beside its faults", description="An input of the bench, read beside its "
                               "faults: which line, what is meant, what to write.", usage="rvlook explain [--json] INPUT [-- WORD...]")
     parser.add_argument("--json", action="store_true", help="one object a line (docs/LOOK.md)")
+    findings_options(parser)
     parser.add_argument("input", metavar="INPUT", help="a file with an image, -- and a script; - for standard input")
     parser.add_argument("words", metavar="WORD", nargs="*", help="the words of ./rvbench, behind --; none is run")
-    parser.set_defaults(do=do_explain)
+    parser.set_defaults(do=do_explain, word="explain")
 
 
 def parser_of():
@@ -327,15 +356,15 @@ def parser_of():
     parser = Parser(prog="rvlook", usage="rvlook [WORD] IMAGE [OPTIONS]", epilog=WORDS,
                                      formatter_class=argparse.RawDescriptionHelpFormatter,
                                      description="See what host and enclave can touch, and when: beside the bench, over a pipe.")
-    parser.set_defaults(has_faults=False)
+    parser.set_defaults(findings=Findings(), is_report=False, junit=None, word=None)
     words = parser.add_subparsers(prog="rvlook", metavar="WORD", help=argparse.SUPPRESS)
     add_word(words, "map", do_map, "Who may touch what, at each moment at which it changes", map_options)
     add_word(words, "trace", do_trace, "Each step of a run", trace_options)
     add_word(words, "touch", do_touch, "What each world read, wrote and executed, beside what it may", touch_options)
-    add_word(words, "window", do_window, "What each stay of an enclave read, read again, wrote and left in its window", window_options)
-    add_word(words, "leak", do_leak, "Runs with other secrets in an enclave: where they part", slot_option, leak_options)
-    add_word(words, "timer", do_timer, "The timer before each step of an enclave: does it come to its end", slot_option, timer_options)
-    add_word(words, "races", do_races, "All orders of two harts, all moments of the timer: which ends there are", races_options)
+    add_word(words, "window", do_window, "What each stay of an enclave read, read again, wrote and left in its window", window_options, findings_options)
+    add_word(words, "leak", do_leak, "Runs with other secrets in an enclave: where they part", slot_option, leak_options, findings_options)
+    add_word(words, "timer", do_timer, "The timer before each step of an enclave: does it come to its end", slot_option, timer_options, findings_options)
+    add_word(words, "races", do_races, "All orders of two harts, all moments of the timer: which ends there are", races_options, findings_options)
     measure_word(words)
     explain_word(words)
     add_word(words, "page", do_page, "The run as one page for a browser", page_options)
@@ -372,5 +401,20 @@ def read(words):
         raise WordsRefused(unknown_word(words[0]))
     alone = Parser(prog="rvlook", usage="rvlook [WORD] IMAGE [OPTIONS]")
     image_options(alone)
-    alone.set_defaults(do=do_prompt, has_faults=False)
+    alone.set_defaults(do=do_prompt, findings=Findings(), is_report=False, junit=None)
     return alone.parse_args(words)
+
+
+def perform(arguments):
+    """Does what the arguments ask for, and writes the JUnit report, also where that fails; returns the exit status."""
+    check_junit(arguments.junit)
+    error = ""
+    try:
+        arguments.do(arguments)
+        return arguments.findings.status(arguments.is_report)
+    except (Fault, OSError, KeyboardInterrupt) as fault:
+        error = str(fault) or "stopped"
+        raise
+    finally:
+        if arguments.junit:
+            write_junit(arguments.junit, arguments.word, arguments.findings, error)

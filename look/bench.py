@@ -13,7 +13,7 @@ import time
 from functools import lru_cache
 
 from .bench_line import ended, has_reply, is_malformed, words_of
-from .faults import BenchEnded, Fault
+from .faults import BenchEnded, Fault, Unfinished
 
 PIPE = 1 << 20
 SET_PIPE_SIZE = 1031  # F_SETPIPE_SZ of Linux
@@ -46,7 +46,7 @@ def built_program():
         finally:
             signal.signal(signal.SIGTERM, old)
     if building.returncode:
-        raise Fault("there is no program; ./prove builds it, or RVBENCH names another")
+        raise Unfinished("there is no program; ./prove builds it, or RVBENCH names another")
     return path.rstrip("\n")
 
 
@@ -73,7 +73,7 @@ class Bench:
             self.process = subprocess.Popen([path, *words], stdin=subprocess.PIPE, stdout=subprocess.PIPE, bufsize=0,
                                             start_new_session=True)
         except OSError as error:
-            raise Fault("%s: %s" % (path, error.strerror)) from None
+            raise Unfinished("%s: %s" % (path, error.strerror)) from None
         os.set_blocking(self.process.stdin.fileno(), False)
         widen(self.process.stdin, self.process.stdout)
         self.harts = harts

@@ -10,7 +10,7 @@ from typing import Optional
 from .bench import COUNTS, program_path
 from .bench_line import LONGEST_LINE, has_reply, is_separator, lines_of, words_of
 from .commands import COMMANDS, is_form, rewritten
-from .faults import Fault
+from .faults import Unfinished
 from .image import bounded, read_file
 
 IMAGE_FAULTS = {
@@ -54,7 +54,7 @@ def replies_to(words, data):
     try:
         done = subprocess.run([program_path(), *words], input=data, capture_output=True, check=False)
     except OSError as error:
-        raise Fault("%s: %s" % (program_path(), error.strerror)) from None
+        raise Unfinished("%s: %s" % (program_path(), error.strerror)) from None
     return done.stdout.decode("latin-1").splitlines()
 
 
@@ -228,11 +228,12 @@ def word_fault(words, place):
         "./rvbench run --help"
 
 
-def show_explain(path, words, printer):
-    """The faults of an input, and what to write."""
+def show_explain(path, words, printer, findings):
+    """The faults of an input, and what to write; each is a finding."""
     data = bounded(sys.stdin.buffer, "standard input") if path == "-" else read_file(path)
     found = explained(words or ["run"], data)
     for it in found:
+        findings.add("line %d" % it.line if it.line else "the input", "%s: %s: %s" % (it.text, it.reply, it.meant))
         if printer.as_json:
             printer.object("fault", line=it.line, text=it.text, reply=it.reply, meant=it.meant, write=it.write)
             continue
@@ -241,5 +242,7 @@ def show_explain(path, words, printer):
         printer.line("  " + it.meant)
         if it.write:
             printer.line("  write: " + it.write)
+    if not found:
+        findings.add("the input")
     if not found and not printer.as_json:
         printer.line("every line is taken")

@@ -1,9 +1,17 @@
 """What can come wrong, told in one line."""
 import sys
 
+FOUND, REFUSED, UNFINISHED = 1, 2, 3  # statuses (docs/LOOK.md, How it ends); 2 as argparse and the bench have it
+
 
 class Fault(Exception):
-    """What rvlook cannot go on from; its text is the line that is told."""
+    """What rvlook cannot go on from: an argument or an input that it cannot use. Its text is the line that is told."""
+    status = REFUSED
+
+
+class Unfinished(Fault):
+    """An error for which rvlook could not finish, though what it was given may be right."""
+    status = UNFINISHED
 
 
 class WordsRefused(Fault):
@@ -14,7 +22,7 @@ class NameRefused(Fault):
     """A name that stands for no address, or for more than one."""
 
 
-class BenchEnded(Fault):
+class BenchEnded(Unfinished):
     """The bench ended before it had answered."""
 
 

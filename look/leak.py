@@ -1,13 +1,14 @@
 """The word leak: runs that differ in a secret of an enclave alone; where they part, in what a host can see or time while the enclave runs and
 when it leaves: where each step is, how many there are, the addresses of loads and stores, the operands of divisions where that is asked
 for, the answers, and the window. Where two runs go different ways they are compared from where they come together again."""
+from array import array
 from bisect import bisect_left
 from collections import defaultdict
 from contextlib import closing
 from dataclasses import dataclass
 from typing import Optional
 
-from .faults import Fault
+from .faults import Fault, Unfinished
 from .leak_secrets import place_and_size
 from .stays import Stays
 
@@ -31,6 +32,7 @@ class Seen:
     run: object
     stays: list
     last: int
+    is_cut: bool = False  # by --steps, before the enclave exited
 
 
 @dataclass(frozen=True)
@@ -58,7 +60,9 @@ def seen(run, secret, is_strict):
                 found.append(stay)
                 if stay.left == "exit":
                     return Seen(run, found, stay.last)
-    return Seen(run, found, stays.end.steps)
+    if not found:
+        raise Unfinished("the enclave of slot %d is never entered after step %d, from which on runs are compared" % (secret.slot, secret.step))
+    return Seen(run, found, stays.end.steps, stays.end.why == "limit" and found[-1].left == "nothing")
 
 
 class Comparison:
@@ -100,9 +104,21 @@ class Comparison:
             x, y = x + same, y + same
             if x == len(one.pcs) and y == len(two.pcs):
                 return
-            steps = (one.steps[x - 1], two.steps[y - 1]) if x else (one.first, two.first)
-            self.add("pc", steps, (), one.pcs[max(0, x - 1)] & -4)
-            x, y = together(one, x, two, y)
+            x, y = self.diverge(one, x, two, y, theirs)
+
+    def diverge(self, one, x, two, y, theirs):
+        """Adds the step by which two ways diverge before x and y; returns where they are compared again. At the same pc that step is the
+        next one, which traps in one run and not, or otherwise, in the other. Its access is compared too."""
+        if x < len(one.pcs) and y < len(two.pcs) and one.pcs[x] == two.pcs[y]:
+            mine, other = did_at(one, x), theirs.get(y)
+            if mine and other:
+                self.access(mine, other, one.enclave)
+            self.add("pc", (one.steps[x], two.steps[y]), (), one.pcs[x] & -4)
+            x, y = x + 1, y + 1
+            return (x, y) if one.pcs[x:x + 1] == two.pcs[y:y + 1] else together(one, x, two, y)
+        steps = (one.steps[x - 1], two.steps[y - 1]) if x else (one.first, two.first)
+        self.add("pc", steps, (), one.pcs[max(0, x - 1)] & -4)
+        return together(one, x, two, y)
 
     def access(self, mine, theirs, enclave):
         """What two steps did that were at the same place."""
@@ -131,6 +147,12 @@ class Comparison:
                 pc = writers.get(base + at, one.pc)
                 if x != y and not self.public.has(base + at) and pc not in told:
                     self.add("window", (one.last, two.last), ((base + at, bytes([x])), (base + at, bytes([y]))), pc)
+
+
+def did_at(stay, place):
+    """Returns what the step at a place of the stay did, or None."""
+    at = bisect_left(stay.did_at, place)
+    return stay.did[at] if stay.did_at[at:at + 1] == array("I", [place]) else None
 
 
 def writers_of(one, two):

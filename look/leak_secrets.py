@@ -6,7 +6,7 @@ from contextlib import closing
 from dataclasses import dataclass, replace
 
 from . import names
-from .faults import Fault
+from .faults import Fault, Unfinished
 from .map import moments
 from .replies import bytes_of
 from .run import End
@@ -55,7 +55,7 @@ def created(run, slot):
     for moment in moments(run):
         if not isinstance(moment, End) and moment.event == "create" and moment.slot == slot:
             return moment
-    raise Fault("no enclave is created in slot %d" % slot)
+    raise Unfinished("no enclave is created in slot %d" % slot)
 
 
 def place_and_size(text, symbols):
@@ -95,7 +95,7 @@ def register_secret(match, symbols, run, slot):
             found = next((step for step, it in zip(stay.steps, stay.pcs) if it & -4 == pc), None) if stay.slot == slot else None
             if found is not None:
                 return Secret(slot, 0, found - 1, bytes(WORD), names.NUMBER_OF[match[1]], stay.hart)
-    raise Fault("the enclave of slot %d does not come to %08x" % (slot, pc))
+    raise Unfinished("the enclave of slot %d does not come to %08x" % (slot, pc))
 
 
 def drawn(size, seed, first, last):

@@ -16,7 +16,7 @@ class Leak:
     """A run, its secret, and how it is compared."""
 
     def __init__(self, run, symbols, printer, options):
-        self.run, self.symbols, self.printer, self.options = run, symbols, printer, options
+        self.run, self.symbols, self.printer, self.options, self.findings = run, symbols, printer, options, options.findings
         self.public, self.is_strict = public_of(options.public, symbols), options.strict
         self.parts = [it for it in PARTS if it != "operand" or self.is_strict]
 
@@ -25,7 +25,10 @@ class Leak:
 
     def seen(self, secret):
         """The run with a secret."""
-        return seen(self.run.with_lines(secret.step, secret.lines()), secret, self.is_strict)
+        found = seen(self.run.with_lines(secret.step, secret.lines()), secret, self.is_strict)
+        if found.is_cut and not self.findings.cut:
+            self.findings.cut_short("--steps %d ends the run before the enclave of slot %d leaves" % (self.run.setup.limit, secret.slot))
+        return found
 
     def compared(self, one, two, secret):
         return Comparison(one, two, secret, self.public, self.is_strict)
@@ -57,6 +60,8 @@ def show_leak(run, symbols, printer, options):
         one, two = (leak.seen(it) for it in secrets)
     found = leak.compared(one, two, secret)
     (pair_objects if printer.as_json else pair_text)(leak, secrets, (one, two), found)
+    for what in leak.parts:
+        leak.findings.add(what, "\n".join(heading_of(leak, it, secret) for it in found.all() if it.what == what))
 
 
 def show_tries(leak):
@@ -73,23 +78,31 @@ def show_tries(leak):
         with Progress() as progress:
             base = leak.seen(own)
             for number, value in values:
-                other = own.with_bytes(value if value != own.bytes else bytes(it ^ 0xA5 for it in value))
-                two = leak.seen(other)
-                found = leak.compared(base, two, own)
+                other, two, found = try_pair(leak, own, base, number, value)
                 done += 1
                 if found.parts():
                     told[number] = (other, two, found)
-                if printer.as_json:
-                    printer.object("try", number=number, slot=own.slot, at=own.text(), bytes=[own.bytes.hex(), other.bytes.hex()],
-                                   parts=found.parts())
                 progress.bar(done, len(values), "%d told" % len(told))
-                if until is not None and time.monotonic() > until:
+                if until is not None and time.monotonic() > until and done < len(values):
+                    leak.findings.cut_short("--seconds ends leak after %s of %d" % (pairs_text(done), len(values)))
                     break
     except KeyboardInterrupt:
         cut = True
     finish(leak, own, base, told, done)
     if cut:
         raise KeyboardInterrupt
+
+
+def try_pair(leak, own, base, number, value):
+    """Compares the run with a drawn value, or with another if that is the secret itself; notes what was found."""
+    other = own.with_bytes(value if value != own.bytes else bytes(it ^ 0xA5 for it in value))
+    two = leak.seen(other)
+    found = leak.compared(base, two, own)
+    parts, both = found.parts(), [own.bytes.hex(), other.bytes.hex()]
+    leak.findings.add("pair %d" % number, "%s and %s part in %s" % (*both, ", ".join(parts)) if parts else "")
+    if leak.printer.as_json:
+        leak.printer.object("try", number=number, slot=own.slot, at=own.text(), bytes=both, parts=parts)
+    return other, two, found
 
 
 def finish(leak, own, base, told, done):
@@ -151,14 +164,20 @@ def pair_text(leak, secrets, both, comparison):
     printer.line("they part in " + ", ".join(parts) if parts else "alike for 1 pair in " + ", ".join(leak.parts))
 
 
-def apart_text(leak, it, secret, both):
+def heading_of(leak, it, secret):
     """In what two runs part, and where."""
     if it.what == "steps":
         return "apart: %d and %d" % tuple(step - secret.step for step in it.steps)
     step = "step %d" % it.steps[0] if it.steps[0] == it.steps[1] else "steps %d and %d" % it.steps
     times = ", %d times" % it.count if it.count > 1 else ""
     where = ", " + place_text(it.pc, leak.symbols) if it.pc is not None else ""
-    return "apart at %s%s%s" % (step, where, times) + "".join("\n          " + value.rstrip() for value in values_of(leak, it, both))
+    return "apart at %s%s%s" % (step, where, times)
+
+
+def apart_text(leak, it, secret, both):
+    """The same, with both values."""
+    values = () if it.what == "steps" else values_of(leak, it, both)
+    return heading_of(leak, it, secret) + "".join("\n          " + value.rstrip() for value in values)
 
 
 def pair_objects(leak, secrets, both, comparison):

@@ -4,7 +4,7 @@ import io
 import struct
 
 from . import names
-from .faults import Fault, package_missing
+from .faults import Fault, Unfinished, package_missing
 from .image import ELF_MAGIC, read_file
 from .ranges import MONITOR_END
 from .show import hex8
@@ -34,7 +34,7 @@ def segments(path, data):
         from elftools.common.exceptions import ELFError
         from elftools.elf.elffile import ELFFile
     except ImportError:
-        raise Fault(package_missing("pyelftools", "python3-pyelftools", "no ELF file can be measured; raw bytes can")) from None
+        raise Unfinished(package_missing("pyelftools", "python3-pyelftools", "no ELF file can be measured; raw bytes can")) from None
     try:
         file = ELFFile(io.BytesIO(data))
         return [(it["p_paddr"], it.data()) for it in file.iter_segments() if it["p_type"] == "PT_LOAD"]

@@ -1,7 +1,7 @@
 """The word page: a run as one page for a browser, which needs nothing else. It is made of the objects that --json writes."""
 import os
 
-from .faults import Fault, package_missing
+from .faults import Fault, Unfinished, package_missing
 from .map_text import moment_object
 from .map import moments
 from .page_axis import segments_of
@@ -36,7 +36,7 @@ def templates():
     try:
         from jinja2 import Environment, FileSystemLoader, StrictUndefined
     except ImportError:
-        raise Fault(package_missing("jinja2", "python3-jinja2", "the page cannot be made")) from None
+        raise Unfinished(package_missing("jinja2", "python3-jinja2", "the page cannot be made")) from None
     return Environment(loader=FileSystemLoader(FOLDER), autoescape=True, undefined=StrictUndefined, keep_trailing_newline=False)
 
 

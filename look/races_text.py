@@ -1,6 +1,6 @@
 """What the word races tells: the ends, each with the simplest order that leads to it, for a person and as objects; and what was covered."""
 from .outcomes import Table, condition_of, number_of, outcomes_of, ranges_of, value_text, watched_of
-from .faults import Fault
+from .faults import Fault, Unfinished, tell
 from .progress import Progress
 from .races import MOST_ALONE, Bounds, Search
 from .races_ends import GOES_ON, GRACE, LEFT, LONG, OVER, SLACK, STAYS, WAITS, search_ends
@@ -169,8 +169,8 @@ def level_text(search):
     return "those with " + " and ".join(parts)
 
 
-def show_races(run, symbols, printer, options, refuse):
-    """The search, and what it found; `refuse` is told what is forbidden and found."""
+def show_races(run, symbols, printer, options):
+    """The search, and what it found."""
     conditions = [condition_of(it, symbols) for it in options.forbid or ()]
     outcome = outcomes_of(options.outcome, conditions, symbols, run.setup.harts)
     ends = [place_of(it, symbols) for it in options.end or ()]
@@ -181,7 +181,9 @@ def show_races(run, symbols, printer, options, refuse):
         with Progress() as progress:
             search = Search(machine, bounds, options.plain, watched_of(outcome), limit, teller(progress))
             found = search_ends(search, lambda it: outcome or [*ranges_of(it.met, symbols), Table()])
-        told(search, found, conditions, symbols, printer, options, run, refuse)
+        told(search, found, conditions, symbols, printer, options, run)
+    except Fault as fault:  # the arguments are right, but the program cannot be searched
+        raise Unfinished(str(fault)) from None
     finally:
         machine.close()
     if search.why_cut == "Ctrl-C":
@@ -204,7 +206,7 @@ def teller(progress):
     return tell
 
 
-def told(search, found, conditions, symbols, printer, options, run, refuse):
+def told(search, found, conditions, symbols, printer, options, run):
     """Reports all final states, each replayed on the bench first."""
     machine, named = search.machine, found.outcome
     replay(search, found, conditions)
@@ -215,10 +217,42 @@ def told(search, found, conditions, symbols, printer, options, run, refuse):
             end.number, stories[end.number - 1].heading()))
     bad = forbidden(conditions, found)
     (objects if printer.as_json else texts)(search, found, stories, bad, symbols, printer, run)
+    note(options.findings, stories, bad, conditions)
+    if not bad:
+        note_cut(options.findings, stories, search, found, conditions)
+
+
+def note(findings, stories, bad, conditions):
+    """Notes what counts as found: with --forbid the ends that are forbidden, else each end but the first, and each in which a hart does
+    not come to its end."""
+    if conditions:
+        note_forbidden(findings, stories, bad, conditions)
+        return
+    for story in stories:
+        is_finding = story.end.number > 1 or not {how for how, _ in story.end.harts} <= {OVER, LONG, LEFT}
+        findings.add("end %d" % story.end.number, story.heading() if is_finding else "")
+
+
+def note_cut(findings, stories, search, found, conditions):
+    """Notes whether a part of the orders was not searched: by --seconds, or because a hart was given up."""
+    if is_whole(search, found) or search.why_cut == "Ctrl-C":
+        return
+    long = [story for story in stories if any(how == LONG for how, _ in story.end.harts)]
+    if conditions:
+        findings.cut_short("--forbid is not decided: not all was searched")
+    elif long:
+        findings.cut_short("not all was searched: " + long[0].heading())
+    else:
+        findings.cut_short("--seconds ends races: not all was searched")
+
+
+def note_forbidden(findings, stories, bad, conditions):
+    """Notes the ends that --forbid names; no other counts as found."""
     for condition, end in bad:
-        refuse("--forbid %s: end %d is so" % (condition.text, end.number))
-    if not bad and not is_whole(search, found):
-        cut_short(conditions, refuse)
+        tell("--forbid %s: end %d is so" % (condition.text, end.number))
+    for condition in conditions:
+        ends = ["end %d: %s" % (it.end.number, it.heading()) for it in stories if (condition, it.end) in bad]
+        findings.add("--forbid " + condition.text, "\n".join(ends))
 
 
 def replay(search, found, conditions):
@@ -245,12 +279,6 @@ def forbidden(conditions, found):
 def is_whole(search, found):
     """Whether all orders within the bounds were searched, and all final states reported."""
     return search.is_whole() and not found.is_cut
-
-
-def cut_short(conditions, refuse):
-    """Reports that the search is not whole and found nothing forbidden: the one place that decides the exit status of this case."""
-    if conditions:
-        refuse("--forbid is not decided: not all was searched")
 
 
 def objects(search, found, stories, bad, symbols, printer, run):

@@ -10,7 +10,7 @@ from dataclasses import dataclass, field, replace
 from .bench import Bench
 from .bench_line import has_reply, words_of
 from .explain import WHOLE_FAULTS, whole_fault
-from .faults import BenchEnded, Fault
+from .faults import BenchEnded, Fault, Unfinished
 from .image import Image, ScriptLine
 from .replies import ran_of
 from .symbols import Symbols
@@ -304,5 +304,6 @@ def run_of(setup):
 def told_fault(setup, error):
     """The fault of a bench that ended: where it refuses the image, that is told, and what it means."""
     told = str(error)
-    meant = ": " + whole_fault(told).meant if told in WHOLE_FAULTS else ""
-    return Fault("%s: %s%s" % (setup.image.name, told, meant))
+    if told not in WHOLE_FAULTS:
+        return Unfinished("%s: %s" % (setup.image.name, told))
+    return Fault("%s: %s: %s" % (setup.image.name, told, whole_fault(told).meant))

@@ -5,7 +5,7 @@ from dataclasses import dataclass
 from typing import Optional
 
 from . import names
-from .faults import Fault
+from .faults import Unfinished
 from .map import moments
 from .progress import Progress
 from .replies import ran_of, register_values
@@ -15,21 +15,26 @@ from .show import Style, place_text, run_object
 MOST_STEPS = 200  # of the enclave in one exchange
 PATIENCE = 1000000  # steps in which the host has to enter it
 ROW = 64  # bytes that `mem` shows at once
+ANSWER = ["reg 10", "reg 11"]
+LEFT = ("Exited", "Stopped")  # states in which the enclave has left: what its host does from then on is not its end
 
 
 @dataclass(frozen=True)
 class Inside:
-    """A step of the enclave: where it was done, the reply, and whether the host was on turn before it."""
+    """A step of the enclave: where it was done, the reply, whether the host was on turn before it, and the host's a0 and a1 if it leaves."""
     pc: str
     reply: str
     is_entered: bool
+    answer: tuple = ()
 
 
 @dataclass(frozen=True)
 class Last:
-    """The step with which the enclave has left for good, and its line of the table."""
+    """The step with which the enclave has left for good, or the run's last if it has not left; its line of the table; and whether it
+    still runs where --steps ends the run."""
     step: int
     enclave: object
+    is_cut: bool = False
 
 
 @dataclass(frozen=True)
@@ -47,6 +52,7 @@ class Outcome:
     steps: int = 0
     stops: int = 0
     differs: Optional[Differs] = None
+    not_resumed: Optional[Differs] = None  # the step before which the host did not enter the enclave
 
 
 def last_of(run, slot):
@@ -59,22 +65,27 @@ def last_of(run, slot):
             enclave = next((it for it in moment.enclaves if it.slot == slot), None)
             found = Last(moment.step, enclave) if enclave else found
     if found is None:
-        raise Fault("there is no enclave in slot %d" % slot)
-    return found if found.enclave.state == "Exited" else Last(end.steps, found.enclave)
+        raise Unfinished("there is no enclave in slot %d" % slot)
+    return found if found.enclave.state in LEFT else Last(end.steps, found.enclave, end.why == "limit")
 
 
-def inside_steps(run, slot, last):
-    """The steps of the enclave behind the script, with no timer."""
+def inside_steps(run, slot, last, teller):
+    """The steps of the enclave behind the script, with no timer; `teller`, a replay, tells what the host is answered."""
     pc, world, own, entered = run.pc, run.world, "e%d" % slot, True
     for item in run.stretches():
         if isinstance(item, Stretch) and item.first <= last.step:
             for offset, line in enumerate(item.data.decode().splitlines()):
                 step, was, ran = item.first + offset, world, ran_of(line)
                 if was == own and run.length < step <= last.step:
-                    yield Inside(pc, line, entered)
+                    yield Inside(pc, line, entered, () if ran.world == own else answer_behind(teller, step))
                     entered = False
                 entered = entered or was != own
                 pc, world = ran.pc, ran.world
+
+
+def answer_behind(teller, step):
+    """The host's a0 and a1 behind a step."""
+    return tuple(reply[0] for reply in teller.bench.ask(*teller.lines_to(step), *ANSWER)[-len(ANSWER):])
 
 
 def enter(pc):
@@ -83,11 +94,11 @@ def enter(pc):
 
 
 def commands_for(step, is_stopped, is_first):
-    """What is asked for one step of the enclave; the last command is the step itself."""
+    """What is asked for one step of the enclave; the last command is the step itself, or reads the answer behind it."""
     commands = enter(step.pc) if step.is_entered and not is_first else []
     if is_stopped:
         commands += ["timer on", "step 1", *enter(step.pc)]
-    return commands + ["step 1"]
+    return commands + ["step 1"] + (ANSWER if step.answer else [])
 
 
 def interrupted(replay, steps, every):
@@ -97,7 +108,7 @@ def interrupted(replay, steps, every):
         for part in parts_of(enumerate(steps)):
             outcome.steps += len(part)
             progress.tell("%d steps, %d stops", outcome.steps, outcome.stops)
-            if not outcome.differs:
+            if not (outcome.differs or outcome.not_resumed):
                 compare(replay, part, every, outcome)
     return outcome
 
@@ -116,21 +127,32 @@ def compare(replay, part, every, outcome):
     replies = iter(replay.bench.ask(*(command for it in lists for command in it)))
     for (number, step), commands in zip(part, lists):
         told = [next(replies)[0] for _ in commands]
+        answer = tuple(told.pop() for _ in step.answer)[::-1]
         outcome.stops += sum(names.TIMER in line for line in told)
-        outcome.differs = difference(number + 1, step, number % every == 0, told)
-        if outcome.differs:
+        outcome.not_resumed = not_entered(number + 1, step, commands, told)
+        if not outcome.not_resumed:
+            outcome.differs = difference(number + 1, step, number % every == 0, told, answer)
+        if outcome.differs or outcome.not_resumed:
             return
 
 
-def difference(number, step, is_stopped, told):
+def not_entered(number, step, commands, told):
+    """The first time at which the host was to enter the enclave before a step and did not, or None."""
+    for command, reply in zip(commands, told):
+        if command.startswith("run") and ran_of(reply).why != "break":
+            return Differs(number, step.pc, "the host enters the enclave", reply)
+    return None
+
+
+def difference(number, step, is_stopped, told, answer):
     """What came otherwise in one step of the enclave, or None."""
     if is_stopped:
-        stop, back = ran_of(told[-5]), ran_of(told[-3])
+        stop = ran_of(told[-5])
         if stop.trap is None or stop.trap.cause != names.TIMER:
             return Differs(number, step.pc, "a stop by the timer", told[-5])
-        if back.why != "break":
-            return Differs(number, step.pc, "the host resumes the enclave", told[-3])
-    return None if seen_inside(told[-1]) == seen_inside(step.reply) else Differs(number, step.pc, step.reply, told[-1])
+    if seen_inside(told[-1]) != seen_inside(step.reply):
+        return Differs(number, step.pc, step.reply, told[-1])
+    return None if answer == step.answer else Differs(number, step.pc, " ".join(step.answer), " ".join(answer))
 
 
 def seen_inside(reply):
@@ -156,37 +178,46 @@ def behind_script(run):
     return replay
 
 
-def show_timer(run, symbols, printer, slot, every):
-    """Both runs, and whether they end alike."""
+def show_timer(run, symbols, printer, options):
+    """Both runs, and whether they end alike; a host that does not resume the enclave is no finding, but leaves the question open."""
+    slot, every, findings = options.slot, options.every, options.findings
     last = last_of(run, slot)
-    with run.replay() as quiet, behind_script(run) as replay:
+    with run.replay() as quiet, run.replay() as teller, behind_script(run) as replay:
         quiet.bench.ask(*(quiet.lines_to(last.step) or ["reg 0"]))
-        outcome = interrupted(replay, inside_steps(run, slot, last), every)
+        outcome = interrupted(replay, inside_steps(run, slot, last, teller), every)
         if not outcome.steps:
-            raise Fault("the enclave of slot %d does nothing behind the script" % slot)
-        if not outcome.differs:
+            raise Unfinished("the enclave of slot %d does nothing behind the script" % slot)
+        if not (outcome.differs or outcome.not_resumed):
             pairs = zip(finish_of(quiet.bench, last.enclave), finish_of(replay.bench, last.enclave))
             outcome.differs = next((Differs(outcome.steps, None, a, b) for a, b in pairs if a != b), None)
     (timer_object if printer.as_json else timer_text)(run, symbols, printer, slot, every, outcome)
+    if outcome.not_resumed:
+        raise Unfinished("the host does not resume the enclave of slot %d after the timer stopped it, at its step %d; timer needs a host "
+                         "that resumes it each time" % (slot, outcome.not_resumed.number))
+    it = outcome.differs
+    findings.add("e%d comes to the same end" % slot, "its step %d: %s in place of %s" % (it.number, it.found, it.wanted) if it else "")
+    if last.is_cut:
+        findings.cut_short("--steps %d ends the run before the enclave of slot %d leaves" % (run.setup.limit, slot))
 
 
 def timer_object(run, symbols, printer, slot, every, outcome):
-    it = outcome.differs
+    it = outcome.differs or outcome.not_resumed
     run_object(printer, run, symbols)
     apart = it and {"step": it.number, "pc": it.pc, "wanted": it.wanted, "found": it.found,
                     "source": it.pc and symbols.source(int(it.pc, 16))}
-    printer.object("timer", slot=slot, every=every, stops=outcome.stops, steps=outcome.steps, same=it is None, apart=apart)
+    printer.object("timer", slot=slot, every=every, stops=outcome.stops, steps=outcome.steps,
+                   same=None if outcome.not_resumed else it is None, apart=apart)
 
 
 def timer_text(_run, symbols, printer, slot, every, outcome):
-    it = outcome.differs
+    it = outcome.differs or outcome.not_resumed
     how = "each" if every == 1 else "one in %d" % every
     stops = "1 stop" if outcome.stops == 1 else "%d stops" % outcome.stops
     printer.line("e%d: %d steps, the timer before %s of them: %s" % (slot, outcome.steps, how, stops))
     if it is None:
         printer.line(printer.styled("it comes to the same end: each step, a0 and a1, its region and its window", Style.good))
         return
-    printer.line(printer.styled("it does not come to the same end", Style.bad))
+    printer.line(printer.styled("the host does not resume it" if outcome.not_resumed else "it does not come to the same end", Style.bad))
     printer.line("  its step %d%s" % (it.number, "" if it.pc is None else ", at " + place_text(it.pc, symbols)))
     printer.line("  without  " + it.wanted)
     printer.line("  with     " + it.found)

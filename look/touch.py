@@ -1,16 +1,20 @@
 """The word touch: what each world read, wrote and executed, beside what it might have."""
+import re
 from bisect import bisect_left, bisect_right
 from collections import Counter, defaultdict
 from dataclasses import dataclass
 
 from . import names
 from .accesses import accesses
+from .faults import WordsRefused
 from .map import Moment, moments
 from .ranges import NOTHING, Range
+from .run import Stretch
 from .show import Style, end_object, end_text, hex8, run_object
 
 KINDS = {"r": "read", "w": "wrote", "x": "executed"}
 LEAST_SIZE = 4096
+BARE = "touch merges all modes of a bare image, and %s %s at step %d; map and trace tell each mode apart"
 
 
 @dataclass(frozen=True)
@@ -157,8 +161,25 @@ def by_file(lines):
         yield name, sum(count > 0 for _, count in found), len(found), [number for number, count in found if not count]
 
 
+MODE = re.compile(rb"mode=([SU])")
+
+
+def refuse_modes(run):
+    """Refuses a bare run that enters S or U, or that writes a PMP register: who may touch what is then another for each mode, and at one time
+    than at another, and `touch` has one world for all of it."""
+    for item in () if run.setup.monitor else run.stretches():
+        found = MODE.search(item.data) if isinstance(item, Stretch) else None
+        if found:
+            step, what = item.first + item.data.count(b"\n", 0, found.start()), "enters mode " + found[1].decode()
+            raise WordsRefused(BARE % (run.setup.image.name, what, step))
+    for moment in () if run.setup.monitor else moments(run):
+        if isinstance(moment, Moment) and moment.step:
+            raise WordsRefused(BARE % (run.setup.image.name, "writes a PMP register", moment.step))
+
+
 def show_touch(run, symbols, printer):
     """All of it, world by world."""
+    refuse_modes(run)
     touches = Touches(run)
     if printer.as_json:
         run_object(printer, run, symbols)

@@ -7,7 +7,7 @@ import re
 from typing import NamedTuple, Optional
 
 from . import names
-from .faults import Fault
+from .faults import Unfinished
 from .instructions import Instruction, instruction_of
 from .replies import Trap
 from .run import End, Line
@@ -156,7 +156,7 @@ class Tracer:
             yield self.step(begin + offset, stretch.hart, hart, ran, instruction, replies)
         kept = [line.split(b"=")[1].decode() for line in (next(replies) for _ in range(REGISTERS - 1))]
         if kept != hart.registers:
-            raise Fault("the registers behind step %d are not those that its steps gave" % stop)
+            raise Unfinished("the registers behind step %d are not those that its steps gave" % stop)
         self.position = stop
 
     @staticmethod

@@ -1,29 +1,53 @@
 """The word window: for each stay of an enclave what it did with each byte of its window: which it read before it wrote them, which it read
 again with nothing of its own between (a double fetch, if another writes between), which it wrote, which are left of an earlier stay, and
-whether what it wrote depends on a secret, by a second run in which the secret is another."""
+whether what it wrote depends on a secret, by a second run in which the secret is another; and where the window has a copy of the secret."""
 from collections import defaultdict
 from dataclasses import dataclass, field
 from typing import NamedTuple
 
-from .faults import Fault
+from .faults import Unfinished
+from .leak import public_of
 from .leak_secrets import secret_of
+from .secret_copies import copies_in
 from .progress import Progress
 from .ranges import reach
 from .show import Style, hex8, run_object
 from .stays import Stay, Stays
 
 WIDTH = 16  # bytes of a row of the dump
-LEAST_TOLD = 4  # bytes of a secret that are told where they stand in the window
 
 
 class Found(NamedTuple):
     """Bytes of the window from an offset on, of which the same is told: what, and at which instructions; `is_secret` is None where no secret
-    was named."""
+    was named, `is_public` is true where --public names the bytes or the instruction."""
     what: str
     first: int
     size: int
     pcs: tuple
     is_secret: object = None
+    is_public: bool = False
+
+    @property
+    def is_finding(self):
+        return self.what == "reads again" or bool(self.is_secret) and not self.is_public
+
+
+class Held(NamedTuple):
+    """A copy of a part of the secret in the window, whether it is another with another secret, and whether --public names it."""
+    copy: object
+    is_secret: bool
+    is_public: bool
+
+    @property
+    def is_finding(self):
+        return self.is_secret and not self.is_public
+
+
+@dataclass(frozen=True)
+class View:
+    """What is told of one stay: its ranges, and the copies of the secret."""
+    found: list
+    held: list
 
 
 @dataclass
@@ -67,11 +91,11 @@ def stored(byte, pc, value):
 
 
 def ranges(what, told):
-    """Neighbours of which the same is told, as one; `told` gives for an offset its instructions and whether it is secret."""
+    """Neighbours of which the same is told, as one; `told` gives for an offset its instructions, and whether it is secret and public."""
     found = []
     for at in sorted(told):
         last = found[-1] if found else None
-        if last and last.first + last.size == at and (last.pcs, last.is_secret) == told[at]:
+        if last and last.first + last.size == at and last[3:] == told[at]:
             found[-1] = last._replace(size=last.size + 1)
         else:
             found.append(Found(what, at, 1, *told[at]))
@@ -101,27 +125,40 @@ class Left:
         return told
 
 
-def told_of(stay, left, other):
+def view_of(stay, left, other, secret, public):
     """All that is told of a stay; `other` is the same stay of the run with another secret, where there is one."""
-    found = bytes_of(stay)
+    found, base = bytes_of(stay), stay.enclave.window
     theirs = bytes_of(other) if other else {}
     kept = left.take(stay, found)
-    is_secret = lambda at, byte: None if other is None else theirs.get(at, Byte()).values != byte.values
-    again = defaultdict(dict)
+    again, writes = defaultdict(dict), {}
     for at, byte in found.items():
         for pair in byte.again:
-            again[pair][at] = (pair, None)
-    return [*ranges("reads", {at: ((it.input_at,), None) for at, it in found.items() if it.input_at is not None}),
+            again[pair][at] = (pair, None, False)
+        if byte.stored_at is not None:
+            is_secret = None if other is None else theirs.get(at, Byte()).values != byte.values
+            writes[at] = (byte.stored_at,), is_secret, bool(is_secret) and (public.has(base + at) or public.has(byte.stored_at))
+    told = [*ranges("reads", {at: ((it.input_at,), None, False) for at, it in found.items() if it.input_at is not None}),
             *(it for pair in sorted(again) for it in ranges("reads again", again[pair])),
-            *ranges("writes", {at: ((it.stored_at,), is_secret(at, it)) for at, it in found.items() if it.stored_at is not None}),
-            *ranges("left", {at: ((pc, number), None) for at, (_, pc, number) in kept.items()})]
+            *ranges("writes", writes),
+            *ranges("left", {at: ((pc, number), None, False) for at, (_, pc, number) in kept.items()})]
+    writers = {at: pc for at, (_, pc, _) in left.kept[stay.world].items()}
+    return View(told, list(held_in(stay, other, secret, writers, public)) if secret else [])
 
 
-def show_window(run, symbols, printer, slot, place, seconds=None):
+def held_in(stay, other, secret, writers, public):
+    """The copies of parts of the secret that the window has when the stay ends; `writers` has the instruction that stored each byte."""
+    base = stay.enclave.window
+    for copy in copies_in(stay.after, secret.bytes):
+        places = range(copy.at, copy.at + copy.size)
+        is_secret = other is None or other.after[places.start:places.stop] != stay.after[places.start:places.stop]
+        yield Held(copy, is_secret, all(public.has(base + at) or at in writers and public.has(writers[at]) for at in places))
+
+
+def show_window(run, symbols, printer, options):
     """Each stay of the slot's enclave, or of all, one after another."""
-    secret = None
-    if place:
-        secret = secret_of(place, symbols, run, 0 if slot is None else slot)
+    secret, slot, public = None, options.slot, public_of(options.public, symbols)
+    if options.at:
+        secret = secret_of(options.at, symbols, run, 0 if slot is None else slot)
         secret = secret.with_bytes(secret.bytes_in(run))
     others = Others(run, secret) if secret else None
     if printer.as_json:
@@ -133,11 +170,19 @@ def show_window(run, symbols, printer, slot, place, seconds=None):
             if slot is None or stay.slot == slot:
                 number += 1
                 progress.clear()
-                found = told_of(stay, left, others.next(stay) if others and stay.slot == secret.slot else None)
-                write(printer, symbols, stay, found, secret)
+                view = view_of(stay, left, others.next(stay) if others and stay.slot == secret.slot else None, secret, public)
+                write(printer, symbols, stay, view, secret)
+                options.findings.add("%s, stay %d" % (stay.world, stay.number), finding_of(stay, view, symbols, secret))
             progress.tell("step %d, %d stays", stay.last or 0, number)
     if not number:
-        raise Fault("no enclave runs" if slot is None else "there is no enclave in slot %d" % slot)
+        raise Unfinished("no enclave runs" if slot is None else "there is no enclave in slot %d" % slot)
+
+
+def finding_of(stay, view, symbols, secret):
+    """Returns the rows that are findings, as a text; empty if there is none."""
+    rows = [found_text(stay, it, symbols) for it in view.found if it.is_finding]
+    rows += [held_text(stay, it, symbols, secret) for it in view.held if it.is_finding]
+    return "\n".join(it.strip() for it in rows)
 
 
 class Others:
@@ -177,7 +222,21 @@ def found_text(stay, it, symbols):
     else:
         parts.append(places_text(it.pcs, symbols))
     if it.is_secret is not None:
-        parts.append("depends on the secret" if it.is_secret else "the same with another secret")
+        parts.append(secret_text(it))
+    return "  ".join(part for part in parts if part)
+
+
+def secret_text(it):
+    """Whether bytes of the window are other ones with another secret."""
+    return ("depends on the secret" + (", public" if it.is_public else "")) if it.is_secret else "the same with another secret"
+
+
+def held_text(stay, it, symbols, secret):
+    """A copy of a part of the secret, in a line."""
+    copy, base = it.copy, stay.enclave.window + it.copy.at
+    what = "all %d bytes of the secret" % copy.size if copy.size == len(secret.bytes) else \
+        "bytes %d to %d of the secret's %d" % (copy.offset, copy.offset + copy.size - 1, len(secret.bytes))
+    parts = ["  %-11s %08x-%08x %6d" % ("copy", base, base + copy.size - 1, copy.size), symbols.name(base) or "", what, secret_text(it)]
     return "  ".join(part for part in parts if part)
 
 
@@ -200,39 +259,32 @@ def heading_of(stay):
     return "%s%s, stay %d: steps %d to %d, left by %s%s" % (hart, stay.world, stay.number, stay.first, stay.last, stay.left, answer)
 
 
-def stay_text(printer, symbols, stay, found, secret):
+def stay_text(printer, symbols, stay, view, secret):
     printer.line(printer.styled(heading_of(stay), Style.heading))
-    for it in found:
+    for it in view.found:
         text = found_text(stay, it, symbols)
-        printer.line(printer.styled(text, Style.bad) if it.what == "reads again" or it.is_secret else text)
-    if not found:
+        printer.line(printer.styled(text, Style.bad) if it.is_finding else text)
+    if not view.found:
         printer.line("  touches nothing of its window" if stay.enclave.window_size else "  has no window")
     for at, row in rows_of(stay):
         printer.line(row_text(at, row))
-    for at in places_of(stay, secret):
-        printer.line(printer.styled("  %08x has %d bytes of the secret" % (stay.enclave.window + at, LEAST_TOLD), Style.bad))
+    for it in view.held:
+        text = held_text(stay, it, symbols, secret)
+        printer.line(printer.styled(text, Style.bad) if it.is_finding else text)
     printer.line()
 
 
-def places_of(stay, secret):
-    """Where the window has the first bytes of the secret."""
-    told = secret.bytes[:LEAST_TOLD] if secret else b""
-    at = stay.after.find(told) if len(told) == LEAST_TOLD and any(told) else -1
-    while at >= 0:
-        yield at
-        at = stay.after.find(told, at + 1)
-
-
-def stay_objects(printer, symbols, stay, found, secret):
+def stay_objects(printer, symbols, stay, view, _secret):
     printer.object("stay", world=stay.world, hart=stay.hart, stay=stay.number, first=stay.first, last=stay.last, left=stay.left,
                    answer=[hex8(it) for it in stay.answer], window=hex8(stay.enclave.window), size=stay.enclave.window_size)
-    for it in found:
+    for it in view.found:
         base, pcs = stay.enclave.window + it.first, it.pcs[:1] if it.what == "left" else it.pcs
         printer.object("window", world=stay.world, stay=stay.number, what=it.what, first=hex8(base), last=hex8(base + it.size - 1),
                        symbol=symbols.name(base), pcs=[hex8(pc) for pc in pcs], sources=[symbols.source(pc) for pc in pcs],
-                       secret=it.is_secret, of=it.pcs[1] if it.what == "left" else None,
+                       secret=it.is_secret, public=it.is_public, of=it.pcs[1] if it.what == "left" else None,
                        between=between_text(stay, base) if it.what == "reads again" else None)
     for at, row in rows_of(stay):
         printer.object("dump", world=stay.world, stay=stay.number, at=hex8(at), bytes=row.hex())
-    for at in places_of(stay, secret):
-        printer.object("holds", world=stay.world, stay=stay.number, at=hex8(stay.enclave.window + at))
+    for it in view.held:
+        printer.object("holds", world=stay.world, stay=stay.number, at=hex8(stay.enclave.window + it.copy.at), size=it.copy.size,
+                       offset=it.copy.offset, secret=it.is_secret, public=it.is_public)

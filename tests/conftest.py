@@ -1,6 +1,6 @@
 """Fixtures that the tests share: how rvlook is run, and the programs that it is run on.
 
-`RVBENCH` names the built program. A test program is a folder of `tests/rvlook/programs`: its C sources, and the image and the listing that
+`RVBENCH` names the built program. `RVLOOK` names another copy of the script `rvlook`, such as a mutant. A test program is a folder of `tests/rvlook/programs`: its C sources, and the image and the listing that
 `examples/monitor/build` made of them, so that the tests need no compiler.
 """
 import json
@@ -15,7 +15,7 @@ from pathlib import Path
 import pytest
 
 ROOT = Path(__file__).resolve().parents[1]
-RVLOOK = ROOT / "rvlook"
+RVLOOK = Path(os.environ.get("RVLOOK") or ROOT / "rvlook")
 PROGRAMS = ROOT / "tests" / "rvlook" / "programs"
 BUILD = ROOT / "examples" / "monitor" / "build"
 SECONDS = 120
@@ -75,6 +75,12 @@ def program():
         folder = PROGRAMS / name
         return [str(folder / "image"), "--monitor", "--symbols", str(folder / "listing")]
     return arguments
+
+
+@pytest.fixture(scope="session")
+def short_program(program):
+    """The same for a program that ends within 2000 steps: on an unproved program it is faster not to look further."""
+    return lambda name: [*program(name), "--steps", "2000"]
 
 
 @pytest.fixture(scope="session")

@@ -1,6 +1,6 @@
 """The commands of README.md and of the tutorial work in a fresh clone, in their order.
 
-A block of indented lines is run by bash in the clone, and ends with status 0. The text below a line with `$` is what it prints, with a line
+A block of indented lines is run by bash in the clone. Each command ends with status 0, or with 1 if it is one of rvlook that may find something. The text below a line with `$` is what it prints, with a line
 `...` for what is left out. ./check and ./prove take long, and are left out, as are installations and the sessions of a debugger, which
 the tests of gdb type.
 """
@@ -14,6 +14,7 @@ import pytest
 from conftest import ROOT
 
 PAGES = ("README.md", "docs/TUTORIAL.md")
+FINDS = re.compile(r"^\./rvlook (?:leak|races|timer|window) .*$", re.M)  # status 1 is a finding
 LEFT_OUT = ("./check", "./prove", "apt-get")
 BLOCK = re.compile(r"(?:^    .*\n|^\n(?=    ))+", re.M)
 SESSION = "(gdb) "
@@ -66,6 +67,7 @@ def check_page(clone, page):
     count = 0
     for script, wanted in blocks((clone / page).read_text(encoding="utf-8")):
         count += 1
+        script = FINDS.sub(r"{ \g<0>\n} || [ $? = 1 ]", script)
         done = subprocess.run(["bash", "-e", "-c", script], cwd=clone, capture_output=True, text=True, env=environment, timeout=SECONDS,
                               check=False)
         assert done.returncode == 0, (script, done.stderr[-400:])

@@ -40,7 +40,7 @@ def ended(folder):
 
 
 def alone(*words):
-    done = subprocess.run([LOOK, *words, "--json"], capture_output=True, text=True, check=True)
+    done = subprocess.run([LOOK, *words, "--json", "--exit-zero"], capture_output=True, text=True, check=True)
     return [json.loads(line) for line in done.stdout.splitlines()]
 
 
@@ -59,7 +59,7 @@ def killed(words, folder):
 def check_secrets(folder):
     """Many secrets, in parts of three, killed in their midst."""
     leak = "leak --monitor %s --at 80020800:4 --seed 5" % WINDOW
-    job = "%s %s --tries %d --from {} --to $(({} + 2)) --json" % (LOOK, leak, TRIES)
+    job = "%s %s --tries %d --from {} --to $(({} + 2)) --json --exit-zero" % (LOOK, leak, TRIES)
     words = command(folder, job, *range(1, TRIES, 3))
     killed(words, folder)
     first = ended(folder)
@@ -76,7 +76,7 @@ def check_secrets(folder):
 def check_moments(folder):
     """Two moments of the timer, by the step of the first."""
     races = "races --monitor --timer 2 --outcome 80030000:12 %s" % ADDS
-    job = "%s %s --from {} --to $(({} + 39)) --json" % (LOOK, races)
+    job = "%s %s --from {} --to $(({} + 39)) --json --exit-zero" % (LOOK, races)
     done = subprocess.run(command(folder, job, *range(0, 120, 40)), stdout=subprocess.DEVNULL, stderr=subprocess.PIPE, text=True, check=False)
     expect("moments: it ends", (0, ""), (done.returncode, done.stderr))
     key = lambda it: (it["values"]["80030000:12"], it["over"][0]["pc"])
@@ -91,7 +91,7 @@ def check_folder(folder):
     os.makedirs(programs)
     for number, source in enumerate(("two_harts", "race")):
         shutil.copy(os.path.join(ROOT, "examples", source, "image"), os.path.join(programs, "%d" % number))
-    job = "%s races --monitor --harts 2 --limit 60 --json {}" % LOOK
+    job = "%s races --monitor --harts 2 --limit 60 --json --exit-zero {}" % LOOK
     done = subprocess.run(command(folder, job, *(os.path.join(programs, it) for it in ("0", "1"))), stdout=subprocess.DEVNULL,
                           stderr=subprocess.PIPE, text=True, check=False)
     expect("programs: it ends", (0, ""), (done.returncode, done.stderr))

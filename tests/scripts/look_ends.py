@@ -3,6 +3,7 @@
 capitals stand for anything. And each word of rvlook with an output that takes nothing, with one whose reader has gone, with Ctrl-C, with
 no file, and with a file that is no ELF file."""
 import os
+import pty
 import re
 import signal
 import subprocess
@@ -21,8 +22,32 @@ SUM = "examples/sum/stdin"
 SYMBOLS = ["--symbols", LISTING]
 LEAKS = "tests/look/leak/image"
 LEAK_TRIES = ["--monitor", LEAKS, "--tries", "2", "--at"]
+LEAK_PAIR = ["leak", "--monitor", LEAKS, "--at", "80020800", "00", "00"]
 COUNTED = ["--monitor", "--harts", "2", "--ram", "131072"]
 FULL = 'exec "$0" "$@" > /dev/full'
+PYTHON = "/usr/bin/python3" if os.access("/usr/bin/python3", os.X_OK) else "python3"
+BARE_USER = "tests/rvlook/programs/bare_user/image"
+PATCHED = """import sys
+sys.path[0] = %r
+import look.races_machine as machine, look.races_replay as replay, look.trace as trace
+%s
+from look.__main__ import main
+sys.exit(main(sys.argv[1:]))
+"""
+# What breaks an assumption that rvlook checks as it goes: no input does.
+OTHERWISE = """
+class Forgetful(dict):
+    def setdefault(self, key, value):
+        return None
+learn = machine.Machine.learn
+def forgetful(self, *more):
+    self.known = Forgetful(self.known)
+    return learn(self, *more)
+machine.Machine.learn = forgetful
+"""
+MORE = "operands = machine.operands; machine.operands = lambda word: (0, *operands(word)[1:])"
+ORDER = "replay.Replays.ram = lambda self, bench: []"
+REGISTERS = "step = trace.Tracer.step; trace.Tracer.step = lambda self, *them: (step(self, *them), setattr(them[2], 'registers', []))[0]"
 ROW = re.compile(r"^\| (\d+) \| `(.*)` \| .*\|$", re.M)
 
 
@@ -34,7 +59,7 @@ class Files:
         self.script = self.write("script", "break man\n")
         self.loop = self.write("loop", "1303130013031300\n6ff09fff\n")
         self.lines = {name: self.write(name, text + "\n") for name, text in (
-            ("unknown", "stepp 4"), ("twice", "break trapped"), ("man", "break man"))}
+            ("unknown", "stepp 4"), ("twice", "break trapped"), ("man", "break man"), ("behind", "break trapped@80040000"))}
         self.counter = self.write("counter", "b712018083a302009383130023a072006f000000\n")  # 80011000 is one more
         self.many = self.write("many", "b71201801303803e83a302009383130023a072001303f3ffe31803fe6f000000\n")  # a thousand times
         self.cycle = self.write("cycle", "732500b06f000000\n")  # mcycle is read
@@ -75,6 +100,22 @@ def ran(words, shell=None, **environment):
     return done.returncode, done.stderr.splitlines()
 
 
+def patched(code, words):
+    """The same of a rvlook in which something is replaced."""
+    done = subprocess.run([PYTHON, "-B", "-c", PATCHED % (ROOT, code), *words], cwd=ROOT, stdin=subprocess.DEVNULL, stdout=subprocess.DEVNULL,
+                          stderr=subprocess.PIPE, text=True, check=False)
+    return done.returncode, done.stderr.splitlines()
+
+
+def typed(words):
+    """The same with a terminal as standard input."""
+    ours, theirs = pty.openpty()
+    done = subprocess.run([LOOK, *words], cwd=ROOT, stdin=theirs, stdout=subprocess.DEVNULL, stderr=subprocess.PIPE, text=True, check=False)
+    for end in (ours, theirs):
+        os.close(end)
+    return done.returncode, done.stderr.splitlines()
+
+
 def stopped(words):
     """The same of a word that Ctrl-C stops in its midst; where it had not yet begun, it is given longer."""
     for pause in (1, 2, 4):
@@ -99,7 +140,9 @@ def cases(files):
         "the unproved program": unproved,
         "MODULE is not there": lambda: ran(["map", "--monitor", ADDS], PYTHONPATH=files.without("elftools")),
         "FILE:LINE: COMMAND: error command": scripted("unknown"),
-        "FILE:LINE: COMMAND: error operand: there": scripted("man"),
+        "FILE:LINE: COMMAND: error operand: there is no symbol": scripted("man"),
+        "FILE:LINE: COMMAND: error operand: NAME is no address": lambda: ran(["map", SUM, "--script", files.script]),
+        "FILE:LINE: COMMAND: error operand: there is no NAME": scripted("behind"),
         "FILE:LINE: COMMAND: error operand: NAME": scripted("twice"),
         "FILE: No such": lambda: ran(["map", SUM, "--script", "/none"]),
         "FILE: it is a text,": lambda: ran(["map", files.text]),
@@ -112,40 +155,75 @@ def cases(files):
         "FILE: no symbols": lambda: ran(["map", "--symbols", files.cut, SUM]),
         "FILE: there are": lambda: ran(["map", "--symbols", files.text, SUM]),
         "there is no symbol": lambda: ran(["trace", "--monitor", ADDS, *SYMBOLS, "--function", "man"]),
+        "NAME is no address": lambda: ran(["trace", SUM, "--function", "main"]),
         "PLACE is no": leak("nowhere", "00", "01"),
         "BYTES are": leak("80020800", "0", "01"),
         "no enclave is created": leak("80020800", "00", "01", "--slot", "4"),
         "the bytes from": leak("80010000", "00", "01"),
         "the two have": leak("80020800", "00", "0001"),
         "--at PLACE:BYTES": lambda: ran(["leak", *LEAK_TRIES, "80020800"]),
+        "the enclave of slot NUMBER is never": lambda: ran([*LEAK_PAIR, "--steps", "6158"]),
+        "--steps COUNT": lambda: ran(["timer", "--monitor", "examples/enclave_timer/image", "--steps", "60"]),
+        "--seconds ends leak": lambda: ran(["leak", *LEAK_TRIES, "80020f00:4", "--seconds", "0"]),
+        "the host does not": lambda: ran(["timer", "--monitor", ADDS]),
         "the enclave of slot NUMBER does not come": lambda: ran(["leak", *LEAK_TRIES, "a0@80020f00"]),
         "leak compares": lambda: ran(["leak", "--monitor", LEAKS, "--at", "80020800"]),
-        "no enclave runs": lambda: ran(["window", SUM]),
+        "no enclave runs": lambda: ran(["window", "--monitor", ADDS, "--steps", "9"]),
         "--forbid CONDITION": lambda: ran(["races", *COUNTED, files.counter, "--forbid", "80011000 == 2"]),
         "--forbid is not": lambda: ran(["races", *COUNTED, files.counter, "--forbid", "80011000 == 99", "--seconds", "0"]),
+        "--seconds ends races": lambda: ran(["races", *COUNTED, files.counter, "--seconds", "0"]),
+        "not all was": lambda: ran(["races", files.loop, "--steps", "99"]),
         "--forbid is NAME": lambda: ran(["races", *COUNTED, files.counter, "--forbid", "80011000"]),
         "--forbid compares": lambda: ran(["races", *COUNTED, files.counter, "--forbid", "80011000 == many"]),
         "--outcome is": lambda: ran(["races", *COUNTED, files.counter, "--outcome", "nowhere"]),
         "--outcome PLACE": lambda: ran(["races", *COUNTED, files.counter, "--outcome", "80011000:0x4"]),
-        "the step at": lambda: ran(["races", files.cycle]),
+        "the step at ADDRESS reads": lambda: ran(["races", files.cycle]),
+        "the step at ADDRESS came": lambda: patched(OTHERWISE, ["races", "--monitor", ADDS]),
+        "the step at ADDRESS changed": lambda: patched(MORE, ["races", "--monitor", ADDS]),
+        "the order of": lambda: patched(ORDER, ["races", "--monitor", ADDS]),
+        "the registers": lambda: patched(REGISTERS, ["trace", SUM]),
         "DIR: WHY": lambda: ran(["races", *COUNTED, files.counter, "--scripts", files.text]),
         "there is no enclave": lambda: ran(["timer", SUM, "--monitor", "--steps", "9"]),
         "the enclave of slot NUMBER does nothing": lambda: ran(["timer", "--monitor", "examples/monitor_at_rest/image"]),
         "create refuses": lambda: ran(["measure", files.region, "80020000", "1001", "0", "0", "80020000"]),
+        "FILE has COUNT": lambda: ran(["measure", "docs/LOOK.md", "80020000", "1000", "0", "0", "80020000"]),
         "there are no source": lambda: ran(["touch", SUM, "--lcov"]),
+        "the page cannot": lambda: ran(["page", SUM], PYTHONPATH=files.without("zlib")),
         "page has no": lambda: ran(["page", SUM, "--json"]),
-        "there is no program": lambda: ran(["map", SUM], RVBENCH="/none"),
+        "there is no program at": lambda: ran(["map", SUM], RVBENCH="/none"),
+        "there is no program;": unbuilt,
         "FILE: the bench ended": lambda: ran(["map", SUM], RVBENCH="/bin/true"),
         "the output fails": lambda: ran(["map", SUM], FULL),
+        "there is no standard": lambda: ran(["map", SUM], 'exec "$0" "$@" >&-'),
+        "MODULE is not": lambda: ran(["page", SUM], PYTHONPATH=files.without("jinja2")),
+        "REPORT: WHY": lambda: ran([*LEAK_PAIR, "--junit", "/none/report"]),
         "WORD is no word": lambda: ran(["mpa", SUM]),
         "unrecognized": lambda: ran(["map", SUM, "--fly"]),
         "argument --world": lambda: ran(["trace", SUM, "--world", "foo"]),
         "argument --every": lambda: ran(["timer", SUM, "--every", "0"]),
         "--to NUMBER": lambda: ran(["trace", SUM, "--from", "9", "--to", "3"]),
+        "--from NUMBER": lambda: ran(["leak", *LEAK_TRIES, "80020800:4", "--from", "3"]),
+        "--public needs": lambda: ran(["window", "--monitor", ADDS, "--public", "80030000"]),
+        "SUBCOMMAND needs": lambda: ran(["leak", SUM, "--at", "80000000", "00", "01"]),
+        "touch merges all modes of a bare image, and FILE enters": lambda: ran(["touch", BARE_USER]),
+        "touch merges all modes of a bare image, and FILE writes": lambda: ran(["touch", "examples/pmp/stdin"]),
+        "a debugger": lambda: typed(["gdb", SUM]),
+        "port NUMBER": lambda: ran(["gdb", SUM, "--port", "99999"]),
         "--harts 2": lambda: ran(["map", SUM, "--harts", "2"]),
         "OPTION has no": lambda: ran(["touch", SUM, "--lcov", "--json"]),
         "stopped": lambda: stopped(["trace", files.loop]),
         "who reads": lambda: ran(["trace", files.loop], '"$0" "$@" | head -n 1')}
+
+
+def unbuilt():
+    """A clone in which no program can be built: tools/program tells so by its status."""
+    with tempfile.TemporaryDirectory() as clone:
+        subprocess.run(["cp", "-r", *(os.path.join(ROOT, it) for it in ("look", "rvlook")), clone], check=True)
+        os.makedirs(os.path.join(clone, "tools"))
+        os.symlink("/bin/false", os.path.join(clone, "tools", "program"))
+        done = subprocess.run([os.path.join(clone, "rvlook"), "map", os.path.join(ROOT, SUM)], capture_output=True, text=True, check=False,
+                              env={name: value for name, value in os.environ.items() if name != "RVBENCH"})
+        return done.returncode, done.stderr.splitlines()
 
 
 def unproved():
@@ -164,7 +242,7 @@ def unproved():
 
 def pattern_of(line):
     """A line of the table, in which words in capitals stand for anything."""
-    kept = ("RVBENCH",)
+    kept, line = ("RVBENCH",), line.replace("\\|", "|")
     return "".join(".+" if re.fullmatch("[A-Z]{3,}", it) and it not in kept else re.escape(it) for it in re.split(r"(\b[A-Z]{3,}\b)", line))
 
 
@@ -204,16 +282,16 @@ def words_over(files):
 
 def check_words(files):
     for name, (long, short) in words_over(files).items():
-        expect("%s, a full output" % name, (1, ["rvlook: the output fails: No space left on device"]), ran(short, FULL))
+        expect("%s, a full output" % name, (3, ["rvlook: the output fails: No space left on device"]), ran(short, FULL))
         expect("%s, a closed pipe" % name, (141, ["rvlook: who reads the output has gone"]), gone(short))
         if long:
             expect("%s, Ctrl-C" % name, (130, ["rvlook: stopped"]), stopped(long))
         images = (SUM, ADDS, files.region, LEAKS)
         wanted = (2, ["rvlook: /none is no word of rvlook, and no file; rvlook --help tells the words"]) if name == "the prompt" else \
-            (1, ["rvlook: /none: No such file or directory"])
+            (2, ["rvlook: /none: No such file or directory"])
         expect("%s, no file" % name, wanted, ran(["/none" if it in images else it for it in short]))
         status, told = ran([files.cut if it in images else it for it in short])
-        expect("%s, no ELF" % name, (0, []) if name == "explain" else (1, True), (status, told if name == "explain" else is_told(told)))
+        expect("%s, no ELF" % name, (1, []) if name == "explain" else (2, True), (status, told if name == "explain" else is_told(told)))
 
 
 def is_told(told):

@@ -135,7 +135,8 @@ def check_shown(folder):
     expect("leak: what it has is told", ("leak", sum(it["object"] == "try" for it in found)), (last["object"], last["pairs"]))
     done = subprocess.run([LOOK, *words, "--seconds", "1"], cwd=ROOT, capture_output=True, text=True, check=False)
     pairs = json.loads(done.stdout.splitlines()[-1])["pairs"]
-    expect("leak --seconds: it ends, and says nothing where no terminal is", (0, "", True), (done.returncode, done.stderr, 0 < pairs < 1000))
+    wanted = 1, "rvlook: --seconds ends leak after %s of 1000\n" % ("1 pair" if pairs == 1 else "%d pairs" % pairs), True
+    expect("leak --seconds: it ends, and tells no more where no terminal is", wanted, (done.returncode, done.stderr, 0 < pairs < 1000))
 
 
 def main():

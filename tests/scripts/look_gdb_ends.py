@@ -94,20 +94,20 @@ def check_program():
     for number in numbers:
         os.kill(number, signal.SIGKILL)
     expect("a program that is gone", "E.the bench has ended", client.ask("m80010000,4"))
-    ended("a program that is gone", process, numbers, 1, "rvlook: %s: the bench ended with status -9\n" % TIMER[0])
+    ended("a program that is gone", process, numbers, 3, "rvlook: %s: the bench ended with status -9\n" % TIMER[0])
     process = started(TIMER[1], TIMER[0], stderr=subprocess.PIPE)
     client = Client(*TIMER, process)
     numbers = children_of(process)
     for number in numbers:
         os.kill(number, signal.SIGKILL)
     expect("a program that is gone, on the way on", "X09", client.ask("vCont;c"))
-    ended("a program that is gone, on the way on", process, numbers, 1, "rvlook: %s: the bench ended with status -9\n" % TIMER[0])
+    ended("a program that is gone, on the way on", process, numbers, 3, "rvlook: %s: the bench ended with status -9\n" % TIMER[0])
     for words, environment, told in (
             ([*TIMER[1], TIMER[0]], {"RVBENCH": "/none"}, "there is no program at /none"),
             (["README.md", "--kind", "elf"], {}, "README.md: ")):
         done = subprocess.run([LOOK, "gdb", *words], cwd=HOME, input=b"", capture_output=True, check=False,
                               env={**os.environ, **environment})
-        expect("%s: the status" % words, 1, done.returncode)
+        expect("%s: the status" % words, 2, done.returncode)
         expect("%s: the line" % words, True, bool(re.fullmatch("rvlook: %s[^\n]*\n" % re.escape(told), done.stderr.decode())))
 
 
@@ -137,7 +137,7 @@ def check_port():
     for words, told in ((["--port", str(port)], "port %d: Address already in use" % port),
                         (["--port", "99999"], "port 99999: ")):
         done = subprocess.run([LOOK, "gdb", *words, *TIMER[1], TIMER[0]], cwd=HOME, capture_output=True, text=True, check=False)
-        expect("%s: refused" % words, (1, True, 1), (done.returncode, told in done.stderr, done.stderr.count("\n")))
+        expect("%s: refused" % words, (2, True, 1), (done.returncode, told in done.stderr, done.stderr.count("\n")))
     first.close()
     ended("the first one goes", process, numbers, 0, GONE)
     try:
@@ -156,7 +156,7 @@ def check_person():
     """Typed at a terminal it tells how a debugger is started."""
     master, slave = pty.openpty()
     done = subprocess.run([LOOK, "gdb", *TIMER[1], TIMER[0]], cwd=HOME, stdin=slave, capture_output=True, text=True, check=False)
-    expect("at a terminal", (1, "rvlook: a debugger speaks here, and no person: gdb-multiarch %s -ex 'target remote | ./rvlook gdb --monitor "
+    expect("at a terminal", (2, "rvlook: a debugger speaks here, and no person: gdb-multiarch %s -ex 'target remote | ./rvlook gdb --monitor "
                              "%s'; or --port N\n" % (TIMER[0], TIMER[0])), (done.returncode, done.stderr))
     os.close(master)
     os.close(slave)

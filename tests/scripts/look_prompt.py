@@ -131,11 +131,11 @@ def failure(words, **environment):
 def check_ends():
     """A program that is not there, is none, ends at once, or in the midst; a package that is missing; who reads goes away."""
     image = "examples/enclave_timer/image"
-    expect("no program", (1, "rvlook: there is no program at /none, which RVBENCH names\n"),
+    expect("no program", (2, "rvlook: there is no program at /none, which RVBENCH names\n"),
            failure(["map", image, "--monitor"], RVBENCH="/none"))
-    expect("a program that ends", (1, "rvlook: %s: the bench ended with status 0\n" % image),
+    expect("a program that ends", (3, "rvlook: %s: the bench ended with status 0\n" % image),
            failure(["map", image, "--monitor"], RVBENCH="/bin/true"))
-    expect("a program that is none", (1, "rvlook: %s: Permission denied\n" % os.path.join(ROOT, "README.md")),
+    expect("a program that is none", (3, "rvlook: %s: Permission denied\n" % os.path.join(ROOT, "README.md")),
            failure(["map", image, "--monitor"], RVBENCH=os.path.join(ROOT, "README.md")))
     with tempfile.TemporaryDirectory() as folder:
         short = os.path.join(folder, "short")
@@ -143,7 +143,7 @@ def check_ends():
             file.write('#!/bin/bash\nstdbuf -oL head -n 60 | "%s" "$@"\n' % PROGRAM)
         os.chmod(short, 0o755)
         status, told = failure(["trace", RAW], RVBENCH=short)
-        expect("a program that ends in the midst", (1, True), (status, bool(re.fullmatch(r"rvlook: [^\n]*\n", told))))
+        expect("a program that ends in the midst", (3, True), (status, bool(re.fullmatch(r"rvlook: [^\n]*\n", told))))
 
 
 def check_packages():
@@ -153,7 +153,7 @@ def check_packages():
             file.write("raise ImportError\n")
         with open(os.path.join(folder, "cut.elf"), "wb") as file:
             file.write(b"\x7fELF")
-        expect("no pyelftools, measure", (1, "rvlook: pyelftools is not there, so no ELF file can be measured; raw bytes can; apt-get "
+        expect("no pyelftools, measure", (3, "rvlook: pyelftools is not there, so no ELF file can be measured; raw bytes can; apt-get "
                                           "install python3-pyelftools brings it"),
                (lambda it: (it[0], it[1].splitlines()[-1]))(
                    failure(["measure", os.path.join(folder, "cut.elf"), "80020000", "1000", "0", "0", "80020000"], PYTHONPATH=folder)))

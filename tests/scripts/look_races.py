@@ -31,11 +31,20 @@ KINDS = (
     ("timer", lambda rng: enclaves(rng, 4, 1)), ("timers", lambda rng: one_enclave(rng, 4, 2)))
 
 
-def races(path, *words, status=0):
+def status_of(found):
+    """The status that these objects mean without --forbid: 1 if there is more than one end, or a hart that does not come to its end; 3 if a
+    hart was given up."""
+    ends = [it for it in found if it["object"] == "race"]
+    hows = {over["how"] for it in ends for over in it["over"]}
+    return 1 if len(ends) > 1 or hows - {"over", "has not ended", "is left"} else 3 if "has not ended" in hows else 0
+
+
+def races(path, *words, status=None):
     """The ends that races tells, and its last object."""
     done = subprocess.run([LOOK, "races", *WORDS, path, "--json", *words], capture_output=True, text=True, check=False, cwd=ROOT)
-    expect("races %s: its status %s" % (" ".join(words), done.stderr), status, done.returncode)
     found = [json.loads(line) for line in done.stdout.splitlines()]
+    wanted = status if status is not None else 0 if "--forbid" in words else status_of(found)
+    expect("races %s: its status %s" % (" ".join(words), done.stderr), wanted, done.returncode)
     return [it for it in found if it["object"] == "race"], found[-1] if found else {}
 
 

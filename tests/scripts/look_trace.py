@@ -64,7 +64,7 @@ def accesses_of(step):
 
 
 def check_counts(image, words, status=0):
-    """What touch counts is what the steps have; the status is 1 where a line of the script is refused."""
+    """What touch counts is what the steps have; the status is 2 where a line of the script is refused."""
     steps = [it for it in objects("trace", image, *words, status=status) if it["object"] == "step"]
     touched = [it for it in objects("touch", image, *words, status=status) if it["object"] == "touched"]
     expect("%s: accesses" % image, counted(it for step in steps for it in accesses_of(step)), counted(touched))
@@ -81,8 +81,8 @@ def main():
         check_counts("examples/%s/stdin" % name, ["--monitor", "--harts", "2", "--steps", "3000"])
     for name in ("handler", "timer", "pmp", "primes", "elf", "debugger"):
         check_counts("examples/%s/stdin" % name, [])
-    check_counts("examples/traps/stdin", [], 1)
-    check_counts("tests/look/trace_script/image", ["--script", "tests/look/trace_script/script", "--steps", "50"], 1)
+    check_counts("examples/traps/stdin", [], 2)
+    check_counts("tests/look/trace_script/image", ["--script", "tests/look/trace_script/script", "--steps", "50"], 2)
     report()
 
 

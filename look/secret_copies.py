@@ -1,0 +1,45 @@
+"""Where bytes have a copy of a part of a secret: each maximal run of bytes that the secret has too, in the same order."""
+from typing import NamedTuple
+
+LEAST = 4  # bytes of a copy that is told; the whole secret if that is shorter
+
+
+class Copy(NamedTuple):
+    """So many bytes at a place, which are those of the secret from an offset on."""
+    at: int
+    size: int
+    offset: int
+
+
+def copies_in(data, secret):
+    """Returns the copies, by their places. Bytes that are all equal, such as zeros, are none, and neither is what a longer copy covers."""
+    least, found, ends = min(LEAST, len(secret)), [], {}
+    for offset in range(len(secret) - least + 1):
+        part = secret[offset:offset + least]
+        at = data.find(part) if len(set(part)) > 1 else -1
+        while at >= 0:
+            if ends.get(at - offset, -1) < at + least:  # not in the last copy with this distance
+                copy = extended(data, secret, at, offset, least)
+                ends[at - offset] = copy.at + copy.size
+                found.append(copy)
+            at = data.find(part, at + 1)
+    return not_covered(found)
+
+
+def extended(data, secret, at, offset, size):
+    """Returns the maximal copy that has the bytes at a place."""
+    while at and offset and data[at - 1] == secret[offset - 1]:
+        at, offset, size = at - 1, offset - 1, size + 1
+    while at + size < len(data) and offset + size < len(secret) and data[at + size] == secret[offset + size]:
+        size += 1
+    return Copy(at, size, offset)
+
+
+def not_covered(copies):
+    """Returns those that no longer copy covers; of copies at the same bytes the one with the lowest offset."""
+    kept, end = [], -1
+    for it in sorted(copies, key=lambda it: (it.at, -it.size, it.offset)):
+        if it.at + it.size > end:
+            kept.append(it)
+            end = it.at + it.size
+    return kept

@@ -1,0 +1,9 @@
+// What runs in mode U.
+
+volatile unsigned count;
+
+int main(void)
+{
+    count++;
+    return 0;
+}

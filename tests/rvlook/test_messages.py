@@ -1,0 +1,97 @@
+"""Each message that `look/` prints in one line has a row in the table of docs/LOOK.md, and each row a case in tests/scripts/look_ends.py."""
+import ast
+import re
+
+import pytest
+
+from conftest import ROOT
+
+CALLS = ("Fault", "Unfinished", "WordsRefused", "NameRefused", "tell", "told", "refuse", "cut_short")
+ROW = re.compile(r"^\| (\d+) \| `(.*)` \| .*\|$", re.M)
+PLACEHOLDER = re.compile(r"%(?:0?\d*[sdx])")
+CAPITALS = re.compile(r"\b[A-Z]{3,}\b")
+KEPT = ("RVBENCH",)  # in capitals, but no placeholder
+PREFIX = "error operand: "  # of a line of the script, before what is told of a name in it
+SHORT = 8  # letters that a pattern has at least, to be taken for that of one message
+ELSEWHERE = {  # functions whose texts are no line of `rvlook: `: they are printed by the prompt or sent to a debugger
+    "session.py", "prompt.py", "gdb.py", "gdb_back.py", "gdb_moves.py", "gdb_monitor.py", "gdb_link.py"}
+
+
+def rows():
+    text = (ROOT / "docs" / "LOOK.md").read_text(encoding="utf-8").split("## How it ends")[1]
+    found = [row.replace("\\|", "|") for _, row in ROW.findall(text)]
+    return found + [row.split(PREFIX)[1] for row in found if PREFIX in row]
+
+
+def trees():
+    return {path.name: ast.parse(path.read_text(encoding="utf-8")) for path in sorted((ROOT / "look").glob("*.py"))}
+
+
+def texts_of(node, functions):
+    """The texts that an expression may be: of a literal, a form, a choice, or what a function of look/ returns."""
+    if isinstance(node, ast.Constant) and isinstance(node.value, str):
+        return [node.value]
+    if isinstance(node, ast.BinOp) and isinstance(node.op, ast.Mod):
+        return texts_of(node.left, functions)
+    if isinstance(node, ast.BinOp):
+        return [a + b for a in texts_of(node.left, functions) or ["%s"] for b in texts_of(node.right, functions) or ["%s"]]
+    if isinstance(node, ast.IfExp):
+        return texts_of(node.body, functions) + texts_of(node.orelse, functions)
+    if isinstance(node, ast.Name) and node.id in CONSTANTS:
+        return [CONSTANTS[node.id]]
+    if isinstance(node, ast.Call) and isinstance(node.func, ast.Name):
+        return [text for it in functions.get(node.func.id, ()) for text in texts_of(it, functions)]
+    return []
+
+
+CONSTANTS = {}
+
+
+def messages():
+    """Each text that is given to one of the calls, with its file and line."""
+    every = trees()
+    functions = {}
+    for tree in every.values():
+        for node in ast.walk(tree):
+            if isinstance(node, ast.FunctionDef):
+                functions.setdefault(node.name, []).extend(it.value for it in ast.walk(node) if isinstance(it, ast.Return) and it.value)
+            if isinstance(node, ast.Assign) and isinstance(node.targets[0], ast.Name) and isinstance(node.value, ast.Constant):
+                if isinstance(node.value.value, str) and node.targets[0].id.isupper():
+                    CONSTANTS[node.targets[0].id] = node.value.value
+    for name, tree in every.items():
+        for node in ast.walk(tree):
+            if isinstance(node, ast.Call) and node.args and name_of(node.func, name) in CALLS:
+                for text in texts_of(node.args[0], functions):
+                    yield "%s:%d" % (name, node.lineno), text
+
+
+def name_of(function, file):
+    """The name that is called; a method `tell` of a prompt or of a debugger's link is another thing."""
+    if isinstance(function, ast.Name):
+        return function.id
+    is_own = isinstance(function, ast.Attribute) and function.attr in ("cut_short", "refuse")
+    return function.attr if is_own and file not in ELSEWHERE else ""
+
+
+def pattern_of(row):
+    """A row as a pattern: words in capitals stand for anything."""
+    parts = re.split(r"(\b[A-Z]{3,}\b)", row)
+    return "".join(".+" if CAPITALS.fullmatch(it) and it not in KEPT else re.escape(it) for it in parts)
+
+
+def is_row_of(row, text):
+    """Whether a row has the message: as a pattern of the message's form, or the form as a pattern of the row."""
+    form = ".+".join(re.escape(it) for it in PLACEHOLDER.split(text))
+    if re.fullmatch(form, row) and len(form.replace(".+", "")) >= 1:
+        return True
+    letters = re.sub(r"[^a-z]", "", CAPITALS.sub("", row))
+    return len(letters) >= SHORT and bool(re.fullmatch(pattern_of(row), PLACEHOLDER.sub("x", text)))
+
+
+@pytest.mark.parametrize("place, text", sorted(set(messages()), key=lambda it: it[1]))
+def test_message_has_a_row(place, text):
+    assert any(is_row_of(row, text) for row in rows()), "%s prints %r, for which docs/LOOK.md has no row" % (place, text)
+
+
+def test_walk_finds_messages():
+    assert len({text for _, text in messages()}) > 45
