@@ -2,7 +2,7 @@
 import time
 
 import pytest
-from hostile import check, run
+from support.hostile import check, run
 
 LITTLE = 400 << 20  # bytes
 SUM = "examples/sum/stdin"

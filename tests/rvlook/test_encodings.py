@@ -3,7 +3,7 @@ import os
 import subprocess
 
 import pytest
-from hostile import ROOT, check, named, run
+from support.hostile import ROOT, check, named, run
 
 ASCII = {"LC_ALL": "C", "PYTHONUTF8": "0", "PYTHONCOERCECLOCALE": "0", "PYTHONIOENCODING": ""}
 LOCALES = {"ascii": ASCII, "utf-8": {"LC_ALL": "C.UTF-8"}, "forced": {"PYTHONIOENCODING": "ascii"}}

@@ -6,8 +6,8 @@ import socket
 import subprocess
 
 import pytest
-from hostile import HELLO, ROOT
-from packets import REPLY, monitor, packet, replies, shown
+from support.hostile import HELLO, ROOT
+from support.packets import REPLY, monitor, packet, replies, shown
 
 REGISTERS = re.compile(rb"[0-9a-f]{264}\Z")
 

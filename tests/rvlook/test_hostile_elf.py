@@ -3,7 +3,7 @@ import struct
 import zlib
 
 import pytest
-from hostile import FEW, HELLO, check, named, patched, run, sections_of
+from support.hostile import FEW, HELLO, check, named, patched, run, sections_of
 
 SECTIONS = sections_of(HELLO)
 AT_TABLE, AT_ENTRY_SIZE, AT_COUNT = 32, 46, 48  # in the header: where the section headers are, the size of one, and how many

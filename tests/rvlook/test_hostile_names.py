@@ -2,7 +2,7 @@
 import json
 
 import pytest
-from hostile import FEW, check, named, run
+from support.hostile import FEW, check, named, run
 
 COMMANDS = "f\nstep 5\nsetreg 10 1"
 ESCAPES = "a\x1b]0;title\x07\x1b[31m"

@@ -4,7 +4,7 @@ import shutil
 import subprocess
 
 import pytest
-from hostile import ROOT, named, run
+from support.hostile import ROOT, named, run
 
 PANEL = ROOT / "look" / "page_panel.js"
 NAMES = ["__proto__", "constructor", "toString", "a:b:7.c", ":", "plain.c"]

@@ -9,7 +9,7 @@ import zlib
 from pathlib import Path
 
 import pytest
-from hostile import FEW, check, named, run
+from support.hostile import FEW, check, named, run
 
 DATA = re.compile(rb'id="data">(.*?)</script>', re.S)
 SECRET = "what nobody may read\n"

@@ -3,7 +3,7 @@ import json
 import subprocess
 
 import pytest
-from hostile import check, run
+from support.hostile import check, run
 
 IMAGE = "6f000000\n--\n"
 REFUSED = [

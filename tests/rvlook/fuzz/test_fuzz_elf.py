@@ -1,8 +1,8 @@
 """Mutated ELF files: each reader of one ends in time, with no error but a Fault, and every name that it gives can be printed."""
 import struct
 
-from fuzzing import at_most, fuzz
-from hostile import FEW, HELLO, check, run, sections_of
+from support.fuzzing import at_most, fuzz
+from support.hostile import FEW, HELLO, check, run, sections_of
 from hypothesis import strategies as st
 
 SECTIONS = sections_of(HELLO)

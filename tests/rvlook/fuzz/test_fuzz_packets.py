@@ -1,10 +1,10 @@
 """Sessions of packets, right ones, mutated ones and noise: a request at their end is answered, and the server ends with the debugger."""
 import re
 
-from fuzzing import fuzz
-from hostile import HELLO
+from support.fuzzing import fuzz
+from support.hostile import HELLO
 from hypothesis import strategies as st
-from packets import monitor, packet, replies
+from support.packets import monitor, packet, replies
 
 GOOD = ["?", "g", "p0", "p20", "p40", "P5=12345678", "m80000000,40", "m0,4", "M80000010,2:4142", "X80000010,2:AB", "Z0,80000024,4", "z0,80000024,4",
         "Z2,80001060,4", "Z3,80001060,4", "z2,80001060,4", "vCont;c", "vCont;s:1", "vCont;r80000000,80000010:1", "bs", "bc", "Hg1", "Hc-1", "T1", "qC",

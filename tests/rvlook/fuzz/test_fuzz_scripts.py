@@ -2,8 +2,8 @@
 import json
 import subprocess
 
-from fuzzing import fuzz
-from hostile import check, run
+from support.fuzzing import fuzz
+from support.hostile import check, run
 from hypothesis import strategies as st
 
 # The operands are as the bench has them: rvlook resolves names, which the bench refuses.

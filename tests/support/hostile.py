@@ -14,7 +14,7 @@ from pathlib import Path
 from typing import NamedTuple
 
 ROOT = Path(__file__).resolve().parents[2]
-FOLDER = Path(__file__).resolve().parent / "programs" / "hello"
+FOLDER = ROOT / "tests" / "rvlook" / "programs" / "hello"
 SOURCE = next(FOLDER.glob("*.c")).name
 FUNCTION = "a_function_with_a_name_of_48_characters_________"
 HELLO = bytes.fromhex((FOLDER / "elf.hex").read_text())

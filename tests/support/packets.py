@@ -4,7 +4,7 @@ import re
 import subprocess
 import threading
 
-from hostile import ROOT
+from support.hostile import ROOT
 
 REPLY = re.compile(rb"\$([^#]*)#[0-9a-f]{2}")
 

@@ -1,0 +1,1 @@
+"""What the tests share beside fixtures: hostile inputs, packets of gdb, fuzzing."""
