@@ -26,14 +26,14 @@ WORDS = (
     ("touch", "--monitor", "examples/enclave_refused/stdin", "--symbols", "examples/enclave_refused/listing"),
     ("trace", "--monitor", "examples/enclave_timer/stdin"), ("map", "examples/pmp/stdin"),
     NOT_RESUMED, ("timer", "--monitor", "examples/enclave_timer/image"),
-    ("leak", "--monitor", "tests/look/leak/image", "--at", "80020800", "00", "05"),
-    ("leak", "--monitor", "tests/look/leak/image", "--at", "80020800:4", "--tries", "3"),
-    ("window", "--monitor", "tests/look/window/image", "--at", "80020800:4"),
+    ("leak", "--monitor", "tests/rvlook/golden/leak/image", "--at", "80020800", "00", "05"),
+    ("leak", "--monitor", "tests/rvlook/golden/leak/image", "--at", "80020800:4", "--tries", "3"),
+    ("window", "--monitor", "tests/rvlook/golden/window/image", "--at", "80020800:4"),
     ("window", "--monitor", COPIES + "image", "--symbols", COPIES + "listing", "--script", COPIES + "script", "--at", "key:20"),
     ("window", "--harts", "2", "--monitor", "examples/enclave_store_leaking/image", "--symbols",
      "examples/enclave_store_leaking/listing", "--at", "key:32"),
-    ("races", "--monitor", "--timer", "1", "examples/enclave_adds/image"), ("explain", "tests/look/explain/input"),
-    ("measure", "tests/look/measure/region", "80020000", "1000", "0", "0", "80020000"))
+    ("races", "--monitor", "--timer", "1", "examples/enclave_adds/image"), ("explain", "tests/rvlook/golden/explain/input"),
+    ("measure", "tests/rvlook/golden/measure/region", "80020000", "1000", "0", "0", "80020000"))
 
 
 def parts_of(text):

@@ -20,7 +20,7 @@ LOOK = os.path.join(ROOT, "rvlook")
 ADDS, LISTING = "examples/enclave_adds/image", "examples/enclave_adds/listing"
 SUM = "examples/sum/stdin"
 SYMBOLS = ["--symbols", LISTING]
-LEAKS = "tests/look/leak/image"
+LEAKS = "tests/rvlook/golden/leak/image"
 LEAK_TRIES = ["--monitor", LEAKS, "--tries", "2", "--at"]
 LEAK_PAIR = ["leak", "--monitor", LEAKS, "--at", "80020800", "00", "00"]
 COUNTED = ["--monitor", "--harts", "2", "--ram", "131072"]
@@ -75,7 +75,7 @@ class Files:
         self.compressed = os.path.join(folder, "compressed.elf")
         with open(self.compressed, "wb") as file:
             file.write(data[:36] + bytes([data[36] | 1]) + data[37:])
-        self.region = "tests/look/measure/region"
+        self.region = "tests/rvlook/golden/measure/region"
 
     def write(self, name, text):
         path = os.path.join(self.folder, name)
@@ -132,7 +132,7 @@ def stopped(words):
 def cases(files):
     """For each row of the table, by how its line begins, what gives it."""
     scripted = lambda name: lambda: ran(["map", *SYMBOLS, "--script", files.lines[name], ADDS, "--monitor"])
-    leak = lambda *words: lambda: ran(["leak", "--monitor", "tests/look/leak/image", "--at", *words])
+    leak = lambda *words: lambda: ran(["leak", "--monitor", "tests/rvlook/golden/leak/image", "--at", *words])
     return {
         "FILE is run with --monitor, for its": lambda: ran(["map", ADDS]),
         "FILE is run with --monitor, for it has": lambda: ran(["map", files.key]),

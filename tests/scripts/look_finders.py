@@ -59,7 +59,7 @@ ALL = (
 
 def case_lines(folder, name):
     """What a case of tests/look gives that should not be, of a form that is wrong."""
-    case = os.path.join(ROOT, "tests", "look", name)
+    case = os.path.join(ROOT, "tests", "rvlook", "golden", name)
     with open(os.path.join(case, "words")) as words, open(os.path.join(case, "stdout")) as wanted:
         done = subprocess.run([os.path.join(folder, "rvlook"), *words.read().split()], cwd=ROOT, capture_output=True, text=True, check=False)
         return [name] if done.stdout != wanted.read() else []

@@ -70,7 +70,7 @@ def check_timer():
 
 
 def check_leak():
-    path, at = "tests/look/leak/image", "80020800"
+    path, at = "tests/rvlook/golden/leak/image", "80020800"
     runs = []
     for secret in ("00", "05"):
         bench = started(path)
@@ -87,7 +87,7 @@ def check_leak():
 
 
 def check_measure():
-    region, numbers = "tests/look/measure/region", (0x80020000, 4096, 0x80030000, 4096, 0x80020000)
+    region, numbers = "tests/rvlook/golden/measure/region", (0x80020000, 4096, 0x80030000, 4096, 0x80020000)
     with open(os.path.join(ROOT, region), "rb") as file:
         data = file.read().ljust(numbers[1], b"\0")
     told = objects("measure", region, *("%x" % it for it in numbers))[-1]

@@ -82,7 +82,7 @@ def main():
     for name in ("handler", "timer", "pmp", "primes", "elf", "debugger"):
         check_counts("examples/%s/stdin" % name, [])
     check_counts("examples/traps/stdin", [], 2)
-    check_counts("tests/look/trace_script/image", ["--script", "tests/look/trace_script/script", "--steps", "50"], 2)
+    check_counts("tests/rvlook/golden/trace_script/image", ["--script", "tests/rvlook/golden/trace_script/script", "--steps", "50"], 2)
     report()
 
 
