@@ -146,11 +146,21 @@ def opened_monitored(arguments):
     return run, symbols, printer
 
 
+def report_overflows(arguments, run, symbols):
+    """Reports each stack that the run uses outside its range; it is a finding."""
+    from .stack import overflow_text, overflows
+    for it in overflows(run, symbols):
+        tell(overflow_text(it, symbols))
+        arguments.findings.add("stack", overflow_text(it, symbols))
+
+
 def do_map(arguments):
     from .map_text import show_map
     if arguments.brief:
         refuse_json(arguments, "--brief")
-    show_map(*opened(arguments), arguments.brief)
+    run, symbols, printer = opened(arguments)
+    show_map(run, symbols, printer, arguments.brief)
+    report_overflows(arguments, run, symbols)
 
 
 def do_trace(arguments):
@@ -167,6 +177,7 @@ def do_trace(arguments):
         show_spike(run, wanted, printer)
     else:
         show_trace(run, symbols, printer, wanted, arguments.short)
+    report_overflows(arguments, run, symbols)
 
 
 def do_touch(arguments):
@@ -176,7 +187,9 @@ def do_touch(arguments):
         show_lcov(*opened(arguments), [it for it in (arguments.symbols, arguments.image) if it])
     else:
         from .touch import show_touch
-        show_touch(*opened(arguments))
+        run, symbols, printer = opened(arguments)
+        show_touch(run, symbols, printer)
+        report_overflows(arguments, run, symbols)
 
 
 def do_leak(arguments):
