@@ -88,7 +88,7 @@ def is_row_of(row, text):
     return len(letters) >= SHORT and bool(re.fullmatch(pattern_of(row), PLACEHOLDER.sub("x", text)))
 
 
-@pytest.mark.parametrize("place, text", sorted(set(messages()), key=lambda it: it[1]))
+@pytest.mark.parametrize("place, text", sorted(set(messages()), key=lambda it: it[::-1]))
 def test_message_has_a_row(place, text):
     assert any(is_row_of(row, text) for row in rows()), "%s prints %r, for which docs/LOOK.md has no row" % (place, text)
 
