@@ -62,7 +62,7 @@ MUTANTS = (
            "test_timer.py::test_enclave_that_stops_with_another_value_is_found"),
     Mutant("window_finds_only_the_beginning_of_the_secret", "secret_copies.py", "for offset in range(len(secret) - least + 1):", "for offset in range(1):",
            "test_window.py::test_tail_of_the_secret_is_reported_with_its_length_and_offset"),
-    Mutant("window_reports_four_bytes_of_any_copy", "secret_copies.py", "        size += 1\n    return", "        break\n    return",
+    Mutant("window_reports_four_bytes_of_any_copy", "secret_copies.py", "return Copy(at, size, offset)", "return Copy(at, LEAST, offset)",
            "test_window.py::test_whole_secret_is_reported"),
     Mutant("window_reports_zeros", "secret_copies.py", "if len(set(part)) > 1 else -1", "if part else -1", "test_window.py::test_zeros_are_no_copy"),
     Mutant("window_reports_three_bytes", "secret_copies.py", "LEAST = 4 ", "LEAST = 3 ", "test_window.py::test_four_bytes_are_reported_and_three_are_not"),

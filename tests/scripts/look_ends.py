@@ -46,8 +46,19 @@ def forgetful(self, *more):
 machine.Machine.learn = forgetful
 """
 MORE = "operands = machine.operands; machine.operands = lambda word: (0, *operands(word)[1:])"
-ORDER = "replay.Replays.ram = lambda self, bench: []"
-REGISTERS = "step = trace.Tracer.step; trace.Tracer.step = lambda self, *them: (step(self, *them), setattr(them[2], 'registers', []))[0]"
+ORDER = """
+import itertools
+ram, numbers = replay.Replays.ram, itertools.count()
+replay.Replays.ram = lambda self, bench: [*ram(self, bench)[:-1], str(next(numbers))]
+"""
+REGISTERS = """
+step = trace.Tracer.step
+def changing(self, number, hart_number, hart, *more):
+    done = step(self, number, hart_number, hart, *more)
+    hart.registers = [*hart.registers[:31], "changed"]
+    return done
+trace.Tracer.step = changing
+"""
 ROW = re.compile(r"^\| (\d+) \| `(.*)` \| .*\|$", re.M)
 
 
@@ -88,7 +99,7 @@ class Files:
         folder = os.path.join(self.folder, "without_" + module)
         os.makedirs(folder, exist_ok=True)
         with open(os.path.join(folder, module + ".py"), "w", encoding="ascii") as file:
-            file.write("raise ImportError\n")
+            file.write("raise ImportError('it is not there')\n")
         return folder
 
 
@@ -188,7 +199,7 @@ def cases(files):
         "create refuses": lambda: ran(["measure", files.region, "80020000", "1001", "0", "0", "80020000"]),
         "FILE has COUNT": lambda: ran(["measure", "docs/LOOK.md", "80020000", "1000", "0", "0", "80020000"]),
         "there are no source": lambda: ran(["touch", SUM, "--lcov"]),
-        "the page cannot": lambda: ran(["page", SUM], PYTHONPATH=files.without("zlib")),
+        "the page cannot": lambda: ran(["page", SUM], PYTHONPATH=files.without("base64")),
         "page has no": lambda: ran(["page", SUM, "--json"]),
         "there is no program at": lambda: ran(["map", SUM], RVBENCH="/none"),
         "there is no program;": unbuilt,
