@@ -45,6 +45,8 @@ def texts_of(node, functions):
 
 
 CONSTANTS = {}
+INTERNAL = ("a command of the bench is one line, and has no line feed",)  # a check of rvlook's own callers
+IN_A_DEBUGGER = ("gdb_monitor.py",)  # its messages are printed in the debugger
 
 
 def messages():
@@ -61,7 +63,9 @@ def messages():
     for name, tree in every.items():
         for node in ast.walk(tree):
             if isinstance(node, ast.Call) and node.args and name_of(node.func, name) in CALLS:
-                for text in texts_of(node.args[0], functions):
+                for text in texts_of(node.args[0], functions) if name not in IN_A_DEBUGGER else ():
+                    if text in INTERNAL:
+                        continue
                     yield "%s:%d" % (name, node.lineno), text
 
 

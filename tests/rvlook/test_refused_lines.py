@@ -36,7 +36,7 @@ def test_refused_lines_have_the_replies_of_the_bench(bench, script):
     found = [it for it in map(json.loads, done.output.splitlines()) if it["object"] == "command"]
     assert [reply for it in found for reply in it["replies"]] == wanted
     assert [it["given"] for it in found] == REFUSED
-    assert done.status == 1
+    assert done.status == 2
     assert done.errors.count(b": error ") == len(REFUSED)
 
 
@@ -64,7 +64,7 @@ def test_explain_tells_right_lines_behind_a_refused_comment(bench, script):
 def test_refused_hart_line_is_told_and_the_run_goes_on(bench, script, word):
     done = run(bench, word, script("hart 1", "hart x", "hart", "step 1"), "--steps", "3")
     check(done)
-    assert done.status == 1
+    assert done.status == 2
     assert b"hart 1: error hart" in done.errors and b"hart x: error operand" in done.errors
 
 

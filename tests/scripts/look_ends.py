@@ -14,7 +14,7 @@ import time
 from look_checks import PROGRAM, ROOT, expect, report
 
 sys.path.insert(0, os.path.join(ROOT, "tests", "rvlook"))
-from hostile import named  # noqa: E402
+from support.hostile import named  # noqa: E402
 
 LOOK = os.path.join(ROOT, "rvlook")
 ADDS, LISTING = "examples/enclave_adds/image", "examples/enclave_adds/listing"
@@ -46,6 +46,14 @@ def forgetful(self, *more):
 machine.Machine.learn = forgetful
 """
 MORE = "operands = machine.operands; machine.operands = lambda word: (0, *operands(word)[1:])"
+NEVER_BACK = """
+import itertools
+from look import races_ends
+numbers = itertools.count()
+races_ends.full_state = lambda work: next(numbers)
+"""
+LIVELOCK = "tests/rvlook/golden/races_livelock/image"
+OVERFLOW = "tests/rvlook/programs/stack_overflow"
 ORDER = """
 import itertools
 ram, numbers = replay.Replays.ram, itertools.count()
@@ -81,6 +89,9 @@ class Files:
         source = self.write("own.c", "int own;\n")
         self.with_source = self.write("source.elf", named(source=source).decode("latin-1"))
         self.cut = self.write("cut.elf", "\x7fELF")
+        self.large = os.path.join(folder, "large")
+        with open(self.large, "wb") as file:
+            file.truncate((32 << 20) + 1)
         with open(os.path.join(ROOT, ADDS), encoding="ascii") as file:
             data = bytes.fromhex(file.read().split("--")[0])
         self.compressed = os.path.join(folder, "compressed.elf")
@@ -116,6 +127,16 @@ def patched(code, words):
     done = subprocess.run([PYTHON, "-B", "-c", PATCHED % (ROOT, code), *words], cwd=ROOT, stdin=subprocess.DEVNULL, stdout=subprocess.DEVNULL,
                           stderr=subprocess.PIPE, text=True, check=False)
     return done.returncode, done.stderr.splitlines()
+
+
+def overflowing(how):
+    """The same of a program whose stack overflows; `stores` has a top of the stack that is too low by the symbols."""
+    with open(os.path.join(ROOT, OVERFLOW, "listing"), encoding="ascii") as file:
+        text = file.read()
+    with tempfile.NamedTemporaryFile("w", suffix=".listing") as listing:
+        listing.write(text if how == "moves" else text.replace("80021000  runtime_stack_top", "80020e80  runtime_stack_top"))
+        listing.flush()
+        return ran(["map", "--monitor", os.path.join(OVERFLOW, "image"), "--symbols", listing.name])
 
 
 def typed(words):
@@ -162,7 +183,8 @@ def cases(files):
         "FILE: the script": lambda: ran(["map", SUM, "--script", files.lines_of_script]),
         "the page has": lambda: ran(["page", files.with_source, "--steps", "40"]),
         "--sources DIR": lambda: ran(["page", SUM, "--sources", "/none"]),
-        "FILE: rvbench": lambda: ran(["map", "--kind", "elf", SUM]),
+        "FILE: rvbench: too": lambda: ran(["map", "--kind", "raw", files.large]),
+        "FILE: rvbench: image": lambda: ran(["map", "--kind", "elf", SUM]),
         "FILE: no symbols": lambda: ran(["map", "--symbols", files.cut, SUM]),
         "FILE: there are": lambda: ran(["map", "--symbols", files.text, SUM]),
         "there is no symbol": lambda: ran(["trace", "--monitor", ADDS, *SYMBOLS, "--function", "man"]),
@@ -180,6 +202,8 @@ def cases(files):
         "the enclave of slot NUMBER does not come": lambda: ran(["leak", *LEAK_TRIES, "a0@80020f00"]),
         "leak compares": lambda: ran(["leak", "--monitor", LEAKS, "--at", "80020800"]),
         "no enclave runs": lambda: ran(["window", "--monitor", ADDS, "--steps", "9"]),
+        "stack overflow in WORLD at step NUMBER, PLACE: it moves": lambda: overflowing("moves"),
+        "stack overflow in WORLD at step NUMBER, PLACE: it stores": lambda: overflowing("stores"),
         "--forbid CONDITION": lambda: ran(["races", *COUNTED, files.counter, "--forbid", "80011000 == 2"]),
         "--forbid is not": lambda: ran(["races", *COUNTED, files.counter, "--forbid", "80011000 == 99", "--seconds", "0"]),
         "--seconds ends races": lambda: ran(["races", *COUNTED, files.counter, "--seconds", "0"]),
@@ -192,6 +216,7 @@ def cases(files):
         "the step at ADDRESS came": lambda: patched(OTHERWISE, ["races", "--monitor", ADDS]),
         "the step at ADDRESS changed": lambda: patched(MORE, ["races", "--monitor", ADDS]),
         "the order of": lambda: patched(ORDER, ["races", "--monitor", ADDS]),
+        "hart NUMBER does not": lambda: patched(NEVER_BACK, ["races", "--monitor", "--harts", "2", LIVELOCK]),
         "the registers": lambda: patched(REGISTERS, ["trace", SUM]),
         "DIR: WHY": lambda: ran(["races", *COUNTED, files.counter, "--scripts", files.text]),
         "there is no enclave": lambda: ran(["timer", SUM, "--monitor", "--steps", "9"]),
