@@ -7,7 +7,6 @@ import json
 import os
 import shutil
 import subprocess
-import sys
 import tempfile
 import types
 from pathlib import Path
@@ -103,17 +102,16 @@ def final_states(bench):
     """Searches all orders of two harts in this process; gives the search and its final states. Arguments: the bytes of a raw image, the
     outcome as `--outcome` has it, and members of `Bounds`; `plain` without partial-order reduction, `limit` and `seconds` as the options."""
     os.environ["RVBENCH"] = bench
-    sys.path.insert(0, str(ROOT))
-    from look import outcomes, races, races_ends, races_machine, run, symbols, time_limit
-    from look.image import Image, digits_of
+    from rvlook.finders import outcomes, races, races_ends, races_machine, run, symbols, time_limit
+    from rvlook.image.files import Image, digits_of
 
     def found(data, *names, plain=False, limit=0, seconds=None, **bounds):
         setup = run.Setup(Image("test", digits_of(data), data), monitor=True, ram=131072, harts=2)
         outcome = [outcomes.outcome_of(it, symbols.Symbols(), 2) for it in names]
-        machine = races_machine.Machine(types.SimpleNamespace(setup=setup), (), limit)
+        machine = machines.Machine(types.SimpleNamespace(setup=setup), (), limit)
         try:
-            search = races.Search(machine, races.Bounds(**bounds), plain, outcomes.watched_of(outcome), time_limit.TimeLimit(seconds))
-            return search, races_ends.search_ends(search, lambda _: outcome)
+            search = searches.Search(machine, searches.Bounds(**bounds), plain, outcomes.watched_of(outcome), time_limit.TimeLimit(seconds))
+            return search, ends.search_ends(search, lambda _: outcome)
         finally:
             machine.close()
     return found

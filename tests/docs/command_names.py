@@ -9,7 +9,7 @@ import re
 import sys
 
 ROOT = os.path.dirname(os.path.dirname(os.path.dirname(os.path.abspath(__file__))))
-from look.commands import COMMANDS
+from rvlook.protocol.commands import COMMANDS
 from models.monitor_bench import FORMS
 from generators.twin_command_cases import EVERY
 
@@ -38,14 +38,14 @@ def faults():
     told = re.search(r'const FIRST_SCRIPT: &str =.*?Commands of a script(.*?)";', text(HELP), re.S)[1]
     helped = {word for line in told.splitlines()[1:] for word in re.findall(r"(?:^|, )([a-z]+)", re.split(" {2}", line.strip())[0])}
     has = {PAGE: set(page), PAGE + ": the chosen hart": set(meant) | {"hart"}, HELP: helped,
-           "tests/models/monitor_bench.py": set(FORMS), "look/commands.py": set(COMMANDS),
+           "tests/models/monitor_bench.py": set(FORMS), "python/rvlook/protocol/commands.py": set(COMMANDS),
            "tests/generators/twin_command_cases.py": {it.split()[0] for it in EVERY} | OF_HARTS}
     for place, names in has.items():
         if names != read:
             yield "%s: lacks %s, has beside %s" % (place, sorted(read - names), sorted(names - read))
     for name in read & set(COMMANDS) & set(FORMS):
         if len(COMMANDS[name].forms) != len(FORMS[name]):
-            yield "%s: %d operands in look/commands.py, %d in the model" % (name, len(COMMANDS[name].forms), len(FORMS[name]))
+            yield "%s: %d operands in python/rvlook/protocol/commands.py, %d in the model" % (name, len(COMMANDS[name].forms), len(FORMS[name]))
 
 
 def main(_arguments):

@@ -11,11 +11,11 @@ ROOT = os.path.dirname(os.path.dirname(os.path.dirname(os.path.abspath(__file__)
 from models import instruction_words
 from models import monitor_model
 from models import privileged_hart
-from look import names
+from rvlook.protocol import names
 
 WORLDS = {"Host": "the host", "(Enclave k)": "an enclave"}
 NUMBERS = "no one two three four five six seven eight nine ten eleven twelve".split()
-CALL_TESTS = ("generators/monitor_call_cases", "generators/harts_race_cases", "generators/twin_call_cases", "fuzz/fuzz_inputs", "fuzz/monitor_play")
+CALL_TESTS = ("generators/monitor_call_cases", "generators/harts_race_cases", "generators/twin_call_cases", "fuzz/inputs", "fuzz/monitor_play")
 
 # Registers that count on without a name of their own in ./rvlook and the assembler: counters of events, and what they count.
 COUNTED = re.compile(r"mhpm")
@@ -77,7 +77,7 @@ def registers_told():
     rows = re.findall(r"^\| ([0-9A-F]{3}(?:(?: to |, )[0-9A-F]{3})*) \| ", text_of("docs/ISA.md"), re.M)
     return {
         "named_csrs of crates/rv_asm/specs/CsrNames.antt": {int(it, 16) for it in re.findall(r"0x(\w+)", asm)},
-        "CSRS of look/names.py": set(names.CSR_NAMES),
+        "CSRS of python/rvlook/protocol/names.py": set(names.CSR_NAMES),
         "TABLE of tests/models/privileged_hart.py": set(privileged_hart.KEPT),
         "the table of docs/ISA.md": {it for row in rows for it in numbers_of_row(row)},
     }
@@ -94,7 +94,7 @@ def of_registers():
         yield from (f"{place} has {number:x}, which is no register" for number in sorted(has - set(known)))
     for name, number in names.CSRS.items():
         if known.get(number, name) != name:
-            yield f"CSRS of look/names.py has {name} for {known[number]}"
+            yield f"CSRS of python/rvlook/protocol/names.py has {name} for {known[number]}"
 
 
 def operations():
@@ -135,7 +135,7 @@ def of_calls():
     numbers, worlds, _ = calls()
     header, page = text_of("examples/monitor/calls.h"), text_of("docs/MONITOR.md")
     if {it.name: it.value for it in names.Call} != numbers or {it.name for it in names.ARGUMENTS} != set(numbers):
-        yield "Call or ARGUMENTS of look/names.py has other calls"
+        yield "Call or ARGUMENTS of python/rvlook/protocol/names.py has other calls"
     told = {"the host": monitor_model.OF_HOST, "an enclave": monitor_model.OF_ENCLAVE}
     for name, number in numbers.items():
         if {world for world, of_world in told.items() if number in of_world} != worlds[name] or getattr(monitor_model, name.upper(), 0) != number:
@@ -156,7 +156,7 @@ def of_refusals():
     statuses, (of_call, files) = calls()[2], refusals()
     header, page, laws = text_of("examples/monitor/calls.h"), text_of("docs/MONITOR.md"), text_of("docs/LAWS.md")
     if {name: number for number, name in names.STATUSES.items()} != statuses:
-        yield "STATUSES of look/names.py has other statuses"
+        yield "STATUSES of python/rvlook/protocol/names.py has other statuses"
     for name, number in statuses.items():
         if f"{constant(name)} = {number - 2 ** 32}" not in header:
             yield f"examples/monitor/calls.h lacks {constant(name)}"

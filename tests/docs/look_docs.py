@@ -1,7 +1,7 @@
 #!/usr/bin/env python3
 """The parts of docs/LOOK.md, README.md, docs/ASK.md and the page of examples/enclave_store that begin with `$` and have ./rvlook in it: each
 command is run, and gives the lines that stand behind it; `...` stands for any lines. And each object of --json is as
-look/objects.schema.json has it, by python3-jsonschema if that is there, in the names of its members in any case."""
+python/rvlook/output/objects.schema.json has it, by python3-jsonschema if that is there, in the names of its members in any case."""
 import json
 import os
 import re
@@ -17,7 +17,7 @@ except ImportError:
     Validator = None
 
 PAGES = ("docs/LOOK.md", "README.md", "docs/ASK.md", "examples/enclave_store/README.md")
-SCHEMA = "look/objects.schema.json"
+SCHEMA = "python/rvlook/output/objects.schema.json"
 FINDERS = ("timer", "leak", "window", "races", "explain")  # which end with 1 if they find something
 NOT_RESUMED = ("timer", "--monitor", "examples/enclave_adds/image")  # the host does not resume its enclave
 COPIES = "tests/rvlook/programs/window_copies/"

@@ -59,7 +59,7 @@ def test_script_of_too_many_lines_is_refused(bench, image, tmp_path):
 
 
 def test_many_unknown_names_beside_many_symbols_take_little_time():
-    from look.nearest import nearest
+    from rvlook.protocol.nearest import nearest
     known = ["symbol_number_%d_of_the_program" % it for it in range(60000)]
     began = time.process_time()
     for at in range(20):
@@ -68,7 +68,7 @@ def test_many_unknown_names_beside_many_symbols_take_little_time():
 
 
 def test_nearest_name_is_that_of_difflib():
-    from look.nearest import nearest
+    from rvlook.protocol.nearest import nearest
     assert nearest("man", ["main", "mem", "halt"]) == "main"
     assert nearest("region", ["region_base", "window_base"]) == "region_base"
     assert nearest("", ["a"]) is None

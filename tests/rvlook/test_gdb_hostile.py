@@ -45,7 +45,7 @@ def test_packet_without_end_does_not_block_the_link(bench, elf):
 
 
 def test_link_keeps_no_more_than_a_packet():
-    from look.gdb_link import MOST, Gone, Link
+    from rvlook.gdb.link import MOST, Gone, Link
     reading, writing = os.pipe()
     out, sink = os.pipe()
     link = Link(reading, sink)
@@ -70,7 +70,7 @@ def test_register_takes_a_value_of_eight_digits_alone(bench, elf):
 
 
 def test_condition_that_cannot_be_evaluated_holds(bench, elf):
-    from look.gdb_condition import holds
+    from rvlook.gdb.conditions import holds
     codes = ["220516", "22ff1600", "16", "0600", "27", "3e", "21ffff", "2601ff27", ""]
     assert all(holds(bytes.fromhex(it), lambda number: [][number], lambda at, count: b"") for it in codes)
     found, _ = replies(bench, elf, packet("Z0,80000024,4;X4,22ff1600"), packet("vCont;c"))
@@ -79,7 +79,7 @@ def test_condition_that_cannot_be_evaluated_holds(bench, elf):
 
 
 def test_condition_of_no_bits_is_refused_by_the_evaluator():
-    from look.gdb_condition import Refused, extended
+    from rvlook.gdb.conditions import Refused, extended
     with pytest.raises(Refused):
         extended(5, 0)
 
@@ -174,7 +174,7 @@ def test_monitor_of_lldb_acts_on_the_hart_that_halted_and_advises_for_lldb(bench
 
 def test_impatient_debugger_is_shown_that_there_is_still_work(monkeypatch):
     import time
-    from look import gdb_link
+    from rvlook.gdb import link as gdb_link
     monkeypatch.setattr(gdb_link, "PATIENCE", 0.1)
     monkeypatch.setattr(gdb_link, "OFTEN", 0.05)
     reading, writing = os.pipe()

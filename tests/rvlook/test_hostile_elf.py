@@ -92,8 +92,8 @@ def test_other_readers_of_a_damaged_file_end_in_time(bench, tmp_path, what, word
 
 
 def test_each_cut_of_the_file_has_symbols_or_a_reason(tmp_path, capsys):
-    from look.faults import Fault
-    from look.symbols import symbols_of, told
+    from rvlook.errors import Fault
+    from rvlook.image.symbols import symbols_of, told
     for end in range(4, len(HELLO), 37):
         told.cache_clear()
         try:

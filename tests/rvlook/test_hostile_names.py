@@ -58,8 +58,8 @@ def test_name_from_a_listing_has_no_control_character(bench, tmp_path):
 
 
 def test_comment_of_a_script_is_one_line_that_the_bench_takes():
-    from look.bench_line import is_malformed
-    from look.races_replay import comment
+    from rvlook.protocol.bench_line import is_malformed
+    from rvlook.finders.races.replay import comment
     for heading in ("end 1: f\nstep 5\nsetreg 5 1", "é" * 200, "\x1b[31m\u202e", "x" * 500, "\udcff"):
         line = comment(heading)
         assert line.startswith("# ") and not is_malformed(line), line
@@ -74,8 +74,8 @@ def test_script_of_races_has_no_command_from_a_name(bench, elf, tmp_path):
 
 
 def test_bench_is_given_no_line_feed_in_a_command(bench, monkeypatch):
-    from look.bench import Bench
-    from look.faults import Fault
+    from rvlook.protocol.bench import Bench
+    from rvlook.errors import Fault
     monkeypatch.setenv("RVBENCH", bench)
     with Bench(["run"], b"6f000000\n") as board, pytest.raises(Fault):
         board.ask("reg 5\nsetreg 5 1")

@@ -1,4 +1,4 @@
-"""Each message that `look/` prints in one line has a row in the table of docs/LOOK.md, and each row a case in tests/scripts/look_ends.py."""
+"""Each message that rvlook prints in one line has a row in the table of docs/LOOK.md, and each row a case in tests/scripts/look_ends.py."""
 import ast
 import re
 
@@ -6,6 +6,7 @@ import pytest
 
 from conftest import ROOT
 
+PACKAGE = ROOT / "python" / "rvlook"
 CALLS = ("Fault", "Unfinished", "WordsRefused", "NameRefused", "tell", "told", "refuse", "cut_short")
 ROW = re.compile(r"^\| (\d+) \| `(.*)` \| .*\|$", re.M)
 PLACEHOLDER = re.compile(r"%(?:0?\d*[sdx])")
@@ -14,7 +15,7 @@ KEPT = ("RVBENCH",)  # in capitals, but no placeholder
 PREFIX = "error operand: "  # of a line of the script, before what is told of a name in it
 SHORT = 8  # letters that a pattern has at least, to be taken for that of one message
 ELSEWHERE = {  # functions whose texts are no line of `rvlook: `: they are printed by the prompt or sent to a debugger
-    "session.py", "prompt.py", "gdb.py", "gdb_back.py", "gdb_moves.py", "gdb_monitor.py", "gdb_link.py"}
+    "prompt/session.py", "prompt/prompt.py", "gdb/server.py", "gdb/reverse.py", "gdb/moves.py", "gdb/monitor.py", "gdb/link.py"}
 
 
 def rows():
@@ -24,11 +25,11 @@ def rows():
 
 
 def trees():
-    return {path.name: ast.parse(path.read_text(encoding="utf-8")) for path in sorted((ROOT / "look").glob("*.py"))}
+    return {str(path.relative_to(PACKAGE)): ast.parse(path.read_text(encoding="utf-8")) for path in sorted(PACKAGE.glob("**/*.py"))}
 
 
 def texts_of(node, functions):
-    """The texts that an expression may be: of a literal, a form, a choice, or what a function of look/ returns."""
+    """The texts that an expression may be: of a literal, a form, a choice, or what a function of rvlook returns."""
     if isinstance(node, ast.Constant) and isinstance(node.value, str):
         return [node.value]
     if isinstance(node, ast.BinOp) and isinstance(node.op, ast.Mod):
@@ -46,7 +47,7 @@ def texts_of(node, functions):
 
 CONSTANTS = {}
 INTERNAL = ("a command of the bench is one line, and has no line feed",)  # a check of rvlook's own callers
-IN_A_DEBUGGER = ("gdb_monitor.py",)  # its messages are printed in the debugger
+IN_A_DEBUGGER = ("gdb/monitor.py",)  # its messages are printed in the debugger
 
 
 def messages():

@@ -6,7 +6,7 @@ import subprocess
 import pytest
 from support.hostile import ROOT, named, run
 
-PANEL = ROOT / "look" / "page_panel.js"
+PANEL = ROOT / "python" / "rvlook" / "page" / "panel.js"
 NAMES = ["__proto__", "constructor", "toString", "a:b:7.c", ":", "plain.c"]
 SHOWN = """
 const asserted = [];

@@ -2,14 +2,11 @@
 what is claimed if the search is not whole."""
 import itertools
 import random
-import sys
 import time
-from pathlib import Path
 
 import pytest
 
-sys.path.append(str(Path(__file__).resolve().parents[1] / "models"))
-import final_states as model
+from models import final_states as model
 
 WATCHED = ("80011000:16", "0.t0", "1.t0")
 REGISTERS = ((0, 5), (1, 5))
@@ -145,7 +142,7 @@ def test_time_limit_holds_in_one_move(rvlook, tmp_path):
 
 
 def test_time_limit_holds_while_final_states_are_replayed(final_states, monkeypatch):
-    from look import races_replay, races_text
+    from rvlook.finders.races import replay as races_replay, races_text
     monkeypatch.setattr(races_replay.Replays, "check", lambda *_: time.sleep(60))
     data = model.image_of(model.linked(VICTIMS["one load"], VALUES + [*STORES, ("jal", 2)]))
     start = time.monotonic()
@@ -157,8 +154,8 @@ def test_time_limit_holds_while_final_states_are_replayed(final_states, monkeypa
 
 
 def test_wait_for_the_state_of_a_loop_is_bounded():
-    from look import races_loop
-    from look.faults import Fault
+    from rvlook.finders.races import loop as races_loop
+    from rvlook.errors import Fault
 
     class Round:  # a hart whose state is its number of steps, in a loop of four
         hart, context, digest, registers = 0, 0, 0, ()
@@ -197,7 +194,7 @@ def test_search_is_bounded_on_the_attacker_after_some_nops(final_states):
 # ---- what is claimed
 
 def test_hart_that_counts_for_ever_makes_the_result_not_whole(final_states, monkeypatch):
-    from look import races, races_machine
+    from rvlook.finders.races import search as races, races_machine
     monkeypatch.setattr(races, "MOST_ALONE", 20)
     monkeypatch.setattr(races_machine, "AHEAD", 64)
     search, ends = final_states(model.image_of(model.linked(VICTIMS["one load"], COUNTS)), *WATCHED, steps=200)

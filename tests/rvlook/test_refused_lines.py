@@ -84,5 +84,5 @@ def test_prompt_refuses_what_the_bench_refuses(bench, script):
 
 @pytest.mark.parametrize("line, taken", [("step 1", True), ("step\x0b1", False), ("#" * 120, True), ("#" * 121, False), ("\xa0", False)])
 def test_rules_of_a_line(line, taken):
-    from look.bench_line import is_malformed
+    from rvlook.protocol.bench_line import is_malformed
     assert is_malformed(line) != taken

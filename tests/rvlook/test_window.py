@@ -96,7 +96,7 @@ def test_double_fetch_is_found_without_a_secret(window):
 
 
 def test_copies_are_maximal_and_none_covers_another():
-    spec = importlib.util.spec_from_file_location("secret_copies", ROOT / "look" / "secret_copies.py")
+    spec = importlib.util.spec_from_file_location("secret_copies", ROOT / "python" / "rvlook" / "finders" / "secret_copies.py")
     module = importlib.util.module_from_spec(spec)
     spec.loader.exec_module(module)
     secret = bytes(range(1, 9)) * 2

@@ -12,7 +12,7 @@ import time
 from look_checks import ROOT, expect, report
 
 LOOK = os.path.join(ROOT, "rvlook")
-WINDOW = os.path.join(ROOT, "tests", "look", "window", "image")
+WINDOW = os.path.join(ROOT, "tests", "rvlook", "golden", "window", "image")
 ADDS = os.path.join(ROOT, "examples", "enclave_adds", "image")
 TRIES = 30
 

@@ -13,7 +13,7 @@ import time
 
 from look_checks import PROGRAM, ROOT, expect, report
 
-sys.path.insert(0, os.path.join(ROOT, "tests", "rvlook"))
+sys.path.insert(0, os.path.join(ROOT, "tests"))
 from support.hostile import named  # noqa: E402
 
 LOOK = os.path.join(ROOT, "rvlook")
@@ -29,9 +29,9 @@ PYTHON = "/usr/bin/python3" if os.access("/usr/bin/python3", os.X_OK) else "pyth
 BARE_USER = "tests/rvlook/programs/bare_user/image"
 PATCHED = """import sys
 sys.path[0] = %r
-import look.races_machine as machine, look.races_replay as replay, look.trace as trace
+import rvlook.finders.races.machine as machine, rvlook.finders.races.replay as replay, rvlook.trace.tracer as trace
 %s
-from look.__main__ import main
+from rvlook.__main__ import main
 sys.exit(main(sys.argv[1:]))
 """
 # What breaks an assumption that rvlook checks as it goes: no input does.
@@ -48,7 +48,7 @@ machine.Machine.learn = forgetful
 MORE = "operands = machine.operands; machine.operands = lambda word: (0, *operands(word)[1:])"
 NEVER_BACK = """
 import itertools
-from look import races_ends
+from rvlook.finders.races import ends as races_ends
 numbers = itertools.count()
 races_ends.full_state = lambda work: next(numbers)
 """
@@ -124,7 +124,7 @@ def ran(words, shell=None, **environment):
 
 def patched(code, words):
     """The same of a rvlook in which something is replaced."""
-    done = subprocess.run([PYTHON, "-B", "-c", PATCHED % (ROOT, code), *words], cwd=ROOT, stdin=subprocess.DEVNULL, stdout=subprocess.DEVNULL,
+    done = subprocess.run([PYTHON, "-B", "-c", PATCHED % (os.path.join(ROOT, "python"), code), *words], cwd=ROOT, stdin=subprocess.DEVNULL, stdout=subprocess.DEVNULL,
                           stderr=subprocess.PIPE, text=True, check=False)
     return done.returncode, done.stderr.splitlines()
 
@@ -224,7 +224,6 @@ def cases(files):
         "create refuses": lambda: ran(["measure", files.region, "80020000", "1001", "0", "0", "80020000"]),
         "FILE has COUNT": lambda: ran(["measure", "docs/LOOK.md", "80020000", "1000", "0", "0", "80020000"]),
         "there are no source": lambda: ran(["touch", SUM, "--lcov"]),
-        "the page cannot": lambda: ran(["page", SUM], PYTHONPATH=files.without("base64")),
         "page has no": lambda: ran(["page", SUM, "--json"]),
         "there is no program at": lambda: ran(["map", SUM], RVBENCH="/none"),
         "there is no program;": unbuilt,
@@ -254,7 +253,7 @@ def cases(files):
 def unbuilt():
     """A clone in which no program can be built: tools/program tells so by its status."""
     with tempfile.TemporaryDirectory() as clone:
-        subprocess.run(["cp", "-r", *(os.path.join(ROOT, it) for it in ("look", "rvlook")), clone], check=True)
+        subprocess.run(["cp", "-r", *(os.path.join(ROOT, it) for it in ("python", "rvlook")), clone], check=True)
         os.makedirs(os.path.join(clone, "tools"))
         os.symlink("/bin/false", os.path.join(clone, "tools", "program"))
         done = subprocess.run([os.path.join(clone, "rvlook"), "map", os.path.join(ROOT, SUM)], capture_output=True, text=True, check=False,
@@ -265,7 +264,7 @@ def unbuilt():
 def unproved():
     """A clone whose program is an unproved one: the built program stands for it."""
     with tempfile.TemporaryDirectory() as clone:
-        subprocess.run(["cp", "-r", *(os.path.join(ROOT, it) for it in ("look", "tools", "rvlook")), clone], check=True)
+        subprocess.run(["cp", "-r", *(os.path.join(ROOT, it) for it in ("python", "tools", "rvlook")), clone], check=True)
         out = os.path.join(clone, "crates", "rvbench", "out")
         os.makedirs(out)
         open(os.path.join(clone, "crates.txt"), "w", encoding="ascii").close()

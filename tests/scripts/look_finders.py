@@ -35,26 +35,26 @@ class Wrong:
 
 
 ALL = (
-    Wrong("a reduction that leaves out the monitor's calls", "races.py", "if self.plain or look.asks_table:",
+    Wrong("a reduction that leaves out the monitor's calls", "finders/races/search.py", "if self.plain or look.asks_table:",
           "if self.plain or look.asks_table and look.kind != 'call':", ("orders", "37", "38"), "the ends of races and of all orders"),
-    Wrong("a reduction that leaves out the bytes that both touch", "races.py", "        self.met |= met\n        return True",
+    Wrong("a reduction that leaves out the bytes that both touch", "finders/races/search.py", "        self.met |= met\n        return True",
           "        return False", ("known",), "a counter raised three times"),
-    Wrong("a merge that forgets the table", "races_machine.py", "return State(harts, hosts, self.digest, self.table, steps)",
+    Wrong("a merge that forgets the table", "finders/races/machine.py", "return State(harts, hosts, self.digest, self.table, steps)",
           "return State(harts, hosts, self.digest, state.table, steps)", ("known",), "its status"),
-    Wrong("a merge that forgets the contexts", "races_machine.py", "table = self.tables.number((lines, tuple(sorted(kept.items(), key=lambda it: it[0]))))",
+    Wrong("a merge that forgets the contexts", "finders/races/machine.py", "table = self.tables.number((lines, tuple(sorted(kept.items(), key=lambda it: it[0]))))",
           "table = self.tables.number((lines, ()))", ("known",), "what an enclave keeps"),
-    Wrong("a merge that forgets the memory", "races_machine.py", "return State(harts, hosts, self.digest, self.table, steps)",
+    Wrong("a merge that forgets the memory", "finders/races/machine.py", "return State(harts, hosts, self.digest, self.table, steps)",
           "return State(harts, hosts, state.memory, self.table, steps)", ("known",), "its status"),
-    Wrong("a search that ends with the timer's first moment", "races.py", "for is_timer in (False, True)[:1 + (timers < self.bounds.timers)]:",
+    Wrong("a search that ends with the timer's first moment", "finders/races/search.py", "for is_timer in (False, True)[:1 + (timers < self.bounds.timers)]:",
           "for is_timer in (False, True)[:1 + (timers < self.bounds.timers and last is None)]:", ("orders", "4", "5"),
           "the ends of races and of all orders"),
-    Wrong("a window that counts a read behind the enclave's own write", "window.py", "    if byte.stored_at is None:\n        if byte.input_at",
+    Wrong("a window that counts a read behind the enclave's own write", "finders/window.py", "    if byte.stored_at is None:\n        if byte.input_at",
           "    if True:\n        if byte.input_at", ("window",), "window"),
-    Wrong("a window that forgets what was wiped", "window.py", "theirs.get(at, Byte()).values != byte.values",
+    Wrong("a window that forgets what was wiped", "finders/window.py", "theirs.get(at, Byte()).values != byte.values",
           "theirs.get(at, Byte()).values[-1:] != byte.values[-1:]", ("window_secret",), "window_secret"),
-    Wrong("a leak that is blind to stores", "stays.py", "    if it.memory:\n", "    if it.memory and it.memory.kind == 'r':\n", ("leak_address",),
+    Wrong("a leak that is blind to stores", "access/activations.py", "    if it.memory:\n", "    if it.memory and it.memory.kind == 'r':\n", ("leak_address",),
           "leak_address"),
-    Wrong("a leak that is blind to divisions", "stays.py", "if is_strict else None", "if False else None", ("leak_address",), "leak_address"))
+    Wrong("a leak that is blind to divisions", "access/activations.py", "if is_strict else None", "if False else None", ("leak_address",), "leak_address"))
 
 
 def case_lines(folder, name):
@@ -78,8 +78,8 @@ def check_wrong():
     for it in ALL:
         with tempfile.TemporaryDirectory() as folder:
             shutil.copy(LOOK, folder)
-            shutil.copytree(os.path.join(ROOT, "look"), os.path.join(folder, "look"))
-            path = os.path.join(folder, "look", it.file)
+            shutil.copytree(os.path.join(ROOT, "python"), os.path.join(folder, "python"))
+            path = os.path.join(folder, "python", "rvlook", it.file)
             with open(path) as source:
                 text = source.read()
             expect("%s: the text is there" % it.name, 1, text.count(it.right))

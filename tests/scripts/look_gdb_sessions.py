@@ -28,7 +28,7 @@ def built(folder):
     shutil.copytree(os.path.join(ROOT, "examples"), os.path.join(folder, "examples"))
     for file, example in BUILT.items():
         subprocess.run([os.path.join(folder, "examples", "monitor", "build"), example, os.path.join(folder, file)], check=True)
-    for name in ("rvlook", "look"):
+    for name in ("rvlook", "python"):
         os.symlink(os.path.join(ROOT, name), os.path.join(folder, name))
     return True
 
@@ -49,7 +49,7 @@ def told_by(words, folder, lines):
 def told_by_gdb(folder, file, words, commands):
     """What each command tells."""
     target = "target remote | ./rvlook gdb %s %s" % (words, file)
-    told = told_by([GDB, "-q", "-nx", *PLAIN, "-x", "look/gdb_client.py", file, "-ex", target], folder, commands)
+    told = told_by([GDB, "-q", "-nx", *PLAIN, "-x", "python/rvlook/gdb/client.py", file, "-ex", target], folder, commands)
     return told.split("(gdb) ")[1:len(commands) + 1]
 
 
@@ -168,7 +168,7 @@ def check_machine_interface(folder):
     bridge, port = bridge_of(folder, "hmac.elf", "--monitor")
     asked = ["-target-select remote localhost:" + port, "-break-insert authenticate", "-exec-continue", "-stack-list-frames",
              "-data-evaluate-expression length", "-exec-next", "-exec-step-instruction --reverse", "-gdb-exit"]
-    done = told_by([GDB, "-q", "-nx", "-i=mi", "-x", "look/gdb_client.py", "hmac.elf"], folder, asked)
+    done = told_by([GDB, "-q", "-nx", "-i=mi", "-x", "python/rvlook/gdb/client.py", "hmac.elf"], folder, asked)
     for text in ('reason="breakpoint-hit"', 'func="authenticate"', 'func="main"', 'value="14"', 'reason="end-stepping-range"', "^exit"):
         expect("MI: " + text, True, text in done)
     expect("MI: the bridge ends", 0, bridge.wait(10))

@@ -34,7 +34,7 @@ ALL = (
           "position, halt = halts[-1]", "position, halt = halts[0]", "watches", "back to step"),
     Wrong("what was written is not played again", "timeline.py",
           "if first < at <= end:", "if False:", "written", "it is there at its step"),
-    Wrong("a break is written to memory", "gdb_stops.py", "        if conditions:\n",
+    Wrong("a break is written to memory", "gdb/stops.py", "        if conditions:\n",
           "        timeline.do_all(['poke %x %s' % (at + n, it) for n, it in enumerate(('73', '00', '10', '00'))])\n        if conditions:\n",
           "refused", "no byte is written"),
     Wrong("the other hart does not go on", "gdb_moves.py",
@@ -57,9 +57,9 @@ def main():
     for it in ALL:
         with tempfile.TemporaryDirectory() as folder:
             shutil.copy(os.path.join(ROOT, "rvlook"), folder)
-            shutil.copytree(os.path.join(ROOT, "look"), os.path.join(folder, "look"))
+            shutil.copytree(os.path.join(ROOT, "python"), os.path.join(folder, "python"))
             os.symlink(os.path.join(ROOT, "examples"), os.path.join(folder, "examples"))
-            path = os.path.join(folder, "look", it.file)
+            path = os.path.join(folder, "python", "rvlook", it.file)
             with open(path) as source:
                 text = source.read()
             expect("%s: the text is there" % it.name, 1, text.count(it.right))

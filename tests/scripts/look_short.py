@@ -10,9 +10,9 @@ import tempfile
 
 from look_checks import PROGRAM, ROOT, expect, objects, report
 
-sys.path.append(ROOT)
-from look.instructions import short_form  # noqa: E402
-from look.names import with_abi_names  # noqa: E402
+sys.path.append(os.path.join(ROOT, "python"))
+from rvlook.protocol.instructions import short_form  # noqa: E402
+from rvlook.protocol.names import with_abi_names  # noqa: E402
 
 LOOK = os.path.join(ROOT, "rvlook")
 TIMER = ["--monitor", "examples/enclave_timer/image", "--symbols", "examples/enclave_timer/listing"]

@@ -82,12 +82,12 @@ def run(bench, *words, stdin=b"", seconds=SECONDS, memory=MEMORY):
 
 def load():
     """Imports what a child needs."""
-    if str(ROOT) not in sys.path:
-        sys.path.insert(0, str(ROOT))
+    if str(ROOT / "python") not in sys.path:
+        sys.path.insert(0, str(ROOT / "python"))
     import elftools.dwarf.dwarfinfo  # noqa: F401
     import elftools.elf.elffile  # noqa: F401
     import jinja2  # noqa: F401
-    import look.__main__, look.gdb, look.lcov, look.leak_text, look.map_text, look.page, look.spike, look.trace_text, look.window  # noqa: E401, F401
+    import rvlook.__main__  # noqa: F401
 
 
 @lru_cache(maxsize=None)
@@ -111,7 +111,7 @@ def in_child(bench, words, files, seconds, memory):
             os.dup2(file, number)
         os.environ.update(RVBENCH=without_limit(bench), TERM="dumb")
         sys.stdin, sys.stdout, sys.stderr = open(0, closefd=False), open(1, "w", closefd=False), open(2, "w", closefd=False)
-        from look.__main__ import main
+        from rvlook.__main__ import main
         status = main(words)
         sys.stdout.flush()
     except BaseException:  # also what only the fork would show

@@ -28,9 +28,9 @@ def mutant(edits):
 
 def read(path, data):
     """Reads all that rvlook reads of an ELF file."""
-    from look.faults import Fault
-    from look.page_sources import files_of
-    from look.symbols import symbols_of
+    from rvlook.errors import Fault
+    from rvlook.page.sources import files_of
+    from rvlook.image.symbols import symbols_of
     path.write_bytes(data)
     try:
         symbols = symbols_of("program.elf", data)

@@ -56,7 +56,7 @@ def test_explain_tells_the_faults_that_the_program_replies(bench, tmp_path, fuzz
 
 
 def test_listings_of_any_text_are_read(bench, tmp_path, fuzz_seconds):
-    from look.symbols import symbols_of
+    from rvlook.image.symbols import symbols_of
 
     def holds(data):
         symbols = symbols_of("listing", data)

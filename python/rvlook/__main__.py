@@ -1,0 +1,61 @@
+"""rvlook: what comes wrong is told in one line."""
+import os
+import sys
+
+from rvlook.cli.parser import perform, read
+from rvlook.errors import UNFINISHED, Fault
+
+INTERRUPTED, CLOSED = 130, 141  # as a shell tells the signals SIGINT and SIGPIPE
+
+
+def told(line, status):
+    """Ends with one line on standard error."""
+    print("rvlook: " + line, file=sys.stderr)
+    return status
+
+
+def main(words):
+    """Does what the words ask for; the status of the program."""
+    take_all_characters()
+    try:
+        return ended(words)
+    except KeyboardInterrupt:
+        return told("stopped", INTERRUPTED)
+    except BrokenPipeError:
+        drop_output()
+        return told("who reads the output has gone", CLOSED)
+    except OSError as error:
+        drop_output()
+        return told("the output fails: %s" % error.strerror, UNFINISHED)
+
+
+def ended(words):
+    """The same, where the output takes what it is given."""
+    if sys.stdout is None:
+        return told("there is no standard output", UNFINISHED)
+    try:
+        status = perform(read(words))
+        sys.stdout.flush()
+        return status
+    except Fault as fault:
+        sys.stdout.flush()  # what was found before it
+        return told(str(fault), fault.status)
+    except SystemExit as end:  # behind a help text
+        sys.stdout.flush()
+        return end.code
+
+
+def take_all_characters():
+    """Has the standard streams take names and lines of any bytes, also where the locale has no encoding for them."""
+    for stream, errors in ((sys.stdin, "surrogateescape"), (sys.stdout, "backslashreplace"), (sys.stderr, "backslashreplace")):
+        if hasattr(stream, "reconfigure"):
+            stream.reconfigure(errors=errors)
+
+
+def drop_output():
+    """What is left of the output goes nowhere, so that the end of Python does not try again."""
+    os.dup2(os.open(os.devnull, os.O_WRONLY), sys.stdout.fileno())
+
+
+if __name__ == "__main__":
+    sys.exit(main(sys.argv[1:]))

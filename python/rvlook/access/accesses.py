@@ -1,0 +1,86 @@
+"""What a run fetched, loaded and stored, counted. Of a step that loads or stores the register that its address goes by is asked for before
+it; of the others none is, so that this takes less than a trace."""
+from collections import Counter
+from typing import NamedTuple
+
+from rvlook.protocol import names
+from rvlook.protocol.instructions import instruction_of
+from rvlook.protocol.run import End, Stretch
+from rvlook.trace.tracer import NO_TRAP, RAN_FIELDS
+
+
+class Access(NamedTuple):
+    """Accesses of a world of one kind (`r`, `w` or `x`) at an address, of so many bytes, done or refused."""
+    world: str
+    kind: str
+    address: int
+    width: int
+    done: bool
+
+
+def accesses(run):
+    """How many accesses of each kind there were, and the run's end."""
+    counter, end = Counting(run), None
+    with run.replay() as reader, run.replay() as teller:
+        for item in run.stretches():
+            if isinstance(item, Stretch):
+                counter.take(reader, teller, item)
+            elif isinstance(item, End):
+                end = item
+    return counter.found(), end
+
+
+class Counting:
+    """The counts of the steps by what the first bench replies to them, and of loads and stores."""
+
+    def __init__(self, run):
+        self.steps, self.touched = Counter(), Counter()
+        self.places = [(run.pc.encode(), run.world.encode()) for _ in range(run.setup.harts)]
+
+    def take(self, reader, teller, stretch):
+        """Steps of one hart, one after another."""
+        after, _, worlds, traps = zip(*RAN_FIELDS.findall(stretch.data))
+        pc, world = self.places[stretch.hart]
+        self.places[stretch.hart] = after[-1], worlds[-1]
+        pcs, worlds = (pc, *after[:-1]), (world, *worlds[:-1])
+        self.steps.update(zip(pcs, worlds, traps))
+        begin(reader, stretch)
+        block = reader.bench.block(b"".join([b"dis %s\nstep 1\n" % it for it in pcs]), 2 * stretch.count)
+        found = [(place, it.memory) for place, it in enumerate(map(instruction_of, block.split(b"\n")[:-1:2])) if it and it.memory]
+        bases = self.bases(teller, stretch, found)
+        for (place, memory), base in zip(found, bases):
+            cause = traps[place][:8].decode()
+            if traps[place] == NO_TRAP or cause in names.ACCESS_FAULTS:
+                address = (base + memory.offset) & 0xFFFFFFFF
+                self.touched[worlds[place], memory.kind, address, memory.width, traps[place] == NO_TRAP] += 1
+
+    @staticmethod
+    def bases(teller, stretch, found):
+        """The registers that these addresses go by, each before its step."""
+        begin(teller, stretch)
+        asked, count, done = [], 0, 0
+        for place, memory in found:
+            if place > done:
+                asked.append(b"step %d\n" % (place - done))
+                count += 1
+            asked.append(b"reg %d\n" % memory.base)
+            count, done = count + 1, place
+        asked.append(b"step %d\n" % (stretch.count - done))
+        lines = teller.bench.block(b"".join(asked), count + 1).split(b"\n")
+        return [int(line.split(b"=")[1], 16) for line in lines if line.startswith(b"x")]
+
+    def found(self):
+        """All of them: a step fetches the word at pc, but where an interrupt comes in its place."""
+        every = Counter({Access(world.decode(), *rest): count for (world, *rest), count in self.touched.items()})
+        for (pc, world, trap), count in self.steps.items():
+            cause, _, value = trap.decode().partition(":")
+            is_refused = cause in names.FETCH_FAULTS and value == pc.decode()
+            if not cause.startswith("8"):
+                every[Access(world.decode(), "x", int(pc, 16), 4, not is_refused)] += count
+        return every
+
+
+def begin(replay, stretch):
+    """Brings a bench to where the next step is the first of these, and takes them as done."""
+    replay.bench.ask(*(replay.lines_to(stretch.first - 1) + replay.lines_up_to_next() or ["reg 0"]))
+    replay.lines_to(stretch.first - 1 + stretch.count)

@@ -1,0 +1,236 @@
+"""The stays of enclaves in a run, from each entry to the leave behind it, with what they did: each load and store, and the operands of
+divisions. Of a step that does such the registers are asked for that it names, before it. What an instruction is is asked once, for nobody
+but an enclave stores into its region; where it stores into its own code, it is asked at each step of that part of the run."""
+import itertools
+import re
+from array import array
+from collections import Counter
+from dataclasses import dataclass, field
+from functools import lru_cache
+from typing import NamedTuple, Optional
+
+from rvlook.protocol import names
+from rvlook.access.accesses import begin
+from rvlook.protocol.instructions import instruction_of
+from rvlook.protocol.replies import enclave_of, register_values
+from rvlook.protocol.run import Line, Stretch
+from rvlook.trace.tracer import NO_TRAP, RAN_FIELDS
+
+DIVIDES = re.compile(r"(?:div|rem)u? x\d+, x(\d+), x(\d+)")
+MODES = {b"U": 0, b"S": 1, b"M": 3}
+LEFT_BY = {0: "exit", 1: "stop", 2: "timer"}
+ROW = 64  # bytes that `mem` shows at once
+
+
+class Did(NamedTuple):
+    """A load (`r`), a store (`w`) or a division (`d`) of a step: address and width, or None; the value that is stored, or the operands; and
+    whether it was done."""
+    step: int
+    pc: int
+    kind: str
+    address: Optional[int]
+    width: int
+    values: tuple
+    done: bool
+
+
+@dataclass
+class Stay:
+    """An enclave on a hart, from the step that enters it to the one that leaves it; `number` counts those of its slot's life."""
+    world: str
+    hart: int
+    first: int
+    number: int
+    enclave: object = None
+    last: Optional[int] = None
+    left: str = ""
+    answer: tuple = ()
+    pc: Optional[int] = None  # of the step that left
+    pcs: array = field(default_factory=lambda: array("I"))  # of each step, with its mode in the lowest bits
+    steps: array = field(default_factory=lambda: array("I"))  # the number of each
+    traps: dict = field(default_factory=dict)  # of the steps that trapped, by their place
+    did: list = field(default_factory=list)
+    did_at: array = field(default_factory=lambda: array("I"))  # the places of these steps
+    before: bytes = b""
+    after: bytes = b""
+    others: tuple = ()  # the world of the other hart, where there is one
+    table: tuple = ()  # of the live enclaves
+
+    @property
+    def slot(self):
+        return int(self.world[1:])
+
+
+@lru_cache(maxsize=65536)
+def wants(line, is_strict):
+    """Which registers are to be asked for before an instruction: those of the address and of what is stored, or of a division."""
+    it = instruction_of(line)
+    if it is None:
+        return None
+    if it.memory:
+        return it.memory, ((it.memory.base, it.memory.register) if it.memory.kind == "w" else (it.memory.base,))
+    match = DIVIDES.match(it.text) if is_strict else None
+    return (None, (int(match[1]), int(match[2]))) if match else None
+
+
+class Stays:
+    """The stays of a run behind a step, as far as it goes; `is_strict` asks for divisions too, and `last` ends it."""
+
+    def __init__(self, run, start=0, is_strict=False):
+        self.run, self.start, self.is_strict, self.code = run, start, is_strict, {}
+        self.places = [(run.pc.encode(), run.mode.encode(), run.world.encode()) for _ in range(run.setup.harts)]
+        self.open, self.numbers = [None] * run.setup.harts, Counter()
+        self.end = None
+
+    def all(self):
+        """Each stay when it has ended; one that the run leaves open comes last."""
+        with self.run.replay() as teller, self.run.replay() as shower:
+            self.teller, self.shower = teller, shower
+            for item in self.run.stretches():
+                if isinstance(item, Stretch):
+                    yield from self.take(item)
+                elif isinstance(item, Line):
+                    self.code = {hart: {} for hart in self.code} if item.text.startswith("poke") else self.code
+                else:
+                    self.end = item
+            for stay in filter(None, self.open):
+                yield self.closed(stay, self.end.steps, None, "nothing")
+
+    def take(self, stretch):
+        """Steps of one hart: those of enclaves are looked at."""
+        hart, place = stretch.hart, 0
+        after = list(zip(*RAN_FIELDS.findall(stretch.data)))
+        traps = after.pop()
+        pcs, modes, worlds = ((before, *those[:-1]) for before, those in zip(self.places[hart], after))
+        self.places[hart] = tuple(it[-1] for it in after)
+        if stretch.first + stretch.count <= self.start:
+            self.numbers.update(self.entered(worlds, after[2]))
+            return
+        self.offset = None  # of the teller in the stretch
+        for world, group in itertools.groupby(worlds):
+            count = sum(1 for _ in group)
+            if world.startswith(b"e"):
+                if self.open[hart] is None:
+                    self.open[hart], self.code[hart] = self.opened(world.decode(), hart, stretch.first + place - 1), {}
+                stay, inside = self.open[hart], range(place, place + count)
+                self.extend(stay, stretch.first, inside, pcs, modes, traps, self.looked_at(stretch, pcs, traps, inside))
+                if place + count < stretch.count or after[2][-1] != world:
+                    self.open[hart] = None
+                    yield self.closed(stay, stretch.first + place + count - 1, int(pcs[place + count - 1], 16))
+            place += count
+        if self.offset is not None and self.offset < stretch.count:
+            self.teller.bench.block(b"step %d\n" % (stretch.count - self.offset), 1)
+
+    @staticmethod
+    def entered(worlds, after):
+        """The worlds that steps entered."""
+        return [now.decode() for was, now in zip(worlds, after) if now != was and now.startswith(b"e")]
+
+    @staticmethod
+    def extend(stay, step, inside, pcs, modes, traps, did):
+        """Steps of a stay, by their places in a stretch."""
+        begin_at, first, end = len(stay.pcs), inside.start, inside.stop
+        stay.pcs.extend([int(pc, 16) | MODES[mode] for pc, mode in zip(pcs[first:end], modes[first:end])])
+        stay.steps.extend(range(step + first, step + end))
+        stay.traps.update((begin_at + n, it) for n, it in enumerate(traps[first:end]) if it != NO_TRAP)
+        found = [n for n in range(first, end) if n in did]
+        stay.did += [did[n] for n in found]
+        stay.did_at.extend([begin_at + n - first for n in found])
+
+    # ---- its borders
+
+    def opened(self, world, hart, step):
+        """A stay that begins behind a step."""
+        self.numbers[world] += 1
+        stay = Stay(world, hart, step + 1, self.numbers[world])
+        stay.enclave, stay.before = self.seen(world, step)
+        stay.table = tuple(map(enclave_of, self.shower.bench.ask("enclaves")[0]))
+        stay.others = tuple(it[2].decode() for number, it in enumerate(self.places) if number != hart)
+        return stay
+
+    def closed(self, stay, step, pc, left=None):
+        """A stay that ends with a step."""
+        _, stay.after = self.seen(stay.world, step, stay.enclave)
+        stay.last, stay.pc, stay.left = step, pc, left
+        if left is None:
+            values = register_values(self.shower.bench.ask(*self.choose(stay.hart), "regs")[-1])
+            stay.left, stay.answer = LEFT_BY.get(values[10], "?"), (values[10], values[11])
+        return stay
+
+    def choose(self, hart):
+        return ["hart %d" % hart] if self.run.setup.harts > 1 else ["reg 0"]
+
+    def seen(self, world, step, enclave=None):
+        """The enclave's line of the table and its window, behind a step."""
+        bench = self.shower.bench
+        commands = self.shower.lines_to(step)
+        if self.run.setup.harts > 1:
+            commands.insert(0, "hart %d" % self.shown_hart)
+        bench.ask(*(commands or ["reg 0"]))
+        self.shown_hart = self.shower.hart
+        found = next((it for it in map(enclave_of, bench.ask("enclaves")[0]) if it.world == world), enclave)
+        rows = ["mem %x %d" % (found.window + at, ROW) for at in range(0, found.window_size, ROW)]
+        return found, b"".join(bytes.fromhex(reply[0].split(":")[1]) for reply in (bench.ask(*rows) if rows else ()))
+
+    shown_hart = 0
+
+    # ---- what its steps did
+
+    def looked_at(self, stretch, pcs, traps, inside):
+        """What each of these steps did, by its place in the stretch."""
+        if self.offset is None:
+            begin(self.teller, stretch)
+            self.offset = 0
+        code, bench = self.code[stretch.hart], self.teller.bench
+        new, first = list({pcs[n] for n in inside} - code.keys()), inside.start - self.offset
+        text = (b"step %d\n" % first if first else b"") + b"".join(b"dis %s\n" % it for it in new)
+        code.update(zip(new, bench.block(text, len(new) + bool(first)).split(b"\n")[bool(first):]))
+        self.offset = inside.start
+        did = self.asked(bench, stretch, pcs, traps, inside, [code[pcs[n]] for n in inside])
+        stored = {at & -4: n for n, it in did.items() if it.kind == "w" and it.done for at in range(it.address, it.address + it.width)}
+        written = [it for it in code if int(it, 16) in stored]
+        if any(pcs[n] in written and n > stored[int(pcs[n], 16)] for n in inside):
+            did = self.step_by_step(stretch, pcs, traps, inside)
+        for it in written:
+            del code[it]
+        return did
+
+    def step_by_step(self, stretch, pcs, traps, inside):
+        """The same, where each instruction is asked for right before it is done."""
+        with self.run.replay() as reader, self.run.replay() as teller:
+            begin(reader, stretch)
+            block = reader.bench.block(b"".join([b"dis %s\nstep 1\n" % it for it in pcs]), 2 * stretch.count).split(b"\n")
+            begin(teller, stretch)
+            kept, self.offset = self.offset, 0
+            did = self.asked(teller.bench, stretch, pcs, traps, inside, [block[2 * n] for n in inside])
+            self.offset = kept
+            return did
+
+    def asked(self, bench, stretch, pcs, traps, inside, lines):
+        """The registers before the steps that want them; the bench is then behind the last of these steps."""
+        wanted = [(n, *found) for n, found in ((n, wants(line, self.is_strict)) for n, line in zip(inside, lines)) if found]
+        questions, count = [], 0
+        for n, _, registers in wanted:
+            if n > self.offset:
+                questions.append(b"step %d\n" % (n - self.offset))
+                count += 1
+            questions += [b"reg %d\n" % it for it in registers]
+            count, self.offset = count + len(registers), n
+        questions.append(b"step %d\n" % (inside.stop - self.offset))
+        self.offset = inside.stop
+        replies = bench.block(b"".join(questions), count + 1).split(b"\n")
+        values = iter([int(it.split(b"=")[1], 16) for it in replies if it.startswith(b"x")])
+        found = {}
+        for n, memory, registers in wanted:
+            told, trap = [next(values) for _ in registers], traps[n]
+            if trap == NO_TRAP or memory and trap[:8].decode() in names.ACCESS_FAULTS:
+                found[n] = self.what(stretch.first + n, int(pcs[n], 16), memory, told, trap == NO_TRAP)
+        return found
+
+    @staticmethod
+    def what(step, pc, memory, told, done):
+        """What a step did, by the registers before it."""
+        if memory is None:
+            return Did(step, pc, "d", None, 0, tuple(told), done)
+        stored = told[1].to_bytes(4, "little")[:memory.width] if memory.kind == "w" else b""
+        return Did(step, pc, memory.kind, (told[0] + memory.offset) & 0xFFFFFFFF, memory.width, tuple(stored), done)

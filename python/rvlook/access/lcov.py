@@ -1,0 +1,49 @@
+"""The lines and functions that each world executed, as the file of lcov that genhtml takes: a test for each world."""
+from rvlook.image.escapes import visible
+from rvlook.errors import Fault
+from rvlook.page.sources import files_of
+from rvlook.access.touch import Touches, covered_functions, covered_lines
+
+
+def show_lcov(run, symbols, printer, paths):
+    """All worlds, each with its files."""
+    if not symbols.lines:
+        raise Fault("there are no source lines: an ELF file that is built with -g has them")
+    touches = Touches(run)
+    places = {}
+    for path in paths:
+        places.update((name, visible(file)) for name, file in files_of(path).items())
+    for world in touches.worlds():
+        lines = covered_lines(touches, world, symbols)
+        functions = functions_of(touches, world, symbols)
+        for name in dict.fromkeys(source.rsplit(":", 1)[0] for source, _ in lines):
+            own = [(int(source.rsplit(":", 1)[1]), count) for source, count in lines if source.rsplit(":", 1)[0] == name]
+            write(printer, world, places.get(name, name), functions.get(name, []), own)
+
+
+def functions_of(touches, world, symbols):
+    """For each file the functions of which a world executed some: the line, the name, and how many times the first instruction was."""
+    executed, found = touches.executed(world), {}
+    for symbol, _, _ in covered_functions(touches, world, symbols):
+        source = symbols.source(symbol.address)
+        if source:
+            name, line = source.rsplit(":", 1)
+            found.setdefault(name, []).append((int(line), symbol.name, executed.get(symbol.address, 0)))
+    return found
+
+
+def write(printer, world, path, functions, lines):
+    """The record of a file."""
+    printer.line("TN:" + world)
+    printer.line("SF:" + path)
+    for line, name, _ in functions:
+        printer.line("FN:%d,%s" % (line, name))
+    for _, name, count in functions:
+        printer.line("FNDA:%d,%s" % (count, name))
+    printer.line("FNF:%d" % len(functions))
+    printer.line("FNH:%d" % sum(count > 0 for _, _, count in functions))
+    for line, count in lines:
+        printer.line("DA:%d,%d" % (line, count))
+    printer.line("LF:%d" % len(lines))
+    printer.line("LH:%d" % sum(count > 0 for _, count in lines))
+    printer.line("end_of_record")

@@ -1,0 +1,216 @@
+"""The moments of a run at which what may be touched changes, and who may touch what from then on.
+
+Under the monitor the entries are laid out anew by a call or the timer's stop alone, which are traps, and no world can write them: so the
+moments are among the steps that trapped. On the bare bench only an instruction on such a register writes an entry: so they are among
+the steps of these instructions, by the word that stands at pc before each step.
+"""
+import re
+from bisect import bisect_right
+from dataclasses import dataclass
+from typing import Optional
+
+from rvlook.protocol import names
+from rvlook.access.ranges import Range, meaning, reach, table_borders, verdicts_of
+from rvlook.protocol.replies import enclave_of, ran_of, register_values
+from rvlook.protocol.run import End, Stretch
+
+CALLED = re.compile(rb"trap=(?:00000009|80000007):")
+ENTRY_WRITTEN = re.compile(rb" csrr\w+ x\d+, 0x3[ab][0-9a-f],")  # pmpcfg0 to pmpaddr15, by the text of dis
+CSR_TEXT = b" csrr"  # of each instruction on such a register: most parts of a run have none
+PC = re.compile(rb"pc=(\w+)")
+
+
+@dataclass(frozen=True)
+class Column:
+    """A world whose access is shown: a hart's own, or, derived, one that runs nowhere."""
+    name: str
+    world: str
+    hart: Optional[int]
+
+    @property
+    def derived(self):
+        return self.hart is None
+
+
+@dataclass(frozen=True)
+class Row:
+    """A range of RAM, what it is, and for each column's name the modes and what they may do."""
+    range: Range
+    what: str
+    may: dict
+
+
+@dataclass(frozen=True)
+class Moment:
+    """How things stand behind a step; `pc` is of the instruction that was done, `event` what it was."""
+    step: int
+    hart: int
+    event: str
+    slot: Optional[int]
+    status: Optional[str]
+    text: Optional[str]
+    pc: str
+    mode: str
+    world: str
+    enclaves: tuple
+    columns: tuple
+    rows: tuple
+
+
+@dataclass(frozen=True)
+class State:
+    """What decides who may touch what: the entries and the world of each hart, and the table."""
+    entries: tuple
+    worlds: tuple
+    enclaves: tuple
+
+
+@dataclass(frozen=True)
+class Event:
+    """What a step did, by its name."""
+    name: str
+    slot: Optional[int] = None
+    status: Optional[str] = None
+    text: Optional[str] = None
+
+
+def moments(run):
+    """Moment for each change, the first for the state at reset, and last End."""
+    finder = Finder(run)
+    end = None
+    with run.replay() as replay:
+        yield finder.at_reset(replay)
+        for item in (changed_steps(run) if run.setup.monitor else changed_entries(run)):
+            if isinstance(item, End):
+                end = item
+            else:
+                moment = finder.at_step(replay, *item)
+                if moment:
+                    yield moment
+    yield end
+
+
+def changed_steps(run):
+    """The number and hart of each step that called the monitor or was the timer's, and End."""
+    for item in run.stretches():
+        if isinstance(item, End):
+            yield item
+        elif isinstance(item, Stretch):
+            for number in places_of(CALLED, item.data):
+                yield item.first + number, item.hart
+
+
+def changed_entries(run):
+    """The number and hart of each step of the bare bench that may have written an entry, and End: a second bench follows the first, and
+    tells the instruction of each step before it is done."""
+    pc = run.pc.encode()
+    with run.replay() as replay:
+        for item in run.stretches():
+            if isinstance(item, End):
+                yield item
+            elif isinstance(item, Stretch):
+                pcs = [pc, *PC.findall(item.data)]
+                pc = pcs.pop()
+                replay.bench.ask(*(replay.lines_to(item.first - 1) + replay.lines_up_to_next() or ["reg 0"]))
+                replay.lines_to(item.first - 1 + item.count)
+                block = replay.bench.block(b"".join([b"dis %s\nstep 1\n" % it for it in pcs]), 2 * item.count)
+                for number in places_of(ENTRY_WRITTEN, block) if CSR_TEXT in block else ():
+                    yield item.first + number // 2, item.hart
+
+
+def places_of(pattern, block):
+    """The numbers of the lines in which a pattern stands, at most once in each."""
+    place = number = 0
+    for match in pattern.finditer(block):
+        number += block.count(b"\n", place, match.start())
+        place = match.start()
+        yield number
+
+
+class Finder:
+    """Makes moments of steps, and keeps what `access` replied for entries that it has met."""
+
+    def __init__(self, run):
+        self.run, self.setup, self.verdicts, self.state = run, run.setup, {}, None
+
+    def at_reset(self, replay):
+        self.state = self.state_of(replay, [self.run.world] * self.setup.harts)
+        return self.moment(0, 0, Event("reset"), self.run.pc, self.run.mode, self.run.world)
+
+    def at_step(self, replay, step, hart):
+        """The moment behind a step, or None where nothing has changed."""
+        bench = replay.bench
+        before = bench.ask(*replay.lines_to(step - 1), *replay.lines_up_to_next(), "regs")[-1]
+        pc = before[32][3:]
+        text = bench.one("dis " + pc).split(" ", 2)[-1]
+        *_, ran_line, after = bench.ask(*replay.lines_to(step), "regs")
+        ran = ran_of(ran_line[0])
+        state = self.state_of(replay, [*self.state.worlds[:hart], ran.world, *self.state.worlds[hart + 1:]])
+        if state == self.state:
+            return None
+        old, self.state = self.state, state
+        event = event_of(ran, old, hart, register_values(before), register_values(after), text)
+        return self.moment(step, hart, event, pc, ran.mode, ran.world)
+
+    def state_of(self, replay, worlds):
+        """The entries of each hart, and the table; the verdicts are asked for where the entries are new."""
+        bench, entries = replay.bench, []
+        for hart in range(self.setup.harts):
+            bench.ask(*(["hart %d" % hart] if self.setup.harts > 1 else ["reg 0"]))
+            lines = tuple(bench.ask("pmp")[0])
+            if lines not in self.verdicts:
+                self.verdicts[lines] = verdicts_of(bench, lines, self.setup.modes, self.setup.ram)
+            entries.append(lines)
+        if self.setup.harts > 1:
+            bench.ask("hart %d" % replay.hart)
+        return State(tuple(entries), tuple(worlds), tuple(enclave_of(line) for line in bench.ask("enclaves")[0]))
+
+    def moment(self, step, hart, event, pc, mode, world):
+        columns = self.columns()
+        return Moment(step, hart, event.name, event.slot, event.status, event.text, pc, mode, world, self.state.enclaves, columns,
+                      tuple(self.rows(columns)))
+
+    def columns(self):
+        """Each hart's world, and those that run nowhere."""
+        worlds = self.state.worlds
+        shown = [Column("hart %d: %s" % (hart, world) if len(worlds) > 1 else world, world, hart)
+                 for hart, world in enumerate(worlds)]
+        live = ["host"] + [it.world for it in self.state.enclaves] if self.setup.monitor else []
+        return tuple(shown + [Column(world, world, None) for world in live if world not in worlds])
+
+    def rows(self, columns):
+        """The ranges between all borders: those of the replies, and those of the table."""
+        by_hart = [self.verdicts[lines] for lines in self.state.entries]
+        cuts = table_borders(self.state.enclaves, self.setup.ram) if self.setup.monitor else set()
+        for verdicts in by_hart:
+            cuts.update(it.range.first for it in verdicts)
+            cuts.add(verdicts[-1].range.end)
+        cuts = sorted(cuts)
+        starts = [[it.range.first for it in verdicts] for verdicts in by_hart]
+        for first, end in zip(cuts, cuts[1:]):
+            may = {}
+            for column in columns:
+                if column.derived:
+                    may[column.name] = dict.fromkeys(self.setup.modes, reach(column.world, self.state.enclaves, first))
+                else:
+                    at = bisect_right(starts[column.hart], first) - 1
+                    may[column.name] = by_hart[column.hart][at].may
+            what = meaning(self.state.enclaves, first) if self.setup.monitor else ""
+            yield Row(Range(first, end), what, may)
+
+
+def event_of(ran, old, hart, before, after, text):
+    """What a step did, by its name."""
+    world = old.worlds[hart]
+    if world == "bare":
+        return Event("pmp", text=text)
+    status = "%08x" % after[10]
+    if ran.trap.cause == names.TIMER:
+        return Event("timer", int(world[1:]), status)
+    call = names.call_of(before)
+    if world != "host":
+        return Event(call.name, int(world[1:]), status)
+    if call is names.Call.create:
+        return Event("create", after[11], status, text)
+    entered = call in (names.Call.run, names.Call.resume)
+    return Event(call.name, before[10], None if entered else status, text)

@@ -1,0 +1,152 @@
+"""The word map: the moments of a run, for a person and as objects."""
+from bisect import bisect_right
+
+from rvlook.protocol import names
+from rvlook.access.map import moments
+from rvlook.access.ranges import NOTHING, Range
+from rvlook.protocol.run import End
+from rvlook.output.printer import Style, enclave_object, end_object, end_text, hex8, place_text, run_object
+
+CELL = 6
+
+
+def show_map(run, symbols, printer, is_brief=False):
+    """All moments of a run."""
+    if printer.as_json:
+        run_object(printer, run, symbols)
+    before = None
+    for item in moments(run):
+        if isinstance(item, End):
+            (end_object(printer, item) if printer.as_json else end_text(printer, item, symbols))
+        elif printer.as_json:
+            moment_object(printer, item, symbols)
+        elif is_brief:
+            brief_text(printer, item, before, symbols)
+            before = item
+        else:
+            moment_text(printer, item, symbols)
+    if not printer.as_json and not is_brief and run.setup.monitor:
+        printer.line("(in brackets: worlds that do not run, by the law of reach over the table)")
+
+
+def moment_object(printer, moment, symbols):
+    pc = int(moment.pc, 16)
+    rows = [{"first": hex8(row.range.first), "last": hex8(row.range.end - 1), "size": row.range.end - row.range.first,
+             "what": row.what, "may": row.may} for row in moment.rows]
+    columns = [{"name": it.name, "world": it.world, "hart": it.hart, "derived": it.derived} for it in moment.columns]
+    printer.object("moment", step=moment.step, hart=moment.hart, event=moment.event, slot=moment.slot, status=moment.status,
+                   text=moment.text, pc=moment.pc, symbol=symbols.name(pc), source=symbols.source(pc), mode=moment.mode,
+                   world=moment.world, enclaves=[enclave_object(it) for it in moment.enclaves], columns=columns, rows=rows)
+
+
+def event_text(moment):
+    """What happened, in a few words."""
+    if moment.event == "reset":
+        return "reset"
+    if moment.event == "now":
+        return "step %d" % moment.step
+    if moment.event == "pmp":
+        return "step %d  %s" % (moment.step, names.with_abi_names(moment.text))
+    return "step %d  %s e%d" % (moment.step, moment.event, moment.slot)
+
+
+def moment_text(printer, moment, symbols):
+    """A moment: what happened and where, the table of enclaves, and the ranges."""
+    hart = "hart %d  " % moment.hart if sum(not it.derived for it in moment.columns) > 1 else ""
+    heading = "%s%s" % (hart, event_text(moment))
+    printer.line(printer.styled(heading, Style.heading) + "  at " + place_text(moment.pc, symbols))
+    lines = [enclave_text(it) for it in moment.enclaves]
+    lines += ["    measurement " + it.measurement for it in moment.enclaves if moment.event == "create" and it.slot == moment.slot]
+    heads = [head for column in moment.columns for head in heads_of(column, moment)]
+    widths = [max(CELL, len(head) + 2) for head in heads]
+    lines.append(" " * 29 + "".join(head.ljust(width) for head, width in zip(heads, widths)))
+    lines += [row_text(row, cells_of(row, moment), widths) for row in moment.rows]
+    for line in lines + [""]:
+        printer.line(line)
+
+
+def brief_text(printer, moment, before, symbols):
+    """What a moment changes: who runs, the enclaves, and the ranges that a world may touch otherwise than before."""
+    hart = "hart %d  " % moment.hart if sum(not it.derived for it in moment.columns) > 1 else ""
+    parts = [printer.styled(hart + event_text(moment), Style.heading), "at " + place_text(moment.pc, symbols)]
+    if before and moment.world != before.world:
+        parts.append("%s goes on" % moment.world)
+    printer.line("  ".join(parts))
+    for enclave in moment.enclaves:
+        if not before or enclave not in before.enclaves:
+            was = next((it.state for it in before.enclaves if it.slot == enclave.slot), None) if before else None
+            printer.line("  %s %s -> %s" % (enclave.world, was, enclave.state) if was else enclave_text(enclave))
+    for found, what, changed in changed_rows(moment, before):
+        ends = "%08x-%08x %7s" % (found.first, found.end - 1, names.size_text(found.end - found.first))
+        printer.line("  %s  %s%s" % (ends, "  ".join(changed), "  " + what if what else ""))
+
+
+def changed_rows(moment, before):
+    """Each range in which a world may do otherwise than before, what it is, and what that is; at first all ranges. Neighbours that change
+    alike are one."""
+    found = []
+    starts = sorted({row.range.first for it in (moment, before) if it for row in it.rows})
+    for first, end in zip(starts, [*starts[1:], moment.rows[-1].range.end]):
+        old, new = rights_of(before, first) if before else {}, rights_of(moment, first)
+        changed = [change_text(key, old.get(key), new.get(key, NOTHING)) for key in {**old, **new}
+                   if old.get(key, NOTHING) != new.get(key, NOTHING)]
+        what = row_at(moment, first).what
+        if changed and found and found[-1][1:] == (what, changed) and found[-1][0].end == first:
+            found[-1] = (Range(found[-1][0].first, end), what, changed)
+        elif changed:
+            found.append((Range(first, end), what, changed))
+    return found
+
+
+def row_at(moment, address):
+    return moment.rows[bisect_right([it.range.first for it in moment.rows], address) - 1]
+
+
+def rights_of(moment, address):
+    """What each world may do at an address, in each mode; in both at once under the monitor, where they are alike. A world that is no more,
+    or not yet, may do nothing."""
+    row, found = row_at(moment, address), {}
+    for column in moment.columns:
+        for mode, rights in row.may[column.name].items():
+            split = "%s %s" % (column.world, mode) if is_split(column, moment) else column.world
+            found[mode if column.world == "bare" else split] = rights
+    return found
+
+
+def change_text(name, old, new):
+    """What a world may do from now on, and what it might."""
+    return "%s %s" % (name, new) if old is None else "%s %s -> %s" % (name, old, new)
+
+
+def enclave_text(enclave):
+    window = "no window" if not enclave.window_size else "window %08x %4s" % (enclave.window, names.size_text(enclave.window_size))
+    return "  %-3s %-8s region %08x %4s  %s  entry %08x" % (
+        enclave.world, enclave.state, enclave.base, names.size_text(enclave.size), window, enclave.entry)
+
+
+def is_split(column, moment):
+    """Whether the modes of a column may not all do the same."""
+    return any(len(set(row.may[column.name].values())) > 1 for row in moment.rows) or column.world == "bare"
+
+
+def heads_of(column, moment):
+    """What stands above a column, or above each of its modes."""
+    name = "(%s)" % column.name if column.derived else column.name
+    if not is_split(column, moment):
+        return [name]
+    modes = moment.rows[0].may[column.name]
+    return list(modes) if column.world == "bare" else ["%s %s" % (name, mode) for mode in modes]
+
+
+def cells_of(row, moment):
+    """What each column of a row has."""
+    for column in moment.columns:
+        values = list(row.may[column.name].values())
+        yield from values if is_split(column, moment) else values[:1]
+
+
+def row_text(row, cells, widths):
+    size = names.size_text(row.range.end - row.range.first)
+    ends = "%08x-%08x" % (row.range.first, row.range.end - 1)
+    shown = "".join(cell.ljust(width) for cell, width in zip(cells, widths))
+    return "  %s %7s  %s%s" % (ends, size, shown, row.what)

@@ -1,0 +1,119 @@
+"""Who may touch which range of RAM: what `access` replies between the borders that `pmp` shows, and what the law of reach says of the
+worlds that do not run."""
+from dataclasses import dataclass
+
+from rvlook.protocol.replies import entry_of
+
+RAM_BASE = 0x80000000
+MONITOR_END = 0x80010000
+KINDS = "rwx"
+TOR, NA4, NAPOT = 1, 2, 3
+NOTHING, ALL, DATA = "---", "rwx", "rw-"
+
+
+@dataclass(frozen=True)
+class Range:
+    """Bytes from `first` up to, and not with, `end`."""
+    first: int
+    end: int
+
+
+@dataclass(frozen=True)
+class Verdicts:
+    """What `access` replied for each byte of a range: for each mode the kinds that are allowed, and the replies themselves, which tell
+    the entries that decide."""
+    range: Range
+    may: dict
+    replies: tuple
+
+
+def entry_range(entries, index):
+    """The range of an entry, or None where it is off or covers nothing."""
+    entry = entries[index]
+    mode = entry.cfg >> 3 & 3
+    if mode == TOR:
+        first = 4 * entries[index - 1].addr if index else 0
+        return Range(first, 4 * entry.addr) if first < 4 * entry.addr else None
+    if mode == NA4:
+        return Range(4 * entry.addr, 4 * entry.addr + 4)
+    if mode == NAPOT:
+        size = 8 * ((entry.addr ^ (entry.addr + 1)) + 1) // 2
+        first = 4 * (entry.addr & ~(entry.addr ^ (entry.addr + 1)))
+        return Range(first, first + size)
+    return None
+
+
+def borders(entries, ram):
+    """Where the entries begin and end in RAM: between two of them each byte is judged alike."""
+    cuts = {RAM_BASE, RAM_BASE + ram}
+    for index in range(len(entries)):
+        covered = entry_range(entries, index)
+        if covered:
+            cuts.update(at for at in (covered.first, covered.end) if RAM_BASE < at < RAM_BASE + ram)
+    return sorted(cuts)
+
+
+def verdicts_of(bench, pmp_lines, modes, ram):
+    """The verdicts on every byte of RAM under the entries as they stand: `access` of the first byte between two borders."""
+    cuts = borders([entry_of(line) for line in pmp_lines], ram)
+    asked = [(mode, kind) for mode in modes for kind in KINDS]
+    lines = ["access %s %s %x 1" % (mode, kind, at) for at in cuts[:-1] for mode, kind in asked]
+    replies = [reply[0] for reply in bench.ask(*lines)]
+    found = []
+    for place, (first, end) in enumerate(zip(cuts, cuts[1:])):
+        told = replies[place * len(asked):(place + 1) * len(asked)]
+        may = {mode: "".join(kind if told[i * 3 + k].startswith("allowed") else "-" for k, kind in enumerate(KINDS))
+               for i, mode in enumerate(modes)}
+        found.append(Verdicts(Range(first, end), may, tuple(told)))
+    return merged(found)
+
+
+def merged(found):
+    """Neighbours on which each verdict is the same, entry and all, are one range: an access across their border is judged so too."""
+    rows = []
+    for it in found:
+        if rows and (rows[-1].may, rows[-1].replies) == (it.may, it.replies):
+            rows[-1] = Verdicts(Range(rows[-1].range.first, it.range.end), it.may, it.replies)
+        else:
+            rows.append(it)
+    return rows
+
+
+def region_of(enclave):
+    return Range(enclave.base, enclave.base + enclave.size)
+
+
+def window_of(enclave):
+    return Range(enclave.window, enclave.window + enclave.window_size)
+
+
+def reach(world, enclaves, at):
+    """What a world that does not run may do to a byte, by the law of reach: a text of three letters."""
+    if at < MONITOR_END:
+        return NOTHING
+    owners = [it.world for it in enclaves if region_of(it).first <= at < region_of(it).end]
+    if owners:
+        return ALL if owners == [world] else NOTHING
+    if world == "host":
+        return ALL
+    windows = [it.world for it in enclaves if window_of(it).first <= at < window_of(it).end]
+    return DATA if world in windows else NOTHING
+
+
+def table_borders(enclaves, ram):
+    """Where the monitor's range, the regions and the windows begin and end."""
+    cuts = {RAM_BASE, MONITOR_END, RAM_BASE + ram}
+    for it in enclaves:
+        cuts.update((it.base, it.base + it.size))
+        if it.window_size:
+            cuts.update((it.window, it.window + it.window_size))
+    return cuts
+
+
+def meaning(enclaves, at):
+    """What a byte is, by the table of enclaves."""
+    if at < MONITOR_END:
+        return "monitor"
+    found = ["region of " + it.world for it in enclaves if region_of(it).first <= at < region_of(it).end]
+    found += ["window of " + it.world for it in enclaves if window_of(it).first <= at < window_of(it).end]
+    return ", ".join(found)

@@ -1,0 +1,146 @@
+"""Stack overflows: the first frame or sp-relative store of each stack that lies outside the range which its symbols give.
+
+A stack is a pair of symbols NAME_stack_bottom and NAME_stack_top. The host uses those whose NAME ends with `host`, an enclave in mode S those
+with `runtime`, in mode U those with `application`. All of this is derived from the instruction at pc, sp before the step, and the symbols.
+"""
+import re
+from typing import NamedTuple
+
+from rvlook.access.accesses import begin
+from rvlook.protocol.instructions import instruction_of
+from rvlook.protocol.run import Stretch
+from rvlook.output.printer import hex8
+
+RAN = re.compile(rb"ran 1 pc=(\w+) mode=(\w) world=(\w+)")
+NAME = re.compile(r"(.*(host|runtime|application))_stack_bottom\Z")
+FRAME = re.compile(r"addi x2, x2, (-\d+)\Z")
+SP = 2
+MASK = 0xFFFFFFFF
+
+
+class Stack(NamedTuple):
+    """The bytes of a stack, from `bottom` up to before `top`."""
+    name: str
+    kind: str
+    bottom: int
+    top: int
+
+
+class Use(NamedTuple):
+    """What an instruction does with the stack: it stores at an offset from sp, or adds the offset to sp."""
+    is_store: bool
+    offset: int
+
+
+class Overflow(NamedTuple):
+    """The first use of a stack outside its range: a store through sp, or an addition to sp that makes a frame. `address` is the first byte
+    stored, or the new sp."""
+    step: int
+    hart: int
+    world: str
+    pc: int
+    is_store: bool
+    address: int
+    stack: Stack
+
+
+def stacks_of(symbols):
+    """The stacks that the symbols give, by their kind: `host`, `runtime` or `application`."""
+    found = {}
+    for name, symbol in symbols.by_name.items():
+        match = NAME.match(name)
+        top = match and symbols.by_name.get(match[1] + "_stack_top")
+        if top and symbol.address < top.address:
+            found.setdefault(match[2], []).append(Stack(match[1], match[2], symbol.address, top.address))
+    return found
+
+
+def kind_of(world, mode):
+    """The kind of stack that a world uses in a mode."""
+    if world in ("host", "bare"):
+        return "host"
+    return "runtime" if mode == "S" else "application"
+
+
+class Finder:
+    """Finds the first overflow of each kind of stack. The instruction at each pc is read once, before the steps in which it is first met."""
+
+    def __init__(self, run, stacks):
+        self.stacks, self.uses, self.found = stacks, {}, {}
+        self.places = [(run.pc.encode(), run.mode.encode(), run.world.encode())] * run.setup.harts
+
+    def take(self, replay, stretch):
+        """Checks steps of one hart, one after another."""
+        after = RAN.findall(stretch.data)
+        places = [self.places[stretch.hart], *after[:-1]]
+        self.places[stretch.hart] = after[-1]
+        begin(replay, stretch)
+        self.read_instructions(replay, {pc for pc, _, _ in places})
+        steps = [at for at, (pc, _, _) in enumerate(places) if self.uses[pc]]
+        for at, sp in zip(steps, stack_pointers(replay, stretch, steps)):
+            pc, mode, world = (it.decode() for it in places[at])
+            self.check(stretch, at, (pc, world, kind_of(world, mode)), sp)
+
+    def check(self, stretch, at, place, sp):
+        """Checks one step that uses the stack."""
+        pc, world, kind = place
+        if kind in self.found or kind not in self.stacks:
+            return
+        use = self.uses[pc.encode()]
+        address = (sp + use.offset) & MASK
+        last = address if use.is_store else address - 1  # an empty stack has sp at its top
+        if not any(it.bottom <= address and last < it.top for it in self.stacks[kind]):
+            stack = min(self.stacks[kind], key=lambda it: min(abs(it.bottom - sp), abs(it.top - sp)))
+            self.found[kind] = Overflow(stretch.first + at, stretch.hart, world, int(pc, 16), use.is_store, address, stack)
+
+    def read_instructions(self, replay, pcs):
+        """Reads the instructions that were not met before."""
+        new = sorted(pcs - self.uses.keys())
+        if new:
+            lines = replay.bench.block(b"".join(b"dis %s\n" % pc for pc in new), len(new)).split(b"\n")
+            self.uses.update(zip(new, map(use_of, lines)))
+
+
+def stack_pointers(replay, stretch, steps):
+    """The value of sp before each of these steps of a stretch; the bench goes to the end of the stretch."""
+    asked, done = [], 0
+    for at in steps:
+        asked.append((b"step %d\n" % (at - done) if at > done else b"") + b"reg %d\n" % SP)
+        done = at
+    text = b"".join(asked) + b"step %d\n" % (stretch.count - done)
+    lines = replay.bench.block(text, text.count(b"\n")).split(b"\n")
+    return [int(line.split(b"=")[1], 16) for line in lines if line.startswith(b"x")]
+
+
+def use_of(line):
+    """What the instruction in a reply of `dis` does with the stack, or None."""
+    instruction = instruction_of(line)
+    if instruction is None:
+        return None
+    memory = instruction.memory
+    if memory:
+        return Use(True, memory.offset) if memory.kind == "w" and memory.base == SP else None
+    frame = FRAME.match(instruction.text)
+    return Use(False, int(frame[1])) if frame else None
+
+
+def overflows(run, symbols):
+    """The first overflow of each kind of stack, in the order of the run; none if the symbols give no stack."""
+    stacks = stacks_of(symbols)
+    if not stacks:
+        return []
+    finder = Finder(run, stacks)
+    with run.replay() as replay:
+        for item in run.stretches():
+            if isinstance(item, Stretch):
+                finder.take(replay, item)
+    return sorted(finder.found.values(), key=lambda it: it.step)
+
+
+def overflow_text(it, symbols):
+    """An overflow in a line: where, and how far outside."""
+    where = symbols.source(it.pc) or symbols.name(it.pc) or hex8(it.pc)
+    does = "stores to" if it.is_store else "moves sp to"
+    outside, border, side = ("below", it.stack.bottom, "bottom") if it.address < it.stack.bottom else ("above", it.stack.top, "top")
+    return "stack overflow in %s at step %d, %s: it %s %08x, %d bytes %s %s_stack_%s" % (
+        it.world, it.step, where, does, it.address, abs(border - it.address), outside, it.stack.name, side)

@@ -1,0 +1,245 @@
+"""The word touch: what each world read, wrote and executed, beside what it might have."""
+import re
+from bisect import bisect_left, bisect_right
+from collections import Counter, defaultdict
+from dataclasses import dataclass
+
+from rvlook.protocol import names
+from rvlook.access.accesses import accesses
+from rvlook.errors import WordsRefused
+from rvlook.access.map import Moment, moments
+from rvlook.access.ranges import NOTHING, Range
+from rvlook.protocol.run import Stretch
+from rvlook.output.printer import Style, end_object, end_text, hex8, run_object
+
+KINDS = {"r": "read", "w": "wrote", "x": "executed"}
+LEAST_SIZE = 4096
+BARE = "touch merges all modes of a bare image, and %s %s at step %d; map and trace tell each mode apart"
+
+
+@dataclass(frozen=True)
+class Kind:
+    """Accesses of a world of one kind, done or refused."""
+    world: str
+    kind: str
+    done: bool
+
+
+@dataclass(frozen=True)
+class Touched:
+    """Bytes within one symbol, and how many accesses there were."""
+    range: Range
+    symbol: str
+    count: int
+
+
+@dataclass(frozen=True)
+class Permitted:
+    """A range of the map, its kinds, how many bytes of it were touched by each kind, and the lowest and highest byte."""
+    what: str
+    range: Range
+    kinds: str
+    touched: dict
+    lowest: int
+    highest: int
+
+    @property
+    def enough(self):
+        """The least lawful size from the base of the range that has all that was touched."""
+        size = LEAST_SIZE
+        while self.lowest is not None and self.range.first + size <= self.highest:
+            size *= 2
+        return size
+
+
+class Touches:
+    """What a run touched: counts of accesses by their first byte and width."""
+
+    def __init__(self, run):
+        self.counts, self.permitted = defaultdict(Counter), defaultdict(list)
+        found, self.end = accesses(run)
+        for it, count in found.items():
+            self.counts[Kind(it.world, it.kind, it.done)][it.address, it.width] += count
+        for moment in moments(run):
+            if isinstance(moment, Moment):
+                self.allow(moment)
+
+    def allow(self, moment):
+        """What the map permits each world that runs."""
+        for column in (it for it in moment.columns if not it.derived):
+            self.permitted[column.world] += [(row.range, row.what, set("".join(row.may[column.name].values())) - {"-"})
+                                             for row in moment.rows]
+
+    def worlds(self):
+        return sorted({kind.world for kind in self.counts}, key=lambda it: (it != "host", it))
+
+    def ranges(self, kind, symbols):
+        """The bytes that were touched, in ranges within one symbol."""
+        found = []
+        for (address, width), count in sorted(self.counts[kind].items()):
+            name = symbols.function(address)
+            last = found[-1] if found else None
+            if last and last.symbol == name and address <= last.range.end:
+                found[-1] = Touched(Range(last.range.first, max(last.range.end, address + width)), name, last.count + count)
+            else:
+                found.append(Touched(Range(address, address + width), name, count))
+        return found
+
+    def bytes_of(self, world, kind):
+        """The bytes that a world touched, in rising order."""
+        return sorted({address + i for address, width in self.counts[Kind(world, kind, True)] for i in range(width)})
+
+    def permitted_rows(self, world):
+        """Beside what the map permitted a world at one time or another, what it touched there."""
+        touched = {kind: self.bytes_of(world, kind) for kind in KINDS}
+        for found, what, kinds in joined(self.permitted[world]):
+            inside = {kind: within(all_of, found) for kind, all_of in touched.items()}
+            every = [at for part in inside.values() for at in part]
+            yield Permitted(what, found, kinds, {kind: len(part) for kind, part in inside.items()}, min(every, default=None),
+                            max(every, default=None))
+
+    def executed(self, world):
+        """How many times each instruction was executed."""
+        return {address: count for (address, _), count in self.counts[Kind(world, "x", True)].items()}
+
+
+def joined(rows):
+    """Ranges that do not meet, of ranges that do: each with all its names and all its kinds, and none without a kind."""
+    cuts = sorted({at for it, _, _ in rows for at in (it.first, it.end)})
+    found = []
+    for first, end in zip(cuts, cuts[1:]):
+        over = [(what, kinds) for it, what, kinds in rows if it.first <= first < it.end]
+        what = ", ".join(sorted({what for what, _ in over} - {""}))
+        kinds = "".join(kind if any(kind in it for _, it in over) else "-" for kind in KINDS)
+        if found and found[-1][1:] == (what, kinds) and found[-1][0].end == first:
+            found[-1] = (Range(found[-1][0].first, end), what, kinds)
+        elif kinds != NOTHING:
+            found.append((Range(first, end), what, kinds))
+    return found
+
+
+def within(addresses, found):
+    """Those of the rising addresses that are in a range."""
+    return addresses[bisect_right(addresses, found.first - 1):bisect_right(addresses, found.end - 1)]
+
+
+def covered_functions(touches, world, symbols):
+    """Each symbol of which a world executed some, with its bytes and how many were executed."""
+    executed = Counter(symbols.at(address) for address in touches.executed(world))
+    executed.pop(None, None)
+    for symbol in sorted(executed, key=lambda it: it.address):
+        yield symbol, symbols.size_of(symbol), 4 * executed[symbol]
+
+
+def covered_lines(touches, world, symbols):
+    """Each source line of the functions of which a world executed some, with how many times its most executed instruction was."""
+    executed, counts = touches.executed(world), {}
+    addresses = sorted(executed)
+    for symbol, size, _ in covered_functions(touches, world, symbols):
+        first, end = symbol.address, symbol.address + size
+        counts.update((it, counts.get(it, 0)) for it in symbols.sources_in(first, end) if it)
+        for address in addresses[bisect_left(addresses, first):bisect_left(addresses, end)]:
+            source = symbols.source(address)
+            if source and (address - first) % 4 == 0:
+                counts[source] = max(executed[address], counts.get(source, 0))
+    return sorted(counts.items(), key=lambda it: place_of(it[0]))
+
+
+def place_of(source):
+    """The file and the line number of a source line. The file's name may have a colon."""
+    name, number = source.rsplit(":", 1)
+    return name, int(number)
+
+
+def by_file(lines):
+    """Of each file how many of its lines were executed, how many there are, and the numbers of the others."""
+    files = defaultdict(list)
+    for source, count in lines:
+        name, number = place_of(source)
+        files[name].append((str(number), count))
+    for name, found in files.items():
+        yield name, sum(count > 0 for _, count in found), len(found), [number for number, count in found if not count]
+
+
+MODE = re.compile(rb"mode=([SU])")
+
+
+def refuse_modes(run):
+    """Refuses a bare run that enters S or U, or that writes a PMP register: who may touch what is then another for each mode, and at one time
+    than at another, and `touch` has one world for all of it."""
+    for item in () if run.setup.monitor else run.stretches():
+        found = MODE.search(item.data) if isinstance(item, Stretch) else None
+        if found:
+            step, what = item.first + item.data.count(b"\n", 0, found.start()), "enters mode " + found[1].decode()
+            raise WordsRefused(BARE % (run.setup.image.name, what, step))
+    for moment in () if run.setup.monitor else moments(run):
+        if isinstance(moment, Moment) and moment.step:
+            raise WordsRefused(BARE % (run.setup.image.name, "writes a PMP register", moment.step))
+
+
+def show_touch(run, symbols, printer):
+    """All of it, world by world."""
+    refuse_modes(run)
+    touches = Touches(run)
+    if printer.as_json:
+        run_object(printer, run, symbols)
+    for world in touches.worlds():
+        (world_objects if printer.as_json else world_text)(touches, world, symbols, printer)
+    (end_object(printer, touches.end) if printer.as_json else end_text(printer, touches.end, symbols))
+
+
+def all_touched(touches, world, symbols):
+    """All ranges that a world touched, each with its kind."""
+    kinds = [Kind(world, kind, done) for kind in KINDS for done in (True, False)]
+    return [(kind, it) for kind in kinds for it in touches.ranges(kind, symbols)]
+
+
+def world_objects(touches, world, symbols, printer):
+    for kind, it in all_touched(touches, world, symbols):
+        printer.object("touched", world=world, kind=kind.kind, first=hex8(it.range.first), last=hex8(it.range.end - 1),
+                       symbol=it.symbol, count=it.count, done=kind.done)
+    permitted_objects(touches, world, printer)
+    covered_objects(touches, world, symbols, printer)
+
+
+def permitted_objects(touches, world, printer):
+    for it in touches.permitted_rows(world):
+        printer.object("permitted", world=world, what=it.what, first=hex8(it.range.first), last=hex8(it.range.end - 1),
+                       kinds=it.kinds, size=it.range.end - it.range.first, touched=it.touched, lowest=hex8(it.lowest),
+                       highest=hex8(it.highest), enough=it.enough)
+
+
+def covered_objects(touches, world, symbols, printer):
+    functions = [dict(name=symbol.name, first=hex8(symbol.address), size=size, executed=executed)
+                 for symbol, size, executed in covered_functions(touches, world, symbols)]
+    lines = [dict(source=source, count=count) for source, count in covered_lines(touches, world, symbols)]
+    for kind, members in [("function", it) for it in functions] + [("line", it) for it in lines]:
+        printer.object(kind, world=world, **members)
+
+
+def world_text(touches, world, symbols, printer):
+    printer.line(printer.styled(world, Style.heading))
+    lines = [touched_text(kind, it) for kind, it in all_touched(touches, world, symbols)]
+    lines += ["  %-16s %s" % ("permitted", permitted_text(it)) for it in touches.permitted_rows(world)]
+    lines += ["  %-16s %8d of %6d bytes  %s" % ("covered", executed, size, symbol.name)
+              for symbol, size, executed in covered_functions(touches, world, symbols)]
+    lines += ["  %-16s %8d of %6d lines  %s%s" % ("covered", done, count, name, ", not " + " ".join(missed) if missed else "")
+              for name, done, count, missed in by_file(covered_lines(touches, world, symbols))]
+    for line in lines + [""]:
+        printer.line(line)
+
+
+def touched_text(kind, it):
+    """A range that was touched."""
+    what = KINDS[kind.kind] + ("" if kind.done else ", refused")
+    return "  %-16s %08x-%08x %7d  %s" % (what, it.range.first, it.range.end - 1, it.count, it.symbol or "")
+
+
+def permitted_text(it):
+    """A range that was permitted, and how much of it was used."""
+    size = it.range.end - it.range.first
+    used = "  ".join("%s %d" % (kind, it.touched[kind]) for kind in it.kinds if kind != "-") if it.lowest is not None else "nothing"
+    text = "%08x-%08x %7s  %s  %s" % (it.range.first, it.range.end - 1, names.size_text(size), it.kinds, used)
+    if it.what and it.lowest is not None and it.enough < size:
+        return "%s  %s, of which %s is enough" % (text, it.what, names.size_text(it.enough))
+    return text + ("  " + it.what if it.what else "")

@@ -1,0 +1,104 @@
+"""What each subcommand does with its arguments."""
+from rvlook.access.lcov import show_lcov
+from rvlook.access.map_text import show_map
+from rvlook.access.stack import overflow_text, overflows
+from rvlook.access.touch import show_touch
+from rvlook.finders.leak_text import show_leak
+from rvlook.finders.races.text import show_races
+from rvlook.finders.timer import show_timer
+from rvlook.finders.window import show_window
+from rvlook.gdb.server import serve_gdb
+from rvlook.image.measure import show_measure
+from rvlook.page import page
+from rvlook.prompt.explain import show_explain
+from rvlook.prompt.prompt import show_prompt
+from rvlook.trace.spike import show_spike
+from rvlook.trace.text import Filter, show_trace
+from rvlook.cli.opening import opened, opened_monitored, refuse_empty_part, refuse_json, setup_of
+from rvlook.errors import Fault, WordsRefused, tell
+from rvlook.output.printer import Printer
+from rvlook.protocol.lines import no_symbol
+
+
+def report_overflows(arguments, run, symbols):
+    """Reports each stack that the run uses outside its range; it is a finding."""
+    for it in overflows(run, symbols):
+        tell(overflow_text(it, symbols))
+        arguments.findings.add("stack", overflow_text(it, symbols))
+
+
+def do_map(arguments):
+    if arguments.brief:
+        refuse_json(arguments, "--brief")
+    run, symbols, printer = opened(arguments)
+    show_map(run, symbols, printer, arguments.brief)
+    report_overflows(arguments, run, symbols)
+
+
+def do_trace(arguments):
+    refuse_empty_part(arguments, 1)
+    if arguments.format == "spike":
+        refuse_json(arguments, "--format spike")
+    run, symbols, printer = opened(arguments)
+    if arguments.function and arguments.function not in symbols.by_name:
+        raise Fault(no_symbol(arguments.function, symbols))
+    wanted = Filter(arguments.first, arguments.last, arguments.world, arguments.function, arguments.traps)
+    if arguments.format == "spike":
+        show_spike(run, wanted, printer)
+    else:
+        show_trace(run, symbols, printer, wanted, arguments.short)
+    report_overflows(arguments, run, symbols)
+
+
+def do_touch(arguments):
+    if arguments.lcov:
+        refuse_json(arguments, "--lcov")
+        show_lcov(*opened(arguments), [it for it in (arguments.symbols, arguments.image) if it])
+    else:
+        run, symbols, printer = opened(arguments)
+        show_touch(run, symbols, printer)
+        report_overflows(arguments, run, symbols)
+
+
+def do_leak(arguments):
+    refuse_empty_part(arguments, 1)
+    if arguments.tries is not None and arguments.first > arguments.tries:
+        raise WordsRefused("--from %d is after --tries %d" % (arguments.first, arguments.tries))
+    show_leak(*opened_monitored(arguments), arguments)
+
+
+def do_window(arguments):
+    if arguments.public and not arguments.at:
+        raise WordsRefused("--public needs --at PLACE, which says what the secret is")
+    show_window(*opened_monitored(arguments), arguments)
+
+
+def do_timer(arguments):
+    show_timer(*opened_monitored(arguments), arguments)
+
+
+def do_races(arguments):
+    refuse_empty_part(arguments, 0)
+    show_races(*opened(arguments), arguments)
+
+
+def do_measure(arguments):
+    numbers = (arguments.base, arguments.size, arguments.window, arguments.window_size, arguments.entry)
+    show_measure(arguments.file, numbers, arguments.symbols, Printer(arguments.json))
+
+
+def do_prompt(arguments):
+    show_prompt(*opened(arguments))
+
+
+def do_gdb(arguments):
+    setup = setup_of(arguments)
+    serve_gdb(setup, lambda: setup.symbols, arguments.port, arguments.allow_files, arguments.command_line)
+
+
+def do_explain(arguments):
+    show_explain(arguments.input, arguments.words, Printer(arguments.json), arguments.findings)
+
+
+def do_page(arguments):
+    page.main(arguments)

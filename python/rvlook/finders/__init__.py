@@ -1,0 +1,1 @@
+"""Finders: `leak`, `timer`, `window`, and `races` in its own subpackage."""

@@ -1,0 +1,204 @@
+"""The word leak: runs that differ in a secret of an enclave alone; where they part, in what a host can see or time while the enclave runs and
+when it leaves: where each step is, how many there are, the addresses of loads and stores, the operands of divisions where that is asked
+for, the answers, and the window. Where two runs go different ways they are compared from where they come together again."""
+from array import array
+from bisect import bisect_left
+from collections import defaultdict
+from contextlib import closing
+from dataclasses import dataclass
+from typing import Optional
+
+from rvlook.errors import Fault, Unfinished
+from rvlook.finders.secrets import place_and_size
+from rvlook.access.activations import Stays
+
+PARTS = ("pc", "steps", "address", "operand", "answer", "window")
+SAME, FAR = 4, 4096  # so many steps alike, and two runs are together again; looked for within so many steps
+
+
+@dataclass
+class Apart:
+    """Where two runs part: in what, at which step of each first, with what values, the instruction that made it, and how many times there."""
+    what: str
+    steps: tuple
+    values: tuple
+    pc: Optional[int] = None
+    count: int = 1
+
+
+@dataclass
+class Seen:
+    """One run from where the secret is put: the enclave's stays, and the step that is its last."""
+    run: object
+    stays: list
+    last: int
+    is_cut: bool = False  # by --steps, before the enclave exited
+
+
+@dataclass(frozen=True)
+class Public:
+    """What may differ: the answer, bytes of the window, and what instructions of a range make."""
+    answer: bool = False
+    ranges: tuple = ()
+
+    def has(self, address):
+        return any(at <= address < at + count for at, count in self.ranges)
+
+
+def public_of(texts, symbols):
+    """What --public names."""
+    found = [it for it in texts or () if it != "answer"]
+    return Public("answer" in (texts or ()), tuple((at, count or 4) for at, count in (place_and_size(it, symbols) for it in found)))
+
+
+def seen(run, secret, is_strict):
+    """What a host sees of the slot's enclave, until it exits."""
+    found, stays = [], Stays(run, secret.step, is_strict)
+    with closing(stays.all()) as every:
+        for stay in every:
+            if stay.slot == secret.slot:
+                found.append(stay)
+                if stay.left == "exit":
+                    return Seen(run, found, stay.last)
+    if not found:
+        raise Unfinished("the enclave of slot %d is never entered after step %d, from which on runs are compared" % (secret.slot, secret.step))
+    return Seen(run, found, stays.end.steps, stays.end.why == "limit" and found[-1].left == "nothing")
+
+
+class Comparison:
+    """Two runs; `found` has where they part, by the part and the instruction."""
+
+    def __init__(self, one, two, secret, public, is_strict):
+        self.one, self.two, self.secret, self.public, self.is_strict, self.found, self.writers = one, two, secret, public, is_strict, {}, {}
+        for pair in zip(one.stays, two.stays):
+            self.ways(*pair)
+            self.leaves(*pair)
+        if one.last != two.last:
+            self.add("steps", (one.last, two.last), (one.last, two.last))
+        if len(one.stays) != len(two.stays) and not any(it.what == "answer" for it in self.found.values()):
+            self.add("answer", (one.last, two.last), tuple("%d leaves" % len(it.stays) for it in (one, two)))
+
+    def parts(self):
+        return [it for it in PARTS if any(found.what == it for found in self.found.values())]
+
+    def all(self):
+        return sorted(self.found.values(), key=lambda it: (PARTS.index(it.what), it.steps))
+
+    def add(self, what, steps, values, pc=None):
+        """A difference, or one more where there was such."""
+        if pc is not None and self.public.has(pc):
+            return
+        old = self.found.setdefault((what, pc), Apart(what, steps, values, pc, 0))
+        old.count += 1
+
+    def ways(self, one, two):
+        """Step by step, and from where two ways come together again."""
+        theirs = dict(zip(two.did_at, two.did))
+        x = y = 0
+        while x < len(one.pcs) and y < len(two.pcs):
+            same = alike(one, x, two, y)
+            for place in range(bisect_left(one.did_at, x), bisect_left(one.did_at, x + same)):
+                other = theirs.get(one.did_at[place] - x + y)
+                if other is not None:
+                    self.access(one.did[place], other, one.enclave)
+            x, y = x + same, y + same
+            if x == len(one.pcs) and y == len(two.pcs):
+                return
+            x, y = self.diverge(one, x, two, y, theirs)
+
+    def diverge(self, one, x, two, y, theirs):
+        """Adds the step by which two ways diverge before x and y; returns where they are compared again. At the same pc that step is the
+        next one, which traps in one run and not, or otherwise, in the other. Its access is compared too."""
+        if x < len(one.pcs) and y < len(two.pcs) and one.pcs[x] == two.pcs[y]:
+            mine, other = did_at(one, x), theirs.get(y)
+            if mine and other:
+                self.access(mine, other, one.enclave)
+            self.add("pc", (one.steps[x], two.steps[y]), (), one.pcs[x] & -4)
+            x, y = x + 1, y + 1
+            return (x, y) if one.pcs[x:x + 1] == two.pcs[y:y + 1] else together(one, x, two, y)
+        steps = (one.steps[x - 1], two.steps[y - 1]) if x else (one.first, two.first)
+        self.add("pc", steps, (), one.pcs[max(0, x - 1)] & -4)
+        return together(one, x, two, y)
+
+    def access(self, mine, theirs, enclave):
+        """What two steps did that were at the same place."""
+        steps = mine.step, theirs.step
+        if mine.kind == "d":
+            if mine.values != theirs.values:
+                self.add("operand", steps, tuple("%08x and %08x" % it.values for it in (mine, theirs)), mine.pc)
+        elif mine.address != theirs.address:
+            self.add("address", steps, tuple((it.kind, it.address) for it in (mine, theirs)), mine.pc)
+        elif mine.kind == "w" and mine.values != theirs.values and self.is_shown(mine, enclave):
+            self.add("window", steps, tuple((it.address, bytes(it.values)) for it in (mine, theirs)), mine.pc)
+
+    def is_shown(self, it, enclave):
+        """Whether a store is to a byte of the window that may not differ."""
+        places = range(it.address, it.address + it.width)
+        return any(enclave.window <= at < enclave.window + enclave.window_size and not self.public.has(at) for at in places)
+
+    def leaves(self, one, two):
+        """The answer and the window when the enclave leaves."""
+        if not self.public.answer and (one.left, one.answer) != (two.left, two.answer):
+            self.add("answer", (one.last, two.last), tuple((it.left, *it.answer) for it in (one, two)), one.pc)
+        self.writers.update(writers_of(one, two))
+        if one.after != two.after:
+            base, writers, told = one.enclave.window, self.writers, {pc for what, pc in self.found if what == "window"}
+            for at, (x, y) in enumerate(zip(one.after, two.after)):
+                pc = writers.get(base + at, one.pc)
+                if x != y and not self.public.has(base + at) and pc not in told:
+                    self.add("window", (one.last, two.last), ((base + at, bytes([x])), (base + at, bytes([y]))), pc)
+
+
+def did_at(stay, place):
+    """Returns what the step at a place of the stay did, or None."""
+    at = bisect_left(stay.did_at, place)
+    return stay.did[at] if stay.did_at[at:at + 1] == array("I", [place]) else None
+
+
+def writers_of(one, two):
+    """The instruction that stored each byte last, in either run."""
+    found = {}
+    for stay in (two, one):
+        for it in stay.did:
+            if it.kind == "w" and it.done:
+                found.update((it.address + n, it.pc) for n in range(it.width))
+    return found
+
+
+def alike(one, x, two, y):
+    """How many steps from these on are at the same places, in the same modes, with the same traps."""
+    count, most = 0, min(len(one.pcs) - x, len(two.pcs) - y)
+    if one.pcs[x:x + most] == two.pcs[y:y + most]:
+        count = most
+    else:
+        part = 1
+        while one.pcs[x + count:x + count + part] == two.pcs[y + count:y + count + part]:
+            count, part = count + part, 2 * part
+        while part:
+            if count + part <= most and one.pcs[x + count:x + count + part] == two.pcs[y + count:y + count + part]:
+                count += part
+            part //= 2
+    trapped = {n - x for n in one.traps if x <= n < x + count} | {n - y for n in two.traps if y <= n < y + count}
+    return min((n for n in trapped if one.traps.get(x + n) != two.traps.get(y + n)), default=count)
+
+
+def together(one, x, two, y):
+    """Where two ways come together again: the fewest steps behind these, from which on some are alike; else the ends."""
+    places = defaultdict(list)
+    for n in range(y, min(y + FAR, len(two.pcs))):
+        places[two.pcs[n]].append(n)
+    best = None
+    for m in range(x, min(x + FAR, len(one.pcs))):
+        if best and m - x > best[0]:
+            break
+        for n in places.get(one.pcs[m], ()):
+            cost = m - x + n - y
+            if cost and (best is None or cost < best[0]) and one.pcs[m:m + SAME] == two.pcs[n:n + SAME]:
+                best = cost, m, n
+                break
+    return best[1:] if best else (len(one.pcs), len(two.pcs))
+
+
+def check_values(values):
+    if len(values[0]) != len(values[1]):
+        raise Fault("the two have not the same number of bytes")

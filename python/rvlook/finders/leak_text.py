@@ -1,0 +1,192 @@
+"""What the word leak tells: for a pair of secrets, or for each of many, in what the runs part, and where; for a person and as objects."""
+import time
+
+from rvlook.errors import Fault, WordsRefused
+from rvlook.finders.leak import PARTS, Comparison, check_values, public_of, seen
+from rvlook.finders.secrets import drawn, secret_of
+from rvlook.output.progress import Progress
+from rvlook.output.printer import Style, hex8, run_object
+
+WORDS = {"pc": "each step goes on at the same pc", "address": "each load and store is at the same address",
+         "operand": "each division has the same operands"}
+MOST_TRIES = 10  # numbers of pairs that are told
+
+
+class Leak:
+    """A run, its secret, and how it is compared."""
+
+    def __init__(self, run, symbols, printer, options):
+        self.run, self.symbols, self.printer, self.options, self.findings = run, symbols, printer, options, options.findings
+        self.public, self.is_strict = public_of(options.public, symbols), options.strict
+        self.parts = [it for it in PARTS if it != "operand" or self.is_strict]
+
+    def secret(self, size=None):
+        return secret_of(self.options.at, self.symbols, self.run, self.options.slot, size)
+
+    def seen(self, secret):
+        """The run with a secret."""
+        found = seen(self.run.with_lines(secret.step, secret.lines()), secret, self.is_strict)
+        if found.is_cut and not self.findings.cut:
+            self.findings.cut_short("--steps %d ends the run before the enclave of slot %d leaves" % (self.run.setup.limit, secret.slot))
+        return found
+
+    def compared(self, one, two, secret):
+        return Comparison(one, two, secret, self.public, self.is_strict)
+
+    def reply(self, run, step):
+        """What the bench replies to a step."""
+        with run.replay() as replay:
+            replay.go(step - 1)
+            return replay.go(step)[len("ran 1 "):]
+
+
+def show_leak(run, symbols, printer, options):
+    """One pair of secrets, or as many as are asked for."""
+    leak = Leak(run, symbols, printer, options)
+    if options.tries is not None:
+        show_tries(leak)
+        return
+    if len(options.secrets) != 2:
+        raise WordsRefused("leak compares two secrets, ONE and TWO, or draws them, --tries N; rvlook leak --help tells the words")
+    try:
+        values = [bytes.fromhex(text) for text in options.secrets]
+    except ValueError:
+        raise Fault("BYTES are pairs of hexadecimal digits") from None
+    check_values(values)
+    secret = leak.secret(len(values[0]))
+    secrets = [secret.with_bytes(it) for it in values]
+    with Progress() as progress:
+        progress.tell("the run with %s", values[0].hex())
+        one, two = (leak.seen(it) for it in secrets)
+    found = leak.compared(one, two, secret)
+    (pair_objects if printer.as_json else pair_text)(leak, secrets, (one, two), found)
+    for what in leak.parts:
+        leak.findings.add(what, "\n".join(heading_of(leak, it, secret) for it in found.all() if it.what == what))
+
+
+def show_tries(leak):
+    """Many secrets, each beside what stands there by itself."""
+    options, printer = leak.options, leak.printer
+    first = leak.secret()
+    own = first.with_bytes(first.bytes_in(leak.run))
+    values = drawn(len(own.bytes), options.seed, options.first, min(options.tries, options.last or options.tries))
+    if printer.as_json:
+        run_object(printer, leak.run, leak.symbols)
+    told, done, cut, base = {}, 0, False, None
+    until = None if options.seconds is None else time.monotonic() + options.seconds
+    try:
+        with Progress() as progress:
+            base = leak.seen(own)
+            for number, value in values:
+                other, two, found = try_pair(leak, own, base, number, value)
+                done += 1
+                if found.parts():
+                    told[number] = (other, two, found)
+                progress.bar(done, len(values), "%d told" % len(told))
+                if until is not None and time.monotonic() > until and done < len(values):
+                    leak.findings.cut_short("--seconds ends leak after %s of %d" % (pairs_text(done), len(values)))
+                    break
+    except KeyboardInterrupt:
+        cut = True
+    finish(leak, own, base, told, done)
+    if cut:
+        raise KeyboardInterrupt
+
+
+def try_pair(leak, own, base, number, value):
+    """Compares the run with a drawn value, or with another if that is the secret itself; notes what was found."""
+    other = own.with_bytes(value if value != own.bytes else bytes(it ^ 0xA5 for it in value))
+    two = leak.seen(other)
+    found = leak.compared(base, two, own)
+    parts, both = found.parts(), [own.bytes.hex(), other.bytes.hex()]
+    leak.findings.add("pair %d" % number, "%s and %s part in %s" % (*both, ", ".join(parts)) if parts else "")
+    if leak.printer.as_json:
+        leak.printer.object("try", number=number, slot=own.slot, at=own.text(), bytes=both, parts=parts)
+    return other, two, found
+
+
+def finish(leak, own, base, told, done):
+    """What the pairs told, and the first of them that did."""
+    printer = leak.printer
+    if printer.as_json:
+        printer.object("leak", parts=sorted({part for *_, found in told.values() for part in found.parts()}, key=PARTS.index),
+                       pairs=done, told=sorted(told), compared=leak.parts)
+        return
+    if not told:
+        printer.line("alike for %s in %s" % (pairs_text(done), ", ".join(leak.parts)))
+        return
+    number = min(told)
+    other, two, found = told[number]
+    printer.line("pair %d of %d, the first that tells" % (number, done))
+    pair_text(leak, [own, other], (base, two), found)
+    numbers = ", ".join(map(str, sorted(told)[:MOST_TRIES])) + (", ..." if len(told) > MOST_TRIES else "")
+    parts = sorted({part for *_, it in told.values() for part in it.parts()}, key=PARTS.index)
+    printer.line("%d of %s told, in %s: %s" % (len(told), pairs_text(done), ", ".join(parts), numbers))
+
+
+def pairs_text(count):
+    return "1 pair" if count == 1 else "%d pairs" % count
+
+
+def place_text(pc, symbols):
+    """An instruction with its symbol and source line."""
+    return "  ".join(part for part in ("%08x" % pc, symbols.name(pc), symbols.line(pc)) if part)
+
+
+def values_of(leak, it, both):
+    """The two values of a difference, in words."""
+    if it.what == "pc":
+        return [leak.reply(one.run, step) for one, step in zip(both, it.steps)]
+    if it.what == "address":
+        return ["%s %08x  %s" % (kind, at, leak.symbols.name(at) or "") for kind, at in it.values]
+    if it.what == "window":
+        return ["%08x is %s  %s" % (at, value.hex(), leak.symbols.name(at) or "") for at, value in it.values]
+    if it.what == "answer" and isinstance(it.values[0], tuple):
+        return ["%s a0=%08x a1=%08x" % value for value in it.values]
+    return list(it.values)
+
+
+def pair_text(leak, secrets, both, comparison):
+    """Each part of one pair, with all places at which it parts."""
+    printer, first = leak.printer, secrets[0]
+    printer.line("e%d, from step %d on, with %s and with %s at %s  %s" % (
+        first.slot, first.step, secrets[0].bytes.hex(), secrets[1].bytes.hex(), first.text(), leak.symbols.name(first.at) or ""))
+    found = comparison.all()
+    alike = {**WORDS, "steps": "%d" % (both[0].last - first.step), "answer": "the same at %d leaves" % len(both[0].stays),
+             "window": "the same at each leave"}
+    for what in leak.parts:
+        entries = [it for it in found if it.what == what]
+        if not entries:
+            printer.line("  %-7s alike: %s" % (what, alike[what]))
+        for it in entries:
+            printer.line("  %-7s %s" % (what, printer.styled(apart_text(leak, it, first, both), Style.bad)))
+    parts = comparison.parts()
+    printer.line("they part in " + ", ".join(parts) if parts else "alike for 1 pair in " + ", ".join(leak.parts))
+
+
+def heading_of(leak, it, secret):
+    """In what two runs part, and where."""
+    if it.what == "steps":
+        return "apart: %d and %d" % tuple(step - secret.step for step in it.steps)
+    step = "step %d" % it.steps[0] if it.steps[0] == it.steps[1] else "steps %d and %d" % it.steps
+    times = ", %d times" % it.count if it.count > 1 else ""
+    where = ", " + place_text(it.pc, leak.symbols) if it.pc is not None else ""
+    return "apart at %s%s%s" % (step, where, times)
+
+
+def apart_text(leak, it, secret, both):
+    """The same, with both values."""
+    values = () if it.what == "steps" else values_of(leak, it, both)
+    return heading_of(leak, it, secret) + "".join("\n          " + value.rstrip() for value in values)
+
+
+def pair_objects(leak, secrets, both, comparison):
+    printer, first, symbols = leak.printer, secrets[0], leak.symbols
+    run_object(printer, leak.run, symbols)
+    printer.object("secret", slot=first.slot, at=first.text(), step=first.step, bytes=[it.bytes.hex() for it in secrets])
+    for it in comparison.all():
+        values = list(it.values) if it.what == "steps" else [value.rstrip() for value in values_of(leak, it, both)]
+        printer.object("apart", what=it.what, step=list(it.steps), values=values, pc=hex8(it.pc), count=it.count,
+                       symbol=it.pc and symbols.name(it.pc), source=it.pc and symbols.source(it.pc))
+    printer.object("leak", parts=comparison.parts(), steps=[it.last - first.step for it in both], leaves=[len(it.stays) for it in both],
+                   compared=leak.parts, pairs=1)

@@ -1,0 +1,168 @@
+"""What tells the ends of races apart, and what is forbidden of them: bytes, registers, the states of enclaves."""
+import operator
+import re
+from typing import NamedTuple
+
+from rvlook.protocol import names
+from rvlook.errors import Fault
+from rvlook.protocol.lines import no_symbol
+from rvlook.finders.races.machine import operands
+from rvlook.protocol.replies import enclave_of
+from rvlook.output.printer import hex8
+
+OPERATORS = {"==": operator.eq, "!=": operator.ne, "<=": operator.le, ">=": operator.ge, "<": operator.lt, ">": operator.gt}
+CONDITION = re.compile(r"\s*([^\s=!<>]+)\s*(==|!=|<=|>=|<|>)\s*([^\s=!<>]+)\s*\Z")
+HOW = {"stays": "stays", "waits": "waits", "livelock": "goes on", "unended": "has not ended"}
+WORD_BYTES = 4
+
+
+class Bytes(NamedTuple):
+    """So many bytes at an address."""
+    name: str
+    at: int
+    count: int
+
+    def value_in(self, machine, _state, memory):
+        return bytes(machine.bytes_at(memory, self.at, self.count) or ())
+
+
+class Register(NamedTuple):
+    """A register of a hart."""
+    name: str
+    hart: int
+    number: int
+
+    def value_in(self, machine, state, _memory):
+        return machine.harts[state.harts[self.hart]][2][self.number]
+
+
+class Slot(NamedTuple):
+    """The state of a slot's enclave."""
+    name: str
+    slot: int
+
+    def value_in(self, machine, state, _memory):
+        return states_of(machine, state).get(self.slot, "none")
+
+
+class Table(NamedTuple):
+    """The states of all enclaves."""
+    name: str = "enclaves"
+
+    def value_in(self, machine, state, _memory):
+        return tuple(sorted(states_of(machine, state).items()))
+
+
+class Watched(NamedTuple):
+    """The bytes and the registers, each with its hart, that distinguish final states."""
+    addresses: frozenset = frozenset()
+    registers: frozenset = frozenset()
+
+    def may_change(self, hart, look):
+        """Returns whether a step of a hart may change one of them."""
+        if look.kind in ("call", "timer"):
+            return True
+        if look.kind == "w":
+            return not self.addresses.isdisjoint(range(look.at, look.at + look.width))
+        word = look.key[2]
+        return word is not None and (hart, operands(word)[0]) in self.registers
+
+
+def watched_of(outcome):
+    """Returns what the steps of a hart may change of an outcome."""
+    return Watched(frozenset(at for it in outcome if isinstance(it, Bytes) for at in range(it.at, it.at + it.count)),
+                   frozenset((it.hart, it.number) for it in outcome if isinstance(it, Register)))
+
+
+class Condition(NamedTuple):
+    """Comparisons that are forbidden together: of each the name, the operator and the value; or how a hart must not end."""
+    text: str
+    parts: tuple
+    how: str = ""
+
+    def holds(self, end, names_of):
+        """Whether an end is as it must not be."""
+        if self.how:
+            return any(how == self.how for how, _ in end.harts)
+        values = dict(zip(names_of, end.values))
+        return bool(values) and all(OPERATORS[compared](number_of(values[name]), value) for name, compared, value in self.parts)
+
+
+def states_of(machine, state):
+    return {it.slot: it.state for it in map(enclave_of, machine.tables[state.table][0])}
+
+
+def number_of(value):
+    """A value as it is compared: bytes are a number, the lowest byte first."""
+    return int.from_bytes(value, "little") if isinstance(value, bytes) else value
+
+
+def value_text(value):
+    """A value as it is shown: a small number decimal, a larger one in hexadecimal digits."""
+    if isinstance(value, tuple):
+        return " ".join("e%d %s" % it for it in value) or "none"
+    if isinstance(value, str):
+        return value
+    size = len(value) if isinstance(value, bytes) else WORD_BYTES
+    if size not in (1, 2, WORD_BYTES):
+        return value.hex()
+    number = number_of(value)
+    return "%d" % number if number < 65536 else "%0*x" % (2 * size, number)
+
+
+def outcome_of(text, symbols, harts):
+    """What --outcome names: PLACE or PLACE:BYTES, HART.REGISTER, a slot, or enclaves."""
+    hart, dot, register = text.partition(".")
+    if text == "enclaves":
+        return Table()
+    if re.fullmatch(r"e([0-9]|1[0-2])", text) and text not in symbols.by_name:
+        return Slot(text, int(text[1:]))
+    if dot and hart in map(str, range(harts)) and register in names.NUMBER_OF:
+        return Register(text, int(hart), names.NUMBER_OF[register])
+    place, _, count = text.partition(":")
+    at, symbol = symbols.address(place), symbols.by_name.get(place)
+    if at is None:
+        raise Fault("--outcome is PLACE or PLACE:BYTES, HART.REGISTER, enclaves or one, as e0: %s" % no_symbol(place, symbols))
+    if count and not count.isdigit():
+        raise Fault("--outcome PLACE:BYTES has a decimal number of bytes, and not %s" % count)
+    return Bytes(text, at, int(count or (symbol and symbol.size) or WORD_BYTES))
+
+
+def condition_of(text, symbols):
+    """What --forbid says: comparisons joined by and; or stays, waits, livelock, unended."""
+    if text.strip() in HOW:
+        return Condition(text, (), HOW[text.strip()])
+    parts = [CONDITION.match(it) for it in re.split(r"\band\b", text)]
+    if None in parts:
+        raise Fault("--forbid is NAME OPERATOR VALUE, joined by and, or one of %s; and not %s" % (", ".join(HOW), text))
+    return Condition(text, tuple((it[1], it[2], compared_with(it[1], it[3], symbols)) for it in parts))
+
+
+def compared_with(name, value, symbols):
+    """The value of a comparison: a number, decimal or after 0x, or a symbol's address; the state of an enclave."""
+    if re.fullmatch(r"e\d+", name) and name not in symbols.by_name:
+        return value
+    try:
+        return int(value, 0)
+    except ValueError:
+        at = symbols.address(value) if value in symbols.by_name else None
+        if at is None:
+            raise Fault("--forbid compares with a number, decimal or after 0x, or a symbol's address, and not with %s" % value) from None
+        return at
+
+
+def outcomes_of(texts, conditions, symbols, harts):
+    """What tells ends apart, with what is forbidden; none where all that both touch does."""
+    named = list(texts or ()) + [part[0] for it in conditions for part in it.parts]
+    return [outcome_of(it, symbols, harts) for it in dict.fromkeys(named)]
+
+
+def ranges_of(addresses, symbols):
+    """Addresses as bytes of one symbol each."""
+    found = []
+    for at in sorted(addresses):
+        if found and found[-1].at + found[-1].count == at and symbols.function(at) == symbols.function(found[-1].at):
+            found[-1] = found[-1]._replace(count=found[-1].count + 1)
+        else:
+            found.append(Bytes(symbols.name(at) or hex8(at), at, 1))
+    return found

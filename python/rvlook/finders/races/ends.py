@@ -1,0 +1,338 @@
+"""The final states that a search has found. Each is a strongly connected part of the graph of orders in which each hart can go on for ever
+within the part. A hart has ended if it accesses no memory there. If a hart goes on, its part has a final state for each set of values that
+holds again and again. Orders are counted over the parts: the rounds of an endless loop are left out."""
+from collections import defaultdict, deque
+from dataclasses import dataclass
+
+from rvlook.errors import Fault
+from rvlook.finders.races.search import Graph, way_of
+from rvlook.finders.races.loop import do_steps
+from rvlook.finders.races.machine import Work
+from rvlook.finders.races.time_limit import OutOfTime
+
+OVER, STAYS, WAITS, GOES_ON, LONG, LEFT = "over", "stays", "waits", "goes on", "has not ended", "is left"
+GRACE, SLACK = 0.01, 0.3  # beyond the time limit for the analysis and the replays: a share of it, and seconds
+
+
+@dataclass
+class End:
+    """A final state: for each hart how and where it ended, the values, the node with the simplest way, the schedule of a round from there,
+    how many orders end so, the state, and the schedule from the node to it if a hart goes on alone."""
+    harts: tuple
+    values: tuple
+    node: object
+    round: tuple
+    orders: int
+    state: object
+    tail: tuple = ()
+    number: int = 0
+
+    @property
+    def key(self):
+        return self.harts, self.values
+
+    @property
+    def steps(self):
+        """The steps of its schedule."""
+        return self.node.cost[3] + sum(steps for _, steps, _ in self.tail)
+
+    def way(self):
+        """The schedule that leads to it."""
+        return self.node.way() + list(self.tail)
+
+
+class Ends:
+    """All final states of a search. `orders` is how many orders there are in all; `are_hidden` says that values may be missing, since harts
+    go on that change the outcome by independent steps; `is_cut` that the time was over."""
+
+    def __init__(self, search, outcome):
+        self.search, self.machine, self.outcome, self.found, self.orders = search, search.machine, outcome, {}, 0
+        self.are_hidden = self.is_cut = False
+        try:
+            with search.limit.until(1 + GRACE, SLACK):
+                for graph in search.graphs():
+                    self.orders = 0
+                    for end in self.of_graph(graph):
+                        self.add(end)
+        except OutOfTime:
+            self.is_cut = True
+        self.ends = sorted(self.found.values(), key=lambda it: (it.node.cost, it.steps))
+        self.renumber()
+
+    def renumber(self):
+        """Numbers the final states from 1 on."""
+        for number, end in enumerate(self.ends, 1):
+            end.number = number
+
+    def keep(self, wanted):
+        """Leaves out all but these, as the time was over before they were replayed."""
+        self.is_cut = self.is_cut or len(wanted) < len(self.ends)
+        self.ends = [it for it in self.ends if it in wanted]
+        self.renumber()
+
+    def add(self, end):
+        """Final states that are reported alike are one, with the simplest way."""
+        old = self.found.setdefault(end.key, end)
+        if old is not end:
+            best = min(old, end, key=lambda it: (it.node.cost, it.steps))
+            best.orders = old.orders + end.orders
+            self.found[end.key] = best
+
+    def of_graph(self, graph):
+        """The final states of one round of the search."""
+        if self.search.bounds.preemptions is not None:
+            graph = counted(graph, self.search.bounds.preemptions)
+        found = Components(graph)
+        parts, place_of = found.parts, found.place_of
+        ways = ways_of(graph, parts, place_of)
+        for place, vertices in enumerate(parts):
+            part = Part(self.search, graph, vertices, place_of)
+            harts = part.ended()
+            if harts:
+                self.orders += ways[place]
+                yield from self.of_part(part, harts, ways[place])
+
+    def of_part(self, part, harts, orders):
+        """The final states of a part: one for each set of values, or one if the values are not known."""
+        over = tuple(part.over(hart) if how == OVER else (how, None) for hart, how in enumerate(harts))
+        vertex = part.vertices[0]
+        found = {(): (vertex, part.graph.nodes[vertex].place.state, ())}
+        if LEFT not in harts and (LONG not in harts or OVER in harts):
+            found, is_hidden = part.values(self.outcome)
+            self.are_hidden = self.are_hidden or is_hidden
+        goes_on = [hart for hart, how in enumerate(harts) if how in (WAITS, GOES_ON)]
+        for values, (vertex, state, tail) in found.items():
+            yield End(over, values, part.graph.nodes[vertex], part.round(vertex, state, goes_on, tail), orders, state, tail)
+
+
+class Part:
+    """A strongly connected part of the graph of orders, its vertices by cost."""
+
+    def __init__(self, search, graph, vertices, place_of):
+        self.search, self.machine, self.graph = search, search.machine, graph
+        self.vertices = sorted((it for it in vertices if it in graph.nodes), key=lambda it: graph.nodes[it].cost)
+        self.all = set(vertices)
+        self.moves = moves_inside(graph, vertices, place_of) if self.vertices else {}
+        self.state = graph.nodes[self.vertices[0]].place.state if self.vertices else None
+
+    def loop(self, hart):
+        """The endless loop of a hart that nobody can affect, or None."""
+        return self.graph.loops.get((self.state._replace(steps=()), hart))
+
+    def ended(self):
+        """How each hart ended here; None if a hart would go on to another part."""
+        if not self.vertices:
+            return None
+        is_still = not any(move.changes for moves in self.moves.values() for move in moves)
+        count = range(self.machine.count)
+        is_still = is_still and not any(loop and loop.changes for loop in map(self.loop, count))
+        is_given_up = any((self.state, hart) in self.graph.alone for hart in count)
+        harts = [self.how(hart, is_still, is_given_up) for hart in count]
+        return None if None in harts else tuple(harts)
+
+    def how(self, hart, is_still, is_given_up):
+        """How a hart ended here."""
+        state, graph, going = self.state, self.graph, WAITS if is_still else GOES_ON
+        if hart in self.moves:
+            return going if any(move.met.look and move.met.look.kind for move in self.moves[hart]) else OVER
+        if (state, hart) in graph.alone:
+            return LONG
+        if graph.moves.get((state, hart, False), self) is None:
+            if (state, hart) in graph.unended:
+                return LONG
+            return going if self.loop(hart) and self.loop(hart).accesses else OVER
+        return LEFT if is_given_up else None
+
+    def over(self, hart):
+        """Where a hart has ended; one that was to come to an end and did not stays there."""
+        machine, nodes = self.machine, self.graph.nodes
+        pc = min(machine.pc(nodes[it].place.state, hart) for it in self.vertices)
+        if hart in self.moves:
+            pc = min(pc, *(work.pc for work in self.alone(hart)))
+        return (STAYS if machine.ends and not machine.limit and pc not in machine.ends else OVER), pc
+
+    def alone(self, hart):
+        """A hart that goes on alone from the first state of the part until it comes back there; gives it after each step."""
+        work, loop = Work(self.machine, self.state, hart), self.loop(hart)
+        start = full_state(work)
+        most = loop.length if loop and hart not in self.moves else sum(move.steps for move in self.moves[hart])
+        for _ in do_steps(self.machine, work, most, lambda: self.graph.nodes[self.vertices[0]].way() + [(hart, work.done, "")]):
+            yield work
+            if full_state(work) == start:
+                return
+        raise Fault("hart %d does not come back to its state in an endless loop at %08x" % (hart, work.pc))
+
+    def values(self, outcome):
+        """Returns the sets of values that hold again and again, each with a vertex, the state and the schedule from the vertex to it; and
+        whether some may be missing."""
+        found, machine = {}, self.machine
+        for vertex in self.vertices:
+            state = self.graph.nodes[vertex].place.state
+            found.setdefault(values_in(machine, outcome, state), (vertex, state, ()))
+        if self.search.is_outcome_visible:
+            return found, False
+        loops = [it for it in range(machine.count) if it not in self.moves and self.loop(it) and len(self.values_alone(it, outcome)) > 1]
+        going = [*self.moves, *loops]
+        if len(going) == 1:
+            for values, place in self.values_alone(going[0], outcome).items():
+                found.setdefault(values, place)
+        return found, len(going) > 1 and any(self.search.is_hidden(hart) for hart in going)
+
+    def values_alone(self, hart, outcome):
+        """The sets of values while a hart goes on alone, as in `values`."""
+        found, state, watched = {values_in(self.machine, outcome, self.state): (self.vertices[0], self.state, ())}, None, self.search.outcome
+        if not watched.registers and not watched.addresses:
+            return found  # all of it is met, and each value has a node
+        last = None
+        for work in self.alone(hart):
+            now = work.digest, work.table, [work.registers[number] for of, number in watched.registers if of == hart]
+            if now != last:
+                state, last = work.kept(), now
+                found.setdefault(values_in(self.machine, outcome, state), (self.vertices[0], state, ((hart, work.done, ""),)))
+        return found
+
+    def round(self, vertex, state, harts, tail):
+        """The schedule of a round from a state and back, in which each of these harts moves."""
+        moving = [it for it in harts if it in self.moves]
+        if len(moving) == 1 and tail:
+            return ((moving[0], sum(1 for _ in self.alone(moving[0])), ""),)
+        if not moving and tail:
+            return ((tail[0][0], sum(1 for _ in self.alone(tail[0][0])), ""),)
+        return tuple(way_of((hart, move, False) for hart, move in round_of(self.graph, vertex, moving, self.all)))
+
+
+def values_in(machine, outcome, state):
+    """The values of an outcome in a state."""
+    memory = machine.memories[state.memory]
+    return tuple(it.value_in(machine, state, memory) for it in outcome)
+
+
+def full_state(work):
+    """All that may change in the steps of one hart."""
+    return work.pc, work.context, work.digest, work.table, work.host, tuple(work.registers)
+
+
+def search_ends(search, outcome_of):
+    """Searches, and returns the final states; `outcome_of` gives the outcome after a search. If two harts go on, and change the outcome by
+    independent steps, these steps become dependent ones, and it is searched again."""
+    search.run()
+    found = Ends(search, outcome_of(search))
+    if found.are_hidden and not search.why_cut:
+        search.show_outcome()
+        found = Ends(search.run(), outcome_of(search))
+    if found.are_hidden:
+        search.whole = None  # of no level are all values known
+    return found
+
+
+def moves_inside(graph, part, place_of):
+    """The moves of each hart that stay in a part."""
+    found = defaultdict(list)
+    for vertex in part:
+        for target, hart, move, _ in graph.edges.get(vertex, ()):
+            if place_of.get(target) == place_of[vertex]:
+                found[hart].append(move)
+    return found
+
+
+def counted(graph, bound):
+    """A graph whose vertices have the number of preemptions that came, up to the bound."""
+    new, start = Graph(), (next(iter(graph.nodes)), 0)
+    new.moves, new.loops, new.unended, new.alone = graph.moves, graph.loops, graph.unended, graph.alone
+    waiting = [start]
+    while waiting:
+        vertex = waiting.pop()
+        place, came = vertex
+        if place in graph.nodes and vertex not in new.nodes:
+            new.nodes[vertex] = graph.nodes[place]
+            new.edges[vertex] = [((target, came + more), hart, move, more) for target, hart, move, more in graph.edges.get(place, ())
+                                 if came + more <= bound]
+            waiting += [target for target, *_ in new.edges[vertex]]
+    return new
+
+
+def round_of(graph, vertex, moving, part):
+    """Moves from a vertex through its part and back, in which each of these harts moves."""
+    here = start = vertex
+    found = []
+    for hart in moving:
+        here, path = path_to(graph, here, part, lambda edge: edge[1] == hart)
+        found += path
+    if found and here != start:
+        found += path_to(graph, here, part, lambda edge: edge[0] == start)[1]
+    return tuple(found)
+
+
+def path_to(graph, here, part, is_wanted):
+    """The shortest path within a part whose last edge is a wanted one; where it leads, and its moves."""
+    waiting, seen = deque([(here, ())]), {here}
+    while True:
+        vertex, path = waiting.popleft()
+        for edge in graph.edges.get(vertex, ()):
+            target, hart, move, _ = edge
+            if target in part:
+                if is_wanted(edge):
+                    return target, (*path, (hart, move))
+                if target not in seen:
+                    seen.add(target)
+                    waiting.append((target, (*path, (hart, move))))
+
+
+class Components:
+    """The strongly connected parts of the graph, each behind those that it leads to (Tarjan), and for each vertex the place of its part."""
+
+    def __init__(self, graph):
+        self.graph, self.number, self.low, self.stack, self.on_stack, self.parts, self.place_of = graph, {}, {}, [], set(), [], {}
+        for root in list(graph.nodes):
+            if root not in self.number:
+                self.walk(root)
+
+    def enter(self, vertex, work):
+        self.number[vertex] = self.low[vertex] = len(self.number)
+        self.stack.append(vertex)
+        self.on_stack.add(vertex)
+        work.append((vertex, iter(self.graph.edges.get(vertex, ()))))
+
+    def walk(self, root):
+        """All that a vertex leads to."""
+        work = []
+        self.enter(root, work)
+        while work:
+            vertex, edges = work[-1]
+            for target, *_ in edges:
+                if target not in self.number:
+                    self.enter(target, work)
+                    break
+                if target in self.on_stack:
+                    self.low[vertex] = min(self.low[vertex], self.number[target])
+            else:
+                work.pop()
+                self.leave(vertex, work)
+
+    def leave(self, vertex, work):
+        """A vertex all of whose edges were followed: its part is whole where it leads no further back."""
+        if work:
+            above = work[-1][0]
+            self.low[above] = min(self.low[above], self.low[vertex])
+        if self.low[vertex] == self.number[vertex]:
+            part = [self.stack.pop()]
+            while part[-1] != vertex:
+                part.append(self.stack.pop())
+            self.on_stack.difference_update(part)
+            self.place_of.update(dict.fromkeys(part, len(self.parts)))
+            self.parts.append(part)
+
+
+def ways_of(graph, parts, place_of):
+    """For each part in how many ways it is come to from the start."""
+    if not graph.nodes:
+        return {}
+    ways, start = defaultdict(int), next(iter(graph.nodes))
+    ways[place_of[start]] = 1
+    for place in range(len(parts) - 1, -1, -1):
+        if ways[place]:
+            for vertex in parts[place]:
+                for target, *_ in graph.edges.get(vertex, ()):
+                    if place_of[target] != place:
+                        ways[place_of[target]] += ways[place]
+    return ways

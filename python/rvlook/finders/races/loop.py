@@ -1,0 +1,69 @@
+"""Endless loops in which no other hart can affect a hart: how they are detected, and which of their states represents them."""
+from typing import NamedTuple
+
+from rvlook.errors import Fault
+from rvlook.finders.races.machine import Work, digest_of
+
+
+class Loop(NamedTuple):
+    """What a hart does in an endless loop: whether it accesses memory, whether it changes memory, and its steps."""
+    accesses: bool
+    changes: bool
+    length: int
+
+
+class LoopDetector:
+    """Detects that a hart returns to an earlier state; compares with single states at ever larger distances (Brent's algorithm)."""
+
+    def __init__(self):
+        self.mark, self.marked, self.count, self.next = None, 0, 0, 1
+
+    def length(self, work):
+        """Returns the steps of the loop, or 0 while none is detected; to be called before each step."""
+        if self.mark and work.pc == self.mark[0] and state_of(work) == self.mark:
+            return self.count + 1 - self.marked
+        self.count += 1
+        if self.count == self.next:
+            self.mark, self.marked, self.next = state_of(work), self.count, 2 * self.next
+        return 0
+
+
+def state_of(work):
+    """Returns all that may change in a hart's independent steps."""
+    return work.pc, work.context, work.digest, tuple(work.registers)
+
+
+def do_steps(machine, work, count, way):
+    """Does so many steps of a hart; yields the access of each after it."""
+    for _ in range(count):
+        look = machine.look(work)
+        machine.step(work, look, way)
+        yield look
+
+
+def loop_of(machine, work, length, way):
+    """Goes through a loop twice; returns what the hart does in it, and the state that represents the loop. This is the least by pc,
+    registers and the bytes that the loop itself stores, so that it does not depend on what other harts store meanwhile."""
+    digest, accesses, changes, stored = work.digest, False, False, set()
+    for look in do_steps(machine, work, length, way):
+        accesses, changes = accesses or bool(look.kind), changes or work.digest != digest
+        if look.kind == "w":
+            stored.update(range(look.at, look.at + look.width))
+    rest = work.digest
+    for at in stored.intersection(work.memory):
+        rest ^= digest_of(at, work.memory[at])
+    states = []
+    for _ in do_steps(machine, work, length, way):
+        states.append((work.pc, tuple(work.registers), work.digest ^ rest, work.context))
+    pc, registers, own, context = min(states)
+    return Loop(accesses, changes, length), (pc, context, own ^ rest, registers)
+
+
+def first_arrival(machine, state, work, wanted, first):
+    """Returns the hart where it first comes to the state `wanted` of its loop, after `first` steps or more. `work` has been there."""
+    again, most = Work(machine, state, work.hart), work.done
+    while again.done < first or state_of(again) != wanted:
+        if again.done > most:
+            raise Fault("hart %d does not come back to the loop that was detected at %08x" % (work.hart, work.pc))
+        machine.step(again, machine.look(again), lambda: [])
+    return again

@@ -1,0 +1,105 @@
+"""An end of races is told once its schedule was done again on the bench, and all that the bench shows is as it was worked out: registers,
+control registers, modes and worlds, entries, the table, and each byte of RAM. And the schedule as an input of the bench."""
+import os
+
+from rvlook.protocol.bench_line import ended
+from rvlook.image.escapes import visible
+from rvlook.errors import Fault
+from rvlook.finders.outcomes import Bytes, Register
+from rvlook.finders.races.machine import ROW, commands_of
+from rvlook.protocol.replies import ran_of
+from rvlook.image.symbols import RAM_BASE
+
+LONGEST_COMMENT = 118  # characters behind `# `
+
+
+class Replays:
+    """Does schedules again, and compares; `rows` are the replies of `mem` for all RAM behind the script."""
+
+    def __init__(self, machine):
+        self.machine, self.rows = machine, None
+        count = machine.setup.ram // ROW
+        self.question = "".join("mem %x %d\n" % (RAM_BASE + ROW * row, ROW) for row in range(count)).encode()
+        self.count = count
+
+    def ram(self, bench):
+        """All rows of RAM."""
+        return bench.block(self.question, self.count).decode().splitlines()
+
+    def check(self, end):
+        """A Fault where the bench comes otherwise; the round that stands behind the schedule is done twice."""
+        machine, state = self.machine, end.state
+        with machine.at_start() as bench:
+            if self.rows is None:
+                self.rows = self.ram(bench)
+            self.done(bench, end, commands_of(end.way(), machine.count), state)
+            for _ in range(2 if end.round else 0):
+                self.done(bench, end, commands_of(end.round, machine.count), state)
+
+    def done(self, bench, end, commands, state):
+        """Does commands, and compares what they came to."""
+        machine, chosen, told = self.machine, 0, {}
+        for command, replies in zip(commands, bench.ask(*commands)):
+            chosen = int(command[5:]) if command.startswith("hart ") else chosen
+            if command.startswith("step"):
+                ran = ran_of(replies[0])
+                told[chosen] = ran.mode, ran.world
+        for hart in range(machine.count):
+            replies = bench.ask(*machine.choose(hart), "regs", *machine.rest)[1:]
+            registers = tuple(int(it.split("=")[1], 16) for it in replies[0])
+            own, (_, pc, kept) = machine.own(state, hart), machine.harts[state.harts[hart]]
+            rest = tuple(it.encode() for reply in replies[1:] for it in reply)
+            self.expect(end, (registers, rest), ((*kept, pc), own.csrs))
+            self.expect(end, told.get(hart, (own.mode, own.world)), (own.mode, own.world))
+        self.expect(end, tuple(bench.ask("enclaves")[0]), machine.tables[state.table][0])
+        self.expect(end, self.ram(bench), self.wanted(machine.memories[state.memory]))
+
+    def wanted(self, memory):
+        """The rows as they should be."""
+        rows = list(self.rows)
+        for row in {(at - RAM_BASE) // ROW for at in memory}:
+            at = RAM_BASE + ROW * row
+            rows[row] = "%08x: %s" % (at, " ".join("%02x" % it for it in self.machine.bytes_at(memory, at, ROW)))
+        return rows
+
+    @staticmethod
+    def expect(end, found, wanted):
+        if found != wanted:
+            raise Fault("the order of end %d came otherwise on the bench: what a step depends on was not all seen" % end.number)
+
+
+def questions_of(outcome, count):
+    """The commands that show an outcome."""
+    if isinstance(outcome, Bytes):
+        return ["mem %x %d" % (outcome.at + n, min(ROW, outcome.count - n)) for n in range(0, outcome.count, ROW)]
+    if isinstance(outcome, Register):
+        return (["hart %d" % outcome.hart] if count > 1 else []) + ["reg %d" % outcome.number]
+    return ["enclaves"]
+
+
+def comment(text):
+    """Returns a comment that the bench takes: one line of at most 120 printable ASCII characters."""
+    return "# " + visible(text).encode("ascii", "backslashreplace").decode("ascii")[:LONGEST_COMMENT]
+
+
+def script_of(machine, end, outcome, heading):
+    """The input of the bench that does an end's schedule again, and shows what tells it from others."""
+    setup = machine.setup
+    lines = [comment(heading), comment("./rvbench %s < this file" % " ".join(setup.words()))]
+    lines += machine.lines_of_script() + commands_of(end.way(), machine.count)
+    if end.round:
+        lines += ["# from here on it goes round: so it may go on for ever"] + 2 * commands_of(end.round, machine.count)
+    for it in outcome:
+        lines += questions_of(it, machine.count)
+    return setup.image.text + b"--\n" + "".join(map(ended, lines)).encode("latin-1", "replace")
+
+
+def write_scripts(folder, machine, ends, outcome, heading_of):
+    """A file for each end."""
+    try:
+        os.makedirs(folder, exist_ok=True)
+        for end in ends:
+            with open(os.path.join(folder, "end_%d" % end.number), "wb") as file:
+                file.write(script_of(machine, end, outcome, heading_of(end)))
+    except OSError as error:
+        raise Fault("%s: %s" % (folder, error.strerror)) from None

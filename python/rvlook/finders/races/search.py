@@ -1,0 +1,396 @@
+"""The search of the word races: all orders of two harts, and all moments of the timer. A hart is left only before a step that another could
+be affected by: one that touches a byte which both touch and one writes, that calls the monitor, or that touches what is a region at one
+time or another. All other steps commute with those of the other, so no end is lost. What both touch is found by searching again as long as
+it grows. Places that are alike are one; the simplest way to each is found first, by preemptions, timers, switches and steps."""
+import heapq
+import itertools
+from collections import defaultdict
+from typing import NamedTuple, Optional
+
+from rvlook.protocol import names
+from rvlook.finders.outcomes import Watched
+from rvlook.finders.races.loop import LoopDetector, first_arrival, loop_of
+from rvlook.finders.races.machine import State, Work
+from rvlook.finders.races.time_limit import OutOfTime, TimeLimit
+
+MOST_ALONE = 10000  # moves of one hart in succession; then it is reported as not ended, and the search is not whole
+SEARCH_SHARE = 0.85  # of the time limit; the rest is for the analysis of the graph and for the replays
+
+
+class Met(NamedTuple):
+    """A step that others could be affected by: how many steps of its move come before it, where it is, what it touches, in which world, and
+    whether it took the timer."""
+    before: int
+    pc: Optional[int]
+    look: object
+    world: str
+    timed: bool
+
+
+class Move(NamedTuple):
+    """Such a step, with those around it that affect nobody, or these alone, where `pc` is None: where it leads, how many steps in all, and
+    whether memory or the table differed after one of them."""
+    state: State
+    steps: int
+    met: Met
+    changes: bool
+
+
+class Place(NamedTuple):
+    """What decides how the search goes on: the state, who was last, how many timers came, and whether anything came yet."""
+    state: State
+    last: Optional[int]
+    timers: int
+    begun: bool
+
+
+class Node:
+    """A place with the way to it."""
+    __slots__ = ("place", "parent", "move", "is_timer", "alone", "cost", "low")
+
+    def __init__(self, place, cost=(0, 0, 0, 0), parent=None, move=None, is_timer=False, alone=0, low=0):
+        self.place, self.cost, self.parent, self.move, self.is_timer, self.alone, self.low = place, cost, parent, move, is_timer, alone, low
+
+    def pieces(self):
+        """The nodes of the way, the first move's first."""
+        found, node = [], self
+        while node.parent:
+            found.append(node)
+            node = node.parent
+        return found[::-1]
+
+    def way(self):
+        """The schedule that leads here: of each piece the hart, its steps, and what is done with the timer's line before them."""
+        return way_of((it.place.last, it.move, it.is_timer) for it in self.pieces())
+
+
+def way_of(moves):
+    """Moves as a schedule. On the bare bench the line that was taken is lowered."""
+    joined, lowers = [], False
+    for hart, move, is_timer in moves:
+        if lowers:
+            joined.append([hart, 0, "off"])
+        if is_timer:
+            joined.append([hart, 0, "on"])
+        if joined and joined[-1][0] == hart:
+            joined[-1][1] += move.steps
+        else:
+            joined.append([hart, move.steps, ""])
+        lowers = move.met.timed and move.met.world == "bare"
+    return [tuple(it) for it in joined] + ([(joined[-1][0], 0, "off")] if lowers else [])
+
+
+class Touches:
+    """Bytes that each agent read, wrote and executed."""
+
+    def __init__(self):
+        self.read, self.written, self.executed = defaultdict(set), defaultdict(set), defaultdict(set)
+
+    def met(self):
+        """The bytes that two agents touched, one of them by a store."""
+        met = set()
+        for one, other in itertools.permutations(set(self.read) | set(self.written) | set(self.executed), 2):
+            met |= self.written[one] & (self.read[other] | self.written[other])
+            met |= {at for at in self.written[one] if at & -4 in self.executed[other]}
+        return met
+
+
+class Graph:
+    """The orders of a round: the first node of each vertex, and the edges from it; the moves of each state; the endless loops in which no
+    other hart can affect a hart, by state and hart; and the states in which a hart was given up, within a move or after many moves alone."""
+
+    def __init__(self):
+        self.nodes, self.edges, self.moves, self.loops, self.unended, self.alone = {}, {}, {}, {}, set(), set()
+
+
+class Bounds(NamedTuple):
+    """What is searched: at most so many preemptions (None: any number) and timers, steps of a hart that none is affected by, and between
+    which steps a hart is left, or the timer comes, for the first time."""
+    preemptions: Optional[int] = None
+    timers: int = 0
+    steps: int = 1000000
+    first: int = 0
+    last: Optional[int] = None
+
+    @property
+    def is_part(self):
+        return self.first > 0 or self.last is not None
+
+
+class Search:
+    """All orders within bounds. `plain` switches harts before each step; `outcome` is what distinguishes final states."""
+
+    def __init__(self, machine, bounds=Bounds(), plain=False, outcome=Watched(), limit=TimeLimit(), tell=lambda _: None):
+        self.machine, self.bounds, self.tell, self.outcome, self.limit = machine, bounds, tell, outcome, limit
+        self.watched = frozenset((*outcome.addresses, -1)) if bounds.timers else frozenset()
+        self.plain = plain or not machine.monitor  # a handler of the bare bench shares its registers with what it stops
+        self.is_outcome_visible = self.plain
+        self.met, self.touches, self.rounds = frozenset(), Touches(), 0
+        self.why_cut, self.whole = None, None  # the last level, of preemptions and timers, of which all was searched
+        self.graph, self.earlier, self.reduced = None, None, None  # of this round; of the one that came to that level; before `show_outcome`
+        self.reset()
+
+    def reset(self):
+        self.cycles, self.done, self.graph = {}, set(), Graph()
+        self.count, self.level, self.waiting = 0, (0, 0), 0
+
+    def run(self):
+        """Searches again as long as more bytes turn out to be met; what the bench has replied is known then."""
+        try:
+            with self.limit.until(SEARCH_SHARE):
+                self.run_rounds()
+        except KeyboardInterrupt:
+            self.why_cut = "Ctrl-C"
+        except OutOfTime:
+            self.why_cut = "--seconds"
+        return self
+
+    def run_rounds(self):
+        """Does rounds of the search, up to one in which nothing more is met."""
+        is_done = False
+        while not is_done:
+            self.rounds += 1
+            self.reset()
+            is_done = self.search()
+
+    def show_outcome(self):
+        """Makes each step that may change the outcome a dependent one in the rounds that follow, so that each value of it has a node."""
+        self.is_outcome_visible, self.reduced, self.whole, self.earlier = True, self.graph, None, None
+
+    def graphs(self):
+        """Returns the graphs whose final states are reported."""
+        return [it for it in (self.reduced, self.earlier, self.graph) if it]
+
+    def is_hidden(self, hart):
+        """Returns whether independent steps of a hart may change the outcome."""
+        if any(of == hart for of, _ in self.outcome.registers):
+            return True
+        agents = [it for it in self.touches.written if hart in (it, it[0] if isinstance(it, tuple) else it)]
+        stored = set().union(*(self.touches.written[it] for it in agents))
+        return any(it in stored or self.machine.meets(it, 1) for it in self.outcome.addresses - self.met)
+
+    def is_whole(self):
+        """Returns whether all orders within the bounds were searched, and no hart was given up."""
+        return not self.why_cut and not any(it.alone or it.unended for it in self.graphs())
+
+    def grows(self):
+        """Whether more bytes are met, or more is a region, than this round was searched with."""
+        regions, met = len(self.machine.regions), self.touches.met()
+        if self.plain or met <= self.met and regions == self.regions:
+            return False
+        self.met |= met
+        return True
+
+    def search(self):
+        """One round: True where it came to its end, False where more turned out to be met."""
+        order, self.regions = itertools.count(), len(self.machine.regions)
+        start = Node(Place(self.machine.start, None, 0, not self.bounds.is_part))
+        heap = [(start.cost, next(order), start)]
+        while heap:
+            cost, _, node = heapq.heappop(heap)
+            if node.place in self.done:
+                continue
+            if cost[:2] > self.level:
+                if self.grows():
+                    return False
+                if self.whole is None or self.level >= self.whole:
+                    self.whole, self.earlier = self.level, self.graph
+                self.level = cost[:2]
+            self.done.add(node.place)
+            self.graph.nodes.setdefault(self.vertex(node), node)
+            self.waiting = len(heap)
+            self.tell(self)
+            for following in self.next_nodes(node):
+                heapq.heappush(heap, (following.cost, next(order), following))
+        self.earlier = None
+        return not self.grows()
+
+    def vertex(self, node):
+        """The vertex of a node in the graph of orders; who was last does not matter where any number of preemptions is allowed."""
+        place = node.place
+        return place if self.bounds.preemptions is not None else (place.state, place.timers, place.begun)
+
+    def edges_of(self, node):
+        """Where the edges from a node are kept; those of a vertex that has them go nowhere."""
+        vertex, edges = self.vertex(node), self.graph.edges
+        return edges.setdefault(vertex, []) if vertex not in edges else []
+
+    def next_nodes(self, node):
+        """Where it may go on, with the cost: preemptions, timers, switches, steps."""
+        state, last, timers, begun = node.place
+        if node.alone > MOST_ALONE:
+            self.graph.alone.add((state, last))
+            for hart in range(self.machine.count):
+                self.move(state, hart, node.way)  # so that it is known which harts have ended
+            return
+        cost, edges = node.cost, self.edges_of(node)
+        harts = range(self.machine.count)
+        free = last is None or all(it == last for it in harts) or self.is_free(state, last, node.way)
+        for hart in harts:
+            is_switch = last is not None and hart != last
+            preemptions = cost[0] + (is_switch and not free)
+            if self.bounds.preemptions is not None and preemptions > self.bounds.preemptions:
+                continue
+            for is_timer in (False, True)[:1 + (timers < self.bounds.timers)]:
+                move = self.move(state, hart, node.way, is_timer)
+                if move is None or not begun and (is_switch or is_timer) and not self.is_in_part(node, hart):
+                    continue
+                self.count += 1
+                comes = is_switch or is_timer
+                new = Node(Place(move.state, hart, timers + is_timer, begun or comes),
+                           (preemptions, cost[1] + is_timer, cost[2] + is_switch, cost[3] + move.steps), node, move, is_timer,
+                           1 if comes else node.alone + 1, cost[3] + move.met.before + 1)
+                edges.append((self.vertex(new), hart, move, preemptions - cost[0]))
+                yield new
+
+    def is_in_part(self, node, hart):
+        """Returns whether the first switch or timer, which comes here, represents one within `first` and `last`. It may come as well before
+        any of the independent steps up to here, or up to the step of the hart's first move; and in an endless loop each time round."""
+        state, last = node.place.state, node.place.last
+        following = self.move(state, hart if last is None else last, node.way)
+        low, high = node.low, node.cost[3] + (following.met.before if following else 0)
+        is_late = following is None or high >= self.bounds.first
+        if not is_late and last is not None and self.goes_round(state, last, node.way):
+            length = self.cycles[state, last]
+            low += -((high - self.bounds.first) // length) * length
+            is_late = True
+        return is_late and (self.bounds.last is None or low <= self.bounds.last)
+
+    # ---- moves
+
+    def move(self, state, hart, way, is_timer=False):
+        """A hart's move, or None where it does no more; `way` gives the schedule that leads here."""
+        key = (state, hart, is_timer)
+        moves = self.graph.moves
+        if key not in moves:
+            moves[key] = self.timer_move(state, hart, way) if is_timer else self.made(state, hart, way)
+        return moves[key]
+
+    def timer_move(self, state, hart, way):
+        """The timer's line rises. Under the monitor it matters to enclaves alone, and stops one before its next instruction."""
+        work = Work(self.machine, state, hart)
+        world = work.own.world
+        if world == "host" or work.own.is_line_on or self.machine.is_over(work):
+            return None
+        pc, before = work.pc, (work.digest, work.table)
+        work.raise_line()
+        look = self.machine.look(work)
+        done = self.machine.step(work, look, way)
+        self.log(hart, world, pc, look, done)
+        met = Met(0, pc, look._replace(kind="timer"), world, is_taken(done))
+        return Move(self.kept(work, done), 1, met, (work.digest, work.table) != before)
+
+    @staticmethod
+    def kept(work, done):
+        """The state behind a step; on the bare bench the line that was taken is lowered."""
+        if is_taken(done) and work.own.world == "bare":
+            work.raise_line(False)
+        return work.kept()
+
+    def made(self, state, hart, way):
+        """Steps up to one that others could be affected by, this one, and those behind it up to the next such."""
+        machine, work, detector, met = self.machine, Work(self.machine, state, hart), LoopDetector(), None
+        behind = lambda: way() + ([(hart, work.done, "")] if work.done else [])
+        done, changes, before, skipped = None, False, (work.digest, work.table), 0
+        while not machine.is_over(work):
+            look = machine.look(work)
+            is_met = self.is_met(work, look)
+            if is_met and met:
+                break
+            length = 0 if is_met else detector.length(work)
+            if length and machine.limit:
+                skipped += work.skip(length)
+                detector = LoopDetector()
+                continue
+            if length:
+                work = self.looped(state, work, length, met.before + 1 if met else 0, behind)
+                break
+            if work.done - skipped > self.bounds.steps:
+                self.graph.unended.add((state, hart))
+                return None
+            world, pc = work.own.world, work.pc
+            done = machine.step(work, look, behind)
+            changes = changes or (work.digest, work.table) != before
+            self.log(hart, world, pc, look, done)
+            if is_met:
+                met, detector = Met(work.done - 1, pc, look, world, is_taken(done)), LoopDetector()
+                if met.timed and world == "bare":
+                    break
+        found = self.kept(work, done if met and met.timed else None)
+        if not work.done or not met and found._replace(steps=()) == state._replace(steps=()):
+            return None
+        return Move(found, work.done, met or Met(work.done, None, None, work.own.world, False), changes)
+
+    def looped(self, state, work, length, first, way):
+        """Returns a hart that is in an endless loop where it first comes to the state that represents the loop, and keeps what it does in
+        the loop. So all its states in the loop are one for the search."""
+        loop, wanted = loop_of(self.machine, work, length, way)
+        found = first_arrival(self.machine, state, work, wanted, first)
+        self.graph.loops[found.kept()._replace(steps=()), work.hart] = loop
+        return found
+
+    def is_met(self, work, look):
+        """Whether others could be affected by a hart's next step, or it by theirs."""
+        if self.plain or look.asks_table:
+            return True
+        met = self.met
+        if met and not met.isdisjoint(range(work.pc, work.pc + 4)):
+            return True
+        if self.watched and self.is_watched(work.own, look):
+            return True
+        if self.is_outcome_visible and self.outcome.may_change(work.hart, look):
+            return True
+        if not look.kind or is_inside(work.own, look):
+            return False
+        return not met.isdisjoint(range(look.at, look.at + look.width)) or self.machine.meets(look.at, look.width)
+
+    def is_watched(self, own, look):
+        """Whether an enclave's step is one of which an order may leave out those behind it, as the timer may come and the host not resume: it
+        stores what tells ends apart, or the steps of a hart are limited."""
+        if own.world == "host":
+            return False
+        return bool(self.machine.limit) or look.kind == "w" and not self.watched.isdisjoint(range(look.at, look.at + look.width))
+
+    def log(self, hart, world, pc, look, done):
+        """Keeps what a step touched."""
+        agent = (hart, world) if self.bounds.timers else hart
+        self.touches.executed[agent].add(pc)
+        if look.kind in ("r", "w"):
+            own = self.machine.contexts[look.key[0]]
+            if not is_inside(own, look):
+                (self.touches.read if look.kind == "r" else self.touches.written)[agent].update(range(look.at, look.at + look.width))
+        elif look.kind == "call" and done.writes:
+            self.touches.written[agent].update(at for at, _ in done.writes)
+
+    # ---- harts that do no more
+
+    def is_free(self, state, hart, way):
+        """Whether leaving a hart is no preemption: it does no more, or by itself comes back to where it is."""
+        return self.move(state, hart, way) is None or self.goes_round(state, hart, way)
+
+    def goes_round(self, state, hart, way):
+        """Whether a hart by itself comes back to this state; `cycles` has in how many steps, or 0."""
+        chain, passed, asked, move = {}, [0], state, None
+        while (state, hart) not in self.cycles and state not in chain and len(chain) <= MOST_ALONE:
+            chain[state] = len(chain)
+            move = self.move(state, hart, lambda: way() + ([(hart, passed[-1], "")] if passed[-1] else []))
+            if move is None:
+                break
+            state = move.state
+            passed.append(passed[-1] + move.steps)
+        first = chain[state] if state in chain and move else len(chain)
+        self.cycles.update({(it, hart): passed[-1] - passed[first] if place >= first else 0 for it, place in chain.items()})
+        return bool(self.cycles[asked, hart])
+
+
+def is_taken(done):
+    """Whether a step was an interrupt of the timer."""
+    if done is None:
+        return False
+    return done.trap.startswith(names.TIMER) if hasattr(done, "trap") else done.trapped == names.TIMER
+
+
+def is_inside(own, look):
+    """Whether an enclave touches its own region, where nobody else is while it runs."""
+    blocks = own.blocks
+    return bool(blocks) and blocks[0] <= look.at and look.at + look.width <= blocks[0] + blocks[1]

@@ -1,0 +1,309 @@
+"""What the word races tells: the ends, each with the simplest order that leads to it, for a person and as objects; and what was covered."""
+from rvlook.finders.outcomes import Table, condition_of, number_of, outcomes_of, ranges_of, value_text, watched_of
+from rvlook.errors import Fault, Unfinished, tell
+from rvlook.output.progress import Progress
+from rvlook.finders.races.search import MOST_ALONE, Bounds, Search
+from rvlook.finders.races.ends import GOES_ON, GRACE, LEFT, LONG, OVER, SLACK, STAYS, WAITS, search_ends
+from rvlook.finders.races.machine import Machine, commands_of
+from rvlook.finders.races.replay import Replays, write_scripts
+from rvlook.output.printer import Style, hex8, place_text, run_object
+from rvlook.finders.races.time_limit import OutOfTime, TimeLimit
+
+SHOWN = 3  # accesses at the beginning and at the end of a hart's turn
+HOW_TEXT = {WAITS: "waits for ever", GOES_ON: "goes on for ever", LEFT: "is left"}
+
+
+def counted(count, name):
+    return "%d %s%s" % (count, name, "" if count == 1 else "s")
+
+
+class Story:
+    """An end with the words for it."""
+
+    def __init__(self, end, outcome, search, symbols, places):
+        self.end, self.outcome, self.search, self.symbols, self.places = end, outcome, search, symbols, places
+
+    def heading(self):
+        """An end in a line: the values that tell it, and how the harts ended where that is not told by them."""
+        parts = ["%s=%s" % (it.name, value_text(value)) for it, value in zip(self.outcome, self.end.values) if value != ()]
+        for hart, (how, pc) in enumerate(self.end.harts):
+            if how == LONG:
+                parts.append("hart %d has not ended in %s" % (hart, self.limit(hart)))
+            elif how == STAYS:
+                parts.append("hart %d never comes to its end, and stays at %s" % (hart, self.place(pc)))
+            elif how != OVER:
+                parts.append("hart %d %s" % (hart, HOW_TEXT[how]))
+            elif len(self.places[hart]) > 1:
+                parts.append("hart %d at %s" % (hart, self.place(pc)))
+        return "  ".join(parts) or "all is over"
+
+    def limit(self, hart):
+        """How long a hart was let go on."""
+        search, state = self.search, self.end.node.place.state
+        is_alone = any((state, hart) in it.alone for it in search.graphs())
+        return "%d moves alone" % MOST_ALONE if is_alone else counted(search.bounds.steps, "step")
+
+    def place(self, pc):
+        return self.symbols.source(pc) or self.symbols.name(pc) or hex8(pc)
+
+    def turns(self):
+        """The moves that lead to it, in turns of one hart; the timer begins a turn."""
+        turns = []
+        for it in self.end.node.pieces():
+            if turns and turns[-1][0].place.last == it.place.last and not it.is_timer:
+                turns[-1].append(it)
+            else:
+                turns.append([it])
+        return turns
+
+    def sentences(self):
+        """What a turn did that came into another one, and where the timer came."""
+        turns = self.turns()
+        for number, turn in enumerate(turns):
+            if turn[0].is_timer:
+                yield "%s before %s" % (timer_text(turn[0].move.met), self.place(turn[0].move.met.pc))
+            elif 0 < number < len(turns) - 1:
+                before, behind = turns[number - 1], turns[number + 1]
+                met = [[it.move.met.pc for it in part if it.move.met.pc is not None] for part in (before, turn, behind)]
+                if all(met) and before[0].place.last == behind[0].place.last != turn[0].place.last and not behind[0].is_timer:
+                    yield "hart %d does %s between %s and %s of hart %d" % (
+                        turn[0].place.last, self.span(met[1]), self.place(met[0][-1]), self.place(met[2][0]), before[0].place.last)
+
+    def span(self, pcs):
+        first, last = self.place(pcs[0]), self.place(pcs[-1])
+        return first if first == last else "%s to %s" % (first, last)
+
+    def access(self, node):
+        """One move by what it touched, and where."""
+        move = node.move.met
+        if node.is_timer:
+            what = timer_text(move)
+        elif move.look.kind in ("r", "w"):
+            what = "%s %08x %d  %s" % (move.look.kind, move.look.at, move.look.width, self.symbols.name(move.look.at) or "")
+        else:
+            what = "calls the monitor" if move.look.kind == "call" else "x"
+        return "      %-34s %s" % (what.rstrip(), place_text(hex8(move.pc), self.symbols))
+
+    def lines(self, total):
+        """The end, line by line, behind its heading."""
+        preemptions, timers, switches, _ = self.end.node.cost
+        parts = [counted(preemptions, "preemption")] + ([counted(timers, "timer")] if self.search.bounds.timers else [])
+        yield "  %d of %s; simplest: %s, %s, %s" % (self.end.orders, counted(total, "order"), ", ".join(parts),
+                                                    counted(switches, "switch").replace("switchs", "switches"), counted(self.end.steps, "step"))
+        yield from ("  " + it for it in self.sentences())
+        for turn in self.turns():
+            yield "    hart %d, %s" % (turn[0].place.last, counted(sum(it.move.steps for it in turn), "step"))
+            lines = [self.access(it) for it in turn if it.move.met.pc is not None]
+            yield from lines if len(lines) <= 2 * SHOWN + 1 else \
+                [*lines[:SHOWN], "      ... %d more" % (len(lines) - 2 * SHOWN), *lines[-SHOWN:]]
+        for hart, steps, _ in self.end.tail:
+            yield "    then hart %d, %s" % (hart, counted(steps, "step"))
+        if self.end.round:
+            pieces = self.end.round
+            yield "    and from there, again and again: " + ", ".join("%s of hart %d" % (counted(steps, "step"), hart) for hart, steps, _ in pieces)
+
+    def object(self, printer):
+        end, count = self.end, self.search.machine.count
+        preemptions, timers, switches, _ = end.node.cost
+        turns = [dict(hart=turn[0].place.last, steps=sum(it.move.steps for it in turn),
+                      touched=[self.touched(it) for it in turn if it.move.met.pc is not None]) for turn in self.turns()]
+        printer.object("race", end=end.number, values={it.name: shown(value) for it, value in zip(self.outcome, end.values)},
+                       over=[dict(hart=hart, how=how, pc=hex8(pc)) for hart, (how, pc) in enumerate(end.harts)], orders=end.orders,
+                       preemptions=preemptions, timers=timers, switches=switches, steps=end.steps, told=list(self.sentences()),
+                       schedule=commands_of(end.way(), count), round=commands_of(end.round, count) if end.round else [],
+                       turns=turns)
+
+    def touched(self, node):
+        look, pc = node.move.met.look, node.move.met.pc
+        return dict(kind="timer" if node.is_timer else look.kind or "x", address=hex8(look.at) if look.kind in ("r", "w") else None,
+                    symbol=self.symbols.name(look.at) if look.kind in ("r", "w") else None, pc=hex8(pc), source=self.symbols.source(pc))
+
+
+def timer_text(met):
+    """What the timer does where its line rises: on the bare bench it may be masked."""
+    return "the timer rises" if met.world == "bare" else "the timer stops " + met.world
+
+
+def shown(value):
+    """A value in an object: words as numbers, longer bytes as digits."""
+    if isinstance(value, bytes):
+        return number_of(value) if len(value) in (1, 2, 4) else value.hex()
+    return dict(("e%d" % slot, state) for slot, state in value) if isinstance(value, tuple) else value
+
+
+def bound_text(bounds):
+    """The bounds of a search, in words."""
+    bound = []
+    if bounds.preemptions is not None:
+        bound.append("at most " + counted(bounds.preemptions, "preemption"))
+    if bounds.timers:
+        bound.append("at most " + counted(bounds.timers, "timer"))
+    what = " with " + " and ".join(bound) if bound else ""
+    if bounds.is_part:
+        what += ", left for the first time behind step %d%s" % (bounds.first, " or later" if bounds.last is None else " to %d" % bounds.last)
+    return what
+
+
+def covered_text(search, found):
+    """What was searched. `all` is written only if no order is missing."""
+    what, graph = bound_text(search.bounds), search.graph
+    given_up = len(graph.alone) + len(graph.unended)
+    if search.why_cut:
+        text = "cut by %s behind %s%s; wholly searched: %s" % (search.why_cut, counted(found.orders, "order"), what, level_text(search))
+    elif found.is_cut:
+        text = "cut by --seconds after the search, before each end was done again on the bench; %s%s" % (counted(found.orders, "order"), what)
+    elif given_up:
+        text = counted(found.orders, "order") + what
+    else:
+        text = "all %d of %s%s" % (found.orders, counted(found.orders, "order"), what)
+    return text + ("; not what comes behind one hart that has not ended alone, %s" % counted(given_up, "place") if given_up else "")
+
+
+def level_text(search):
+    """Of which orders all were searched before it was cut."""
+    if search.whole is None:
+        return "none"
+    preemptions, timers = search.whole
+    parts = (["at most " + counted(preemptions, "preemption")] if search.machine.count > 1 else []) + \
+        (["at most " + counted(timers, "timer")] if search.bounds.timers else [])
+    return "those with " + " and ".join(parts)
+
+
+def show_races(run, symbols, printer, options):
+    """The search, and what it found."""
+    conditions = [condition_of(it, symbols) for it in options.forbid or ()]
+    outcome = outcomes_of(options.outcome, conditions, symbols, run.setup.harts)
+    ends = [place_of(it, symbols) for it in options.end or ()]
+    bounds = Bounds(options.preemptions, options.timers, run.setup.limit, options.first, options.last)
+    limit = TimeLimit(options.seconds)
+    machine = Machine(run, ends, options.limit)
+    try:
+        with Progress() as progress:
+            search = Search(machine, bounds, options.plain, watched_of(outcome), limit, teller(progress))
+            found = search_ends(search, lambda it: outcome or [*ranges_of(it.met, symbols), Table()])
+        told(search, found, conditions, symbols, printer, options, run)
+    except Fault as fault:  # the arguments are right, but the program cannot be searched
+        raise Unfinished(str(fault)) from None
+    finally:
+        machine.close()
+    if search.why_cut == "Ctrl-C":
+        raise KeyboardInterrupt
+
+
+def place_of(text, symbols):
+    at = symbols.address(text)
+    if at is None:
+        raise Fault("%s is no hexadecimal number and no symbol" % text)
+    return at
+
+
+def teller(progress):
+    """How far the search is."""
+    def tell(search):
+        if progress.is_shown:
+            progress.tell("round %d: %d places, %d more wait, %d preemptions, %d timers, %d runs of the bench", search.rounds,
+                          len(search.done), search.waiting, *search.level, search.machine.asked)
+    return tell
+
+
+def told(search, found, conditions, symbols, printer, options, run):
+    """Reports all final states, each replayed on the bench first."""
+    machine, named = search.machine, found.outcome
+    replay(search, found, conditions)
+    places = [{pc for it in found.ends for how, pc in it.harts[hart:hart + 1]} for hart in range(machine.count)]
+    stories = [Story(it, named, search, symbols, places) for it in found.ends]
+    if options.scripts:
+        write_scripts(options.scripts, machine, found.ends, named, lambda end: "end %d: %s" % (
+            end.number, stories[end.number - 1].heading()))
+    bad = forbidden(conditions, found)
+    (objects if printer.as_json else texts)(search, found, stories, bad, symbols, printer, run)
+    note(options.findings, stories, bad, conditions)
+    if not bad:
+        note_cut(options.findings, stories, search, found, conditions)
+
+
+def note(findings, stories, bad, conditions):
+    """Notes what counts as found: with --forbid the ends that are forbidden, else each end but the first, and each in which a hart does
+    not come to its end."""
+    if conditions:
+        note_forbidden(findings, stories, bad, conditions)
+        return
+    for story in stories:
+        is_finding = story.end.number > 1 or not {how for how, _ in story.end.harts} <= {OVER, LONG, LEFT}
+        findings.add("end %d" % story.end.number, story.heading() if is_finding else "")
+
+
+def note_cut(findings, stories, search, found, conditions):
+    """Notes whether a part of the orders was not searched: by --seconds, or because a hart was given up."""
+    if is_whole(search, found) or search.why_cut == "Ctrl-C":
+        return
+    long = [story for story in stories if any(how == LONG for how, _ in story.end.harts)]
+    if conditions:
+        findings.cut_short("--forbid is not decided: not all was searched")
+    elif long:
+        findings.cut_short("not all was searched: " + long[0].heading())
+    else:
+        findings.cut_short("--seconds ends races: not all was searched")
+
+
+def note_forbidden(findings, stories, bad, conditions):
+    """Notes the ends that --forbid names; no other counts as found."""
+    for condition, end in bad:
+        tell("--forbid %s: end %d is so" % (condition.text, end.number))
+    for condition in conditions:
+        ends = ["end %d: %s" % (it.end.number, it.heading()) for it in stories if (condition, it.end) in bad]
+        findings.add("--forbid " + condition.text, "\n".join(ends))
+
+
+def replay(search, found, conditions):
+    """Replays the final states on the bench, those first that are forbidden; leaves out those for which no time is left."""
+    replayed, is_forbidden = [], {id(end) for _, end in forbidden(conditions, found)}
+    try:
+        with search.limit.until(1 + GRACE, SLACK):
+            if search.why_cut or found.is_cut:
+                search.machine.renew()
+            replays = Replays(search.machine)
+            for end in sorted(found.ends, key=lambda it: id(it) not in is_forbidden):
+                replays.check(end)
+                replayed.append(end)
+    except OutOfTime:
+        found.keep(replayed)
+
+
+def forbidden(conditions, found):
+    """The conditions that hold, each with the final state."""
+    named = [it.name for it in found.outcome]
+    return [(condition, end) for condition in conditions for end in found.ends if condition.holds(end, named)]
+
+
+def is_whole(search, found):
+    """Whether all orders within the bounds were searched, and all final states reported."""
+    return search.is_whole() and not found.is_cut
+
+
+def objects(search, found, stories, bad, symbols, printer, run):
+    run_object(printer, run, symbols)
+    for story in stories:
+        story.object(printer)
+    machine, bounds = search.machine, search.bounds
+    printer.object("races", ends=len(stories), orders=found.orders, whole=is_whole(search, found), covered=covered_text(search, found),
+                   forbidden=sorted({end.number for _, end in bad}), preemptions=bounds.preemptions, timers=bounds.timers,
+                   met=[dict(address=hex8(it.at), size=it.count, symbol=it.name) for it in ranges_of(search.met, symbols)],
+                   places=len(search.done), moves=search.count, rounds=search.rounds, runs=machine.asked, asked=machine.learned)
+
+
+def texts(search, found, stories, bad, symbols, printer, _run):
+    for it in ranges_of(search.met, symbols):
+        printer.line("both touch  %08x %d  %s" % (it.at, it.count, it.name))
+    forbidden = {end.number for _, end in bad}
+    for story in stories:
+        printer.line()
+        style = Style.bad if story.end.number in forbidden else Style.heading
+        printer.line(printer.styled("end %d: %s" % (story.end.number, story.heading()), style))
+        for line in story.lines(found.orders):
+            printer.line(line)
+    printer.line()
+    printer.line("%s, each done again on the bench. Covered: %s" % (counted(len(stories), "end"), covered_text(search, found)))
+    printer.line("%s, %s, in %s; %s of the bench with %s" % (
+        counted(len(search.done), "place"), counted(search.count, "move"), counted(search.rounds, "round"),
+        counted(search.machine.asked, "run"), counted(search.machine.learned, "step")))

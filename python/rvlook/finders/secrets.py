@@ -1,0 +1,111 @@
+"""Where a secret is: bytes of an enclave's region, which are poked right behind its create; bytes of the image, which are poked at reset; or
+a register, at the moment at which an enclave first comes to a place. And which values it is given."""
+import random
+import re
+from contextlib import closing
+from dataclasses import dataclass, replace
+
+from rvlook.protocol import names
+from rvlook.errors import Fault, Unfinished
+from rvlook.access.map import moments
+from rvlook.protocol.replies import bytes_of
+from rvlook.protocol.run import End
+from rvlook.access.activations import Stays
+
+ROW = 64
+REGISTER_AT = re.compile(r"(\w+)@(.+)\Z")
+CORNERS = (b"\0", b"\xff", b"\x7f", b"\x80", b"\x01", b"\x55", b"\xaa")  # of each byte
+WORD = 4
+
+
+@dataclass(frozen=True)
+class Secret:
+    """Bytes that are poked into memory behind a step, or put into a register."""
+    slot: int
+    at: int
+    step: int
+    bytes: bytes
+    register: int = 0
+    hart: int = 0
+
+    def lines(self):
+        if self.register:
+            return ["hart %d" % self.hart] * bool(self.hart) + ["setreg %d %x" % (self.register, int.from_bytes(self.bytes, "little"))]
+        return ["poke %x %02x" % (self.at + place, value) for place, value in enumerate(self.bytes)]
+
+    def with_bytes(self, value):
+        return replace(self, bytes=value)
+
+    def bytes_in(self, run):
+        """What stands there by itself."""
+        with run.replay() as replay:
+            replay.go(self.step)
+            if self.register:
+                number = replay.bench.one("reg %d" % self.register).split("=")[1]
+                return int(number, 16).to_bytes(WORD, "little")
+            reads = ["mem %x %d" % (self.at + at, min(ROW, len(self.bytes) - at)) for at in range(0, len(self.bytes), ROW)]
+            return b"".join(bytes_of(reply[0]) for reply in replay.bench.ask(*reads))
+
+    def text(self):
+        return names.abi_name(self.register) if self.register else "%08x" % self.at
+
+
+def created(run, slot):
+    """The moment at which the slot's enclave is created."""
+    for moment in moments(run):
+        if not isinstance(moment, End) and moment.event == "create" and moment.slot == slot:
+            return moment
+    raise Unfinished("no enclave is created in slot %d" % slot)
+
+
+def place_and_size(text, symbols):
+    """PLACE or PLACE:BYTES, as an address and how many bytes, None where it is not told."""
+    place, _, count = text.partition(":")
+    at = symbols.address(place)
+    if at is None or count and not count.isdigit():
+        raise Fault("%s is no hexadecimal number and no symbol" % text)
+    symbol = symbols.by_name.get(place)
+    return at, int(count) if count else symbol.size if symbol and symbol.size else None
+
+
+def secret_of(text, symbols, run, slot, size=None):
+    """The secret that --at names, of zeros; `size` is that of the values that it is given, where there are such."""
+    register = REGISTER_AT.match(text)
+    if register and register[1] in names.NUMBER_OF and text.split("@")[0] not in symbols.by_name:
+        return register_secret(register, symbols, run, slot)
+    is_image = text.startswith("image:")
+    at, told = place_and_size(text[len("image:"):] if is_image else text, symbols)
+    count = size or told
+    if not count:
+        raise Fault("--at PLACE:BYTES tells how many bytes of %s are secret" % text)
+    if is_image:
+        return Secret(slot, at, 0, bytes(count))
+    moment = created(run, slot)
+    enclave = next(it for it in moment.enclaves if it.slot == slot)
+    if not enclave.base <= at <= at + count <= enclave.base + enclave.size:
+        raise Fault("the bytes from %08x on are not in the region of e%d" % (at, slot))
+    return Secret(slot, at, moment.step, bytes(count))
+
+
+def register_secret(match, symbols, run, slot):
+    """A register at the first step of the slot's enclave at a place."""
+    pc, _ = place_and_size(match[2], symbols)
+    with closing(Stays(run).all()) as every:
+        for stay in every:
+            found = next((step for step, it in zip(stay.steps, stay.pcs) if it & -4 == pc), None) if stay.slot == slot else None
+            if found is not None:
+                return Secret(slot, 0, found - 1, bytes(WORD), names.NUMBER_OF[match[1]], stay.hart)
+    raise Unfinished("the enclave of slot %d does not come to %08x" % (slot, pc))
+
+
+def drawn(size, seed, first, last):
+    """The values from one number to another of a list that goes on: corner values, and then single bits and random ones in turn."""
+    rng = random.Random(seed)
+    values = [it * size for it in CORNERS] + [bytes([1]) + bytes(size - 1), bytes(size - 1) + b"\x80"]
+    bits = [1 << n for n in range(8 * size)]
+    rng.shuffle(bits)
+    number = 0
+    while len(values) < last:
+        values.append(bits[number // 2 % len(bits)].to_bytes(size, "little") if number % 2 == 0 else rng.randbytes(size))
+        number += 1
+    return list(enumerate(values[:last], 1))[max(0, first - 1):]

@@ -1,0 +1,223 @@
+"""The word timer: the timer's line is raised before each step of an enclave, or before every Nth; whether it comes to the same end as
+without, and in how many stops. The script comes before, as it stands."""
+import itertools
+from dataclasses import dataclass
+from typing import Optional
+
+from rvlook.protocol import names
+from rvlook.errors import Unfinished
+from rvlook.access.map import moments
+from rvlook.output.progress import Progress
+from rvlook.protocol.replies import ran_of, register_values
+from rvlook.protocol.run import End, Stretch
+from rvlook.output.printer import Style, place_text, run_object
+
+MOST_STEPS = 200  # of the enclave in one exchange
+PATIENCE = 1000000  # steps in which the host has to enter it
+ROW = 64  # bytes that `mem` shows at once
+ANSWER = ["reg 10", "reg 11"]
+LEFT = ("Exited", "Stopped")  # states in which the enclave has left: what its host does from then on is not its end
+
+
+@dataclass(frozen=True)
+class Inside:
+    """A step of the enclave: where it was done, the reply, whether the host was on turn before it, and the host's a0 and a1 if it leaves."""
+    pc: str
+    reply: str
+    is_entered: bool
+    answer: tuple = ()
+
+
+@dataclass(frozen=True)
+class Last:
+    """The step with which the enclave has left for good, or the run's last if it has not left; its line of the table; and whether it
+    still runs where --steps ends the run."""
+    step: int
+    enclave: object
+    is_cut: bool = False
+
+
+@dataclass(frozen=True)
+class Differs:
+    """The first step of the enclave that came to something else, or its end."""
+    number: int
+    pc: Optional[str]
+    wanted: str
+    found: str
+
+
+@dataclass
+class Outcome:
+    """How the interrupted run went."""
+    steps: int = 0
+    stops: int = 0
+    differs: Optional[Differs] = None
+    not_resumed: Optional[Differs] = None  # the step before which the host did not enter the enclave
+
+
+def last_of(run, slot):
+    """Where the slot's enclave leaves for good, behind the script."""
+    found, end = None, None
+    for moment in moments(run):
+        if isinstance(moment, End):
+            end = moment
+        elif moment.slot == slot and not (found and found.enclave.state == "Exited"):
+            enclave = next((it for it in moment.enclaves if it.slot == slot), None)
+            found = Last(moment.step, enclave) if enclave else found
+    if found is None:
+        raise Unfinished("there is no enclave in slot %d" % slot)
+    return found if found.enclave.state in LEFT else Last(end.steps, found.enclave, end.why == "limit")
+
+
+def inside_steps(run, slot, last, teller):
+    """The steps of the enclave behind the script, with no timer; `teller`, a replay, tells what the host is answered."""
+    pc, world, own, entered = run.pc, run.world, "e%d" % slot, True
+    for item in run.stretches():
+        if isinstance(item, Stretch) and item.first <= last.step:
+            for offset, line in enumerate(item.data.decode().splitlines()):
+                step, was, ran = item.first + offset, world, ran_of(line)
+                if was == own and run.length < step <= last.step:
+                    yield Inside(pc, line, entered, () if ran.world == own else answer_behind(teller, step))
+                    entered = False
+                entered = entered or was != own
+                pc, world = ran.pc, ran.world
+
+
+def answer_behind(teller, step):
+    """The host's a0 and a1 behind a step."""
+    return tuple(reply[0] for reply in teller.bench.ask(*teller.lines_to(step), *ANSWER)[-len(ANSWER):])
+
+
+def enter(pc):
+    """Lets the host go on until the enclave is at pc."""
+    return ["break " + pc, "run %d" % PATIENCE, "clear " + pc]
+
+
+def commands_for(step, is_stopped, is_first):
+    """What is asked for one step of the enclave; the last command is the step itself, or reads the answer behind it."""
+    commands = enter(step.pc) if step.is_entered and not is_first else []
+    if is_stopped:
+        commands += ["timer on", "step 1", *enter(step.pc)]
+    return commands + ["step 1"] + (ANSWER if step.answer else [])
+
+
+def interrupted(replay, steps, every):
+    """The same steps with the timer before every one of them that is on turn; behind the first difference they are only counted."""
+    outcome = Outcome()
+    with Progress() as progress:
+        for part in parts_of(enumerate(steps)):
+            outcome.steps += len(part)
+            progress.tell("%d steps, %d stops", outcome.steps, outcome.stops)
+            if not (outcome.differs or outcome.not_resumed):
+                compare(replay, part, every, outcome)
+    return outcome
+
+
+def parts_of(steps):
+    """Steps for one exchange each. The first are few, since behind a difference each of them may cost the host's whole patience."""
+    count = 1
+    while part := list(itertools.islice(steps, count)):
+        yield part
+        count = min(2 * count, MOST_STEPS)
+
+
+def compare(replay, part, every, outcome):
+    """Some steps of the enclave, up to the first that comes to something else."""
+    lists = [commands_for(step, number % every == 0, number == 0 and not step.is_entered) for number, step in part]
+    replies = iter(replay.bench.ask(*(command for it in lists for command in it)))
+    for (number, step), commands in zip(part, lists):
+        told = [next(replies)[0] for _ in commands]
+        answer = tuple(told.pop() for _ in step.answer)[::-1]
+        outcome.stops += sum(names.TIMER in line for line in told)
+        outcome.not_resumed = not_entered(number + 1, step, commands, told)
+        if not outcome.not_resumed:
+            outcome.differs = difference(number + 1, step, number % every == 0, told, answer)
+        if outcome.differs or outcome.not_resumed:
+            return
+
+
+def not_entered(number, step, commands, told):
+    """The first time at which the host was to enter the enclave before a step and did not, or None."""
+    for command, reply in zip(commands, told):
+        if command.startswith("run") and ran_of(reply).why != "break":
+            return Differs(number, step.pc, "the host enters the enclave", reply)
+    return None
+
+
+def difference(number, step, is_stopped, told, answer):
+    """What came otherwise in one step of the enclave, or None."""
+    if is_stopped:
+        stop = ran_of(told[-5])
+        if stop.trap is None or stop.trap.cause != names.TIMER:
+            return Differs(number, step.pc, "a stop by the timer", told[-5])
+    if seen_inside(told[-1]) != seen_inside(step.reply):
+        return Differs(number, step.pc, step.reply, told[-1])
+    return None if answer == step.answer else Differs(number, step.pc, " ".join(step.answer), " ".join(answer))
+
+
+def seen_inside(reply):
+    """What the enclave's own step is; where the host goes on is not, for it may be by another call that it entered the enclave."""
+    ran = ran_of(reply)
+    return (ran.world, ran.trap) if ran.world == "host" else reply
+
+
+def finish_of(bench, enclave):
+    """What the enclave has left behind: the host's a0 and a1, its region and its window."""
+    values = register_values(bench.ask("regs")[0])
+    ranges = [(enclave.base, enclave.size), (enclave.window, enclave.window_size)]
+    reads = ["mem %x %d" % (base + at, ROW) for base, size in ranges for at in range(0, size, ROW)]
+    return ["a0=%08x" % values[10], "a1=%08x" % values[11]] + [reply[0] for reply in bench.ask(*reads)]
+
+
+def behind_script(run):
+    """The run, brought behind its script; what the script had set of breaks and watches is not set there."""
+    replay = run.replay()
+    commands = replay.lines_to(run.length) + replay.lines_up_to_next()
+    if commands:
+        replay.bench.ask(*commands)
+    return replay
+
+
+def show_timer(run, symbols, printer, options):
+    """Both runs, and whether they end alike; a host that does not resume the enclave is no finding, but leaves the question open."""
+    slot, every, findings = options.slot, options.every, options.findings
+    last = last_of(run, slot)
+    with run.replay() as quiet, run.replay() as teller, behind_script(run) as replay:
+        quiet.bench.ask(*(quiet.lines_to(last.step) or ["reg 0"]))
+        outcome = interrupted(replay, inside_steps(run, slot, last, teller), every)
+        if not outcome.steps:
+            raise Unfinished("the enclave of slot %d does nothing behind the script" % slot)
+        if not (outcome.differs or outcome.not_resumed):
+            pairs = zip(finish_of(quiet.bench, last.enclave), finish_of(replay.bench, last.enclave))
+            outcome.differs = next((Differs(outcome.steps, None, a, b) for a, b in pairs if a != b), None)
+    (timer_object if printer.as_json else timer_text)(run, symbols, printer, slot, every, outcome)
+    if outcome.not_resumed:
+        raise Unfinished("the host does not resume the enclave of slot %d after the timer stopped it, at its step %d; timer needs a host "
+                         "that resumes it each time" % (slot, outcome.not_resumed.number))
+    it = outcome.differs
+    findings.add("e%d comes to the same end" % slot, "its step %d: %s in place of %s" % (it.number, it.found, it.wanted) if it else "")
+    if last.is_cut:
+        findings.cut_short("--steps %d ends the run before the enclave of slot %d leaves" % (run.setup.limit, slot))
+
+
+def timer_object(run, symbols, printer, slot, every, outcome):
+    it = outcome.differs or outcome.not_resumed
+    run_object(printer, run, symbols)
+    apart = it and {"step": it.number, "pc": it.pc, "wanted": it.wanted, "found": it.found,
+                    "source": it.pc and symbols.source(int(it.pc, 16))}
+    printer.object("timer", slot=slot, every=every, stops=outcome.stops, steps=outcome.steps,
+                   same=None if outcome.not_resumed else it is None, apart=apart)
+
+
+def timer_text(_run, symbols, printer, slot, every, outcome):
+    it = outcome.differs or outcome.not_resumed
+    how = "each" if every == 1 else "one in %d" % every
+    stops = "1 stop" if outcome.stops == 1 else "%d stops" % outcome.stops
+    printer.line("e%d: %d steps, the timer before %s of them: %s" % (slot, outcome.steps, how, stops))
+    if it is None:
+        printer.line(printer.styled("it comes to the same end: each step, a0 and a1, its region and its window", Style.good))
+        return
+    printer.line(printer.styled("the host does not resume it" if outcome.not_resumed else "it does not come to the same end", Style.bad))
+    printer.line("  its step %d%s" % (it.number, "" if it.pc is None else ", at " + place_text(it.pc, symbols)))
+    printer.line("  without  " + it.wanted)
+    printer.line("  with     " + it.found)

@@ -1,0 +1,104 @@
+"""For gdb itself, which reads it by `-x python/rvlook/gdb/client.py`: what it cannot learn by the protocol. A backtrace goes on over a handler of
+traps to what it interrupted, and from an enclave to the host that entered it, so that `up`, `finish` and `next` over the call know the host
+as the caller; what it shows is read anew behind a `monitor`, which may step; and it waits as long as a run of the bench may take."""
+import gdb
+from gdb.unwinder import Unwinder, register_unwinder
+
+SAVED = ["ra", "sp", *("s%d" % number for number in range(12))]  # what a function keeps for its caller
+KEPT = ["world", "priv", "stvec", "host_pc", *("host_" + name for name in SAVED)]  # what a trap leaves as it is
+HANDLER = 0xFFFFFFFC  # of stvec: where traps go
+SWAP = 0x14011173  # csrrw sp, sscratch, sp: the stack of the handler for that of what it interrupted, and back
+STORE, TO_SP, MOVE_SP = 0x2023, 0x2, 0x10113  # sw with the base sp; addi sp, sp
+
+
+class FrameId:
+    """Which frame it is."""
+
+    def __init__(self, sp, pc):
+        self.sp, self.pc = sp, pc
+
+
+class Assembly(Unwinder):
+    """Frames in code that no debugging information describes as a function: a handler of traps, and in an enclave what the host has entered,
+    as the assembly is with which an enclave begins."""
+
+    def __init__(self):
+        super().__init__("rvbench")
+
+    def __call__(self, pending):
+        try:
+            place = int(pending.read_register("pc")) & 0xFFFFFFFF
+            if self.is_function(place):
+                return None
+            handler = int(pending.read_register("stvec")) & HANDLER
+            if handler and handler <= place and name_of(place) == name_of(handler):
+                return self.interrupted(pending, place, handler)
+            return self.caller(pending, place) if str(pending.read_register("world")).startswith("e") else None
+        except (ValueError, gdb.error):
+            return None  # a register of this frame is not known, or there is none of that name without the bridge
+
+    @staticmethod
+    def is_function(place):
+        """Whether debugging information has a function there."""
+        block = gdb.current_progspace().block_for_pc(place)
+        while block and not block.function:
+            block = block.superblock
+        return block is not None
+
+    @staticmethod
+    def interrupted(pending, place, handler):
+        """The frame of a handler, with what it interrupted as its caller: of its instructions up to here, those that put registers on its
+        stack and that change the stack tell where these are."""
+        stack, saved, moved, swapped = int(pending.read_register("sp")), {}, 0, False
+        for at in range(handler, place, 4):
+            word = int.from_bytes(bytes(gdb.selected_inferior().read_memory(at, 4)), "little")
+            if word == SWAP:
+                swapped = not swapped
+            elif word & 0x000FFFFF == MOVE_SP:
+                moved += signed(word >> 20)
+            elif word & 0x000FF07F == STORE | TO_SP << 15:
+                saved[word >> 20 & 31] = signed(word >> 25 << 5 | word >> 7 & 31)
+        info = pending.create_unwind_info(FrameId(pending.read_register("sp"), gdb.Value(place)))
+        for name in [*KEPT, *("x%d" % number for number in (1, *range(3, 32)) if number not in saved)]:
+            info.add_saved_register(name, pending.read_register(name))
+        kind = pending.read_register("ra").type
+        info.add_saved_register("pc", pending.read_register("sepc"))
+        info.add_saved_register("sp", pending.read_register("sscratch") if swapped else gdb.Value(stack - moved).cast(kind))
+        for number, offset in saved.items():
+            data = bytes(gdb.selected_inferior().read_memory((stack + offset) & 0xFFFFFFFF, 4))
+            info.add_saved_register("x%d" % number, gdb.Value(int.from_bytes(data, "little")).cast(kind))
+        return info
+
+    @staticmethod
+    def caller(pending, place):
+        """The frame, with the host's registers as those of its caller."""
+        values = {name: pending.read_register("host_" + name) for name in ["pc", *SAVED]}
+        int(values["pc"])  # which fails where the bridge has found no entry
+        info = pending.create_unwind_info(FrameId(pending.read_register("sp"), gdb.Value(place)))
+        for name, value in values.items():
+            info.add_saved_register(name, value)
+        return info
+
+
+def signed(value):
+    """Twelve bits as a number."""
+    return (value & 0xFFF) - (1 << 12 if value & 0x800 else 0)
+
+
+def name_of(place):
+    """The label at or before an address."""
+    return gdb.execute("info symbol 0x%x" % place, to_string=True).split(" ")[0]
+
+
+def before_monitor():
+    """Tells the bridge that all is read anew behind a line of `monitor`."""
+    try:
+        gdb.execute("maintenance packet QRvlookFresh", to_string=True)
+    except gdb.error:
+        pass  # there is no bridge yet, and gdb tells so of the line itself
+
+
+register_unwinder(None, Assembly(), replace=True)
+gdb.execute("set remotetimeout 60")
+gdb.execute("define hook-monitor\npython before_monitor()\nend")
+gdb.execute("define hookpost-monitor\nmaintenance flush register-cache\nend")

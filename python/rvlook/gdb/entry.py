@@ -1,0 +1,114 @@
+"""Where the host entered the enclave in which a hart is: at the last step that brought the hart to another world. It is looked for in the
+past, from here back, and kept for as long as the hart cannot have left."""
+import contextlib
+from dataclasses import dataclass
+
+from rvlook.gdb.lookahead import BLOCK, asked
+from rvlook.gdb.target import SAVED
+from rvlook.protocol.names import NUMBER_OF
+from rvlook.protocol.timeline import Told, part
+
+FIRST_PART, MORE = 4096, 8  # steps of the first part that is looked through, and times as many in the next
+PC, CALL = 32, 4  # the register pc, and the bytes of an ecall
+
+
+@dataclass(frozen=True)
+class Entered:
+    """The step that entered, and the host's registers before it, in digits: `pc` is that of its ecall."""
+    step: int
+    pc: str
+    values: tuple
+
+    @property
+    def registers(self):
+        """What the host goes on with, by the names that a debugger is told."""
+        behind = "%08x" % ((int(self.pc, 16) + CALL) & 0xFFFFFFFF)
+        return {"host_pc": behind, **{"host_" + name: self.values[NUMBER_OF[name]] for name in SAVED}}
+
+
+class Entry:
+    """For each hart what was found last: the entry, up to which step it is sure, and by what the timeline tells that the hart stayed."""
+
+    def __init__(self):
+        self.known = {}
+
+    def limit(self, position):
+        """Behind this step it is sure no more: something else may be done than what had been done."""
+        self.known = {hart: (entry, min(sure, position), witness) for hart, (entry, sure, witness) in self.known.items()}
+
+    def registers(self, timeline, hart):
+        """The registers of the host that entered the enclave in which a hart is; None where it is in none."""
+        found = self.find(timeline, hart)
+        return found and found.registers
+
+    def find(self, timeline, hart):
+        """The entry to the enclave in which a hart is; None where it is in none."""
+        timeline.settle()
+        if not timeline.worlds[hart].startswith("e"):
+            return None
+        entry, sure, witness = self.known.get(hart, (None, 0, None))
+        now = (timeline, timeline.moved[hart])
+        if entry and timeline.position < entry.step:
+            entry, sure = None, 0
+        if not entry or witness != now and timeline.position > sure:
+            step = last_switch(timeline, hart, sure if entry else 0)
+            entry = self.at(timeline, hart, step) if step else entry
+        self.known[hart] = entry, max(sure, timeline.position) if entry else 0, now
+        return entry
+
+    @staticmethod
+    def at(timeline, hart, step):
+        """The entry that a step made."""
+        with contextlib.closing(timeline.again(step - 1)) as before:
+            before.settle()
+            before.choose(hart)
+            values = [line.split("=")[1] for line in before.ask("regs")[0]]
+        return Entered(step, values[PC], tuple(values[:PC]))
+
+
+def last_switch(timeline, hart, lowest):
+    """The last step behind `lowest` that brought a hart to another world, or None."""
+    end, size = timeline.position, FIRST_PART
+    while end > lowest:
+        first = max(lowest, end - size)
+        for start, steps in reversed(blocks_with_traps(timeline, hart, first, end)):
+            step = switch_in(timeline, hart, start, steps)
+            if step:
+                return step
+        end, size = first, size * MORE
+    return None
+
+
+def blocks(timeline, ahead, first, end):
+    """The steps of a part of the past in blocks; what was told between them is told to the bench ahead."""
+    for it in part(timeline.past, first, end):
+        if isinstance(it, Told):
+            ahead.choose(it.hart)
+            ahead.do(it.line)
+            continue
+        while it:
+            yield next(part([it], 0, BLOCK))
+            it = next(part([it], BLOCK, it.count), None)
+
+
+def blocks_with_traps(timeline, hart, first, end):
+    """The blocks in which a hart trapped, as it does where it goes to another world; the step before each."""
+    found = []
+    with contextlib.closing(timeline.again(first)) as ahead:
+        for steps in blocks(timeline, ahead, first, end):
+            start = ahead.position
+            if any(ran.trap for other, _, ran in asked(ahead, steps.turns, steps.count, False) if other == hart):
+                found.append((start, steps))
+    return found
+
+
+def switch_in(timeline, hart, start, steps):
+    """The last step of a block that brought a hart to another world, or None."""
+    found = None
+    with contextlib.closing(timeline.again(start)) as ahead:
+        ahead.settle()
+        world = ahead.worlds[hart]
+        for step, (other, _, ran) in enumerate(asked(ahead, steps.turns, steps.count, True), start + 1):
+            if other == hart and ran.world != world:
+                found, world = step, ran.world
+    return found

@@ -1,0 +1,147 @@
+"""Many steps of a timeline in one exchange, and where its harts do nothing any more."""
+import contextlib
+import functools
+import re
+
+from rvlook.protocol.replies import RAN, Ran, trap_of
+from rvlook.protocol.run import ALIKE, MOST_STEPS
+from rvlook.protocol.timeline import Steps, part, turned
+
+RANS = re.compile(RAN.pattern)
+BLOCK = 4096  # steps that are looked through at once
+LONGEST, NO_TRAP = 100, b"trap=-"  # bytes of a reply to `run`, at most; and the end of one that tells of no trap
+RUNS, MOST_QUESTIONS = 256, 16  # runs in one exchange, and what is asked behind each
+
+
+def runs_of(turns, count, is_single):
+    """Steps as runs: their harts, and how many steps each."""
+    if len(set(turns)) == 1 and not is_single:
+        return [(int(turns[0]), count)]
+    rounds, rest = divmod(count, len(turns))
+    pieces = [[(int(it), 1) for it in digits] if is_single else [(int(it[0][0]), len(it[0])) for it in re.finditer("0+|1+", digits)]
+              for digits in (turns, turns[:rest])]
+    return pieces[0] * rounds + pieces[1]
+
+
+def commands_of_runs(runs, chosen):
+    """The commands that do runs, where hart `chosen` is the chosen one."""
+    for hart, length in runs:
+        if hart != chosen:
+            yield "hart %d" % hart
+            chosen = hart
+        yield "run %d" % length
+
+
+@functools.lru_cache(maxsize=8)
+def planned(turns, count, is_single, chosen):
+    """The runs of steps by the turns, the text that asks for them, and the number of lines of its replies."""
+    runs = runs_of(turns, count, is_single)
+    lines = list(commands_of_runs(runs, chosen))
+    return runs, ("\n".join(lines) + "\n").encode(), len(lines)
+
+
+def asked(timeline, turns, count, is_single, is_quiet=None):
+    """So many steps by the turns, one by one or each hart's at once: for each run its hart, how many steps it was asked for, and its reply.
+    Where one of more steps met a stop, those behind it are not by the turns any more. Where `is_quiet` tells of the replies that they need
+    not be looked at, only the last ones are given."""
+    timeline.settle()
+    runs, text, lines = planned(turns, count, is_single, timeline.hart)
+    block = timeline.bench.block(text, lines)
+    timeline.hart = runs[-1][0]
+    timeline.add(Steps(turns, count))
+    if is_quiet and is_quiet(block, len(runs)):
+        for hart in range(timeline.setup.harts) if block.count(NO_TRAP) < len(runs) else ():
+            timeline.moved[hart] += 1
+        runs = runs[-len(turns):]
+        block = block[-LONGEST * 2 * len(runs):]
+    rans = [ran_of_match(it) for it in RANS.finditer(block.decode())][-len(runs):]
+    for (hart, _), ran in zip(runs, rans):
+        timeline.reach(hart, ran.mode, ran.world, ran.trap and ran.steps > 1)
+    return [(hart, length, ran) for (hart, length), ran in zip(runs, rans)]
+
+
+def by_turns(timeline, stops, turns, count):
+    """So many steps by the turns, each run of a hart in an exchange of its own, so that the bench is never further than a stop: behind each
+    run the halt there, or None."""
+    end = timeline.position + count
+    while timeline.position < end:
+        hart, left = int(turns[0]), min(end - timeline.position, MOST_STEPS)
+        if len(set(turns)) > 1:
+            left = min(left, len(turns) - len(turns.lstrip(turns[0])))
+        before = timeline.worlds[hart]
+        ran = timeline.run(hart, 1 if stops.is_single else left, turns)
+        turns = turned(turns, ran.steps)
+        yield stops.met(timeline, hart, ran, before) if stops.may_meet(timeline, ran, before) else None
+
+
+def judged(timeline, stops, hart, count):
+    """Runs of a hart alone, of so many steps in all at most, in one exchange, each with what decides whether it halts: the steps up to it,
+    its reply, and whether it does, or None where that is to be asked there."""
+    timeline.settle()
+    timeline.choose(hart)
+    questions = list(stops.questions)[-MOST_QUESTIONS:]
+    runs = min(RUNS, count)
+    lines = ["run %d" % max(1, count // RUNS), *questions]
+    replies = timeline.bench.block(("\n".join(lines * runs) + "\n").encode(), len(lines) * runs).decode().splitlines()
+    found, done = [], 0
+    for first in range(0, len(replies), len(lines)):
+        ran = ran_of_match(RANS.fullmatch(replies[first]))
+        done += ran.steps
+        timeline.reach(hart, ran.mode, ran.world, ran.trap and ran.steps > 1)
+        found.append((done, ran, stops.verdict(timeline, ran, dict(zip(questions, replies[first + 1:first + len(lines)])))))
+    timeline.add(Steps(str(hart), done))
+    return found
+
+
+def ran_of_match(match):
+    return Ran(int(match[1]), match[2], match[3], match[4], match[5], trap_of(match[6]))
+
+
+def state_of(ran):
+    """What stays as it is where a hart does nothing any more."""
+    return ran.pc, ran.mode, ran.world, ran.trap
+
+
+def ends_of(found):
+    """For each hart of single steps what its last ones leave, or None where some hart does something."""
+    last = {}
+    for hart, _, ran in found:
+        last.setdefault(hart, []).append(state_of(ran))
+    if any(len(states) < ALIKE or len(set(states[-ALIKE:])) > 1 for states in last.values()):
+        return None
+    return {hart: states[-1] for hart, states in last.items()}
+
+
+def first_alike(timeline, first, ends):
+    """The first step behind `first` from which on each hart does nothing; `ends` are what it leaves where the timeline is."""
+    end = timeline.position
+    with contextlib.closing(timeline.again(block_before(timeline, first, ends))) as ahead:
+        since = {}
+        for it in part(timeline.past, ahead.position, end):
+            while isinstance(it, Steps) and it.count:
+                count = min(it.count, BLOCK)
+                position = ahead.position
+                for hart, _, ran in asked(ahead, it.turns, count, True):
+                    position += 1
+                    if state_of(ran) != ends[hart]:
+                        since.pop(hart, None)
+                    else:
+                        since.setdefault(hart, position)
+                if len(since) == len(ends) and position >= max(since.values()) + ALIKE * len(it.turns):
+                    return max(since.values())
+                it = next(part([it], count, it.count), Steps(it.turns, 0))
+        return max(since.values(), default=end)
+
+
+def block_before(timeline, first, ends):
+    """A step near the one that is looked for, and before it: behind the last block of a hart alone that leaves something else."""
+    if len(ends) > 1:
+        return first
+    (hart, state), = ends.items()
+    with contextlib.closing(timeline.again(first)) as ahead:
+        ahead.settle()
+        ahead.choose(hart)
+        replies = ahead.do_all(["run %d" % BLOCK] * ((timeline.position - first) // BLOCK))
+        states = [state_of(ran_of_match(RANS.fullmatch(reply))) for reply, in replies]
+    others = [number for number, it in enumerate(states) if it != state]
+    return first + BLOCK * others[-1] if others else first

@@ -1,0 +1,175 @@
+"""What `monitor` takes: the lines of the bench and of the prompt, the words of rvlook over what was done up to now, and what is asked of
+the bridge itself."""
+import contextlib
+import inspect
+import io
+import os
+from typing import Callable, NamedTuple
+
+from rvlook.protocol.bench_line import words_of
+from rvlook.protocol.commands import COMMANDS, Form, is_form, written
+from rvlook.image.escapes import visible
+from rvlook.errors import Fault
+from rvlook.gdb.entry import Entry
+from rvlook.gdb.moves import FORGOTTEN
+from rvlook.protocol.names import Call
+from rvlook.protocol.run import run_of
+from rvlook.prompt.session import Session
+from rvlook.output.printer import Printer, place_text
+from rvlook.protocol.timeline import commands_of
+
+OTHERS = ("measure", "explain")  # words over a file of their own
+FROM_HERE = ("leak", "timer", "races")  # which look at what comes behind what was done
+CAUGHT = ("switch", "trap", "call")
+OWN = {
+    "catch": "catch [switch | trap | call | none]: a continue stops behind each switch of world, each trap, each call of the monitor",
+    "schedule": "schedule [W]: the digits, 1 to 64, by which two harts go on in turn, as those of sched",
+    "entered": "entered: where the host entered the enclave in which the hart is"}
+STALE = "(gdb shows the registers of before, until `maintenance flush register-cache`; with python/rvlook/gdb/client.py it reads them anew)\n"
+STALE_IN_LLDB = "(lldb shows the registers of before, until the program goes on)\n"
+READ_FILES, FOLDERS = ("script", "symbols", "file", "input"), ("scripts", "sources")  # arguments that name some
+
+
+class CommandLine(NamedTuple):
+    """The command line of rvlook, as `monitor` offers it: the names of the subcommands, and what reads the arguments of one."""
+    names: tuple
+    read: Callable
+
+
+class Monitor:
+    """Answers a line of `monitor` over the moves of a debugger. `symbols` reads the symbols; with `has_files` a line may name files."""
+
+    def __init__(self, moves, symbols, command_line, has_files=True):
+        self.moves, self.symbols, self.session, self.entry, self.is_fresh = moves, symbols, None, Entry(), False
+        self.has_files, self.read = has_files, command_line.read
+        self.subcommands = tuple(it for it in command_line.names if it not in (*OTHERS, "gdb"))  # over an image
+
+    def line(self, text):
+        """What a line tells. What `page` tells beside the page goes to standard error."""
+        out, moves = io.StringIO(), self.moves
+        before, told = (moves.timeline, moves.timeline.changes), moves.timeline.was_told
+        errors = contextlib.nullcontext() if "page" in words_of(text)[:2] else contextlib.redirect_stderr(out)
+        with contextlib.redirect_stdout(out), errors, moves.link.watched(moves.behind_watches):
+            try:
+                self.do(text, out)
+            except Fault as fault:
+                out.write(visible(str(fault)) + "\n")
+            except SystemExit:
+                pass  # the help of a word was told
+        if before != (moves.timeline, moves.timeline.changes):
+            moves.forget(moves.timeline.position)
+            if told and moves.timeline is before[0] and not moves.timeline.was_told:
+                out.write(FORGOTTEN % moves.timeline.position + "\n")
+            out.write("" if self.is_fresh else STALE_IN_LLDB if moves.behind_watches else STALE)
+        return out.getvalue()
+
+    def do(self, text, out):
+        words = words_of(text)
+        if "\n" in text:
+            print("monitor takes one line")
+        elif not words or words == ["help"]:
+            self.help()
+        elif words[0] in OWN:
+            self.own(*words)
+        elif words[0] == "rvlook" or words[0] in OTHERS or words[0] in self.subcommands and not self.is_command(words):
+            self.word(words[1:] if words[0] == "rvlook" else words)
+        else:
+            self.opened(out).line(text)
+
+    def own(self, name, *operands):
+        """What is asked of the bridge."""
+        act = getattr(self, name)
+        try:
+            inspect.signature(act).bind(*operands)
+        except TypeError:
+            print(OWN[name])
+            return
+        act(*operands)
+
+    @staticmethod
+    def is_command(words):
+        """Whether a line is one of the bench: `timer on` is, and `timer --every 2` is a word."""
+        return words[0] in COMMANDS and written(words[0], words[1:]) is not None
+
+    def opened(self, out=None):
+        """What the prompt does with a line, over the bench of the debugger."""
+        if not self.session:
+            self.session = Session(self.moves, run_of(self.moves.timeline.setup.with_script((), 0)), self.symbols(), Printer())
+        self.session.printer = Printer(stream=out)
+        return self.session
+
+    def help(self):
+        print("of the bridge:")
+        for text in OWN.values():
+            print("  " + text)
+        print("words over what was done up to now: %s; and %s" % (" ".join(self.subcommands), " ".join(OTHERS)))
+        self.opened().help()
+
+    def word(self, words):
+        """A word of rvlook, over a run of what was done up to now."""
+        words = [it.encode("latin-1", "replace").decode("utf-8", "surrogateescape") for it in words]
+        if not words or words[0] not in (*self.subcommands, *OTHERS):
+            print("rvlook takes a word over what was done up to now: %s; or %s" % (" ".join(self.subcommands), " ".join(OTHERS)))
+            return
+        if words[0] in OTHERS:
+            arguments = self.read(words)
+            self.check_files(arguments)
+        else:
+            timeline = self.moves.timeline
+            arguments = self.read([words[0], timeline.setup.image.name, *words[1:]])
+            self.check_files(arguments)
+            arguments.has_sources = self.has_files
+            limit = arguments.steps if words[0] in FROM_HERE or "--steps" in words else 0
+            setup = timeline.setup.with_script(commands_of(timeline.past, 0, timeline.hart), limit)
+            arguments.opened = run_of(setup), self.opened().symbols
+        arguments.do(arguments)
+
+    def check_files(self, arguments):
+        """Refuses what names files if a debugger may name none, and files that are not regular: to read one may wait for ever, as it does
+        for the debugger's own input."""
+        read_files = [it for it in (getattr(arguments, name, None) for name in READ_FILES) if it]
+        named = read_files + [it for it in (getattr(arguments, name, None) for name in FOLDERS) if it]
+        if named and not self.has_files:
+            named = named[0] if isinstance(named[0], str) else named[0][0]
+            raise Fault("%s: a debugger on a port may name no file; rvlook gdb --allow-files --port N lets it" % named)
+        for path in read_files:
+            if not os.path.isfile(path):
+                raise Fault("%s: it is no regular file" % path)
+
+    # of the bridge
+
+    def catch(self, what=None):
+        """Adds a catchpoint, or takes all away; and tells which there are."""
+        stops, has_worlds = self.moves.stops, self.moves.timeline.setup.monitor
+        if what == "none":
+            stops.caught.clear()
+        elif what in CAUGHT and what != "trap" and not has_worlds:
+            print("without the monitor there is one world, and no call: write ./rvlook gdb --monitor %s"
+                  % self.moves.timeline.setup.image.name)
+        elif what in CAUGHT:
+            stops.caught.add(what)
+        elif what:
+            print(OWN["catch"])
+        print("caught: %s" % (" ".join(it for it in CAUGHT if it in stops.caught) or "none"))
+
+    def schedule(self, digits=None):
+        """The turns of two harts."""
+        if self.moves.timeline.setup.harts == 1:
+            print("the bench has one hart: write ./rvlook gdb --monitor --harts 2 %s" % self.moves.timeline.setup.image.name)
+            return
+        if digits and not is_form(digits, Form.schedule):
+            print("%s is not %s; write: schedule 01" % (digits, Form.schedule.value))
+        elif digits:
+            self.moves.schedule = digits
+        print("schedule: " + self.moves.schedule)
+
+    def entered(self):
+        """Where the host entered the enclave in which the hart is."""
+        timeline, symbols = self.moves.timeline, self.opened().symbols
+        found = self.entry.find(timeline, timeline.hart)
+        if not found:
+            print("the hart is in no enclave, but in the world %s" % timeline.worlds[timeline.hart])
+            return
+        number = int(found.values[16], 16)
+        call = Call(number).name if number in set(Call) else "a call"
+        print("%s was entered at step %d, by %s at %s" % (timeline.worlds[timeline.hart], found.step, call, place_text(found.pc, symbols)))

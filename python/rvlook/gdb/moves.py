@@ -1,0 +1,222 @@
+"""How harts go on under a debugger. What a person may wait for is asked in few exchanges; where that brings the bench further than the
+stop, another one is brought to the stop itself, by the timeline."""
+import time
+
+from rvlook.protocol import names
+from rvlook.gdb.lookahead import asked, by_turns, ends_of, first_alike, judged
+from rvlook.gdb.stops import INTERRUPTED, Halt, Stops, signal_of
+from rvlook.gdb.view import View
+from rvlook.protocol.run import ALIKE, MOST_STEPS
+from rvlook.protocol.timeline import Steps, part
+
+SCHEDULE = "0" * 32 + "1" * 32  # of two harts, where no other is asked for
+FIRST_RUN, MORE = 1024, 4  # steps of the first part of a continue, and times as many in the next
+SHORT, LONG = 0.005, 0.02  # seconds: a part that took less is followed by a longer one, one that took more by a shorter one
+MOST_BY_TURNS = 1 << 17  # steps of a part of which each is asked alone, or by turns
+FORGOTTEN = "[what had been done behind step %d is forgotten]"
+CAREFUL = 4096  # steps that are done one exchange a turn, behind a stop that was none
+
+
+class Moves:
+    """What a debugger does with the harts. `link` tells of Ctrl-C, and takes what is told meanwhile; `ready` has benches at earlier steps,
+    by those, and `follower` one that goes the way of this one behind it, so that it comes to a stop at which this one has been."""
+
+    def __init__(self, timeline, link):
+        self.timeline, self.view, self.link, self.stops, self.schedule = timeline, View(timeline), link, Stops(), SCHEDULE
+        self.ready, self.follower, self.careful, self.notes = {}, None, 0, []
+        self.behind_watches = False  # whether a debugger expects to be behind the access that a watch met
+
+    def close(self):
+        self.forget(0)
+        self.timeline.close()
+
+    def forget(self, position):
+        """Ends the other benches at and behind a step: what they did may no longer be what was done."""
+        for it in [it for it in self.ready if it >= position]:
+            self.ready.pop(it).close()
+        if self.follower and self.follower.position >= position:
+            self.follower.close()
+            self.follower = None
+
+    def go(self, position):
+        """Goes to an earlier step, by a bench that is there or near."""
+        if position == self.timeline.position:
+            return
+        new = self.ready.pop(position, None) or self.followed(position) or self.timeline.again(position)
+        new.take_future(self.timeline)
+        new.set_stops(self.timeline.stops)
+        self.timeline.close()
+        self.timeline, self.view = new, View(new)
+        self.forget(position)
+
+    def tell(self, lines):
+        """Does commands of the person that change registers or bytes: they are part of what was done, and what had been done behind here
+        is no longer what would come."""
+        self.forget(self.timeline.position)
+        had = self.timeline.was_told
+        self.timeline.do_all(lines)
+        if had and not self.timeline.was_told:
+            self.notes.append(FORGOTTEN % self.timeline.position)
+
+    def tell_notes(self):
+        """Has the debugger show what could not be told before."""
+        for note in self.notes:
+            self.link.tell(note)
+        self.notes = []
+
+    def redo(self):
+        """Tells again what was told at this step before one came back."""
+        if self.timeline.redo():
+            self.forget(self.timeline.position)
+
+    def followed(self, position):
+        """The bench that follows, at a step, or None where it is further."""
+        found = self.follower if self.follower and self.follower.position <= position else None
+        if found:
+            found.follow(part(self.timeline.past, found.position, position))
+            self.follower = None
+        return found
+
+    def follow(self):
+        """Has a bench follow up to here."""
+        if self.follower:
+            self.follower.settle()
+            self.follower.follow(part(self.timeline.past, self.follower.position, self.timeline.position))
+        else:
+            self.follower = self.timeline.again(self.timeline.position)
+
+    def turns_of(self, harts):
+        """The turns of these harts, from the next one on."""
+        if len(harts) == 1:
+            return str(harts[0])
+        return self.timeline.turns_of(self.schedule)
+
+    def turn_of(self, hart):
+        """The turns, where the next one is this hart's; else the hart alone."""
+        turns = self.timeline.turns_of(self.schedule) if self.timeline.setup.harts > 1 else ""
+        return turns if turns.startswith(str(hart)) else str(hart)
+
+    # one step
+
+    def step(self, hart, others, inside=()):
+        """A step of a hart, or so many as end inside a range; the others go on by their turns up to it."""
+        last, alike = None, 0
+        while True:
+            self.redo()
+            turns = self.turns_of([hart, *others])
+            halt = self.exactly(turns, turns.index(str(hart))) if str(hart) in turns else None
+            if halt:
+                return self.halt_at(halt)
+            before = self.timeline.worlds[hart]
+            ran = self.view.step(hart, self.turn_of(hart))
+            halt = self.stops.met(self.timeline, hart, ran, before) if ran.why != "done" else None
+            if halt and halt.reason:
+                return self.halt_at(halt)
+            self.tell_step(ran, before)
+            alike, last = alike + 1 if ran == last else 0, ran
+            if halt or ran.trap or int(ran.pc, 16) not in inside or self.stops.is_break(self.timeline, ran.pc):
+                return Halt(hart)
+            if alike >= ALIKE:
+                return self.halt_at(self.stays([hart], hart, ran))
+            if self.link.interrupted():
+                return Halt(hart, signal=INTERRUPTED)
+
+    def tell_step(self, ran, before):
+        """Tells the trap of a step, and the world that it went to."""
+        if ran.trap:
+            self.link.tell("[%s, %s]" % (names.cause_name(ran.trap.cause), ran.trap.value))
+        if ran.world != before:
+            self.link.tell("[%s goes on]" % ran.world)
+
+    # many steps
+
+    def go_on(self, harts):
+        """Steps of these harts by their turns, up to a stop, to Ctrl-C, or to where they all stay."""
+        size, by_turns, self.careful = FIRST_RUN, len(harts) > 1 or self.stops.is_single, 0
+        while True:
+            self.redo()
+            if by_turns or self.stops.watches or self.stops.has_conditions:
+                self.follow()
+            first, began, room = self.timeline.position, time.monotonic(), self.timeline.room()
+            size = size if by_turns or not self.stops.has_conditions else MOST_STEPS  # of which each break met ends a part
+            halt = self.advance(self.turns_of(harts), min(size, room or size))
+            if not halt and room is None and not self.careful > 0:
+                halt = self.end_of(harts, first)
+            if halt:
+                return self.halt_at(halt)
+            if self.link.interrupted():
+                return Halt(harts[0], signal=INTERRUPTED)
+            took = time.monotonic() - began
+            if took < SHORT:
+                size = min(size * MORE, MOST_BY_TURNS if by_turns else MOST_STEPS)
+            elif took > LONG:
+                size = max(FIRST_RUN, size // 2)
+
+    def advance(self, turns, count):
+        """So many steps, or fewer; the halt where there is one before."""
+        if len(set(turns)) == 1 and not self.stops.is_single and not self.stops.has_conditions or self.careful > 0:
+            self.careful -= count
+            return self.exactly(turns, count, LONG)
+        first, future, worlds, done = self.timeline.position, list(self.timeline.future), list(self.timeline.worlds), 0
+        if len(set(turns)) == 1 and not self.stops.is_single:
+            for done, ran, verdict in judged(self.timeline, self.stops, int(turns[0]), count):
+                if verdict is not False:
+                    return self.met_at(first, Steps(turns, done), future, int(turns[0]), ran, worlds[int(turns[0])])
+            return None
+        for hart, wanted, ran in asked(self.timeline, turns, count, self.stops.is_single, self.stops.is_quiet(self.timeline)):
+            done += ran.steps
+            if ran.steps < wanted or self.stops.may_meet(self.timeline, ran, worlds[hart]):
+                return self.met_at(first, Steps(turns, done), future, hart, ran, worlds[hart])
+            worlds[hart] = ran.world
+        return None
+
+    def met_at(self, first, steps, future, hart, ran, before):
+        """The halt behind these steps from step `first` on, if it is one: the bench has gone further, and perhaps not by the turns."""
+        if self.timeline.position != first + steps.count:
+            self.go(first + steps.count)
+            self.timeline.future = future
+            self.timeline.spend(steps)
+        self.careful = CAREFUL
+        return self.stops.met(self.timeline, hart, ran, before)
+
+    def exactly(self, turns, count, seconds=None):
+        """Steps of which each run is an exchange, or as many as are done in some seconds; the halt where there is one."""
+        began = time.monotonic()
+        for halt in by_turns(self.timeline, self.stops, turns, count):
+            if halt or seconds and time.monotonic() > began + seconds:
+                return halt
+        return None
+
+    def halt_at(self, halt):
+        """Halts where the bench is; but for a watch before the access, where gdb has it on RISC-V, and does the step itself."""
+        if halt.told:
+            self.link.tell(halt.told)
+        if halt.reason and not self.behind_watches:
+            self.go(self.timeline.position - 1)
+        return halt
+
+    def end_of(self, harts, first):
+        """Where these harts do nothing any more: the halt at the first step behind `first` from which on they do not."""
+        turns = self.turns_of(harts)
+        start, future, worlds = self.timeline.position, list(self.timeline.future), list(self.timeline.worlds)
+        found = asked(self.timeline, turns, ALIKE * len(turns), True)
+        for done, (hart, _, ran) in enumerate(found, 1):
+            if self.stops.may_meet(self.timeline, ran, worlds[hart]):
+                halt = self.met_at(start, Steps(turns, done), future, hart, ran, worlds[hart])
+                if halt or done < len(found):
+                    return halt
+            worlds[hart] = ran.world
+        ends = ends_of(found)
+        if ends is None:
+            return None
+        self.go(first_alike(self.timeline, first, ends))
+        return self.stays(harts, found[-1][0], found[-1][2])
+
+    def stays(self, harts, hart, ran):
+        """The halt of harts that do nothing any more."""
+        cause = ran.trap and ran.trap.cause
+        who = "hart %d stays" % hart if len(harts) == 1 else "all harts stay"
+        told = "[%s at %s%s]" % (who, ran.pc, ": " + names.cause_name(cause) if cause else "")
+        if ran.world == "bare" and int(self.view.registers(hart)[17], 16) == names.KEY:
+            told += "\n[a7 has the key of the monitor's calls, and there is no monitor: ./rvlook gdb --monitor has one]"
+        return Halt(hart, "", signal_of(ran.trap), told)

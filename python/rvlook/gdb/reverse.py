@@ -1,0 +1,168 @@
+"""How harts go back under a debugger: to the step before, or to the last stop before, which is looked for on other benches that play parts
+of the past again."""
+import contextlib
+
+from rvlook.gdb.lookahead import BLOCK, asked, by_turns, judged
+from rvlook.gdb.stops import INTERRUPTED, Halt
+from rvlook.protocol.run import MOST_STEPS
+from rvlook.protocol.timeline import Told, part
+
+FIRST_PART, MORE_BACK = 4096, 8  # steps of the first part that is looked through, and times as many in the next
+MOST_BY_TURNS = 1 << 18  # of a part of two harts, or of single steps
+FAR, AHEAD = 200000, 3  # so many steps from reset, so many steps back are played again before they are asked for
+MOST_READY = 6  # benches that wait at earlier steps
+AT_RESET = "replaylog:begin;"
+
+
+class Interrupted(Exception):
+    """Ctrl-C came while a stop was looked for."""
+
+
+class Back:
+    """The way back of the moves of a debugger. The stops of the part that was looked through last are kept."""
+
+    def __init__(self, moves):
+        self.moves, self.key, self.first, self.end, self.found = moves, None, 0, 0, []
+
+    def forget(self):
+        """Forgets what was found: what is done from here on may be something else than what had been done."""
+        self.key, self.found = None, []
+
+    def step(self, hart):
+        """Goes before the last step of a hart."""
+        moves = self.moves
+        position = moves.timeline.step_before(hart)
+        if position is None:
+            return Halt(hart, AT_RESET)
+        moves.go(position)
+        self.prepare(range(position - 1, position - 1 - AHEAD, -1))
+        return Halt(hart)
+
+    def prepare(self, positions):
+        """Sends benches to steps that may be asked for next, where that takes time."""
+        ready = self.moves.ready
+        for position in positions:
+            if position > FAR and position not in ready:
+                ready[position] = self.moves.timeline.again(position)
+        while len(ready) > MOST_READY:
+            ready.pop(min(ready)).close()
+
+    def ask_person(self):
+        """Whether Ctrl-C came, which ends a search."""
+        if self.moves.link.interrupted():
+            raise Interrupted
+
+    def go(self, hart, harts):
+        """Goes to the last stop of these harts before here, or stays here where Ctrl-C comes before it is found."""
+        try:
+            return self.go_to_stop(hart, harts)
+        except Interrupted:
+            self.forget()
+            return Halt(hart, signal=INTERRUPTED)
+
+    def go_to_stop(self, hart, harts):
+        """Goes to the last stop of these harts before here; or a watch here, whose access the debugger undoes itself."""
+        moves, here = self.moves, self.moves.timeline.position
+        by_turns_alone = moves.stops.is_single or moves.timeline.setup.harts > 1
+        key = (moves.stops.key(moves.timeline), tuple(harts))
+        if key != self.key or not self.first <= here <= self.end:
+            self.key, self.first, self.end, self.found = key, here, here, []
+        size = FIRST_PART
+        while not self.before(here) and self.first > 0:
+            first = max(0, self.first - size)
+            self.found = self.stops_between(first, self.first, harts) + self.found
+            self.first, size = first, size * MORE_BACK if not by_turns_alone else min(size * MORE_BACK, MOST_BY_TURNS)
+            self.ask_person()
+        halts = self.before(here)
+        if halts:
+            position, halt = halts[-1]
+            moves.go(position)
+            self.prepare(it for it, _ in halts[-2:-2 - AHEAD:-1])
+            if halt.told:
+                moves.link.tell(halt.told)
+            return halt
+        moves.go(0)
+        at_break = here and moves.stops.is_break(moves.timeline, moves.view.registers(hart)[32])
+        return Halt(hart, "" if at_break else AT_RESET)
+
+    def before(self, here):
+        """The stops before a step, and a watch there."""
+        return [(position, halt) for position, halt in self.found if position < here + bool(halt.reason)]
+
+    def stops_between(self, first, end, harts):
+        """The stops behind step `first`, up to step `end`."""
+        moves, found = self.moves, {}
+        pieces = list(part(moves.timeline.past, first, end))
+        if not moves.stops.is_single and not self.may_stop(first, pieces):
+            return []
+        with contextlib.closing(moves.timeline.again(first)) as ahead:
+            ahead.set_stops(moves.timeline.stops)
+            for it in pieces:
+                if isinstance(it, Told):
+                    ahead.choose(it.hart)
+                    ahead.do(it.line)
+                elif moves.stops.is_single:
+                    found.update(self.single_stops(ahead, it))
+                elif moves.stops.has_conditions and it.chosen:
+                    found.update(self.judged_stops(ahead, it))
+                else:
+                    found.update(self.stops_by_turns(ahead, it))
+        return sorted(((position, halt) for position, halt in found.items() if halt.hart in harts), key=lambda it: it[0])
+
+    def may_stop(self, first, pieces):
+        """Whether there may be a stop in steps of two harts; of one hart it is as soon looked at."""
+        if all(isinstance(it, Told) or it.chosen for it in pieces):
+            return True
+        with contextlib.closing(self.moves.timeline.again(first)) as ahead:
+            ahead.set_stops(self.moves.timeline.stops)
+            for it in pieces:
+                if isinstance(it, Told):
+                    ahead.choose(it.hart)
+                    ahead.do(it.line)
+                elif any(ran.steps < count or self.moves.stops.may_meet(ahead, ran, "")
+                         for _, count, ran in asked(ahead, it.turns, it.count, False, self.moves.stops.is_quiet(ahead))):
+                    return True
+        return False
+
+    def stops_by_turns(self, ahead, steps):
+        """The stops in steps of the past, each run of a hart an exchange."""
+        for halt in by_turns(ahead, self.moves.stops, steps.turns, steps.count):
+            self.ask_person()
+            if halt:
+                yield ahead.position, halt
+
+    def judged_stops(self, ahead, steps):
+        """The stops in steps of one hart, where conditions decide, many in one exchange."""
+        hart, end = int(steps.turns), ahead.position + steps.count
+        while ahead.position < end:
+            self.ask_person()
+            position = ahead.position
+            for done, ran, verdict in judged(ahead, self.moves.stops, hart, min(end - position, MOST_STEPS)):
+                halt = Halt(hart) if verdict else None if verdict is False else self.halt_there(ahead, position + done, hart, ran, "")
+                if halt:
+                    yield position + done, halt
+
+    def single_stops(self, ahead, steps):
+        """The stops in steps of the past that are asked one by one, many in one exchange."""
+        stops, left = self.moves.stops, steps
+        while left:
+            self.ask_person()
+            now = next(part([left], 0, BLOCK))
+            position, worlds = ahead.position, list(ahead.worlds)
+            for hart, _, ran in asked(ahead, now.turns, now.count, True):
+                position += 1
+                if stops.may_meet(ahead, ran, worlds[hart]):
+                    halt = self.halt_there(ahead, position, hart, ran, worlds[hart])
+                    if halt:
+                        yield position, halt
+                worlds[hart] = ran.world
+            left = next(part([left], BLOCK, left.count), None)
+
+    def halt_there(self, ahead, position, hart, ran, before):
+        """The halt behind a step, for which the bench that is ahead of it is not asked where it would have to be there."""
+        stops = self.moves.stops
+        if not stops.asks(ran):
+            return stops.met(ahead, hart, ran, before)
+        with contextlib.closing(ahead.again(position)) as there:
+            there.set_stops(self.moves.timeline.stops)
+            return stops.met(there, hart, ran, before)

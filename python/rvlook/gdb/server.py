@@ -1,0 +1,382 @@
+"""The word gdb: the bench for a debugger that speaks the GDB remote serial protocol. Each hart is a thread."""
+import re
+import signal
+import socket
+import sys
+import threading
+
+from rvlook.protocol import names
+from rvlook.image.escapes import visible
+from rvlook.errors import BenchEnded, Fault
+from rvlook.gdb.reverse import Back
+from rvlook.gdb.link import Gone, Link, escaped, hex_of, little, number_of, unescaped
+from rvlook.gdb.monitor import Monitor
+from rvlook.gdb.moves import Moves
+from rvlook.gdb.stops import Halt, Watch
+from rvlook.gdb.target import CORE, ENTERED, MODES, PC, PRIV, REGISTERS, TRIPLE, WORLD, WORLDS, memory_text, target_text, threads_text
+from rvlook.protocol.run import told_fault
+from rvlook.protocol.timeline import Timeline
+
+NAME = re.compile(r"[Qqv][A-Za-z]+\??|b[cs]|.", re.S)
+CONDITION = re.compile(r"X([0-9a-f]{1,4}),([0-9a-f]+)")
+VALUE = re.compile(r"[0-9a-fA-F]{8}\Z")
+BREAKS, WATCHES = ("0", "1"), {"2": ("watch", "w"), "3": ("rwatch", "r"), "4": ("awatch", "rw")}
+FEATURES = ("PacketSize=4000;QStartNoAckMode+;qXfer:features:read+;qXfer:memory-map:read+;qXfer:threads:read+;vContSupported+;"
+            "ReverseStep+;ReverseContinue+;ConditionalBreakpoints+")
+MOST_WATCHED = 32
+MOST_READ = 0x2000  # bytes of memory in a reply, whose digits are then as many as PacketSize tells
+PIECE = 2000  # characters of what `monitor` tells, in a packet
+SIGNS = re.compile(r"[#$}*]")  # which no text of an error may have
+GONE = "X09"  # the program was ended
+
+
+class Refused(Exception):
+    """What the bench cannot do; the text is for the debugger."""
+
+
+class Server:
+    """Answers packets. `shown` is the hart that is looked at, `moved` the one that goes on or back (None where any may), `last` the one
+    that halted."""
+
+    def __init__(self, link, setup, symbols, command_line, has_files=True):
+        self.link, self.setup, self.symbols, self.has_files, self.command_line = link, setup, symbols, has_files, command_line
+        self.extended = self.over = False
+        self.running = self.back = self.commands = None
+        self.start()
+
+    def start(self):
+        """The bench behind its script."""
+        self.close()
+        self.running = Moves(Timeline.of_script(self.setup), self.link)
+        self.back, self.commands = Back(self.running), Monitor(self.running, self.symbols, self.command_line, self.has_files)
+        self.shown = self.last = self.running.timeline.hart
+        self.moved = None
+
+    def close(self):
+        if self.running:
+            self.running.close()
+        self.running = None
+
+    @property
+    def moves(self):
+        if not self.running:
+            raise Refused("the bench was ended")
+        return self.running
+
+    @property
+    def timeline(self):
+        return self.moves.timeline
+
+    def serve(self):
+        """Answers up to the end."""
+        while not self.over:
+            packet = self.link.packet()
+            name = NAME.match(packet)[0] if packet else ""
+            try:
+                answer = ACTS[name](self, packet[len(name):]) if name in ACTS else ""
+            except Refused as refusal:
+                answer = "E.%s" % refusal
+            except BenchEnded:
+                self.link.send(GONE if name in MOVING else "E.the bench has ended")
+                raise
+            except Fault as fault:
+                answer = "E." + SIGNS.sub("?", visible(str(fault)))
+            except (ValueError, LookupError, TypeError, ArithmeticError, MemoryError, RecursionError):
+                answer = "E01"
+            if answer is not None:
+                self.link.send(answer)
+
+    # what there is
+
+    def no_acknowledgements(self, _):
+        self.link.send("OK")
+        self.link.acknowledged = False
+
+    def transfer(self, rest):
+        """A part of a document."""
+        kind, _, name, place = rest[1:].split(":")
+        made = {("features", "target.xml"): target_text, ("memory-map", ""): lambda: memory_text(self.setup.ram),
+                ("threads", ""): lambda: threads_text(map(self.hart_text, range(self.setup.harts if self.running else 0)))}
+        text = made[kind, name]()
+        first, count = map(number_of, place.split(","))
+        return ("m" if first + count < len(text) else "l") + escaped(text[first:first + count])
+
+    def threads(self, _):
+        return "m" + ",".join("%x" % (hart + 1) for hart in range(self.setup.harts)) if self.running else "l"
+
+    def hart_text(self, hart):
+        """What is said of a hart among the threads."""
+        self.timeline.settle()
+        return "hart %d: %s in %s" % (hart, self.timeline.worlds[hart], self.timeline.modes[hart])
+
+    def hart_of(self, thread):
+        """The hart of a thread; that which halted where any will do."""
+        hart = self.last if thread in ("", "0", "-1") else number_of(thread) - 1
+        if not 0 <= hart < self.setup.harts:
+            raise Refused("there is no such thread")
+        return hart
+
+    def choose(self, rest):
+        """The hart that is shown, or that is moved."""
+        hart = self.hart_of(rest[1:])
+        if rest[0] == "g":
+            self.shown = hart
+        else:
+            self.moved = None if rest[1:] in ("0", "-1") else hart
+        return "OK"
+
+    # registers and memory
+
+    def registers(self, _=""):
+        """The values of CORE, as the protocol has them."""
+        return "".join(map(little, self.moves.view.registers(self.shown)))
+
+    def read_register(self, rest):
+        """Any of REGISTERS."""
+        number = number_of(rest)
+        if number < len(CORE):
+            return little(self.moves.view.registers(self.shown)[number])
+        if number in (PRIV, WORLD):
+            return self.state()[number]
+        if REGISTERS[number] in ENTERED:
+            values = self.commands.entry.registers(self.timeline, self.shown)
+            return little(values[REGISTERS[number]]) if values else "x" * 8
+        return little(self.moves.view.csr(self.shown, names.CSRS[REGISTERS[number]]))
+
+    def state(self):
+        """What the bench tells behind a step alone, by its numbers among the registers."""
+        self.timeline.settle()
+        return {PRIV: little("%08x" % MODES[self.timeline.modes[self.shown]]),
+                WORLD: little("%08x" % WORLDS[self.timeline.worlds[self.shown]])}
+
+    def changing(self):
+        """Something is done, perhaps something else than what had been done behind this step."""
+        self.back.forget()
+        self.commands.entry.limit(self.timeline.position)
+
+    def write_register(self, rest):
+        """x1 to x31: no command of the bench writes another."""
+        number, value = rest.split("=")
+        number = number_of(number)
+        if not 0 < number < PC:
+            raise Refused("no command of the bench writes %s" % REGISTERS[number])
+        if not VALUE.match(value):
+            raise ValueError(value)
+        self.changing()
+        self.timeline.choose(self.shown)
+        self.moves.tell(["setreg %d %s" % (number, little(value))])
+        return "OK"
+
+    def read_memory(self, rest):
+        """Bytes, up to the first that is outside."""
+        first, count = map(number_of, rest.split(","))
+        found = self.moves.view.bytes(first, min(count, MOST_READ))
+        if count and not found:
+            raise Refused("%08x is outside RAM" % first)
+        return found.hex()
+
+    def write_memory(self, rest):
+        place, digits = rest.split(":", 1)
+        return self.write(place, bytes.fromhex(digits))
+
+    def write_binary(self, rest):
+        place, data = rest.split(":", 1)
+        return self.write(place, unescaped(data).encode("latin-1"))
+
+    def write(self, place, data):
+        """Bytes, each by a poke; none where one is outside."""
+        first, count = map(number_of, place.split(","))
+        if len(data) != count:
+            raise Refused("%d bytes in place of %d" % (len(data), count))
+        if count and len(self.moves.view.bytes(first, count)) < count:
+            raise Refused("a byte of it is outside RAM")
+        self.changing()
+        self.moves.tell(["poke %x %02x" % (first + n, byte) for n, byte in enumerate(data)])
+        return "OK"
+
+    # breakpoints and watchpoints
+
+    def set_stop(self, rest):
+        kind, first, count = self.stop_of(rest)
+        if kind in BREAKS:
+            conditions = [bytes.fromhex(it[2])[:int(it[1], 16)] for it in CONDITION.finditer(rest)]
+            self.moves.stops.set_break(self.timeline, kind, first, conditions)
+        elif count > MOST_WATCHED or not self.moves.stops.set_watch(self.timeline, Watch(*WATCHES[kind], first, count)):
+            print("rvlook: the bench watches %d bytes at most, and these would be more" % MOST_WATCHED, file=sys.stderr, flush=True)
+            raise Refused("the bench watches %d bytes at most" % MOST_WATCHED)
+        return "OK"
+
+    def clear_stop(self, rest):
+        kind, first, count = self.stop_of(rest)
+        if kind in BREAKS:
+            self.moves.stops.clear_break(self.timeline, kind, first)
+        else:
+            self.moves.stops.clear_watch(self.timeline, Watch(*WATCHES[kind], first, count))
+        return "OK"
+
+    @staticmethod
+    def stop_of(rest):
+        """The kind, the address and the length of a break or watch."""
+        kind, first, count = rest.split(";")[0].split(",")
+        return kind, number_of(first), number_of(count)
+
+    # on and back
+
+    def halted(self, halt):
+        """The reply that tells where a hart halts, with its registers."""
+        self.shown = self.last = halt.hart
+        values = [*enumerate(map(little, self.moves.view.registers(halt.hart))), *self.state().items()]
+        return "T%02xthread:%x;%s%s" % (halt.signal, halt.hart + 1, halt.reason, "".join("%02x:%s;" % it for it in values))
+
+    def where(self, _):
+        """Why the harts halt: they have not gone on."""
+        return self.halted(Halt(self.shown)) if self.running else "W00"
+
+    def resume(self, rest):
+        """vCont: each hart does what the first action that names it tells."""
+        self.moves.tell_notes()
+        self.changing()
+        actions = {}
+        for it in rest[1:].split(";"):
+            action, _, thread = it.partition(":")
+            for hart in range(self.setup.harts) if thread in ("", "-1", "0") else [self.hart_of(thread)]:
+                actions.setdefault(hart, action)
+        running = [hart for hart, action in actions.items() if action[0] in "cC"]
+        stepping = [hart for hart, action in actions.items() if action[0] in "sSr"]
+        if stepping:
+            action = actions[stepping[0]]
+            inside = range(*map(number_of, action[1:].split(",", 1))) if action[0] == "r" else ()
+            halt = self.moves.step(stepping[0], running, inside)
+        else:
+            halt = self.moves.go_on(sorted(running))
+        self.moves.redo()
+        return self.halted(halt)
+
+    def go_on(self, action, place):
+        """c and s of a debugger without vCont."""
+        if place:
+            raise Refused("no command of the bench writes pc")
+        return self.resume(";%s:%s" % (action, "-1" if self.moved is None else "%x" % (self.moved + 1)))
+
+    def step_back(self, _):
+        """Where no thread is named, it is the one that is looked at."""
+        return self.halted(self.back.step(self.shown if self.moved is None else self.moved))
+
+    def go_back(self, _):
+        harts = range(self.setup.harts) if self.moved is None else [self.moved]
+        return self.halted(self.back.go(self.shown if self.moved is None else self.moved, list(harts)))
+
+    # what else
+
+    def monitor(self, rest):
+        """A line of the bench or of the prompt, or a word over what was done up to now."""
+        self.changing()
+        self.timeline.choose(self.last if self.moves.behind_watches else self.shown)  # lldb reads registers of each hart, and names none here
+        text = self.commands.line(bytes.fromhex(rest[1:]).decode("latin-1"))
+        self.shown = self.timeline.hart
+        self.last = self.shown if self.moves.behind_watches else self.last
+        for first in range(0, len(text), PIECE):
+            self.link.send("O" + hex_of(text[first:first + PIECE]))
+        return "OK"
+
+    def detach(self, _):
+        self.over = not self.extended
+        return "OK"
+
+    def kill(self, _):
+        """The bench ends; an extended debugger may run it again."""
+        self.close()
+        return self.detach("")
+
+    def end(self, _):
+        """k: gdb wants no answer, and lldb one."""
+        answers_it = self.running and self.running.behind_watches
+        self.close()
+        self.over = not self.extended
+        return GONE if answers_it else None
+
+    def extend(self, _):
+        self.extended = True
+        return "OK"
+
+    def run_again(self, _):
+        self.start()
+        return self.where("")
+
+    def restart(self, _):
+        self.start()
+
+    def host(self, _):
+        """What lldb asks, and gdb does not."""
+        self.moves.behind_watches = True
+        return "triple:%s;ptrsize:4;endian:little;watchpoint_exceptions_received:after;" % hex_of(TRIPLE)
+
+    def fresh(self, _):
+        """A debugger that reads all anew behind each line of `monitor`."""
+        self.commands.is_fresh = True
+        return "OK"
+
+
+def answers(text):
+    return lambda server, rest: text
+
+
+MOVING = ("vCont", "c", "s", "bc", "bs")
+ACTS = {
+    "!": Server.extend, "?": Server.where, "D": Server.detach, "H": Server.choose, "M": Server.write_memory, "P": Server.write_register,
+    "R": Server.restart, "T": lambda server, rest: server.hart_of(rest) >= 0 and "OK", "X": Server.write_binary, "Z": Server.set_stop,
+    "k": Server.end, "m": Server.read_memory, "p": Server.read_register, "z": Server.clear_stop, "g": Server.registers,
+    "c": lambda server, rest: server.go_on("c", rest), "s": lambda server, rest: server.go_on("s", rest),
+    "bc": Server.go_back, "bs": Server.step_back, "QRvlookFresh": Server.fresh,
+    "QStartNoAckMode": Server.no_acknowledgements, "qAttached": answers("0"), "qC": lambda server, rest: "QC%x" % (server.last + 1),
+    "qHostInfo": Server.host, "qProcessInfo": lambda server, rest: "pid:1;" + server.host(rest), "qRcmd": Server.monitor,
+    "qSupported": answers(FEATURES), "qThreadExtraInfo": lambda server, rest: hex_of(server.hart_text(server.hart_of(rest[1:]))),
+    "qXfer": Server.transfer, "qfThreadInfo": Server.threads, "qsThreadInfo": answers("l"), "vCont": Server.resume,
+    "vCont?": answers("vCont;c;C;s;S;r"), "vKill": Server.kill, "vRun": Server.run_again}
+
+
+def link_of(setup, port):
+    """The connection with the debugger: over the standard streams, or over a port of this machine, to the first that comes. Whoever comes
+    to the port after that one is turned away, in a thread of its own."""
+    if port is None and sys.stdin.isatty():
+        words = " ".join([*(["--monitor"] if setup.monitor else []), setup.image.name])
+        raise Fault("a debugger speaks here, and no person: gdb-multiarch %s -ex 'target remote | ./rvlook gdb %s'; or --port N" % (
+            setup.image.name, words))
+    if port is None:
+        return Link(sys.stdin.fileno(), sys.stdout.fileno())
+    try:
+        listening = socket.create_server(("localhost", port))
+    except (OSError, OverflowError) as error:
+        raise Fault("port %d: %s" % (port, getattr(error, "strerror", None) or error)) from None
+    print("rvlook: localhost:%d" % listening.getsockname()[1], file=sys.stderr, flush=True)
+    connection = listening.accept()[0]
+    connection.setsockopt(socket.IPPROTO_TCP, socket.TCP_NODELAY, 1)
+    threading.Thread(target=turn_away, args=(listening,), daemon=True).start()
+    link = Link(connection.fileno(), connection.fileno())
+    link.kept = connection  # for as long as its number is used
+    return link
+
+
+def turn_away(listening):
+    """Tells each that comes to the port that there is a debugger already."""
+    while True:
+        listening.accept()[0].close()
+        print("rvlook: a second debugger came to the port, and was turned away", file=sys.stderr, flush=True)
+
+
+def serve_gdb(setup, symbols, port, allow_files, command_line):
+    """Serves a debugger. `symbols` reads the symbols, which are wanted by `monitor` alone: gdb waits two seconds for the first answer.
+    Over a port, on which any program of this machine may come, files are read and written if that is allowed."""
+    if port is None:
+        signal.signal(signal.SIGINT, signal.SIG_IGN)  # of the terminal that the debugger shares; its own Ctrl-C comes as a byte
+    server = None
+    try:
+        server = Server(link_of(setup, port), setup, symbols, command_line, port is None or allow_files)
+        server.serve()
+    except Gone:
+        print("rvlook: the debugger has gone", file=sys.stderr)
+    except BenchEnded as ended:
+        raise told_fault(setup, ended) from None
+    finally:
+        if server:
+            server.close()

@@ -1,0 +1,205 @@
+"""Where harts halt under a debugger: breakpoints with their conditions, watchpoints by the kind of the access, and catchpoints. The bench
+asks its own breaks and watches; what it tells is judged here."""
+import contextlib
+from dataclasses import dataclass
+
+from rvlook.protocol import names
+from rvlook.gdb.conditions import holds
+from rvlook.protocol.instructions import instruction_of
+
+STEPPED, INTERRUPTED, STOPPED = 5, 2, 0  # signals, as the protocol numbers them
+SIGNALS = {"00000000": 10, "00000001": 11, "00000002": 4, "00000003": 5, "00000005": 11, "00000007": 11}  # of traps, by their cause
+PC, NO_TRAP = 32, b"trap=-"
+
+
+@dataclass(frozen=True)
+class Watch:
+    """Bytes that are watched for these kinds of access, and what a debugger calls that."""
+    name: str
+    kinds: str
+    first: int
+    count: int
+
+    @property
+    def bytes(self):
+        return range(self.first, self.first + self.count)
+
+    def meets(self, first, width):
+        return self.first < first + width and first < self.first + self.count
+
+
+@dataclass(frozen=True)
+class Halt:
+    """Where the harts halt, for one of them: `reason` is the protocol's, empty for a step, a breakpoint and a signal; `told` is a line for
+    the person."""
+    hart: int
+    reason: str = ""
+    signal: int = STEPPED
+    told: str = ""
+
+
+def signal_of(trap):
+    """The signal for a trap; that of an interrupt or a call only stops."""
+    return SIGNALS.get(trap.cause, STOPPED) if trap else STOPPED
+
+
+class Stops:
+    """What is asked for. `breaks` has for each address its kinds of breakpoint, each with its conditions; those `beyond` have no room in
+    the bench."""
+
+    def __init__(self):
+        self.breaks, self.beyond, self.watches, self.caught = {}, set(), [], set()
+        self.questions = {}  # the commands whose replies decided conditions
+
+    @property
+    def is_single(self):
+        """Whether it is asked behind each step, and not by the bench alone."""
+        return bool(self.beyond or self.caught)
+
+    @property
+    def has_conditions(self):
+        return any(code for it in self.breaks.values() for code in it.values())
+
+    def key(self, timeline):
+        """What decides where the harts halt."""
+        return (frozenset(timeline.stops), frozenset(self.beyond), tuple(self.watches), frozenset(self.caught),
+                repr(sorted((at, sorted(it.items())) for at, it in self.breaks.items())))
+
+    # what is set
+
+    def set_break(self, timeline, kind, at, conditions):
+        self.breaks.setdefault(at, {})[kind] = conditions
+        if timeline.do("break %x" % at)[0] != "ok":
+            self.beyond.add(at)
+        if conditions:
+            self.holds(timeline, timeline.hart, at)  # what it asks is asked behind each run from then on
+
+    def clear_break(self, timeline, kind, at):
+        self.breaks.get(at, {}).pop(kind, None)
+        if not self.breaks.get(at):
+            self.breaks.pop(at, None)
+            self.beyond.discard(at)
+            timeline.do("clear %x" % at)
+
+    def set_watch(self, timeline, watch):
+        """Watches; False where the bench has no room."""
+        self.watches.append(watch)
+        if any("ok" not in replies for replies in timeline.do_all(["watch %x" % at for at in watch.bytes])):
+            self.clear_watch(timeline, watch)
+            return False
+        return True
+
+    def clear_watch(self, timeline, watch):
+        """Takes a watch away, if it is set."""
+        if watch not in self.watches:
+            return
+        self.watches = [it for it in self.watches if it != watch]
+        kept = {at for it in self.watches for at in it.bytes}
+        timeline.do_all(["unwatch %x" % at for at in watch.bytes if at not in kept])
+
+    # what is met
+
+    def is_break(self, timeline, pc):
+        return timeline.is_break(pc) or int(pc, 16) in self.beyond
+
+    def is_quiet(self, timeline):
+        """What tells of the replies to so many runs, as bytes, that no halt is behind any of them."""
+        places = [b"pc=%s " % it.split()[1].rjust(8, "0").encode() for it in timeline.stops if it.startswith("break")]
+        places += [b"pc=%08x " % at for at in self.beyond]
+
+        def is_quiet(block, runs):
+            return block.count(b"why=done") == runs and not (self.caught and block.count(NO_TRAP) < runs) \
+                and not any(it in block for it in places)
+
+        return is_quiet
+
+    def may_meet(self, timeline, ran, before):
+        """Whether a halt may be behind a run, by its reply alone. `before` is the world before it."""
+        return ran.why != "done" or self.is_break(timeline, ran.pc) or bool(self.caught and self.catch(0, ran, before))
+
+    def asks(self, ran):
+        """Whether registers or memory decide if there is a halt."""
+        return ran.why.startswith("watch") or any(code for it in self.breaks.get(int(ran.pc, 16), {}).values() for code in it)
+
+    def met(self, timeline, hart, ran, before):
+        """The halt behind a run, where the timeline is, or None."""
+        if ran.why.startswith("watch"):
+            reason = self.watched(timeline, hart, ran)
+            if reason is not None:
+                return Halt(hart, reason)
+        if self.is_break(timeline, ran.pc) and self.holds(timeline, hart, int(ran.pc, 16)):
+            return Halt(hart)
+        return self.catch(hart, ran, before)
+
+    def holds(self, timeline, hart, pc):
+        """Whether one of the breakpoints at pc has no condition, or one that holds."""
+        timeline.choose(hart)
+
+        def reply_to(line):
+            self.questions[line] = None
+            return timeline.ask(line)[0][0]
+
+        return self.decided(pc, reply_to)
+
+    def decided(self, pc, reply_to):
+        """Whether one of the breakpoints at pc has no condition, or one that holds by the replies to commands."""
+        conditions = [code for it in self.breaks.get(pc, {"": []}).values() for code in (it or [None])]
+        if None in conditions:
+            return True
+
+        def register(number):
+            return pc if number == PC else int(reply_to("reg %d" % number).split("=")[1], 16)
+
+        def memory(at, count):
+            reply = reply_to("mem %x %d" % (at, count))
+            return b"" if reply.startswith("error ") else bytes.fromhex(reply.split(":")[1])
+
+        return any(holds(code, register, memory) for code in conditions)
+
+    def verdict(self, timeline, ran, replies):
+        """Whether there is a halt behind a run of one hart, by the replies to `questions` there; None where they do not tell."""
+        if ran.why.startswith("watch"):
+            return None
+        try:
+            return self.is_break(timeline, ran.pc) and self.decided(int(ran.pc, 16), replies.__getitem__)
+        except KeyError:
+            return None
+
+    def watched(self, timeline, hart, ran):
+        """Why the harts halt behind an access; None where they go on, for it was of a kind that is not watched there. A watch that was
+        set by a command of the bench is for any access."""
+        lowest = int(ran.why[6:], 16)
+        if not any(lowest in it.bytes for it in self.watches):
+            return ""
+        kind, first, width = access_before(timeline, hart, ran)
+        met = [it for it in self.watches if kind in it.kinds and it.meets(first, width)]
+        return "%s:%x;" % (met[0].name, max(first, met[0].first)) if met else None
+
+    def catch(self, hart, ran, before):
+        """What a catchpoint tells of a single step."""
+        if "switch" in self.caught and ran.world != before:
+            return Halt(hart, "", STOPPED, "[hart %d: from %s to %s, by %s]" % (
+                hart, before, ran.world, "the timer" if ran.trap and ran.trap.cause == names.TIMER else "a call"))
+        if "call" in self.caught and ran.trap and ran.trap.cause == names.ECALL_FROM_S and before != "bare":
+            return Halt(hart, "", STOPPED, "[hart %d: a call of %s]" % (hart, before))
+        if "trap" in self.caught and ran.trap:
+            return Halt(hart, "", signal_of(ran.trap), "[hart %d: %s, %s]" % (hart, names.cause_name(ran.trap.cause), ran.trap.value))
+        return None
+
+
+def access_before(timeline, hart, ran):
+    """The kind, the address and the width of the access that the last step made: the instruction stands before pc, for it did not jump.
+    Where it loaded its own base, the registers are asked on another bench, before the step."""
+    timeline.choose(hart)
+    (line,), registers = timeline.ask("dis %x" % ((int(ran.pc, 16) - 4) & 0xFFFFFFFF), "regs")
+    instruction = instruction_of(line.encode())
+    memory = instruction and instruction.memory
+    if not memory:  # a store over itself
+        return "w", int(ran.why[6:], 16), 1
+    if memory.kind == "r" and memory.register == memory.base:
+        with contextlib.closing(timeline.again(timeline.position - 1)) as earlier:
+            earlier.settle()
+            earlier.choose(hart)
+            registers = earlier.ask("regs")[0]
+    first = (int(registers[memory.base].split("=")[1], 16) + memory.offset) & 0xFFFFFFFF
+    return memory.kind, first, memory.width

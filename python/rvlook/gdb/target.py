@@ -1,0 +1,57 @@
+"""What the debugger is told of the bench: its registers, by the features of RISC-V and one of its own; its memory; and its harts."""
+from xml.sax.saxutils import quoteattr
+
+from rvlook.protocol import names
+from rvlook.access.ranges import RAM_BASE
+
+ABI_KINDS = {"ra": "code_ptr", "sp": "data_ptr", "gp": "data_ptr", "tp": "data_ptr", "s0": "data_ptr"}
+ROLES = {"sp": "sp", "s0": "fp", "ra": "ra", "pc": "pc"}  # as lldb has them
+MODES = {"U": 0, "S": 1, "M": 3}
+WORLDS = {**{"e%d" % slot: slot for slot in range(names.LAST_SLOT + 1)}, "host": names.LAST_SLOT + 1, "bare": names.LAST_SLOT + 2}
+CORE = [*names.ABI, "pc"]  # what `regs` shows, in its order
+SAVED = ["ra", "sp", *("s%d" % number for number in range(12))]  # what a function keeps for its caller
+ENTERED = ["host_pc", *("host_" + name for name in SAVED)]  # where the host that entered the enclave goes on, and with what
+REGISTERS = [*CORE, *names.CSRS, "priv", "world", *ENTERED]
+NUMBERS = {name: number for number, name in enumerate(REGISTERS)}
+PC, PRIV, WORLD = (NUMBERS[name] for name in ("pc", "priv", "world"))
+ARCHITECTURE, TRIPLE = "riscv:rv32", "riscv32-unknown-elf"
+
+TARGET = """<?xml version="1.0"?><!DOCTYPE target SYSTEM "gdb-target.dtd">
+<target version="1.0"><architecture>%s</architecture><osabi>none</osabi>
+<feature name="org.gnu.gdb.riscv.cpu">%s</feature>
+<feature name="org.gnu.gdb.riscv.csr">%s</feature>
+<feature name="org.gnu.gdb.riscv.virtual">%s</feature>
+<feature name="org.rvbench.world"><enum id="world" size="4">%s</enum>%s</feature></target>"""
+MEMORY = """<?xml version="1.0"?><!DOCTYPE memory-map SYSTEM "gdb-memory-map.dtd">
+<memory-map><memory type="ram" start="0x%x" length="0x%x"/></memory-map>"""
+
+
+def register(name, kind="int", more=""):
+    """A register, at its place in all of them."""
+    number = NUMBERS[name]
+    if name in names.ABI:
+        more += ' dwarf_regnum="%d"' % number
+    if name in ROLES:
+        more += ' generic="%s"' % ROLES[name]
+    return '<reg name="%s" bitsize="32" regnum="%d" offset="%d" type="%s"%s/>' % (name, number, 4 * number, kind, more)
+
+
+def target_text():
+    """target.xml."""
+    core = "".join(register(it, "code_ptr" if it == "pc" else ABI_KINDS.get(it, "int")) for it in CORE)
+    csrs = "".join(register(it, more=' group="csr" save-restore="no"') for it in names.CSRS)
+    values = "".join('<evalue name="%s" value="%d"/>' % it for it in WORLDS.items())
+    own = register("world", "world", ' group="general" save-restore="no"')
+    own += "".join(register(it, "code_ptr" if it == "host_pc" else "int", ' group="host" save-restore="no"') for it in ENTERED)
+    return TARGET % (ARCHITECTURE, core, csrs, register("priv"), values, own)
+
+
+def memory_text(ram):
+    """The memory map: beside RAM there is nothing."""
+    return MEMORY % (RAM_BASE, ram)
+
+
+def threads_text(lines):
+    """The harts, each with what is said of it."""
+    threads = "".join('<thread id="%x" core="%d" name=%s/>' % (hart + 1, hart, quoteattr(it)) for hart, it in enumerate(lines))
+    return '<?xml version="1.0"?><threads>%s</threads>' % threads

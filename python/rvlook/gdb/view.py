@@ -1,0 +1,73 @@
+"""What a debugger sees of a bench that halts, each thing asked once: registers, and memory by lines of 64 bytes. A debugger asks for two
+bytes at a time, and for those around pc and above sp at each step; these come with the step, in one exchange."""
+from rvlook.protocol.replies import ran_of
+
+LINE = 64
+SP, PC, REGISTERS = 2, 32, 33
+
+
+def value_of(reply):
+    """The digits of a line of `regs` or of `csr`."""
+    return reply[reply.index("=") + 1:]
+
+
+def line_of(address):
+    return "mem %x %d" % (address & -LINE & 0xFFFFFFFF, LINE)
+
+
+class View:
+    """The registers and the memory of a timeline, as it stands; forgotten where anything changes."""
+
+    def __init__(self, timeline):
+        self.timeline, self.changes, self.values, self.lines = timeline, -1, {}, {}
+
+    def check(self):
+        """Forgets what may have changed."""
+        if self.changes != self.timeline.changes:
+            self.changes, self.values, self.lines = self.timeline.changes, {}, {}
+
+    def registers(self, hart):
+        """x0 to x31 and pc, in digits."""
+        self.check()
+        if hart not in self.values:
+            self.timeline.choose(hart)
+            self.values[hart] = [value_of(line) for line in self.timeline.ask("regs")[0]]
+        return self.values[hart]
+
+    def csr(self, hart, number):
+        """A control and status register, in digits, or None where there is none."""
+        self.check()
+        if (hart, number) not in self.values:
+            self.timeline.choose(hart)
+            reply = self.timeline.ask("csr %x" % number)[0][0]
+            self.values[hart, number] = None if reply.startswith("error ") else value_of(reply)
+        return self.values[hart, number]
+
+    def bytes(self, first, count):
+        """Bytes, up to the first that is outside RAM."""
+        self.check()
+        lines = range(first & -LINE, first + count, LINE)
+        missing = [at for at in lines if at not in self.lines]
+        for at, (reply,) in zip(missing, self.timeline.ask(*map(line_of, missing)) if missing else ()):
+            self.take_line(at, reply)
+        found = b""
+        for at in lines:
+            if not self.lines[at]:
+                break
+            found += self.lines[at]
+        return found[first & LINE - 1:][:count]
+
+    def take_line(self, address, reply):
+        self.lines[address] = b"" if reply.startswith("error ") else bytes.fromhex(reply[reply.index(":") + 1:])
+
+    def step(self, hart, turns):
+        """A single `run` of a hart, whose reply it gives; what is seen behind it is asked in the same exchange."""
+        before = self.registers(hart)
+        self.timeline.choose(hart)
+        near = {address & -LINE & 0xFFFFFFFF for address in (int(before[PC], 16) + 4, int(before[SP], 16))}
+        ran, *seen = self.timeline.do_at_once("run 1", ["regs", *map(line_of, near)], 1 + REGISTERS + len(near), turns)
+        self.check()
+        self.values[hart] = [line.partition("=")[2] for line in seen[:REGISTERS]]
+        for at, reply in zip(near, seen[REGISTERS:]):
+            self.take_line(at, reply)
+        return ran_of(ran)

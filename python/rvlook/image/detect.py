@@ -1,0 +1,56 @@
+"""What an image says of itself: whether it is made for the monitor, and whether it has instructions that the bench has not."""
+import re
+import struct
+import sys
+from array import array
+
+from rvlook.access.ranges import MONITOR_END
+
+AT_SEGMENTS, AT_FLAGS, AT_SIZES = 28, 36, 42  # in the header of an ELF file
+SEGMENT = struct.Struct("<8I")
+LOAD = 1
+COMPRESSED = 1  # EF_RISCV_RVC
+KEY_HIGH, KEY_HIGH_MASK = 0x0A455037, 0xFFFFF07F  # lui of any register, 0xa455
+KEY_LOW, KEY_LOW_MASK = 0xE4300893, 0xFFF07FFF  # addi a7 of any register, -445
+ECALL = 0x00000073
+KEY_SET = re.compile(r"\s*setreg\s+(17|x17|a7)\s+(0x)?0?a454e43\s*\Z", re.I)
+
+
+def is_elf_32(image):
+    """Whether it is an ELF file of 32 bits, the lowest byte first, with a whole header."""
+    return image.is_elf and len(image.data) >= 52 and image.data[4:6] == b"\x01\x01"
+
+
+def segments_of(data):
+    """The address, and the size in memory, of each segment that is loaded."""
+    offset = struct.unpack_from("<I", data, AT_SEGMENTS)[0]
+    size, count = struct.unpack_from("<HH", data, AT_SIZES)
+    for number in range(count):
+        if offset + number * size + SEGMENT.size <= len(data):
+            kind, _, _, address, _, length, *_ = SEGMENT.unpack_from(data, offset + number * size)
+            if kind == LOAD and length:
+                yield address, length
+
+
+def has_compressed(image):
+    """Whether the flags of an ELF file tell of compressed instructions."""
+    return is_elf_32(image) and bool(struct.unpack_from("<I", image.data, AT_FLAGS)[0] & COMPRESSED)
+
+
+def asks_for_monitor(image, script):
+    """By what an image asks for the monitor, or None."""
+    if is_elf_32(image):
+        first = min((address for address, _ in segments_of(image.data)), default=0)
+        return "its first address is %08x" % first if first == MONITOR_END else None
+    if has_key(image.data or b"") or any(KEY_SET.match(line.given) for line in script):
+        return "it has an ecall with the monitor's a7, 0a454e43"
+    return None
+
+
+def has_key(data):
+    """Whether the words of an image put the monitor's key into a7, and have an ecall."""
+    words = array("I", data[:len(data) // 4 * 4])
+    if sys.byteorder == "big":
+        words.byteswap()
+    has_high = any(it & KEY_HIGH_MASK == KEY_HIGH for it in words)
+    return has_high and any(it & KEY_LOW_MASK == KEY_LOW for it in words) and ECALL in words

@@ -1,0 +1,122 @@
+"""The image, in whatever form it stands in a file: an ELF file, raw bytes, or the text that the bench reads."""
+import re
+from dataclasses import dataclass
+
+from rvlook.protocol.bench_line import LONGEST_LINE, ended, is_separator, lines_of
+from rvlook.errors import Fault
+
+ELF_MAGIC = b"\x7fELF"
+DIGITS_A_LINE = 120
+MOST_BYTES = 33554432  # of an image, as the bench has it
+MOST_READ = 3 * MOST_BYTES  # bytes of a file; two digits for each byte of an image, line ends and a script
+MOST_LINES = 1000000  # of a script
+SEPARATOR = re.compile(rb"(?m)^([ \t]*--[ \t]*)(\r?\n|\Z)")
+MARKS = {b"\xef\xbb\xbf": "utf-8", b"\xff\xfe": "utf-16-le", b"\xfe\xff": "utf-16-be"}  # byte order marks
+TEXT = re.compile(rb"[0-9A-Fa-f \t\r\n]*\Z")
+PRINTABLE = re.compile(rb"[\t\r\n\x20-\x7e]*\Z")
+
+
+@dataclass(frozen=True)
+class ScriptLine:
+    """A line of a script: as it stands, where it stands, and what the bench is given for it."""
+    given: str
+    place: str
+    text: str
+    refused: str = ""  # why a name in it says no address, if one does not
+
+
+@dataclass(frozen=True)
+class Image:
+    """`text` is what the bench reads up to the line `--`, `data` the bytes that it says (None where it says none rightly), `script` the
+    lines behind that line, where the file had them."""
+    name: str
+    text: bytes
+    data: bytes
+    script: tuple = ()
+
+    @property
+    def is_elf(self):
+        return self.data is not None and self.data.startswith(ELF_MAGIC)
+
+
+def read_file(path):
+    """The bytes of a file, at most MOST_READ."""
+    try:
+        with open(path, "rb") as file:
+            return bounded(file, path)
+    except OSError as error:
+        raise Fault("%s: %s" % (path, error.strerror)) from None
+    except ValueError as error:  # a NUL in the name
+        raise Fault("%s: %s" % (path, error)) from None
+
+
+def bounded(file, path):
+    """Returns all bytes of an open file; a Fault if there are more than MOST_READ. A device without end is such a file."""
+    data = file.read(MOST_READ + 1)
+    if len(data) > MOST_READ:
+        raise Fault("%s: the file is too long: it has more than %d bytes" % (path, MOST_READ))
+    return data
+
+
+def digits_of(data):
+    """Bytes as the text of an image."""
+    digits = data.hex()
+    lines = [digits[i:i + DIGITS_A_LINE] for i in range(0, len(digits), DIGITS_A_LINE)]
+    return "".join(line + "\n" for line in lines).encode("ascii")
+
+
+def script_lines(data, path, before=0):
+    """The lines of a script that stands in a file behind so many lines. A line -- in it is for two benches, and left out."""
+    if data.count(b"\n") > MOST_LINES:
+        raise Fault("%s: the script is too long: it has more than %d lines" % (path, MOST_LINES))
+    lines = enumerate(lines_of(data.decode("latin-1")), before + 1)
+    return tuple(ScriptLine(line, "%s:%d" % (path, number), line) for number, line in lines
+                 if line.strip(" \t") and not is_separator(line) or len(line) > LONGEST_LINE)
+
+
+def decoded(text):
+    """The bytes that an image's text says, or None where it is faulty."""
+    try:
+        return bytes.fromhex(text.decode("ascii"))
+    except ValueError:
+        return None
+
+
+def image_of(path, kind="auto"):
+    """The image in a file. A text of hexadecimal digits is taken as the bench takes it, with the script behind its line `--` if it has
+    one; and so is any other text before such a line, whose faults are the bench's to tell. All other bytes are the image themselves."""
+    data = read_file(path)
+    cut = separator_in(data)
+    head, rest = (data[:cut.start()], data[cut.end():]) if cut else (data, None)
+    printable = PRINTABLE.match(data) is not None
+    if TEXT.match(head) or cut and PRINTABLE.match(head):
+        text = head if head.endswith(b"\n") or not head else ended(head.decode("latin-1")).encode("latin-1")
+        before = data.count(b"\n", 0, cut.end()) if cut else 0
+        return Image(path, text, decoded(head), script_lines(rest, path, before) if cut else ())
+    if kind != "raw" and (printable or is_marked_text(data)):
+        mark = "" if printable else " with a byte order mark"
+        raise Fault("%s: it is a text%s, and not that of an image; --kind raw takes its bytes" % (path, mark))
+    if len(data) > MOST_BYTES:
+        raise Fault("%s: rvbench: too long: the image has more than %d bytes" % (path, MOST_BYTES))
+    return Image(path, digits_of(data), data)
+
+
+def separator_in(data):
+    """Returns where the line `--` is that ends the text of an image, as a match, or None."""
+    return next((it for it in SEPARATOR.finditer(data) if len(it[1]) <= LONGEST_LINE), None)
+
+
+def is_marked_text(data):
+    """Whether the bytes are a text behind a byte order mark, which no image begins with and editors put there unasked."""
+    mark = next((it for it in MARKS if data.startswith(it)), None)
+    if mark is None:
+        return False
+    try:
+        return PRINTABLE.match(data[len(mark):].decode(MARKS[mark]).encode("ascii")) is not None
+    except UnicodeError:
+        return False
+
+
+def script_of(path):
+    """The lines of a file of commands."""
+    return script_lines(read_file(path), path) if path else ()

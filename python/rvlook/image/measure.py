@@ -1,0 +1,85 @@
+"""The word measure: the digest that create records, worked out by hashlib; none of it is a reply."""
+import hashlib
+import io
+import struct
+
+from rvlook.protocol import names
+from rvlook.errors import Fault, Unfinished, package_missing
+from rvlook.image.files import ELF_MAGIC, read_file
+from rvlook.access.ranges import MONITOR_END
+from rvlook.output.printer import hex8
+from rvlook.image.symbols import symbols_of
+
+LEAST_SIZE = 4096
+
+
+def region_bytes(path, data, base, size):
+    """The bytes of a region as the file has them: of an ELF file what its segments put there, of another file its bytes from the
+    region's base on; and zeros."""
+    if not data.startswith(ELF_MAGIC):
+        if len(data) > size:
+            raise Fault("%s has %d bytes, and the region %d" % (path, len(data), size))
+        return data.ljust(size, b"\0")
+    region = bytearray(size)
+    for address, part in segments(path, data):
+        first, end = max(address, base), min(address + len(part), base + size)
+        if first < end:
+            region[first - base:end - base] = part[first - address:end - address]
+    return bytes(region)
+
+
+def segments(path, data):
+    """The load address and the bytes of each segment of an ELF file."""
+    try:
+        from elftools.common.exceptions import ELFError
+        from elftools.elf.elffile import ELFFile
+    except ImportError:
+        raise Unfinished(package_missing("pyelftools", "python3-pyelftools", "no ELF file can be measured; raw bytes can")) from None
+    try:
+        file = ELFFile(io.BytesIO(data))
+        return [(it["p_paddr"], it.data()) for it in file.iter_segments() if it["p_type"] == "PT_LOAD"]
+    except ELFError as error:
+        raise Fault("%s: %s" % (path, error)) from None
+
+
+def measurement(record, region):
+    """SHA-256 over base, size, window base, window size and entry, and then the region."""
+    return hashlib.sha256(struct.pack("<5I", *record) + region).hexdigest()
+
+
+def is_lawful(base, size, least):
+    """Whether create takes such a range."""
+    return size >= LEAST_SIZE and size & (size - 1) == 0 and base % size == 0 and base >= least
+
+
+def refusal_of(base, size, window, window_size, entry):
+    """The status that create answers whatever the machine is, or None."""
+    if not is_lawful(base, size, 0x80000000):
+        return "BadRegion"
+    if window_size and not is_lawful(window, window_size, 0x80000000):
+        return "BadWindow"
+    if base < MONITOR_END or window_size and (window < MONITOR_END or window < base + size and base < window + window_size):
+        return "Overlap"
+    return None if entry % 4 == 0 and base <= entry < base + size else "BadEntry"
+
+
+def show_measure(path, numbers, symbols_path, printer):
+    """The digest, and whether create would take these numbers at all."""
+    data = read_file(path)
+    symbols = symbols_of(symbols_path or path, read_file(symbols_path) if symbols_path else data)
+    values = [symbols.address(text) for text in numbers]
+    if None in values:
+        raise Fault("%s is no hexadecimal number and no symbol" % numbers[values.index(None)])
+    base, size, window, window_size, entry = values
+    refusal = refusal_of(*values)
+    if refusal:
+        raise Fault("create refuses these numbers: %s" % refusal)
+    record = (base, size, window if window_size else 0, window_size, entry)
+    digest = measurement(record, region_bytes(path, data, base, size))
+    if printer.as_json:
+        printer.object("measure", base=hex8(base), size=size, window=hex8(record[2]), window_size=window_size, entry=hex8(entry),
+                       measurement=digest)
+    else:
+        shown = "window %08x %s" % (window, names.size_text(window_size)) if window_size else "no window"
+        printer.line("region %08x %s  %s  entry %08x" % (base, names.size_text(size), shown, entry))
+        printer.line("measurement " + digest)

@@ -1,0 +1,339 @@
+"""Names and source lines of addresses, from an ELF file by pyelftools, or from lines of text as nm prints them. All of it is derived:
+the bench knows no symbols."""
+import io
+import re
+import zlib
+from bisect import bisect_right
+from collections import defaultdict
+from dataclasses import dataclass
+from functools import lru_cache
+
+from rvlook.protocol.bench_line import lines_of
+from rvlook.image.escapes import name_of, visible
+from rvlook.errors import Fault, NameRefused, package_missing, tell
+from rvlook.image.files import ELF_MAGIC, read_file
+
+NM_LINE = re.compile(r"([0-9a-fA-F]{8})\s+(?:[A-Za-z]\s+)?([A-Za-z_.$][\w.$]*)\s*\Z")
+PREFERRED = ("STT_FUNC", "STT_OBJECT")
+RAM_BASE = 0x80000000
+UNSIZED = 4096  # how far a symbol without a size goes at most
+LEAST_HEADER = 40  # bytes of a section header
+MOST_SECTIONS = 65536
+LONGEST_REASON = 200  # characters of an error of pyelftools that are shown
+MOST_NAMED = 1 << 24  # characters of all names of symbols, which may share the bytes of one string
+MOST_INFLATED = 1 << 26  # bytes of all compressed sections
+
+
+@dataclass(frozen=True)
+class Symbol:
+    """A name at an address; size 0 where none is told."""
+    address: int
+    size: int
+    name: str
+    is_function: bool
+    rank: int = 0  # the lower one names the address where there are more
+
+
+class Symbols:
+    """`symbols` in any order; `lines` are pairs of an address and the source line from there on, None where one ends; `inlined` gives, as
+    it is asked for, the first and the last address of what stands for a call, and the line of the call."""
+
+    def __init__(self, symbols=(), lines=(), inlined=tuple):
+        best = {it.address: it for it in sorted(symbols, key=lambda it: (it.rank, it.name), reverse=True)}
+        self.ordered = [best[address] for address in sorted(best) if address >= RAM_BASE]
+        self.addresses = [symbol.address for symbol in self.ordered]
+        self.by_name = {it.name: it for it in reversed(symbols)}
+        self.places = defaultdict(set)  # of each name
+        for it in symbols:
+            self.places[it.name].add(it.address)
+        # What the linker has dropped has lines too, at addresses where there is no memory.
+        self.lines = sorted((it for it in lines if it[0] >= RAM_BASE), key=lambda it: (it[0], it[1] is not None))
+        self.line_starts = [address for address, _ in self.lines]
+        self.read_inlined, self.inlined = inlined, None
+
+    def __bool__(self):
+        return bool(self.ordered)
+
+    def at(self, address):
+        """The symbol that an address belongs to, or None: that with the nearest address at or below it, as far as its size goes."""
+        place = bisect_right(self.addresses, address) - 1
+        symbol = self.ordered[place] if place >= 0 else None
+        return symbol if symbol and address < symbol.address + (symbol.size or UNSIZED) else None
+
+    def size_of(self, symbol):
+        """The bytes of a symbol: those that are told, or else those up to the next one."""
+        place = bisect_right(self.addresses, symbol.address)
+        following = self.addresses[place] - symbol.address if place < len(self.addresses) else UNSIZED
+        return symbol.size or min(following, UNSIZED)
+
+    def name(self, address):
+        """The address as a symbol, and how far behind it, or None."""
+        symbol = self.at(address)
+        if symbol is None:
+            return None
+        offset = address - symbol.address
+        return "%s+%x" % (symbol.name, offset) if offset else symbol.name
+
+    def function(self, address):
+        """The symbol without how far behind it, or None."""
+        symbol = self.at(address)
+        return symbol and symbol.name
+
+    def source(self, address):
+        """The file and line of an instruction, or None."""
+        place = bisect_right(self.line_starts, address) - 1
+        return self.lines[place][1] if place >= 0 else None
+
+    def sources_in(self, first, end):
+        """The file and line of each instruction of four bytes from one address on up to another, each row of the line table once; None
+        where there is no line. A size that a file tells may be that of all memory, and the rows are not more for it."""
+        place = max(0, bisect_right(self.line_starts, first) - 1)
+        for at in range(place, len(self.lines)):
+            start = max(self.line_starts[at], first)
+            start += (first - start) % 4
+            following = self.line_starts[at + 1] if at + 1 < len(self.lines) else end
+            if self.line_starts[at] >= end:
+                return
+            if start < min(following, end):
+                yield self.lines[at][1]
+
+    def caller(self, address):
+        """The file and line of the call that an instruction was inlined for, or None."""
+        if self.inlined is None:
+            self.inlined = sorted(self.read_inlined())
+        place = bisect_right(self.inlined, (address, 1 << 32)) - 1
+        _, last, source = self.inlined[place] if place >= 0 else (0, -1, None)
+        return source if address <= last else None
+
+    def line(self, address):
+        """The source line of an instruction, behind that of the call that it was inlined for, or None."""
+        source, caller = self.source(address), self.caller(address)
+        return "%s, in %s" % (caller, source) if caller and source else source
+
+    def address(self, text):
+        """The address that a name, a name+offset or hexadecimal digits say, or None. Of a name at more places, name@place is the first from
+        that place on."""
+        named, plus, offset = text.partition("+")
+        name, at, place = named.partition("@")
+        try:
+            if name in self.places:
+                return self.place_of(name, self.address(place) if at else None) + (int(offset, 16) if plus else 0)
+            return int(text, 16) & 0xFFFFFFFF
+        except ValueError:
+            return None
+
+    def place_of(self, name, first):
+        """Where a name is: the only place, or the first from an address on."""
+        places = sorted(self.places[name])
+        if first is not None:
+            places = [it for it in places if it >= first][:1]
+        if len(places) == 1:
+            return places[0]
+        if not places:
+            raise NameRefused("there is no %s from %08x on" % (name, first))
+        shown = " and ".join("%08x" % it for it in places)
+        raise NameRefused("%s is at %s; %s@PLACE is the first from a place on" % (name, shown, name))
+
+
+def symbols_of(path, data):
+    """The symbols of an ELF file's bytes or of an nm's lines; `path` names them in a fault."""
+    if data is None:
+        return Symbols()
+    if data.startswith(ELF_MAGIC):
+        return elf_symbols(path, data)
+    matches = [NM_LINE.match(line) for line in lines_of(decoded(data))]
+    return Symbols([Symbol(int(it[1], 16), 0, visible(it[2]), False) for it in matches if it])
+
+
+def decoded(data):
+    """Returns the text of a listing: UTF-8 if it is that, else ISO 8859-1."""
+    try:
+        return data.decode("utf-8")
+    except UnicodeDecodeError:
+        return data.decode("latin-1")
+
+
+def symbols_from(path, image):
+    """The symbols in the file that is named, or else in the image itself where it is an ELF file."""
+    if path:
+        found = symbols_of(path, read_file(path))
+        if not found:
+            raise Fault("%s: there are no symbols in it" % path)
+        return found
+    return symbols_of(image.name, image.data if image.is_elf else None)
+
+
+def elf_symbols(path, data):
+    """The symbols and source lines of an ELF file."""
+    try:
+        from elftools.elf.elffile import ELFFile
+    except ImportError:
+        told(package_missing("pyelftools", "python3-pyelftools", "there are addresses in place of symbols"))
+        return Symbols()
+    file = readable(path, "no symbols", lambda: checked(ELFFile(io.BytesIO(data)), data))
+    if file is None:
+        return Symbols()
+    knows_all_forms()
+    return Symbols(readable(path, "no symbols", lambda: list(named(file))) or (),
+                   readable(path, "no source lines", lambda: list(source_lines(file))) or (),
+                   lambda: readable(path, "no inlined calls", lambda: list(inlined_calls(file))) or ())
+
+
+def readable(path, without, read):
+    """What `read` gives; where the file is not as it should be, that is told, and what there is then none of."""
+    try:
+        return read()
+    except Exception as error:  # pyelftools has no common class for what it cannot read, and lets errors of Python through
+        told("%s: %s, for it is no file that pyelftools reads (%s)" % (path, without, visible(str(error)[:LONGEST_REASON])
+                                                                      or type(error).__name__))
+        return None
+
+
+def checked(file, data):
+    """Returns an ELF file whose table of sections is in the file, and whose compressed sections are not too large: pyelftools believes both."""
+    size, count = file["e_shentsize"], file.num_sections()
+    if count > MOST_SECTIONS or count and (size < LEAST_HEADER or file["e_shoff"] + count * size > len(data)):
+        raise ValueError("its table of sections is damaged")
+    inflated = 0
+    for section in file.iter_sections():
+        if section.compressed or section.name.startswith(".zdebug"):
+            inflated += inflated_size(data[section["sh_offset"]:section["sh_offset"] + section["sh_size"]])
+        if inflated > MOST_INFLATED:
+            raise ValueError("its compressed sections have more than %d bytes" % MOST_INFLATED)
+    return file
+
+
+def inflated_size(data):
+    """Returns how many bytes the zlib stream of a compressed section gives, which stands after its header; at most MOST_INFLATED + 1."""
+    for header in (12, 24):  # of ELF; .zdebug has 12 bytes too
+        try:
+            return len(zlib.decompressobj().decompress(data[header:], MOST_INFLATED + 1))
+        except zlib.error:
+            continue
+    return 0
+
+
+@lru_cache(maxsize=None)
+def told(line):
+    """Tells a line, once."""
+    tell(line)
+
+
+def knows_all_forms():
+    """pyelftools before 0.30 does not know the form in which clang keeps the MD5 of a source file."""
+    from elftools.construct import Array
+    from elftools.dwarf.structs import DWARFStructs
+    create = DWARFStructs._create_dw_form
+
+    def create_more(structs):
+        create(structs)
+        structs.Dwarf_dw_form.setdefault("DW_FORM_data16", Array(16, structs.Dwarf_uint8("")))
+
+    DWARFStructs._create_dw_form = create_more
+
+
+def named(file):
+    """The symbols of functions, objects and labels."""
+    table = file.get_section_by_name(".symtab")
+    sections = {number for number, section in enumerate(file.iter_sections()) if section["sh_flags"] & 2}
+    length = 0
+    for symbol in table.iter_symbols() if table else ():
+        kind, index = symbol["st_info"]["type"], symbol["st_shndx"]
+        length += len(symbol.name)
+        if length > MOST_NAMED:
+            raise ValueError("its names have more than %d characters" % MOST_NAMED)
+        if symbol.name and not symbol.name.startswith(("$", ".L")) and (index in sections) \
+                and kind in (*PREFERRED, "STT_NOTYPE"):
+            rank = 0 if kind in PREFERRED else 1 if symbol["st_info"]["bind"] == "STB_GLOBAL" else 2
+            yield Symbol(symbol["st_value"], symbol["st_size"], visible(symbol.name), kind == "STT_FUNC", rank)
+        elif symbol.name and index == "SHN_ABS" and kind == "STT_NOTYPE":
+            yield Symbol(symbol["st_value"], 0, visible(symbol.name), False, 3)
+
+
+def source_lines(file):
+    """The rows of all line tables: the address of each and its file and line, or None where a sequence ends."""
+    if not file.has_dwarf_info():
+        return
+    for _, program in line_programs(file.get_dwarf_info()):
+        names = file_names(program)
+        states = [entry.state for entry in program.get_entries() if entry.state]
+        yield from ((it.address, None if it.end_sequence or not it.line else "%s:%d" % (names.get(it.file, "?"), it.line))
+                    for it in states)
+
+
+def line_programs(dwarf):
+    """Each unit with its line table; a table that more units share comes once."""
+    seen = set()
+    for unit in dwarf.iter_CUs():
+        program = dwarf.line_program_for_CU(unit)
+        if program and program.program_start_offset not in seen:
+            seen.add(program.program_start_offset)
+            yield unit, program
+
+
+def file_names(program):
+    """The names of a line table's files by their numbers: from 1 on up to DWARF 4, from 0 on in DWARF 5."""
+    first = 0 if program["version"] >= 5 else 1
+    return {first + place: name_of(entry.name.split(b"/")[-1])
+            for place, entry in enumerate(program["file_entry"])}
+
+
+def inlined_calls(file):
+    """For each call that the compiler has inlined and that is in no other, the first and the last address of what stands for it, and the
+    file and line of the call."""
+    if not file.has_dwarf_info():
+        return
+    dwarf = file.get_dwarf_info()
+    for unit in dwarf.iter_CUs():
+        program = dwarf.line_program_for_CU(unit)
+        names = file_names(program) if program else {}
+        for entry in outermost(dwarf, unit):
+            call = entry.attributes
+            if "DW_AT_call_file" in call and "DW_AT_call_line" in call:
+                source = "%s:%d" % (names.get(call["DW_AT_call_file"].value, "?"), call["DW_AT_call_line"].value)
+                yield from ((first, end - 1, source) for first, end in ranges_of(dwarf, unit, entry) if first < end)
+
+
+def outermost(dwarf, unit):
+    """The inlined calls of a unit that are in functions and their blocks alone, and in no other call."""
+    inside = [True]  # for each entry that is open, whether it is the unit, or a function or block in such
+    for entry in entries_of(dwarf, unit):
+        if entry.is_null():
+            inside.pop()
+            if len(inside) <= 1:
+                return
+            continue
+        is_inside = inside[-1]
+        if is_inside and entry.tag == "DW_TAG_inlined_subroutine":
+            yield entry
+        if entry.has_children:
+            inside.append(is_inside and (len(inside) == 1 or entry.tag in ("DW_TAG_subprogram", "DW_TAG_lexical_block")))
+
+
+def entries_of(dwarf, unit):
+    """The entries of a unit in the order of the file, each right after the one before. pyelftools goes by the siblings that entries name,
+    and does not end where one names itself."""
+    from elftools.dwarf.die import DIE
+    unit.get_top_DIE()  # which others need to read indirect values
+    place, end = unit.cu_die_offset, unit.cu_offset + unit.size
+    while place < end:
+        entry = DIE(unit, dwarf.debug_info_sec.stream, place)
+        place += entry.size
+        yield entry
+
+
+def ranges_of(dwarf, unit, entry):
+    """The ranges of addresses of an entry, each up to, and not with, its end."""
+    told = entry.attributes
+    if "DW_AT_low_pc" in told and "DW_AT_high_pc" in told:
+        first, end = told["DW_AT_low_pc"].value, told["DW_AT_high_pc"]
+        yield first, end.value if end.form == "DW_FORM_addr" else first + end.value
+    elif "DW_AT_ranges" in told and dwarf.range_lists():
+        base = unit.get_top_DIE().attributes.get("DW_AT_low_pc")
+        base = base.value if base else 0
+        for it in dwarf.range_lists().get_range_list_at_offset(told["DW_AT_ranges"].value, unit):
+            if hasattr(it, "base_address"):
+                base = it.base_address
+            else:
+                at = 0 if getattr(it, "is_absolute", False) else base
+                yield at + it.begin_offset, at + it.end_offset

@@ -1,0 +1,79 @@
+"""What a subcommand found, as its exit status and as a JUnit report: a test case for each question, with the finding if there is one."""
+from dataclasses import dataclass
+
+from rvlook.errors import FOUND, REFUSED, UNFINISHED, Unfinished, package_missing, tell
+
+
+@dataclass(frozen=True)
+class Case:
+    """A question that a subcommand answers, and the finding; an empty text is none."""
+    name: str
+    finding: str = ""
+
+
+class Findings:
+    """The cases of one subcommand; the lines of the script that the bench refused; and why it could not finish, if it could not."""
+
+    def __init__(self):
+        self.cases, self.refused, self.cut = [], [], ""
+
+    def add(self, name, finding=""):
+        """Adds a case."""
+        self.cases.append(Case(name, finding))
+
+    def refuse(self, line):
+        """Notes a line of the script that the bench refused."""
+        tell(line)
+        self.refused.append(line)
+
+    def cut_short(self, line):
+        """Notes that not everything was examined; the line says why."""
+        tell(line)
+        self.cut = line
+
+    @property
+    def has_found(self):
+        return any(it.finding for it in self.cases)
+
+    def status(self, is_report):
+        """Returns the exit status. A report (--exit-zero) does not count what was found."""
+        if self.refused:
+            return REFUSED
+        if self.has_found and not is_report:
+            return FOUND
+        return UNFINISHED if self.cut else 0
+
+
+def check_junit(path):
+    """Checks that a JUnit report can be written, before the work is done."""
+    if path is not None:
+        try:
+            import junitparser  # noqa: F401
+        except ImportError:
+            raise Unfinished(package_missing("junitparser", "python3-junitparser", "--junit cannot write its report")) from None
+
+
+def write_junit(path, name, findings, error=""):
+    """Writes one test suite. A finding is a failure; a refused line, why the work was cut short, and `error` are errors."""
+    from junitparser import Error, Failure, JUnitXml, TestCase, TestSuite
+    suite = TestSuite("rvlook " + name)
+    for it in findings.cases:
+        suite.add_testcase(case_of(TestCase(it.name, classname="rvlook." + name), Failure, it.finding))
+    for text in filter(None, dict.fromkeys((*findings.refused, findings.cut, error))):
+        suite.add_testcase(case_of(TestCase("the run", classname="rvlook." + name), Error, text))
+    report = JUnitXml()
+    report.add_testsuite(suite)
+    report.update_statistics()
+    try:
+        report.write(path, pretty=True)
+    except OSError as fault:
+        raise Unfinished("%s: %s" % (path, fault.strerror)) from None
+
+
+def case_of(case, kind, text):
+    """Returns the test case with its result, if it has one: the first line is the message."""
+    if text:
+        result = kind(text.split("\n")[0])
+        result.text = text
+        case.result = [result]
+    return case

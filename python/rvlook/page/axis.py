@@ -1,0 +1,43 @@
+"""The page's axis of memory: RAM is cut where a row of the map ends, and where what is touched begins and ends. What nobody touched is
+shut."""
+from rvlook.page.data import GRANULE
+
+RAM_BASE = 0x80000000
+JOINED = 1024  # touched places nearer than that are one segment
+
+
+def segments_of(found):
+    """The segments of RAM from below, each with its first and last address, whether something is touched in it, and the names in it."""
+    borders = sorted(int(first, 16) for first in found.borders)
+    ends = borders[1:] + [RAM_BASE + found.run["ram"]]
+    touched = sorted(it * GRANULE for it in found.granules)
+    below, above = any(it < borders[0] for it in touched), any(it >= ends[-1] for it in touched)
+    labels = sorted((address, name) for name, address in found.labels.items())
+    segments = [outside(0, RAM_BASE)] if below else []
+    for first, end in zip(borders, ends):
+        for low, high, is_open in cut(first, end, [it for it in touched if first <= it < end]):
+            names = [{"address": "%08x" % address, "name": name} for address, name in labels if low <= address < high]
+            segments.append({"first": "%08x" % low, "last": "%08x" % (high - 1), "range": "%08x" % first, "open": is_open,
+                             "labels": names if is_open else []})
+    return segments + ([outside(ends[-1], 1 << 32)] if above else [])
+
+
+def outside(first, end):
+    """Where there is no memory, and something was tried."""
+    return {"first": "%08x" % first, "last": "%08x" % (end - 1), "range": "%08x" % first, "open": True, "outside": True, "labels": []}
+
+
+def cut(first, end, touched):
+    """The parts of a range: from, to, and whether it is touched."""
+    place, at = first, 0
+    while at < len(touched):
+        low = high = touched[at]
+        while at < len(touched) and touched[at] - high <= JOINED:
+            high, at = touched[at], at + 1
+        high = min(high + GRANULE, end)
+        if low > place:
+            yield place, low, False
+        yield low, high, True
+        place = high
+    if place < end:
+        yield place, end, False

@@ -1,0 +1,168 @@
+"""The objects of a run, packed for the page: what comes again and again is a number in a table, and numbers are columns of bytes. All
+of it is compressed by zlib, and stands as digits of base 64: the length of an object in JSON, in four bytes, the lowest first; the object;
+and the columns, at the places that it tells."""
+import base64
+import json
+import os
+import re
+import struct
+import sys
+import zlib
+from array import array
+
+from rvlook.protocol.names import STATUSES
+
+GRANULE = 16  # bytes that are touched are kept by so many, which bounds the memory for them
+KINDS = {"r": 0, "w": 1}
+KINDS_OF_ARRAYS = "BHI"
+COMMON = ("stdin", "image", "program.elf")  # names that tell nothing
+MAP = ("enclaves", "columns", "rows")
+REFUSED, NO_VALUE = 2, 4  # added to the kind of a touch that trapped, and of one whose value is not told
+LEVEL = 6  # of zlib
+BRANCH = re.compile(r"b|jal ")
+
+
+class Table:
+    """Values with a number each, in the order in which they came."""
+
+    def __init__(self):
+        self.numbers = {}
+
+    def number(self, value):
+        return self.numbers.setdefault(value, len(self.numbers))
+
+    def rows(self, *names):
+        """The values, each as an object with these members."""
+        return [dict(zip(names, value)) for value in self.numbers]
+
+
+class Columns:
+    """Arrays of numbers as bytes behind one another, each from a multiple of four on."""
+
+    def __init__(self):
+        self.bytes = bytearray()
+
+    def add(self, numbers):
+        """An array, in numbers of as few bytes as hold the largest, the lowest byte first: where it stands."""
+        largest = max(numbers, default=0)
+        narrow = array(next(kind for kind in KINDS_OF_ARRAYS if largest < 256 ** array(kind).itemsize), numbers)
+        if sys.byteorder == "big":
+            narrow.byteswap()
+        place = {"width": narrow.itemsize, "at": len(self.bytes), "count": len(narrow)}
+        self.bytes += narrow.tobytes() + bytes(-len(narrow) * narrow.itemsize % 4)
+        return place
+
+
+def compressed(data, columns):
+    """The data of a page and its columns, as text."""
+    told = json.dumps(data, separators=(",", ":")).encode("utf-8")
+    told += b" " * (-len(told) % 4)
+    return base64.b64encode(zlib.compress(struct.pack("<I", len(told)) + told + bytes(columns.bytes), LEVEL)).decode("ascii")
+
+
+def refusal(step):
+    """The name of the status by which the monitor has refused a call, or None: a0, where no other world goes on."""
+    status = step["registers"].get("x10", next(iter(step["call"]["arguments"].values())))
+    return STATUSES.get(int(status, 16)) if step["next"]["world"] == step["world"] else None
+
+
+def shown_text(step):
+    """The text of an instruction, with what a branch or jump goes to in place of how far that is."""
+    text, target = step["abi"], step["target"]
+    if not target or not BRANCH.match(text):
+        return text
+    return "%s%s%s" % (text[:text.rindex(" ") + 1], target["address"], " <%s>" % target["symbol"] if target["symbol"] else "")
+
+
+class Collector:
+    """Takes objects as a printer does, and keeps what the page shows of them."""
+
+    def __init__(self):
+        self.run = self.end = None
+        self.sites, self.places, self.traps, self.names = Table(), Table(), Table(), Table()
+        self.site, self.place, self.trap = array("I"), array("B"), array("I")
+        self.changes, self.registers, self.values = array("B"), array("B"), array("I")
+        self.touch = {"step": array("I"), "address": array("I"), "width": array("B"), "kind": array("B"), "name": array("I"),
+                      "value": array("I")}
+        self.calls, self.commands, self.moments = [], [], []
+        self.granules, self.labels = set(), {}
+        self.maps, self.borders = Table(), set()
+        self.points = self.rows = 0
+
+    @property
+    def title(self):
+        """The image's name: that of its folder, where the file has a common one."""
+        path = os.path.abspath(self.run["image"])
+        name = os.path.basename(path)
+        return os.path.basename(os.path.dirname(path)) if name in COMMON else os.path.splitext(name)[0] if name.endswith(".elf") else name
+
+    def object(self, name, **members):
+        getattr(self, "take_" + name)(members)
+
+    def take_run(self, it):
+        self.run = it
+
+    def take_end(self, it):
+        self.end = it
+
+    def take_command(self, it):
+        self.commands.append(it)
+
+    def take_moment(self, it):
+        """The map of a moment is that of others mostly, and stands once."""
+        self.rows += len(it["rows"])
+        self.borders.update(row["first"] for row in it["rows"])
+        shown = json.dumps({name: it[name] for name in MAP})
+        rest = {name: value for name, value in it.items() if name not in MAP}
+        self.moments.append({**rest, "map": self.maps.number(shown)})
+
+    def take_step(self, it):
+        self.site.append(self.sites.number((it["pc"], it["word"], it["abi"], it["symbol"], it["function"], it["source"], it["caller"],
+                                            shown_text(it))))
+        self.place.append(self.places.number((it["hart"], it["world"], it["mode"])))
+        trap = it["trap"]
+        self.trap.append(self.traps.number((trap["cause"], trap["value"], trap["name"])) + 1 if trap else 0)
+        self.changes.append(len(it["registers"]))
+        for name, value in it["registers"].items():
+            self.registers.append(int(name[1:]))
+            self.values.append(int(value, 16))
+        if it["call"]:
+            self.calls.append({"step": it["step"], **it["call"], "to": it["next"]["world"], "refused": refusal(it)})
+        self.take_points(it)
+
+    def take_points(self, it):
+        """What is drawn of a step: the instruction that was fetched, where no interrupt came, and what it loaded or stored."""
+        if not (it["trap"] and it["trap"]["cause"].startswith("8")):
+            self.add_point(int(it["pc"], 16), 4, it["symbol"])
+        touch = it["touch"]
+        if touch:
+            address = int(touch["address"], 16)
+            self.add_point(address, touch["width"], touch["symbol"])
+            kind = KINDS[touch["kind"]] + (0 if touch["done"] else REFUSED) + (NO_VALUE if touch["value"] is None else 0)
+            values = (it["step"], address, touch["width"], kind, self.names.number(touch["symbol"]), int(touch["value"] or "0", 16))
+            for column, value in zip(self.touch.values(), values):
+                column.append(value)
+
+    def add_point(self, address, width, symbol):
+        self.points += 1
+        self.granules.update((address // GRANULE, (address + width - 1) // GRANULE))
+        name = symbol and symbol.split("+")[0]
+        if name and address < self.labels.get(name, 1 << 32):
+            self.labels[name] = address
+
+    def source_names(self):
+        """The files of which a line was executed."""
+        sources = [source for site in self.sites.numbers for source in site[5:7] if source]
+        return {source.rsplit(":", 1)[0] for source in sources}
+
+    def data(self, columns):
+        """All of it, as one object, and the columns behind it."""
+        return {
+            "title": self.title, "run": self.run, "end": self.end, "steps": len(self.site), "points": self.points,
+            "rows": self.rows, "maps": [json.loads(it) for it in self.maps.numbers],
+            "sites": self.sites.rows("pc", "word", "abi", "symbol", "function", "source", "caller", "shown"),
+            "places": self.places.rows("hart", "world", "mode"), "traps": self.traps.rows("cause", "value", "name"),
+            "names": list(self.names.numbers), "site": columns.add(self.site), "place": columns.add(self.place),
+            "trap": columns.add(self.trap), "changes": columns.add(self.changes), "registers": columns.add(self.registers),
+            "values": columns.add(self.values), "touch": {name: columns.add(column) for name, column in self.touch.items()},
+            "calls": self.calls, "commands": self.commands, "moments": self.moments}

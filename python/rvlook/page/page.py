@@ -1,0 +1,60 @@
+"""The word page: a run as one page for a browser, which needs nothing else. It is made of the objects that --json writes."""
+import os
+
+from rvlook.cli.opening import opened
+from rvlook.errors import Fault, Unfinished, package_missing
+from rvlook.access.map_text import moment_object
+from rvlook.access.map import moments
+from rvlook.page.axis import segments_of
+from rvlook.page.data import Collector, Columns, compressed
+from rvlook.page.sources import roots_of, source_texts
+from rvlook.protocol.run import End
+from rvlook.output.printer import end_object, run_object
+from rvlook.trace.tracer import Step, Tracer
+from rvlook.trace.text import Objects
+
+FOLDER = os.path.dirname(os.path.abspath(__file__))
+SCRIPTS = ("data.js", "chart.js", "marks.js", "panel.js", "find.js", "keys.js")
+
+
+def main(arguments):
+    """Writes the page of a run to standard output."""
+    if arguments.json:
+        raise Fault("page has no --json: it shows what map --json and trace --json write")
+    environment = templates()
+    run, symbols, printer = opened(arguments)
+    found = collected(run, symbols)
+    paths = [it for it in (arguments.symbols, arguments.image) if it] if arguments.has_sources else []
+    sources = source_texts(paths, found.source_names(), roots_of(arguments.sources))
+    columns = Columns()
+    data = {**found.data(columns), "segments": segments_of(found), "sources": sources}
+    printer.document(environment.get_template("page.html").render(title=found.title, data=compressed(data, columns), scripts=SCRIPTS))
+
+
+def templates():
+    """Where the page's parts stand."""
+    try:
+        from jinja2 import Environment, FileSystemLoader, StrictUndefined
+    except ImportError:
+        raise Unfinished(package_missing("jinja2", "python3-jinja2", "the page cannot be made")) from None
+    return Environment(loader=FileSystemLoader(FOLDER), autoescape=True, undefined=StrictUndefined, keep_trailing_newline=False)
+
+
+def collected(run, symbols):
+    """All objects of a run's map and trace."""
+    found = Collector()
+    run_object(found, run, symbols)
+    writer = Objects(run, symbols, found)
+    for item in Tracer(run).events():
+        if isinstance(item, Step):
+            writer.step(item)
+        elif isinstance(item, End):
+            writer.end(item)
+        else:
+            writer.command(item)
+    for item in moments(run):
+        if isinstance(item, End):
+            end_object(found, item)
+        else:
+            moment_object(found, item, symbols)
+    return found

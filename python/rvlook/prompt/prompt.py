@@ -1,0 +1,85 @@
+"""The prompt: lines from a terminal, with the history and the completion of Python's readline, or as they come."""
+import sys
+
+from rvlook.protocol.bench_line import lines_of
+from rvlook.image.escapes import visible_line
+from rvlook.prompt.session import Held, Session, completions
+from rvlook.output.printer import Style
+from rvlook.protocol.timeline import Timeline
+
+
+LONGEST_INPUT = 1 << 16  # characters of a line; a longer one is taken in parts
+
+
+def plain_lines(session):
+    """Lines as they come, each shown behind its prompt."""
+    while True:
+        sys.stdout.write(session.prompt())
+        sys.stdout.flush()
+        line = sys.stdin.readline(LONGEST_INPUT)
+        if not line:
+            sys.stdout.write("\n")
+            return
+        sys.stdout.write(visible_line(line.rstrip("\n")) + "\n")
+        yield line
+
+
+def complete_by(session):
+    """Has a tab complete the word before the cursor."""
+    try:
+        import readline
+    except ImportError:
+        return  # a Python that was built without it
+
+    def complete(text, number):
+        words = (readline.get_line_buffer()[:readline.get_begidx()] + "|").split()
+        found = [it + " " for it in completions(session, words) if it.startswith(text)]
+        return found[number] if number < len(found) else None
+
+    readline.set_completer(complete)
+    readline.set_completer_delims(" \t")
+    readline.parse_and_bind("tab: complete")
+
+
+def terminal_lines(session):
+    """Lines from a terminal."""
+    complete_by(session)
+    while True:
+        try:
+            yield input(session.prompt())
+        except KeyboardInterrupt:
+            print()  # Ctrl-C drops the line
+        except EOFError:
+            print()
+            return
+
+
+def bytes_text(line):
+    """Returns a line of standard input as the text of ISO 8859-1 that has its bytes, without the line feed."""
+    data = line.encode(sys.stdin.encoding or "utf-8", "surrogateescape")
+    return next(iter(lines_of(data.decode("latin-1"))), "")
+
+
+def done(session, line):
+    """Does a line; where Ctrl-C stops it, the bench is brought back to where it was before."""
+    position = session.timeline.position
+    try:
+        return session.line(bytes_text(line))
+    except KeyboardInterrupt:
+        session.held.go(position)
+        session.tell("stopped; it is as it was before")
+        return True
+
+
+def show_prompt(run, symbols, printer):
+    """Reads lines and does them, up to the end."""
+    held = Held(Timeline.of_script(run.setup))
+    session = Session(held, run, symbols, printer)
+    try:
+        if sys.stdin.isatty():
+            printer.line(printer.styled("help tells the commands; quit, or Ctrl-D, leaves", Style.aside))
+        for line in terminal_lines(session) if sys.stdin.isatty() else plain_lines(session):
+            if not done(session, line):
+                return
+    finally:
+        held.timeline.close()

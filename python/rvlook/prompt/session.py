@@ -1,0 +1,213 @@
+"""What the prompt does with a line: the bench's commands, in which symbols and ABI names may stand, and a few of its own, for what a
+debugger has not."""
+import inspect
+
+from rvlook.protocol import names
+from rvlook.protocol.bench_line import has_reply, is_malformed, words_of
+from rvlook.protocol.commands import COMMANDS, Form, is_form
+from rvlook.image.escapes import visible
+from rvlook.prompt.explain import line_fault
+from rvlook.errors import NameRefused
+from rvlook.protocol.lines import resolved
+from rvlook.access.map import Event, Finder
+from rvlook.access.map_text import moment_text
+from rvlook.protocol.nearest import nearest
+from rvlook.protocol.replies import ran_of
+from rvlook.protocol.run import ALIKE, MOST_STEPS, alike_at_end
+from rvlook.output.printer import Style, place_text
+
+CHUNK = 2048  # steps that are looked through at once
+LONGEST_COUNT = 18  # digits of the operand of `back`
+PLACES = (Form.address, Form.value)
+
+OWN = {
+    "until": "until switch | trap: steps up to another world, or to a trap, at most 1000000",
+    "back": "back [N]: N steps back, 1 where it is not said; the run is played again from reset",
+    "map": "map: who may touch what now, and the table",
+    "where": "where: the next instruction, its symbol and its source line",
+    "help": "help: this",
+    "quit": "quit: leaves; so does the end of the input"}
+
+
+class Held:
+    """A timeline, in whose place another one at an earlier step may come; what had been done behind that is forgotten."""
+
+    def __init__(self, timeline):
+        self.timeline = timeline
+
+    def go(self, position):
+        old, self.timeline = self.timeline, self.timeline.again(position)
+        self.timeline.set_stops(old.stops)
+        old.close()
+
+
+class Session:
+    """A bench under the prompt; `held` has its timeline."""
+
+    def __init__(self, held, run, symbols, printer):
+        self.held, self.setup, self.symbols, self.printer, self.finder = held, run.setup, symbols, printer, Finder(run)
+
+    @property
+    def timeline(self):
+        return self.held.timeline
+
+    @property
+    def hart(self):
+        return self.timeline.hart
+
+    @property
+    def pc(self):
+        return self.timeline.ask("regs")[0][32][3:]
+
+    def prompt(self):
+        """What stands before a line: the world, the mode, where it is."""
+        hart = "hart %d " % self.hart if self.setup.harts > 1 else ""
+        pc = self.pc
+        name = self.symbols.name(int(pc, 16))
+        return "%s%s %s %s> " % (hart, self.timeline.worlds[self.hart], self.timeline.modes[self.hart], name or pc)
+
+    def line(self, text):
+        """Does a line; False where the session ends."""
+        try:
+            return self.done(text)
+        except NameRefused as fault:
+            self.tell(str(fault), Style.bad)
+            return True
+
+    def done(self, text):
+        """The same; a name that stands for no one address is a fault."""
+        words = words_of(text)
+        if not has_reply(text):
+            return True
+        if words[0] in ("quit", "exit"):
+            return False
+        if words[0] in OWN and not is_malformed(text):
+            self.own(words[0], words[1:])
+        else:
+            self.command(resolved(text, self.symbols))
+        return True
+
+    def own(self, name, operands):
+        """A command of the prompt; where the operands are not its own, it is told how it is written."""
+        act = getattr(self, name)
+        try:
+            inspect.signature(act).bind(*operands)
+        except TypeError:
+            self.tell(OWN[name])
+            return
+        act(*operands)
+
+    def tell(self, text, style=None):
+        text = visible(text)
+        self.printer.line(self.printer.styled(text, style) if style else text)
+
+    def command(self, line):
+        """A command of the bench, as it is."""
+        replies = self.timeline.do(line)
+        for reply in replies:
+            self.tell(reply, Style.bad if reply.startswith("error ") else None)
+        if replies and replies[0].startswith("error "):
+            self.refused(replies[0], words_of(line))
+        if replies and ran_of(replies[0]):
+            self.where()
+
+    def refused(self, reply, words):
+        """What is meant by a fault, and what to write."""
+        meant, write = line_fault(reply, words)
+        unknown = self.unknown_symbol(words) if reply == "error operand" else None
+        if unknown:
+            near = nearest(unknown, self.symbols.by_name)
+            meant = "%s is no symbol of the image" % unknown if self.symbols else "%s is no address, and no symbols are known" % unknown
+            write = " ".join(near if it == unknown else it for it in words) if near else \
+                None if self.symbols else "--symbols FILE behind the image, or an ELF file that has them"
+        self.tell("  " + meant)
+        if write:
+            self.tell("  write: " + write)
+
+    def unknown_symbol(self, words):
+        """The operand that stands for an address and is none, or None."""
+        command = COMMANDS.get(words[0])
+        pairs = zip(words[1:], command.forms) if command and len(words) - 1 == len(command.forms) else ()
+        return next((word for word, form in pairs if form in PLACES and not is_form(word, form)
+                     and self.symbols.address(word) is None), None)
+
+    def help(self):
+        """The commands."""
+        self.tell("of the bench, in which symbols and the names of registers may stand:")
+        self.tell("  " + "  ".join(("%s %s" % (name, it.letters)).strip() for name, it in list(COMMANDS.items())[:10]))
+        self.tell("  " + "  ".join(("%s %s" % (name, it.letters)).strip() for name, it in list(COMMANDS.items())[10:]))
+        self.tell("of the prompt:")
+        for text in OWN.values():
+            self.tell("  " + text)
+
+    def where(self):
+        """The next instruction."""
+        pc = self.pc
+        text = self.timeline.ask("dis " + pc)[0][0].split(": ")[-1]
+        word, _, text = text.partition(" ")
+        self.tell("next  %s  %s" % (names.with_abi_names(text) if word != "error" else "(outside)", place_text(pc, self.symbols)))
+
+    def map(self):
+        """Who may touch what now."""
+        pc, now = self.pc, self.timeline
+        self.finder.state = self.finder.state_of(now, now.worlds)
+        moment = self.finder.moment(now.position, now.hart, Event("now"), pc, now.modes[now.hart], now.worlds[now.hart])
+        moment_text(self.printer, moment, self.symbols)
+
+    def back(self, count="1"):
+        """Steps back, by playing what was done up to there."""
+        if not (count.isascii() and count.isdigit() and len(count) <= LONGEST_COUNT):
+            self.tell(OWN["back"])
+            return
+        self.held.go(max(0, self.timeline.position - int(count)))
+        self.where()
+
+    def until(self, what):
+        """Goes on up to a switch of world or a trap. A second bench, at the same step, goes ahead to find how far it is; where it does not
+        come, nothing is done."""
+        if what not in ("switch", "trap"):
+            self.tell(OWN["until"])
+            return
+        if what == "switch" and not self.setup.monitor:
+            self.tell("without the monitor there is one world: ./rvlook --monitor %s" % self.setup.image.name)
+            return
+        ahead = self.timeline.again(self.timeline.position)
+        ahead.settle()
+        try:
+            count = steps_to(ahead, "trap=-" if what == "trap" else "world=%s " % self.timeline.worlds[self.hart])
+        finally:
+            ahead.close()
+        if count is None:
+            self.tell("it does not come in %d steps; nothing is done" % MOST_STEPS)
+        else:
+            self.command("step %d" % count)
+
+
+def steps_to(ahead, usual):
+    """How many steps it is to one whose reply has not this part; None where none comes, or the hart stays where it is."""
+    for done in range(0, MOST_STEPS, CHUNK):
+        lines = ahead.bench.block(b"step 1\n" * CHUNK, CHUNK).decode().splitlines()
+        found = next((n for n, line in enumerate(lines) if usual not in line), None)
+        if found is not None:
+            return done + found + 1
+        if alike_at_end(lines) >= ALIKE:
+            return None
+    return None
+
+
+def operands_of(name):
+    """The forms of a command's operands."""
+    return COMMANDS[name].forms if name in COMMANDS else ()
+
+
+def completions(session, words):
+    """What the last word may become."""
+    if len(words) <= 1:
+        return sorted([*COMMANDS, *OWN])
+    if words[0] == "until":
+        return ["switch", "trap"]
+    forms = operands_of(words[0])
+    form = forms[len(words) - 2] if len(words) - 2 < len(forms) else None
+    if form is Form.register:
+        return names.ABI
+    return sorted(session.symbols.by_name) if form in PLACES else []

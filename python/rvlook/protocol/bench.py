@@ -1,0 +1,204 @@
+"""The bench, driven over a pipe by the commands of docs/COMMANDS.md.
+
+Lines are written while replies are read, so that neither pipe fills up and stops the other; a long list of commands costs one round
+trip, not one for each.
+"""
+import fcntl
+import os
+import select
+import shutil
+import signal
+import subprocess
+import sys
+import time
+from functools import lru_cache
+
+from rvlook.protocol.bench_line import ended, has_reply, is_malformed, words_of
+from rvlook.errors import BenchEnded, Fault, Unfinished
+
+# Of a clone of the repository in which this package is: finds or builds the program.
+FINDER = os.path.join(os.path.dirname(os.path.abspath(__file__)), "..", "..", "..", "tools", "program")
+PIPE = 1 << 20
+SET_PIPE_SIZE = 1031  # F_SETPIPE_SZ of Linux
+MANY = 500  # lines of reply that are worth a pause, so that they are read together
+PAUSE = 0.001
+COUNTS = {"regs": 33, "pmp": 16}  # lines of reply; one for every other command
+MARK = "reg 0"  # stands behind `enclaves`, whose reply may have no line
+MARKED = b"x0=00000000"
+
+
+@lru_cache(maxsize=None)
+def program_path():
+    """The program: the one that RVBENCH names, or the one that ./rvbench runs, which is found once."""
+    path = os.environ.get("RVBENCH") or installed_program()
+    if path and not os.path.exists(path):
+        raise Fault("there is no program at %s, which RVBENCH names" % path)
+    return path or built_program()
+
+
+def installed_program():
+    """The program `rvbench` on the PATH, if this package is not in a clone of the repository."""
+    return None if os.path.exists(FINDER) else shutil.which("rvbench")
+
+
+def built_program():
+    """The program that ./prove has built, or an unproved one, which is built now if there is none. Ends the build on SIGTERM and Ctrl-C."""
+    if not os.path.exists(FINDER):
+        raise Unfinished("there is no program; RVBENCH names one, or it is rvbench on the PATH")
+    with subprocess.Popen([FINDER, "rvlook"], stdin=subprocess.DEVNULL, stdout=subprocess.PIPE, text=True) as building:
+        old = signal.signal(signal.SIGTERM, lambda *_: sys.exit(128 + signal.SIGTERM))
+        try:
+            path = building.communicate()[0]
+        except BaseException:
+            building.terminate()
+            raise
+        finally:
+            signal.signal(signal.SIGTERM, old)
+    if building.returncode:
+        raise Unfinished("there is no program; ./prove builds it, or RVBENCH names another")
+    return path.rstrip("\n")
+
+
+def is_enclaves(command):
+    """Whether a command is one whose reply may have any number of lines."""
+    return "enclaves" in command and words_of(command)[0] == "enclaves" and not is_malformed(command)
+
+
+def widen(*pipes):
+    """Makes pipes longer, where the system can: fewer exchanges then."""
+    for pipe in pipes:
+        try:
+            fcntl.fcntl(pipe.fileno(), SET_PIPE_SIZE, PIPE)
+        except OSError:
+            pass
+
+
+class Bench:
+    """One run of the program; `words` are those of its command line, `image` is the text of the image."""
+
+    def __init__(self, words, image, harts=1):
+        path = program_path()
+        try:
+            self.process = subprocess.Popen([path, *words], stdin=subprocess.PIPE, stdout=subprocess.PIPE, bufsize=0,
+                                            start_new_session=True)
+        except OSError as error:
+            raise Unfinished("%s: %s" % (path, error.strerror)) from None
+        os.set_blocking(self.process.stdin.fileno(), False)
+        widen(self.process.stdin, self.process.stdout)
+        self.harts = harts
+        self.pending = memoryview(b"")
+        self.parts = []  # what was read and not yet taken
+        self.lines = []  # complete lines that were read, the next one last
+        self.send(image + b"--\n")
+
+    def __enter__(self):
+        return self
+
+    def __exit__(self, *_):
+        self.close()
+
+    def close(self):
+        """Ends the program."""
+        for pipe in (self.process.stdin, self.process.stdout):
+            try:
+                pipe.close()
+            except OSError:
+                pass
+        if self.process.poll() is None:
+            self.process.kill()
+        self.process.wait()
+
+    def send(self, text):
+        """Gives the program more to read; it is written as replies are read."""
+        self.pending = memoryview(bytes(self.pending) + text)
+
+    def transfer(self):
+        """Writes what can be written, and reads what can be read; waits for either."""
+        reading, writing = self.process.stdout.fileno(), self.process.stdin.fileno()
+        readable, writable, _ = select.select([reading], [writing] if self.pending else [], [])
+        if writable:
+            try:
+                self.pending = self.pending[os.write(writing, self.pending[:PIPE]):]
+            except BlockingIOError:
+                pass
+            except BrokenPipeError:
+                self.pending = memoryview(b"")
+        if not readable:
+            return b""
+        part = os.read(reading, 1 << 20)
+        if not part:
+            raise BenchEnded(self.last_words())
+        return part
+
+    def last_words(self):
+        """What the program said where it ended."""
+        said = b"".join(self.parts).decode("ascii", "replace").splitlines()
+        self.process.wait()
+        faults = [line for line in said if line.startswith("rvbench: ")]
+        return faults[-1] if faults else "the bench ended with status %d" % self.process.returncode
+
+    def block(self, text, count):
+        """The replies to the commands of `text`, which have `count` lines, as they are."""
+        self.send(text)
+        found = sum(part.count(b"\n") for part in self.parts)
+        while found < count:
+            part = self.transfer()
+            self.parts.append(part)
+            found += part.count(b"\n")
+            if count - found > MANY and not self.pending:
+                time.sleep(PAUSE)
+        block, self.parts = b"".join(self.parts), []
+        return block
+
+    def line(self):
+        """The next line of the replies."""
+        while not self.lines:
+            self.parts.append(self.transfer())
+            if self.parts[-1].endswith(b"\n"):
+                self.lines = b"".join(self.parts).splitlines()[::-1]
+                self.parts = []
+        line = self.lines.pop()
+        if line.startswith(b"rvbench: "):
+            raise BenchEnded(line.decode("ascii", "replace"))
+        return line
+
+    def reply(self, command):
+        """The lines of one command's reply; a comment has none."""
+        if not has_reply(command):
+            return []
+        if is_enclaves(command):
+            return list(iter(self.line, MARKED))
+        first = self.line()
+        if first.startswith(b"error "):
+            return [first]
+        word = words_of(command)[0]
+        count = self.harts if word == "sched" else COUNTS.get(word, 1)
+        return [first] + [self.line() for _ in range(count - 1)]
+
+    def ask(self, *commands):
+        """The replies to commands that each have one: for each the list of its lines."""
+        self.give(*commands)
+        return self.told(*commands)
+
+    def give(self, *commands):
+        """Gives commands whose replies `told` will read."""
+        if any("\n" in it for it in commands):
+            raise Fault("a command of the bench is one line, and has no line feed")
+        text = "".join(ended(it) + (MARK + "\n" if is_enclaves(it) else "") for it in commands)
+        self.send(text.encode("latin-1", "replace"))
+
+    def begin(self, *commands):
+        """Gives commands that it is to do now, whose replies `told` will read."""
+        self.give(*commands)
+        try:
+            self.pending = self.pending[os.write(self.process.stdin.fileno(), self.pending[:PIPE]):]
+        except (BlockingIOError, BrokenPipeError):
+            pass
+
+    def told(self, *commands):
+        """The replies to commands that were given."""
+        return [[line.decode("latin-1") for line in self.reply(it)] for it in commands]
+
+    def one(self, command):
+        """The one line that answers a command."""
+        return self.ask(command)[0][0]

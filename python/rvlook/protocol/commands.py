@@ -1,0 +1,91 @@
+"""The commands of the bench and the forms of their operands (docs/COMMANDS.md), for what reads them beside it."""
+import re
+from dataclasses import dataclass
+from enum import Enum
+
+from rvlook.protocol import names
+
+
+class Form(Enum):
+    """What an operand is."""
+    count = "a decimal number from 1 to 1000000"
+    register = "a register's number, decimal, 0 to 31"
+    address = "an address: one to eight hexadecimal digits, after 0x or not"
+    value = "a value: one to eight hexadecimal digits, after 0x or not"
+    length = "a decimal number from 1 to 64"
+    byte = "one or two hexadecimal digits, without 0x"
+    csr = "one to three hexadecimal digits, without 0x"
+    mode = "M, S or U"
+    kind = "r, w or x"
+    width = "1, 2 or 4"
+    line = "on or off"
+    hart = "0 or 1"
+    schedule = "one to 64 digits 0 and 1"
+
+
+@dataclass(frozen=True)
+class Command:
+    """A command's operands, by the letters of docs/COMMANDS.md."""
+    letters: str
+    forms: tuple
+
+
+COMMANDS = {
+    "step": Command("N", (Form.count,)), "run": Command("N", (Form.count,)),
+    "break": Command("A", (Form.address,)), "clear": Command("A", (Form.address,)),
+    "watch": Command("A", (Form.address,)), "unwatch": Command("A", (Form.address,)),
+    "reg": Command("N", (Form.register,)), "regs": Command("", ()), "setreg": Command("N V", (Form.register, Form.value)),
+    "csr": Command("C", (Form.csr,)), "mem": Command("A N", (Form.address, Form.length)),
+    "poke": Command("A V", (Form.address, Form.byte)), "dis": Command("A", (Form.address,)), "pmp": Command("", ()),
+    "enclaves": Command("", ()), "access": Command("M K A L", (Form.mode, Form.kind, Form.address, Form.width)),
+    "timer": Command("on|off", (Form.line,)), "hart": Command("H", (Form.hart,)), "sched": Command("W", (Form.schedule,))}
+
+HEXADECIMAL = re.compile(r"(0x)?[0-9a-fA-F]{1,8}\Z")
+DECIMAL = re.compile(r"[0-9]{1,7}\Z")
+LIMITS = {Form.count: (1, 1000000), Form.register: (0, 31), Form.length: (1, 64)}
+PATTERNS = {
+    Form.address: HEXADECIMAL, Form.value: HEXADECIMAL, Form.byte: re.compile(r"[0-9a-fA-F]{1,2}\Z"),
+    Form.csr: re.compile(r"[0-9a-fA-F]{1,3}\Z"), Form.mode: re.compile(r"[MSU]\Z"), Form.kind: re.compile(r"[rwx]\Z"),
+    Form.width: re.compile(r"[124]\Z"), Form.line: re.compile(r"(on|off)\Z"), Form.hart: re.compile(r"[01]\Z"),
+    Form.schedule: re.compile(r"[01]{1,64}\Z")}
+
+def is_form(word, form):
+    """Whether a word has the form of an operand, range and all."""
+    if form in LIMITS:
+        low, high = LIMITS[form]
+        return bool(DECIMAL.match(word)) and low <= int(word) <= high
+    return bool(PATTERNS[form].match(word))
+
+
+def rewritten(word, form, symbols=None):
+    """The word as the form has it, where what is meant is plain: an ABI name, the name of a control and status register, a symbol, a
+    number in the other base. None where it is not."""
+    if form is Form.address and symbols and word.split("+")[0].split("@")[0] in symbols.places:
+        return "%x" % symbols.address(word)
+    if is_form(word, form):
+        return word
+    if form is Form.register and word.lower() in names.NUMBER_OF:
+        return str(names.NUMBER_OF[word.lower()])
+    if form is Form.csr and (word.lower() in names.CSRS or re.match(r"0x[0-9a-fA-F]{1,3}\Z", word)):
+        return "%x" % names.CSRS.get(word.lower(), int(word, 16) if word.startswith("0x") else 0)
+    if form is Form.value and symbols and symbols.address(word) is not None:
+        return "%x" % symbols.address(word)
+    return rewritten_number(word, form)
+
+
+def rewritten_number(word, form):
+    """The word in the base of the form, or in its case."""
+    if form in LIMITS and re.match(r"0[xX][0-9a-fA-F]+\Z", word):
+        number = str(int(word, 16))
+    elif form is Form.byte and re.match(r"0[xX][0-9a-fA-F]{1,2}\Z", word) or form in (Form.address, Form.value):
+        number = re.sub(r"^0[xX]|_", "", word)
+    else:
+        number = word.upper() if form is Form.mode else word.lower()
+    return number if is_form(number, form) else None
+
+
+def written(name, operands, symbols=None):
+    """The command as the bench takes it, or None where an operand cannot be told."""
+    forms = COMMANDS[name].forms
+    found = [rewritten(word, form, symbols) for word, form in zip(operands, forms)]
+    return None if len(operands) != len(forms) or None in found else " ".join([name, *found])

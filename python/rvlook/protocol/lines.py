@@ -1,0 +1,61 @@
+"""A line of a script or of the prompt, as the bench takes it: symbols, and the names of registers, become numbers. What was made of a
+line is derived; what the bench replies to it is not."""
+from rvlook.protocol.bench_line import is_malformed, words_of
+from rvlook.protocol.commands import COMMANDS, Form, is_form, written
+from rvlook.image.escapes import visible_line
+from rvlook.prompt.explain import line_fault
+from rvlook.errors import NameRefused
+from rvlook.image.files import ScriptLine
+from rvlook.protocol.nearest import nearest
+
+LONGEST_SHOWN = 160  # characters of a line in a message
+
+
+def resolved(line, symbols):
+    """The text for the bench. A name that stands for two addresses is refused; what cannot be told is left to the bench to refuse, and so
+    is a malformed line."""
+    words = words_of(line)
+    if is_malformed(line) or not words or words[0] not in COMMANDS:
+        return line
+    return written(words[0], words[1:], symbols) or line
+
+
+def resolved_script(lines, symbols):
+    """The lines of a script with their texts for the bench."""
+    return tuple(resolved_line(it, symbols) for it in lines)
+
+
+def resolved_line(line, symbols):
+    """A line of a script; a name that is refused leaves it as it stands, and the bench refuses it."""
+    try:
+        return ScriptLine(line.given, line.place, resolved(line.given, symbols))
+    except NameRefused as fault:
+        return ScriptLine(line.given, line.place, line.given, str(fault))
+
+
+def fault_text(line, reply, symbols):
+    """What is told of a line that the bench refuses."""
+    meant = line.refused or meaning(reply, words_of(line.given), symbols)
+    return visible_line("%s: %s: %s: %s" % (line.place, line.given[:LONGEST_SHOWN], reply, meant))
+
+
+def meaning(reply, words, symbols):
+    """What is meant by a fault of a line."""
+    unknown = reply == "error operand" and unknown_name(words, symbols)
+    return unknown or line_fault(reply, words)[0]
+
+
+def unknown_name(words, symbols):
+    """What is told of the first operand that should be an address or a value and looks like a name, or None."""
+    for word, form in zip(words[1:], COMMANDS[words[0]].forms):
+        if form in (Form.address, Form.value) and not is_form(word, form) and not word[:1].isdigit():
+            return no_symbol(word, symbols)
+    return None
+
+
+def no_symbol(name, symbols):
+    """What is told of a name that is none."""
+    if not symbols:
+        return "%s is no address, and there are no symbols: an ELF file has them, or --symbols FILE" % name
+    near = nearest(name, symbols.by_name)
+    return "there is no symbol %s%s" % (name, "; near it is %s" % near if near else "")

@@ -1,0 +1,309 @@
+"""A run: what its script does, step by step, and how to come to any step of it again.
+
+The script is played once as it stands, which tells how many steps each `run` of it did. From then on every step can be done alone: a
+`run` of so many steps is as many single steps, and `sched` is a step of the hart that each digit names.
+"""
+import copy
+import re
+from dataclasses import dataclass, field, replace
+
+from rvlook.protocol.bench import Bench
+from rvlook.protocol.bench_line import has_reply, words_of
+from rvlook.prompt.explain import WHOLE_FAULTS, whole_fault
+from rvlook.errors import BenchEnded, Fault, Unfinished
+from rvlook.image.files import Image, ScriptLine
+from rvlook.protocol.replies import ran_of
+from rvlook.image.symbols import Symbols
+
+CHUNK = 16384  # single steps in one exchange
+MOST_STEPS = 1000000  # of one command
+STATE_WORDS = ("poke", "setreg", "timer", "hart")  # commands that change what a step does, and are none
+ALIKE = 3  # so many steps that leave pc, mode, world and trap as they were, and the hart stays there
+SINGLE = b"step 1\n"
+
+
+@dataclass(frozen=True)
+class Setup:
+    """What is run: the image, the lines of the script, and the words of the command line."""
+    image: Image
+    lines: tuple = ()  # of the script
+    monitor: bool = False
+    ram: int = 1 << 20
+    kind: str = "auto"
+    harts: int = 1
+    limit: int = 1000000  # steps behind the script, at most
+    symbols: Symbols = field(default_factory=Symbols, compare=False)
+
+    @property
+    def script(self):
+        """The lines of the script as the bench takes them."""
+        return tuple(it.text for it in self.lines)
+
+    def words(self):
+        """The words for the program."""
+        words = ["run", "--ram", str(self.ram), "--kind", self.kind]
+        if self.monitor:
+            words.append("--monitor")
+        return words + (["--harts", str(self.harts)] if self.harts > 1 else [])
+
+    def with_script(self, lines, limit):
+        """The same with other lines of the script, and so many steps behind it at most."""
+        return replace(self, lines=tuple(ScriptLine(it, "line %d" % at, it) for at, it in enumerate(lines, 1)), limit=limit)
+
+    def bench(self):
+        """A bench at reset."""
+        return Bench(self.words(), self.image.text, self.harts)
+
+    @property
+    def modes(self):
+        """The modes that an access may be judged in."""
+        return "SU" if self.monitor else "MSU"
+
+
+@dataclass(frozen=True)
+class Line:
+    """A line of the script that does no step, as the bench takes it and as it stands; a hidden one stands for a part of another."""
+    text: str
+    replies: tuple = ()
+    hidden: bool = False
+    given: str = ""
+
+    @property
+    def is_refused(self):
+        """Whether the bench has refused it."""
+        return bool(self.replies) and self.replies[0].startswith("error ")
+
+    @property
+    def word(self):
+        """The command, or none if it was refused."""
+        return "" if self.is_refused else words_of(self.text)[0]
+
+    @property
+    def changes_state(self):
+        return self.word in STATE_WORDS
+
+    @property
+    def hart(self):
+        """The hart that it chooses, or None."""
+        return int(words_of(self.text)[1]) if self.word == "hart" else None
+
+
+@dataclass(frozen=True)
+class Steps:
+    """So many steps of the chosen hart."""
+    count: int
+
+
+@dataclass(frozen=True)
+class End:
+    """How a run ended."""
+    steps: int
+    why: str
+    pc: str
+    mode: str
+    world: str
+
+
+@dataclass
+class Stretch:
+    """Single steps of one hart, with their replies; the first has the number `first`."""
+    first: int
+    hart: int
+    data: bytes
+    count: int
+
+
+class Run:
+    """A setup, with the plan of its script. `hart` is the hart that the script has left chosen, `faults` the lines that the bench has
+    refused, each with its reply."""
+
+    def __init__(self, setup):
+        self.setup, self.plan, self.hart, self.length, self.faults = setup, [], 0, 0, []
+        self.mode, self.world = ("S", "host") if setup.monitor else ("M", "bare")
+        with setup.bench() as bench:
+            self.pc = bench.ask("regs")[0][32][3:]
+            for line in setup.lines:
+                self.play(bench, line.text, line)
+
+    def play(self, bench, line, script_line):
+        """One line of the script, as a part of the plan."""
+        if not has_reply(line):
+            return
+        words = words_of(line)
+        replies = bench.ask(line)[0]
+        ran = ran_of(replies[0]) if replies else None
+        if replies and replies[0].startswith("error "):
+            self.faults.append((script_line, replies[0]))
+        if ran:
+            self.add_steps(ran.steps)
+        elif words[:1] == ["sched"] and replies[0].startswith("hart "):
+            self.add_schedule(words[1])
+        else:
+            done = Line(line, tuple(replies), given=script_line.given)
+            self.plan.append(done)
+            self.hart = self.hart if done.hart is None else done.hart
+
+    def add_steps(self, count):
+        self.plan.append(Steps(count))
+        self.length += count
+
+    def add_schedule(self, digits):
+        """Steps of the harts that the digits name, in their order."""
+        for part in re.finditer(r"0+|1+", digits):
+            self.plan.append(Line("hart " + part[0][0], hidden=True))
+            self.add_steps(len(part[0]))
+        self.plan.append(Line("hart %d" % self.hart, hidden=True))
+
+    def with_lines(self, step, lines):
+        """The same run with more lines behind a step: those of the script come at the same steps as before."""
+        other = copy.copy(self)
+        inserted = [Line(line, hidden=True) for line in lines]
+        other.plan, position = [], 0
+        for item in self.plan:
+            if isinstance(item, Steps) and inserted and position < step <= position + item.count:
+                rest = position + item.count - step
+                other.plan += [Steps(step - position), *inserted, *([Steps(rest)] if rest else [])]
+                inserted = []
+            else:
+                other.plan.append(item)
+            position += item.count if isinstance(item, Steps) else 0
+        if inserted:
+            other.plan += ([Steps(step - position)] if step > position else []) + inserted
+            other.setup = replace(self.setup, limit=max(0, self.setup.limit - (step - position)))
+        return other
+
+    def stretches(self):
+        """The whole run in single steps: Line for a line of the script, Stretch for steps, and End."""
+        with self.setup.bench() as bench:
+            position, hart = 0, 0
+            last = ("ran 0 pc=%s mode=%s world=%s why=done trap=-" % (self.pc, self.mode, self.world)).encode()
+            for item in self.plan:
+                if isinstance(item, Line):
+                    hart = self.told(bench, item, hart)
+                    yield item
+                else:
+                    last = (yield from single_steps(bench, position, hart, item.count)) or last
+                    position += item.count
+            yield from self.tail(bench, position, hart, last)
+
+    @staticmethod
+    def told(bench, line, hart):
+        """Tells the bench a line that changes its state; the hart that is chosen from then on."""
+        if line.changes_state:
+            bench.ask(line.text)
+        return hart if line.hart is None else line.hart
+
+    def tail(self, bench, position, hart, last):
+        """The steps behind the script, up to where the hart stays or the limit is; then the end."""
+        held, left = b"", self.setup.limit
+        why = "limit"
+        while left > 0 and why == "limit":
+            count = min(left, CHUNK)
+            left -= count
+            lines = (held + bench.block(SINGLE * count, count)).splitlines(True)
+            alike = alike_at_end(lines)
+            if alike >= ALIKE:
+                why, kept = "stays", len(lines) - alike + 1
+            else:
+                kept = len(lines) - (ALIKE - 1 if left else 0)
+            data, held = b"".join(lines[:kept]), b"".join(lines[kept:])
+            last = data or last
+            yield Stretch(position + 1, hart, data, kept)
+            position += kept
+        ran = ran_of(last.splitlines()[-1].decode())
+        yield End(position, why, ran.pc, ran.mode, ran.world)
+
+    def replay(self):
+        """The run again, from reset."""
+        return Replay(self)
+
+
+def alike_at_end(lines):
+    """How many lines at the end are the same."""
+    count = 1
+    while count < len(lines) and lines[-1 - count] == lines[-1]:
+        count += 1
+    return count
+
+
+def single_steps(bench, position, hart, count):
+    """So many steps, one at a time; the replies to the last of them are what it returns."""
+    data = b""
+    for done in range(0, count, CHUNK):
+        part = min(CHUNK, count - done)
+        data = bench.block(SINGLE * part, part)
+        yield Stretch(position + done + 1, hart, data, part)
+    return data
+
+
+@dataclass
+class Replay:
+    """A bench that is brought to one step of a run after another. `lines_to` gives the commands; who calls it sends them."""
+    run: Run
+    position: int = 0
+    hart: int = 0
+    bench: Bench = field(init=False)
+    place: int = 0  # in the plan
+    inside: int = 0  # of the plan's part there
+
+    def __post_init__(self):
+        self.bench = self.run.setup.bench()
+
+    def __enter__(self):
+        return self
+
+    def __exit__(self, *_):
+        self.bench.close()
+
+    def lines_to(self, step):
+        """The commands from where it is to right behind a step."""
+        commands = []
+        while self.position < step:
+            item = self.run.plan[self.place] if self.place < len(self.run.plan) else Steps(step - self.position)
+            if isinstance(item, Line):
+                self.place += 1
+                self.take(item, commands)
+                continue
+            count = min(item.count - self.inside, step - self.position, MOST_STEPS)
+            commands.append("step %d" % count)
+            self.position, self.inside = self.position + count, self.inside + count
+            if self.inside >= item.count and self.place < len(self.run.plan):
+                self.place, self.inside = self.place + 1, 0
+            elif self.place >= len(self.run.plan):
+                self.inside = 0
+        return commands
+
+    def take(self, line, commands):
+        """A line of the script on the way."""
+        if line.changes_state:
+            commands.append(line.text)
+        self.hart = self.hart if line.hart is None else line.hart
+
+    def lines_up_to_next(self):
+        """The script's lines that stand between where it is and the next step."""
+        commands = []
+        while self.place < len(self.run.plan) and isinstance(self.run.plan[self.place], Line):
+            self.take(self.run.plan[self.place], commands)
+            self.place += 1
+        return commands
+
+    def go(self, step):
+        """Goes right behind a step; the reply of the last command, or None."""
+        commands = self.lines_to(step)
+        return self.bench.ask(*commands)[-1][0] if commands else None
+
+
+def run_of(setup):
+    """The run of a setup."""
+    try:
+        return Run(setup)
+    except BenchEnded as error:
+        raise told_fault(setup, error) from None
+
+
+def told_fault(setup, error):
+    """The fault of a bench that ended: where it refuses the image, that is told, and what it means."""
+    told = str(error)
+    if told not in WHOLE_FAULTS:
+        return Unfinished("%s: %s" % (setup.image.name, told))
+    return Fault("%s: %s: %s" % (setup.image.name, told, whole_fault(told).meant))

@@ -1,0 +1,1 @@
+"""The trace of a run, step by step."""

@@ -1,0 +1,34 @@
+"""The log of commits as the simulator Spike writes it with --log-commits, for tools that read it: a line for each instruction that did not
+trap, with the register that it wrote, the control and status register, and what it loaded or stored."""
+from rvlook.protocol import names
+from rvlook.protocol.run import End
+from rvlook.trace.tracer import Step, Tracer
+
+PRIVILEGE = {"M": 3, "S": 1, "U": 0}
+
+
+def show_spike(run, wanted, printer):
+    """The commits among the steps that are wanted."""
+    symbols = run.setup.symbols
+    with run.replay() as follower:
+        for item in Tracer(run, wanted.first, wanted.last).events():
+            if isinstance(item, Step) and item.trap is None and wanted.takes(item, symbols):
+                printer.line(commit_text(item, follower))
+            elif isinstance(item, End):
+                return
+
+
+def commit_text(step, follower):
+    """One commit. The value of a control and status register is asked for behind the step."""
+    it = step.instruction
+    text = "core%4d: %d 0x%s (0x%s)" % (step.hart, PRIVILEGE[step.at.mode], step.at.pc, it.word)
+    if it.writes:
+        text += " x%-2d 0x%s" % (it.writes, step.written)
+    if it.csr is not None:
+        follower.go(step.number)
+        reply = follower.bench.one("csr %x" % it.csr)
+        text += " c%d_%s 0x%s" % (it.csr, names.CSR_NAMES.get(it.csr, "unknown"), reply.split("=")[-1])
+    if step.touch:
+        text += " mem 0x%08x" % step.touch.address
+        text += " 0x" + step.touch.value if step.touch.kind == "w" else ""
+    return text

@@ -1,0 +1,214 @@
+"""The word trace: the steps of a run, for a person and as objects."""
+from dataclasses import dataclass, field
+from typing import Optional
+
+from rvlook.protocol import names
+from rvlook.image.escapes import visible_line
+from rvlook.protocol.instructions import short_form
+from rvlook.protocol.run import End
+from rvlook.output.printer import Style, end_object, end_text, hex8, run_object
+from rvlook.trace.tracer import Step, Tracer
+
+SHOWN_REGISTERS = 2  # where more changed, as at a switch, a0 is shown and how many more
+SHOWN_REPLY = 60  # characters of a reply to a line of the script
+ARGUMENT_FORMS = {"base": "%x", "size": "%x", "window": " window %x", "window_size": "%x", "entry": " entry %x", "slot": "e%d",
+                  "address": " to %x"}  # of a call; each other one is told by its name
+A0 = 10
+
+
+@dataclass(frozen=True)
+class Filter:
+    """Which steps are shown."""
+    first: int = 1
+    last: Optional[int] = None
+    world: Optional[str] = None
+    function: Optional[str] = None
+    traps: bool = False
+
+    def takes(self, step, symbols):
+        """Whether a step is one of them."""
+        if self.world and step.at.world != self.world or self.traps and step.trap is None:
+            return False
+        return not self.function or symbols.function(int(step.at.pc, 16)) == self.function
+
+    @property
+    def is_whole(self):
+        return not (self.world or self.function or self.traps)
+
+
+def show_trace(run, symbols, printer, wanted, is_short=False):
+    """The steps that are wanted, with the script's lines between them where all are."""
+    if printer.as_json:
+        run_object(printer, run, symbols)
+    writer = Objects(run, symbols, printer) if printer.as_json else Lines(run, symbols, printer, is_short)
+    shown = 0
+    for item in Tracer(run, wanted.first, wanted.last).events():
+        if isinstance(item, Step):
+            if wanted.takes(item, symbols):
+                writer.step(item)
+                shown += 1
+        elif isinstance(item, End):
+            if not shown and item.steps >= wanted.first:
+                writer.none()
+            writer.end(item)
+        elif wanted.is_whole:
+            writer.command(item)
+
+
+@dataclass
+class Objects:
+    """Each as an object."""
+    run: object
+    symbols: object
+    printer: object
+    sites: dict = field(default_factory=dict)
+
+    def step(self, step):
+        target = step.target
+        self.printer.object(
+            "step", step=step.number, hart=step.hart, world=step.at.world, mode=step.at.mode, pc=step.at.pc, **self.site(step),
+            registers={"x%d" % number: value for number, value in step.changed.items()}, touch=self.touch(step.touch),
+            target=None if target is None else {"address": hex8(target), "symbol": self.symbols.name(target)},
+            call=self.call(step.call), trap=self.trap(step.trap),
+            next={"pc": step.next.pc, "mode": step.next.mode, "world": step.next.world})
+
+    def site(self, step):
+        """What stands at a pc, which is the same at many steps."""
+        key = step.at.pc, step.instruction
+        if key not in self.sites:
+            pc, it = int(step.at.pc, 16), step.instruction
+            self.sites[key] = {
+                "symbol": self.symbols.name(pc), "function": self.symbols.function(pc), "source": self.symbols.source(pc),
+                "caller": self.symbols.caller(pc), "word": it and it.word, "text": it and it.text, "abi": it and it.abi,
+                "short": it and it.short}
+        return self.sites[key]
+
+    def touch(self, touch):
+        return touch and {"kind": touch.kind, "address": hex8(touch.address), "width": touch.width, "value": touch.value,
+                          "symbol": self.symbols.name(touch.address), "done": touch.done}
+
+    @staticmethod
+    def call(call):
+        return call and {"name": call.call.name, "arguments": {name: hex8(value) for name, value in call.arguments.items()},
+                         "slot": call.slot}
+
+    @staticmethod
+    def trap(trap):
+        return trap and {"cause": trap.cause, "value": trap.value, "name": names.cause_name(trap.cause)}
+
+    def command(self, command):
+        self.printer.object("command", step=command.step, hart=command.hart, line=command.line, given=command.given,
+                            replies=list(command.replies))
+
+    def none(self):
+        """No step is one of those: so it is seen."""
+
+    def end(self, end):
+        end_object(self.printer, end)
+
+
+@dataclass(frozen=True)
+class Site:
+    """What is shown of an instruction at a place: its text, its function and its source line."""
+    text: str
+    function: Optional[str]
+    source: Optional[str]
+
+
+@dataclass
+class Lines:
+    """Each as a line; a heading tells where the steps below it are, and a source line stands where it is another than above."""
+    run: object
+    symbols: object
+    printer: object
+    is_short: bool = False
+    heading: tuple = ()
+    source: Optional[str] = None
+    sites: dict = field(default_factory=dict)
+
+    def step(self, step):
+        key = step.at.pc, step.instruction
+        site = self.sites.get(key)
+        if site is None:
+            site = self.sites[key] = self.site(step)
+        heading = step.hart, step.at.world, step.at.mode, site.function
+        if heading != self.heading:
+            self.head(heading)
+        text = site.text if step.is_executed else "(an interrupt)" if step.is_interrupt else "(not fetched)"
+        parts = self.effects(step)
+        if site.source != self.source:
+            self.source = site.source
+            parts += [self.printer.styled(site.source, Style.aside)] if site.source else []
+        self.printer.line("%6d  %s  %-32s %s" % (step.number, step.at.pc, text, "  ".join(parts)))
+        if step.call:
+            self.aside(call_text(step))
+        elif step.trap:
+            self.aside("%s, value %s" % (names.cause_name(step.trap.cause), step.trap.value), Style.bad)
+        if step.next.world != step.at.world:
+            self.aside("%s goes on in %s" % (step.next.world, step.next.mode))
+
+    def site(self, step):
+        """The text of an instruction, with what a branch or jump goes to in place of how far that is."""
+        pc, it = int(step.at.pc, 16), step.instruction
+        text = it.abi if it else "(not fetched)"
+        if it and it.offset is not None:
+            text = text[:text.rindex(" ") + 1] + self.place(step.target if step.target is not None else pc + it.offset)
+        return Site(short_form(text) if self.is_short else text, self.symbols.function(pc), self.symbols.line(pc))
+
+    def place(self, address):
+        """An address as objdump writes it."""
+        name = self.symbols.name(address)
+        return "%08x <%s>" % (address, name) if name else "%08x" % address
+
+    def head(self, heading):
+        """The world, mode and function, where they are others than above."""
+        self.heading, self.source = heading, None
+        number, world, mode, function = heading
+        parts = ("hart %d" % number if self.run.setup.harts > 1 else None, world, mode, function)
+        self.printer.line(self.printer.styled("  ".join(it for it in parts if it), Style.heading))
+
+    def effects(self, step):
+        """The registers that changed, what was touched, and where a jump to a register goes."""
+        changed = ["%s=%s" % (names.ABI[number], value) for number, value in step.changed.items()]
+        if len(changed) > SHOWN_REGISTERS:
+            value = "a0=%s" % step.changed[A0] if A0 in step.changed else changed[0]
+            changed = [value, "and %d more" % (len(changed) - 1)]
+        if step.touch:
+            changed.append(touch_text(step.touch, self.symbols))
+        elif step.instruction and step.instruction.is_jalr and step.target is not None:
+            changed.append("to " + self.place(step.target))
+        return changed
+
+    def aside(self, text, style=Style.aside):
+        self.printer.line(" " * 8 + self.printer.styled(text, style))
+
+    def command(self, command):
+        """A line of the script, and the first line of its reply."""
+        first = command.replies[0] if command.replies else "(nothing)"
+        shown = first if len(first) <= SHOWN_REPLY else first[:SHOWN_REPLY] + " .."
+        more = len(command.replies) - 1
+        made = "" if command.line == command.given else "  (%s)" % visible_line(command.line)
+        self.printer.line("%s%s  %s%s" % (self.printer.styled("> " + visible_line(command.given), Style.aside), made, shown,
+                                          "  and %d more lines" % more if more > 0 else ""))
+
+    def none(self):
+        """No step is one of those that are wanted."""
+        self.printer.line("no step is one of these")
+
+    def end(self, end):
+        end_text(self.printer, end, self.symbols)
+
+
+def call_text(step):
+    """A call, its arguments, and why it is refused where it is."""
+    text = " ".join(ARGUMENT_FORMS.get(name, name + " %x") % value for name, value in step.call.arguments.items())
+    status = step.changed.get(A0)
+    refused = names.STATUSES.get(int(status, 16)) if status and step.next.world == step.at.world else None
+    return "%s %s%s" % (step.call.call.name, text, ": " + refused if refused else "")
+
+
+def touch_text(touch, symbols):
+    """A load or store: its kind, its address, the value that was loaded or stored, or how many bytes, and the symbol."""
+    name = symbols.name(touch.address)
+    value = "=" + touch.value if touch.value else " %d" % touch.width
+    return "%s %08x%s%s%s" % (touch.kind, touch.address, value, "  " + name if name else "", "" if touch.done else "  refused")

@@ -1,0 +1,256 @@
+"""Each step of a run, with all that it changed and touched.
+
+Of an instruction that does not trap only the register that its text names is asked for, and all of them behind a trap and at the end of
+each part of the run, where those that were kept must be the same.
+"""
+import re
+from typing import NamedTuple, Optional
+
+from rvlook.protocol import names
+from rvlook.errors import Unfinished
+from rvlook.protocol.instructions import Instruction, instruction_of
+from rvlook.protocol.replies import Trap
+from rvlook.protocol.run import End, Line
+
+RAN_FIELDS = re.compile(rb"ran 1 pc=(\w+) mode=(\w) world=(\w+) why=\S+ trap=(\S+)")
+NO_TRAP = b"-"
+REGISTERS = 33  # lines of `regs`
+STEP = b"step 1\n"
+STEP_AND = [b"step 1\nreg %d\n" % number for number in range(32)]
+STEP_AND_ALL = b"step 1\nregs\n"
+
+
+class Touch(NamedTuple):
+    """A load (`r`) or store (`w`), derived of the instruction and the registers before it; the value has as many digits as bytes were
+    touched, and there is none where the step trapped, or what was loaded went nowhere."""
+    kind: str
+    address: int
+    width: int
+    done: bool
+    value: Optional[str]
+
+
+class CallMade(NamedTuple):
+    """A call of the monitor, derived of the registers before the ecall."""
+    call: names.Call
+    arguments: dict
+    slot: Optional[int]
+
+
+class Place(NamedTuple):
+    """Where a hart is."""
+    pc: str
+    mode: str
+    world: str
+
+
+class Step(NamedTuple):
+    """One step: `at` is before it and `next` after it; `changed` has the registers that are another value after it."""
+    number: int
+    hart: int
+    at: Place
+    instruction: Optional[Instruction]
+    changed: dict
+    touch: Optional[Touch]
+    call: Optional[CallMade]
+    trap: Optional[Trap]
+    next: Place
+    written: Optional[str] = None  # what the register that it writes is after it
+
+    @property
+    def word(self):
+        return self.instruction and self.instruction.word
+
+    @property
+    def text(self):
+        return self.instruction and self.instruction.text
+
+    @property
+    def is_interrupt(self):
+        """Whether an interrupt came in place of an instruction."""
+        return self.trap is not None and self.trap.cause.startswith("8")
+
+    @property
+    def is_executed(self):
+        """Whether the word at pc was fetched: no interrupt came, and the fetch was not refused."""
+        if self.trap is None:
+            return True
+        refused = self.trap.cause in names.FETCH_FAULTS and self.trap.value == self.at.pc
+        return not refused and not self.is_interrupt
+
+    @property
+    def target(self):
+        """Where a branch or a jump goes, or would go, or None."""
+        if self.instruction is None or not self.is_executed:
+            return None
+        if self.instruction.offset is not None:
+            return (int(self.at.pc, 16) + self.instruction.offset) & 0xFFFFFFFF
+        return int(self.next.pc, 16) if self.instruction.is_jalr and self.trap is None else None
+
+
+class Command(NamedTuple):
+    """A line of the script that does no step, behind the step of that number."""
+    step: int
+    hart: int
+    line: str
+    replies: tuple
+    given: str  # as it stands in the script
+
+
+class Hart:
+    """What is known of a hart before its next step: where it is, and the digits of its registers, None where they are to be asked for."""
+
+    def __init__(self, place):
+        self.place, self.registers = place, None
+
+
+class Tracer:
+    """The steps from `first` to `last`, with what stands between them."""
+
+    def __init__(self, run, first=1, last=None):
+        self.run, self.first, self.last = run, first, last
+        start = Place(run.pc, run.mode, run.world)
+        self.harts = [Hart(start) for _ in range(run.setup.harts)]
+        self.position = self.hart = 0
+        self.places, self.traps = {}, {NO_TRAP: None}
+
+    def events(self):
+        """Command, Step and End, in the order of the run. Two benches follow the first one, which tells each pc: one is asked what the next
+        instruction is, and the other what is in the register that this writes."""
+        with self.run.replay() as reader, self.run.replay() as teller:
+            for item in self.run.stretches():
+                if isinstance(item, Line):
+                    if item.word == "setreg":
+                        self.harts[self.hart].registers = None
+                    self.hart = self.hart if item.hart is None else item.hart
+                    if not item.hidden and self.position + 1 >= self.first:
+                        yield Command(self.position, self.hart, item.text, item.replies, item.given)
+                elif isinstance(item, End):
+                    yield item
+                else:
+                    yield from self.steps(reader, teller, item)
+                    if self.last is not None and self.position >= self.last:
+                        yield self.cut()
+                        return
+
+    def cut(self):
+        """The end where no more steps were asked for."""
+        place = self.harts[self.hart].place
+        return End(self.last, "limit", place.pc, place.mode, place.world)
+
+    def steps(self, reader, teller, stretch):
+        """The steps of a stretch that are asked for."""
+        rans = RAN_FIELDS.findall(stretch.data)
+        end = stretch.first + stretch.count - 1
+        begin, stop = max(self.first, stretch.first), min(end, self.last or end)
+        hart = self.harts[stretch.hart]
+        if begin > end:
+            hart.place, hart.registers, self.position = self.place_of(rans[-1]), None, end
+            return
+        if begin > stretch.first:
+            hart.place, hart.registers = self.place_of(rans[begin - stretch.first - 1]), None
+        rans = rans[begin - stretch.first:stop - stretch.first + 1]
+        instructions = self.instructions(reader, hart, begin, rans)
+        replies = self.registers(teller, hart, begin, rans, instructions)
+        for offset, (ran, instruction) in enumerate(zip(rans, instructions)):
+            yield self.step(begin + offset, stretch.hart, hart, ran, instruction, replies)
+        kept = [line.split(b"=")[1].decode() for line in (next(replies) for _ in range(REGISTERS - 1))]
+        if kept != hart.registers:
+            raise Unfinished("the registers behind step %d are not those that its steps gave" % stop)
+        self.position = stop
+
+    @staticmethod
+    def begin(replay, begin):
+        """Brings a bench to where the next step is the first of these."""
+        replay.bench.ask(*(replay.lines_to(begin - 1) + replay.lines_up_to_next() or ["reg 0"]))
+
+    def instructions(self, reader, hart, begin, rans):
+        """What stands at pc before each of these steps."""
+        self.begin(reader, begin)
+        pcs = [hart.place.pc.encode()] + [ran[0] for ran in rans[:-1]]
+        block = reader.bench.block(b"".join([b"dis %s\nstep 1\n" % pc for pc in pcs]), 2 * len(rans))
+        reader.lines_to(begin - 1 + len(rans))
+        return [instruction_of(line) for line in block.split(b"\n")[:-1:2]]
+
+    def registers(self, teller, hart, begin, rans, instructions):
+        """The replies of each of these steps: its own, and then what it may have changed; behind the last all registers."""
+        self.begin(teller, begin)
+        if hart.registers is None:
+            hart.registers = [line.split("=")[1] for line in teller.bench.ask("regs")[0][:32]]
+        asked, count = [], REGISTERS
+        for ran, instruction in zip(rans, instructions):
+            if ran[3] != NO_TRAP:
+                asked.append(STEP_AND_ALL)
+                count += 1 + REGISTERS
+            elif instruction is not None and instruction.writes:
+                asked.append(STEP_AND[instruction.writes])
+                count += 2
+            else:
+                asked.append(STEP)
+                count += 1
+        block = teller.bench.block(b"".join(asked) + b"regs\n", count)
+        teller.lines_to(begin - 1 + len(rans))
+        return iter(block.split(b"\n"))
+
+    def step(self, number, hart_number, hart, ran, instruction, replies):
+        """A step, of its replies and of what was before it; `hart` goes on to what is after it."""
+        at = hart.place
+        next_place = hart.place = self.places.get(ran[:3]) or self.place_of(ran)
+        next(replies)
+        if ran[3] == NO_TRAP:
+            touch, changed, value = None, {}, None
+            if instruction is not None:
+                memory = instruction.memory
+                address = memory and (int(hart.registers[memory.base], 16) + memory.offset) & 0xFFFFFFFF
+                if instruction.writes:
+                    value = next(replies).split(b"=")[1].decode()
+                    if value != hart.registers[instruction.writes]:
+                        hart.registers[instruction.writes] = value
+                        changed = {instruction.writes: value}
+                if memory:
+                    touch = self.touched(memory, address, hart.registers[memory.register])
+            return Step(number, hart_number, at, instruction, changed, touch, None, None, next_place, value)
+        return self.trapped(number, hart_number, hart, at, instruction, self.trap_of(ran[3]), replies)
+
+    @staticmethod
+    def touched(memory, address, value):
+        """A load or store that was done; the value is that of its register after it."""
+        has_value = memory.kind == "w" or memory.register
+        return Touch(memory.kind, address, memory.width, True, value[8 - 2 * memory.width:] if has_value else None)
+
+    @staticmethod
+    def trapped(number, hart_number, hart, at, instruction, trap, replies):
+        """A step that trapped: any register may be another after it, for another world may go on."""
+        before = hart.registers
+        after = [line.split(b"=")[1].decode() for line in (next(replies) for _ in range(REGISTERS))][:32]
+        hart.registers = after
+        changed = {n: after[n] for n in range(1, 32) if after[n] != before[n]}
+        memory = instruction and trap.cause in names.ACCESS_FAULTS and instruction.memory
+        touch = memory and Touch(memory.kind, (int(before[memory.base], 16) + memory.offset) & 0xFFFFFFFF, memory.width, False, None)
+        is_call = trap.cause == names.ECALL_FROM_S and at.world != "bare"
+        call = call_of(at.world, [int(it, 16) for it in before], [int(it, 16) for it in after]) if is_call else None
+        return Step(number, hart_number, at, instruction, changed, touch or None, call, trap, hart.place)
+
+    def place_of(self, ran):
+        """Where the hart is behind a step."""
+        return self.places.setdefault(ran[:3], Place(*(it.decode() for it in ran[:3])))
+
+    def trap_of(self, text):
+        if text not in self.traps:
+            self.traps[text] = Trap(*text.decode().split(":"))
+        return self.traps[text]
+
+
+def call_of(world, registers, after):
+    """The call that an ecall from S made of a world, or None where it is none that the table has."""
+    call = names.call_of(registers)
+    if call is None:
+        return None
+    words = dict(zip(names.ARGUMENTS[call], registers[10:15]))
+    if world != "host":
+        slot = int(world[1:])
+    elif call is names.Call.create:
+        slot = after[11] if after[10] == 0 else None
+    else:
+        slot = words.get("slot")
+    return CallMade(call, words, slot if slot is not None and slot <= names.LAST_SLOT else None)
