@@ -102,8 +102,11 @@ def final_states(bench):
     """Searches all orders of two harts in this process; gives the search and its final states. Arguments: the bytes of a raw image, the
     outcome as `--outcome` has it, and members of `Bounds`; `plain` without partial-order reduction, `limit` and `seconds` as the options."""
     os.environ["RVBENCH"] = bench
-    from rvlook.finders import outcomes, races, races_ends, races_machine, run, symbols, time_limit
+    from rvlook.finders import outcomes
+    from rvlook.finders.races import ends, machine as machines, search as searches, time_limit
+    from rvlook.image import symbols
     from rvlook.image.files import Image, digits_of
+    from rvlook.protocol import run
 
     def found(data, *names, plain=False, limit=0, seconds=None, **bounds):
         setup = run.Setup(Image("test", digits_of(data), data), monitor=True, ram=131072, harts=2)
