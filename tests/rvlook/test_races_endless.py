@@ -142,7 +142,7 @@ def test_time_limit_holds_in_one_move(rvlook, tmp_path):
 
 
 def test_time_limit_holds_while_final_states_are_replayed(final_states, monkeypatch):
-    from rvlook.finders.races import replay as races_replay, races_text
+    from rvlook.finders.races import replay as races_replay, text as races_text
     monkeypatch.setattr(races_replay.Replays, "check", lambda *_: time.sleep(60))
     data = model.image_of(model.linked(VICTIMS["one load"], VALUES + [*STORES, ("jal", 2)]))
     start = time.monotonic()
@@ -194,7 +194,7 @@ def test_search_is_bounded_on_the_attacker_after_some_nops(final_states):
 # ---- what is claimed
 
 def test_hart_that_counts_for_ever_makes_the_result_not_whole(final_states, monkeypatch):
-    from rvlook.finders.races import search as races, races_machine
+    from rvlook.finders.races import machine as races_machine, search as races
     monkeypatch.setattr(races, "MOST_ALONE", 20)
     monkeypatch.setattr(races_machine, "AHEAD", 64)
     search, ends = final_states(model.image_of(model.linked(VICTIMS["one load"], COUNTS)), *WATCHED, steps=200)

@@ -78,7 +78,7 @@ def check_leak():
         bench.replies("poke %s %s" % (at, secret))
         runs.append(until(bench, "Exited"))
     first = next(number for number, pair in enumerate(zip(*runs)) if pair[0] != pair[1])
-    told = {(it["object"], it.get("what")): it for it in objects("leak", "--monitor", path, "--at", at, "00", "05")}
+    told = {(it["object"], it.get("what")): it for it in objects("leak", "--monitor", path, "--at", at, "00", "05", status=1)}
     apart = told["apart", "pc"]
     expect("leak: where pc parts", [created + first + 1] * 2, apart["step"])
     expect("leak: what the bench replies there", [run[first].split(" ", 2)[2] for run in runs], apart["values"])

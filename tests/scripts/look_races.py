@@ -32,11 +32,11 @@ KINDS = (
 
 
 def status_of(found):
-    """The status that these objects mean without --forbid: 1 if there is more than one end, or a hart that does not come to its end; 3 if a
-    hart was given up."""
+    """The status that these objects mean without --forbid: 1 if there is more than one end, or a hart that does not come to its end; 3 if not
+    all was searched."""
     ends = [it for it in found if it["object"] == "race"]
     hows = {over["how"] for it in ends for over in it["over"]}
-    return 1 if len(ends) > 1 or hows - {"over", "has not ended", "is left"} else 3 if "has not ended" in hows else 0
+    return 1 if len(ends) > 1 or hows - {"over", "has not ended", "is left"} else 3 if "has not ended" in hows or not found[-1]["whole"] else 0
 
 
 def races(path, *words, status=None):
@@ -254,7 +254,7 @@ def check_begun(folder):
             file.write("step %d\n" % steps)
         found, _ = races(path, "--script", begin, "--outcome", "80013000:8")
         expect("begun behind %d steps of hart 0" % steps, wanted, sorted(it["values"]["80013000:8"] for it in found))
-    done = subprocess.run([LOOK, "races", "--no-monitor", raw(folder, lines_of(MASKED)), "--timer", "1", "--outcome", "0.a1", "--json"],
+    done = subprocess.run([LOOK, "races", "--no-monitor", raw(folder, lines_of(MASKED)), "--timer", "1", "--outcome", "0.a1", "--json", "--exit-zero"],
                           capture_output=True, text=True, check=True)
     found = [json.loads(it) for it in done.stdout.splitlines()]
     expect("a timer that is masked until a step, and again from another on", [0, 1, 2],

@@ -79,8 +79,10 @@ def main():
         check_counts("examples/%s/stdin" % name, ["--monitor", "--steps", "3000"])
     for name in ("two_harts", "race", "attacks/running_access", "attacks/running_race"):
         check_counts("examples/%s/stdin" % name, ["--monitor", "--harts", "2", "--steps", "3000"])
-    for name in ("handler", "timer", "pmp", "primes", "elf", "debugger"):
+    for name in ("timer", "primes", "elf", "debugger"):
         check_counts("examples/%s/stdin" % name, [])
+    for name in ("handler", "pmp"):  # which write a PMP register
+        expect("%s: touch refuses it" % name, [], objects("touch", "examples/%s/stdin" % name, status=2))
     check_counts("examples/traps/stdin", [], 2)
     check_counts("tests/rvlook/golden/trace_script/image", ["--script", "tests/rvlook/golden/trace_script/script", "--steps", "50"], 2)
     report()
