@@ -1,7 +1,7 @@
 """Fixtures that the tests share: how rvlook is run, and the programs that it is run on.
 
-`RVBENCH` names the built program. `RVLOOK` names another copy of the script `rvlook`, such as a mutant. A test program is a folder of `tests/rvlook/programs`: its C sources, and the image and the listing that
-`examples/monitor/build` made of them, so that the tests need no compiler.
+`RVBENCH` names the built program. `RVLOOK` names another copy of the script `rvlook`, such as a mutant. A test program is a folder of `tests/rvlook/programs`: its C sources, and the image and the symbols that
+`examples/build` made of them, so that the tests need no compiler.
 """
 import json
 import os
@@ -16,7 +16,8 @@ import pytest
 ROOT = Path(__file__).resolve().parents[1]
 RVLOOK = Path(os.environ.get("RVLOOK") or ROOT / "rvlook")
 PROGRAMS = ROOT / "tests" / "rvlook" / "programs"
-BUILD = ROOT / "examples" / "monitor" / "build"
+EXAMPLES = ROOT / "examples"
+BUILD = EXAMPLES / "build"
 SECONDS = 120
 
 
@@ -72,7 +73,7 @@ def program():
     """The kept image of a test program, with its symbols: arguments for a subcommand."""
     def arguments(name):
         folder = PROGRAMS / name
-        return [str(folder / "image"), "--monitor", "--symbols", str(folder / "listing")]
+        return [str(folder / "image"), "--monitor", "--symbols", str(folder / "symbols")]
     return arguments
 
 

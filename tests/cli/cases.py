@@ -71,15 +71,20 @@ def case(name):
     return cases_of(name.split("/")[0])[name]
 
 
+def example_input(folder):
+    """The input of an example: `stdin`, or the image and the script behind it."""
+    stdin = folder / "stdin"
+    return stdin.read_bytes() if stdin.exists() else (folder / "image").read_bytes() + (folder / "script").read_bytes()
+
+
 def examples():
     """The examples with an input and an output; their arguments are in a file, one a line."""
     found = {}
-    for stdin in sorted(EXAMPLES.glob("**/stdin")):
-        folder = stdin.parent
-        if (folder / "stdout").exists():
-            words = (folder / "words").read_bytes().split() if (folder / "words").exists() else []
-            name = "examples/%s" % folder.relative_to(EXAMPLES)
-            found[name] = Case(name, words, stdin.read_bytes(), (folder / "stdout").read_bytes(), 0)
+    for stdout in sorted(EXAMPLES.glob("**/stdout")):
+        folder = stdout.parent
+        words = (folder / "words").read_bytes().split() if (folder / "words").exists() else []
+        name = "examples/%s" % folder.relative_to(EXAMPLES)
+        found[name] = Case(name, words, example_input(folder), stdout.read_bytes(), 0)
     return found
 
 

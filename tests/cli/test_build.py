@@ -1,4 +1,4 @@
-"""`examples/monitor/build`: what it builds by either compiler, what it refuses, the stacks that it reports, and hostile source folders."""
+"""`examples/build`: what it builds by either compiler, what it refuses, the stacks that it reports, and hostile source folders."""
 import os
 import re
 import shutil
@@ -9,14 +9,13 @@ import pytest
 from conftest import BUILD, PROGRAMS, ROOT
 
 EXAMPLES = ROOT / "examples"
-LINK = BUILD.with_name("link.ld")
+LINK = EXAMPLES / "shared" / "link.ld"
 HAS_CLANG = bool(shutil.which("clang") and shutil.which("ld.lld") and shutil.which("llvm-objcopy"))
 HAS_GCC = bool(shutil.which("riscv64-unknown-elf-gcc"))
 COMPILERS = [pytest.param("--clang", marks=pytest.mark.skipif(not HAS_CLANG, reason="clang, lld or llvm is not installed")),
              pytest.param("--gcc", marks=pytest.mark.skipif(not HAS_GCC, reason="riscv64-unknown-elf-gcc is not installed"))]
 with_clang = pytest.mark.skipif(not HAS_CLANG, reason="clang, lld or llvm is not installed")
-STORED = ("enclave_adds", "enclave_bug", "enclave_hmac", "enclave_hmac_attacked", "enclave_refused", "enclave_store", "enclave_store_leaking",
-          "enclave_timer", "monitor_at_rest", "two_harts")
+STORED = ("adds", "bug", "hmac", "hmac_attacked", "refused", "store", "store_leaking", "timer", "at_rest", "two_harts")
 MEMCPY = """void *memcpy(void *to, const void *from, unsigned size)
 {
     char *out = to;
@@ -53,7 +52,7 @@ def build(*arguments, command=BUILD, cwd=ROOT, compiler="--clang", **env):
 def folder(tmp_path):
     """A copy of the sources of `enclave_adds`."""
     path = tmp_path / "adds"
-    shutil.copytree(ROOT / "examples" / "enclave_adds", path)
+    shutil.copytree(EXAMPLES / "enclaves" / "adds", path)
     return path
 
 
@@ -72,7 +71,7 @@ def write_application(folder, text, host=None):
 
 def address_of(folder, name):
     """The address of a symbol in the listing, as text."""
-    return re.search("^([0-9a-f]{8})  %s$" % name, (folder / "listing").read_text(), re.M)[1]
+    return re.search("^([0-9a-f]{8})  %s$" % name, (folder / "symbols").read_text(), re.M)[1]
 
 
 def last_reply(program, folder, *commands):
@@ -87,10 +86,10 @@ def last_reply(program, folder, *commands):
 def test_the_stored_images_are_what_clang_14_builds(tmp_path, name):
     examples = tmp_path / "examples"
     shutil.copytree(EXAMPLES, examples, symlinks=True)
-    done = build(name, command=examples / "monitor" / "build")
+    done = build("enclaves/" + name, command=examples / "build")
     assert (done.returncode, done.stderr) == (0, "")
-    for part in ("image", "listing", "stdin"):
-        assert (examples / name / part).read_bytes() == (EXAMPLES / name / part).read_bytes(), part
+    for part in ("image", "symbols"):
+        assert (examples / "enclaves" / name / part).read_bytes() == (EXAMPLES / "enclaves" / name / part).read_bytes(), part
 
 
 @pytest.mark.parametrize("compiler", COMPILERS)
@@ -154,10 +153,10 @@ def test_a_word_of_the_window_is_stored_by_one_instruction(folder, compiler):
 @pytest.mark.parametrize("compiler", COMPILERS)
 def test_the_hmac_is_right_by_either_compiler(bench, tmp_path, compiler):
     folder = tmp_path / "hmac"
-    shutil.copytree(EXAMPLES / "enclave_hmac", folder)
+    shutil.copytree(EXAMPLES / "enclaves" / "hmac", folder)
     assert build(folder, compiler=compiler).returncode == 0
     codes = last_reply(bench, folder, "mem %s 64" % address_of(folder, "codes")).split(":")[1]
-    assert codes == (EXAMPLES / "enclave_hmac" / "stdout").read_text().splitlines()[-1].split(":")[1]
+    assert codes == (EXAMPLES / "enclaves" / "hmac" / "stdout").read_text().splitlines()[-1].split(":")[1]
 
 
 def test_a_folder_that_is_not_there_is_refused(tmp_path):
@@ -213,14 +212,14 @@ def test_a_folder_that_begins_with_a_dash_is_no_option(folder, arguments):
 
 
 @with_clang
-@pytest.mark.parametrize("name", ["listing", "image", "stdin"])
+@pytest.mark.parametrize("name", ["listing", "image", "symbols"])
 def test_an_output_replaces_a_symbolic_link_and_not_its_target(folder, name):
     target = folder.parent / "target"
-    target.write_text("--\nstep 1\n")
-    (folder / name).unlink()
+    target.write_text("kept\n")
+    (folder / name).unlink(missing_ok=True)
     (folder / name).symlink_to(target)
     assert build(folder).returncode == 0
-    assert target.read_text() == "--\nstep 1\n"
+    assert target.read_text() == "kept\n"
     assert not (folder / name).is_symlink()
 
 
@@ -238,7 +237,7 @@ def test_the_elf_file_replaces_a_symbolic_link_and_not_its_target(folder):
 def test_no_temporary_file_is_left(folder):
     before = {it.name for it in folder.iterdir()}
     assert build(folder, folder / "program.elf").returncode == 0
-    assert {it.name for it in folder.iterdir()} == before | {"program.elf"}
+    assert {it.name for it in folder.iterdir()} == before | {"program.elf", "listing"}
 
 
 @with_clang

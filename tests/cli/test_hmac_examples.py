@@ -9,7 +9,7 @@ import pytest
 
 from models.monitor_bench import cut_at, image_of, lines_of, loaded
 
-EXAMPLES = os.path.join(os.path.dirname(os.path.dirname(os.path.dirname(os.path.abspath(__file__)))), "examples")
+EXAMPLES = os.path.join(os.path.dirname(os.path.dirname(os.path.dirname(os.path.abspath(__file__)))), "examples", "enclaves")
 REGION, REGION_SIZE, WINDOW, WINDOW_SIZE = 0x80020000, 0x2000, 0x80030000, 0x1000
 RAM, RAM_BASE = 1 << 20, 0x80000000
 
@@ -21,7 +21,7 @@ def text_of(*names):
 
 def key():
     """The key, a letter an element, in the application's source."""
-    row = re.search(r"key\[KEY_SIZE\] = \{(.*?)\};", text_of("enclave_hmac", "application.c"), re.S)
+    row = re.search(r"key\[KEY_SIZE\] = \{(.*?)\};", text_of("hmac", "application.c"), re.S)
     return "".join(re.findall("'(.)'", row[1])).encode()
 
 
@@ -32,13 +32,13 @@ def messages(name):
 
 def measurement(name):
     """The digest that create records, of the region as the image has it."""
-    image = image_of(cut_at(lines_of(text_of(name, "stdin")))[0])
+    image = image_of(cut_at(lines_of(text_of(name, "image") + text_of(name, "script")))[0])
     bytes_of_ram = loaded(image, "auto", RAM, True)[0]
     region = bytes(bytes_of_ram[REGION - RAM_BASE:REGION - RAM_BASE + REGION_SIZE])
     return hashlib.sha256(struct.pack("<5I", REGION, REGION_SIZE, WINDOW, WINDOW_SIZE, REGION) + region).hexdigest()
 
 
-@pytest.mark.parametrize("name", ["enclave_hmac", "enclave_hmac_attacked"])
+@pytest.mark.parametrize("name", ["hmac", "hmac_attacked"])
 def test_codes_and_measurement(name):
     shown = text_of(name, "stdout")
     digests = re.findall("^[0-9a-f]{8}: ((?:[0-9a-f]{2} ?){32})$", shown, re.M)

@@ -8,7 +8,7 @@ from pathlib import Path
 
 import pytest
 
-from cli.cases import EXAMPLES, case
+from cli.cases import EXAMPLES, case, example_input
 
 LIBRARY = Path(__file__).with_name("refuse_allocation.c")
 IN_A_ROW = 50  # runs with the right answer, after which no further allocation is refused
@@ -60,7 +60,7 @@ def labels(count):
 
 def example(name, words):
     folder = EXAMPLES / name
-    return words, (folder / "stdin").read_bytes(), ((folder / "stdout").read_bytes(), 0)
+    return words, example_input(folder), ((folder / "stdout").read_bytes(), 0)
 
 
 def command_line_case(name, words=""):
@@ -77,8 +77,8 @@ RUNS = {
     "run": (lambda: command_line_case("first_replies/image_step_register"), [NO_MEMORY, RAM]),
     "run_ram": (lambda: command_line_case("first_replies/image_step_register", "run --ram 65536"), [NO_MEMORY, RAM]),
     "run_of_a_long_script": (lambda: ("", long_script(), None), [NO_MEMORY, RAM]),
-    "run_monitor": (lambda: example("monitor_at_rest", "run --monitor"), [NO_MEMORY, RAM]),
-    "run_harts": (lambda: example("two_harts", "run --monitor --harts 2"), [NO_MEMORY, RAM]),
+    "run_monitor": (lambda: example("enclaves/at_rest", "run --monitor"), [NO_MEMORY, RAM]),
+    "run_harts": (lambda: example("enclaves/two_harts", "run --monitor --harts 2"), [NO_MEMORY, RAM]),
     "twin": (lambda: command_line_case("twin_examples/destroy_clears", "twin"), [NO_MEMORY, RAM]),
     "asm": (lambda: command_line_case("asm/loop", "asm"), [NO_MEMORY, LINE]),
     "dis": (lambda: command_line_case("dis/fences_and_a_word_of_no_instruction", "dis"), [NO_MEMORY]),

@@ -9,7 +9,7 @@ import subprocess
 
 import pytest
 
-from generators.attacks import folders, has_secret, is_twin, parts_of_secret, text_of
+from generators.attacks import folders, has_secret, input_of, is_twin, other_of, parts_of_secret, text_of
 from models.monitor_bench import Bench, Twins, cut_at, image_of, lines_of, setup_of
 
 SEED, SECRETS, POKES = 7, 6, 16
@@ -18,7 +18,7 @@ SEED, SECRETS, POKES = 7, 6, 16
 def parts_of(name):
     """The first part of the input, the lines after it that do not access the enclave, its region, and the arguments."""
     words = text_of(name, "words").split()
-    image, scripts = cut_at(lines_of(text_of(name, "stdin")))
+    image, scripts = cut_at(lines_of(input_of(name)))
     first, second = cut_at(scripts)
     setup = setup_of(words)
     slot = setup.pop("slot", 0)
@@ -63,11 +63,11 @@ def another(chance, line):
 
 def outputs_of_secret(program, name, chance):
     """The same of an attack on an enclave that runs on the other hart."""
-    front, secret, behind = (it if isinstance(it, list) else it.splitlines() for it in parts_of_secret(text_of(name, "stdin")))
+    front, secret, behind = (it if isinstance(it, list) else it.splitlines() for it in parts_of_secret(input_of(name)))
     words = text_of(name, "words").split()
     secrets = [[another(chance, line) for line in secret] for _ in range(SECRETS)]
     hidden = {output(program, words, [*front, *it, *behind]) for it in secrets}
-    hidden |= {output(program, words, text_of(name, part).splitlines()) for part in ("stdin", "other")}
+    hidden |= {output(program, words, text.splitlines()) for text in (input_of(name), other_of(input_of(name)))}
     hidden |= {text_of(name, "stdout").encode()}
     shown = {output(program, words, [*front, *it, *behind, "hart 0", "regs"]) for it in secrets}
     return hidden, shown

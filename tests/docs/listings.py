@@ -133,7 +133,7 @@ def constant(name):
 def of_calls():
     """What is missing or another in lists of the monitor's calls."""
     numbers, worlds, _ = calls()
-    header, page = text_of("examples/monitor/calls.h"), text_of("docs/MONITOR.md")
+    header, page = text_of("examples/shared/calls.h"), text_of("docs/MONITOR.md")
     if {it.name: it.value for it in names.Call} != numbers or {it.name for it in names.ARGUMENTS} != set(numbers):
         yield "Call or ARGUMENTS of python/rvlook/protocol/names.py has other calls"
     told = {"the host": monitor_model.OF_HOST, "an enclave": monitor_model.OF_ENCLAVE}
@@ -141,7 +141,7 @@ def of_calls():
         if {world for world, of_world in told.items() if number in of_world} != worlds[name] or getattr(monitor_model, name.upper(), 0) != number:
             yield f"tests/models/monitor_model.py lacks {name}, or has it of another world"
         if f"MONITOR_{name.upper()} = {number}" not in header or header.count(f"MONITOR_{name.upper()}") == 1:
-            yield f"examples/monitor/calls.h lacks {name}, or its function"
+            yield f"examples/shared/calls.h lacks {name}, or its function"
         of = worlds[name].pop() if len(worlds[name]) == 1 else "both"
         if not re.search(rf"^\| {number} \| {name} \| {of} \| ", page, re.M) or not re.search(rf"^### .*\b{name}\b", page, re.M):
             yield f"docs/MONITOR.md lacks {name} of {of}, or a part of its own"
@@ -154,12 +154,12 @@ def of_calls():
 def of_refusals():
     """What is missing or another in lists of the refusals of calls, and of their statuses."""
     statuses, (of_call, files) = calls()[2], refusals()
-    header, page, laws = text_of("examples/monitor/calls.h"), text_of("docs/MONITOR.md"), text_of("docs/LAWS.md")
+    header, page, laws = text_of("examples/shared/calls.h"), text_of("docs/MONITOR.md"), text_of("docs/LAWS.md")
     if {name: number for number, name in names.STATUSES.items()} != statuses:
         yield "STATUSES of python/rvlook/protocol/names.py has other statuses"
     for name, number in statuses.items():
         if f"{constant(name)} = {number - 2 ** 32}" not in header:
-            yield f"examples/monitor/calls.h lacks {constant(name)}"
+            yield f"examples/shared/calls.h lacks {constant(name)}"
         if getattr(monitor_model, constant(name), 0) != number:
             yield f"tests/models/monitor_model.py lacks {constant(name)}"
         of = ", ".join(call for call in of_call if name in of_call[call]) or "all"

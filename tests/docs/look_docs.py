@@ -1,5 +1,5 @@
 #!/usr/bin/env python3
-"""The parts of docs/LOOK.md, README.md, docs/ASK.md and the page of examples/enclave_store that begin with `$` and have ./rvlook in it: each
+"""The parts of docs/LOOK.md, README.md, docs/ASK.md and the page of examples/enclaves/store that begin with `$` and have ./rvlook in it: each
 command is run, and gives the lines that stand behind it; `...` stands for any lines. And each object of --json is as
 python/rvlook/output/objects.schema.json has it, by python3-jsonschema if that is there, in the names of its members in any case."""
 import json
@@ -16,23 +16,23 @@ try:
 except ImportError:
     Validator = None
 
-PAGES = ("docs/LOOK.md", "README.md", "docs/ASK.md", "examples/enclave_store/README.md")
+PAGES = ("docs/LOOK.md", "README.md", "docs/ASK.md", "examples/enclaves/store/README.md")
 SCHEMA = "python/rvlook/output/objects.schema.json"
 FINDERS = ("timer", "leak", "window", "races", "explain")  # which end with 1 if they find something
-NOT_RESUMED = ("timer", "--monitor", "examples/enclave_adds/image")  # the host does not resume its enclave
+NOT_RESUMED = ("timer", "--monitor", "examples/enclaves/adds/image")  # the host does not resume its enclave
 COPIES = "tests/rvlook/programs/window_copies/"
 WORDS = (
-    ("map", "--monitor", "examples/enclave_adds/image"),
-    ("touch", "--monitor", "examples/enclave_refused/stdin", "--symbols", "examples/enclave_refused/listing"),
-    ("trace", "--monitor", "examples/enclave_timer/stdin"), ("map", "examples/pmp/stdin"),
-    NOT_RESUMED, ("timer", "--monitor", "examples/enclave_timer/image"),
+    ("map", "--monitor", "examples/enclaves/adds/image"),
+    ("touch", "--monitor", "examples/enclaves/refused/stdin", "--symbols", "examples/enclaves/refused/symbols"),
+    ("trace", "--monitor", "examples/enclaves/timer/stdin"), ("map", "examples/programs/pmp/stdin"),
+    NOT_RESUMED, ("timer", "--monitor", "examples/enclaves/timer/image"),
     ("leak", "--monitor", "tests/rvlook/golden/leak/image", "--at", "80020800", "00", "05"),
     ("leak", "--monitor", "tests/rvlook/golden/leak/image", "--at", "80020800:4", "--tries", "3"),
     ("window", "--monitor", "tests/rvlook/golden/window/image", "--at", "80020800:4"),
     ("window", "--monitor", COPIES + "image", "--symbols", COPIES + "listing", "--script", COPIES + "script", "--at", "key:20"),
-    ("window", "--harts", "2", "--monitor", "examples/enclave_store_leaking/image", "--symbols",
-     "examples/enclave_store_leaking/listing", "--at", "key:32"),
-    ("races", "--monitor", "--timer", "1", "examples/enclave_adds/image"), ("explain", "tests/rvlook/golden/explain/input"),
+    ("window", "--harts", "2", "--monitor", "examples/enclaves/store_leaking/image", "--symbols",
+     "examples/enclaves/store_leaking/symbols", "--at", "key:32"),
+    ("races", "--monitor", "--timer", "1", "examples/enclaves/adds/image"), ("explain", "tests/rvlook/golden/explain/input"),
     ("measure", "tests/rvlook/golden/measure/region", "80020000", "1000", "0", "0", "80020000"))
 
 

@@ -1,7 +1,7 @@
 #!/usr/bin/env python3
 """python3 -m docs.monitor_docs --check: tells whether the lines of commands and replies in docs/MONITOR.md, docs/AUTHORS.md,
 docs/COMMANDS.md and examples/attacks/README.md are those of the examples that they name. A part of them begins with the name of its
-example, as `# examples/enclave_adds`; its lines stand in that order in the example's script, each with the reply of the model of
+example, as `# examples/enclaves/adds`; its lines stand in that order in the example's script, each with the reply of the model of
 monitor_bench.py, and perhaps a comment. Of a reply of more lines the first stands there, of `sched` all, with ` / ` between them. Where the
 example is one of two benches, a reply that both give stands without its mark.
 """

@@ -1,5 +1,5 @@
 #!/usr/bin/env python3
-"""Builds the attacks of examples/attacks, and examples/race: victim.s, or runner.s where no twin is run, and behind it a folder's
+"""Builds the attacks of examples/attacks, and examples/programs/race: victim.s, or runner.s where no twin is run, and behind it a folder's
 attack.s, or the folder's program.s, are assembled by assembly_model.py to the folder's image and listing, the image is put before the
 script of its stdin, and the model of monitor_bench.py writes its stdout. Where the script has a secret, a second input, other, has another
 one: each byte and word of it is the complement.
@@ -21,6 +21,8 @@ from models.monitor_model import HOST_ENTRY
 ROOT = os.path.dirname(os.path.dirname(os.path.dirname(os.path.abspath(__file__))))
 EXAMPLES = os.path.join(ROOT, "examples")
 SECRET = "# the secret"
+RACE = os.path.join("programs", "race")
+DIGITS = 120  # of a line of an image
 
 
 def text_of(*names):
@@ -33,25 +35,7 @@ def text_of(*names):
 
 def folders():
     attacks = (os.path.join("attacks", name) for name in os.listdir(os.path.join(EXAMPLES, "attacks")))
-    return [*sorted(name for name in attacks if text_of(name, "attack.s")), "race"]
-
-
-def listing_of(source, words):
-    """Each word with its address, its bytes and its instruction; labels and comments stand as in the source."""
-    told, at = [], 0
-    for line in lines_of(source):
-        label, name, read = read_line(line)
-        comment = "# " + line.split("#", 1)[1].strip() if "#" in line else ""
-        count = len(words_of(name, [0 if isinstance(it, str) else it for it in read])) if name else 0
-        told += ["%s:" % label] if label else []
-        if not count:
-            told.append(comment)
-        for i, word in enumerate(words[at:at + count]):
-            bytes_of = word.to_bytes(4, "little").hex()
-            row = "%08x  %s  %s" % (HOST_ENTRY + 4 * (at + i), bytes_of, disassembled(word))
-            told.append("%-48s%s" % (row, comment if i == 0 else ""))
-        at += count
-    return "".join(it.rstrip() + "\n" for it in told)
+    return [*sorted(name for name in attacks if text_of(name, "attack.s")), RACE]
 
 
 def is_twin(name):
@@ -64,7 +48,7 @@ def source_of(name):
 
 
 def has_secret(name):
-    return SECRET in text_of(name, "stdin")
+    return SECRET in text_of(name, "script")
 
 
 def parts_of_secret(stdin):
@@ -86,18 +70,25 @@ def other_of(stdin):
     return front + "".join(complement(line) + "\n" for line in secret) + behind
 
 
+def image_of_words(words):
+    """The text of an image of these words."""
+    digits = "".join(word.to_bytes(4, "little").hex() for word in words)
+    return "".join(digits[at:at + DIGITS] + "\n" for at in range(0, len(digits), DIGITS))
+
+
+def input_of(name):
+    """The input of the bench: the image, and the script behind it."""
+    return text_of(name, "image") + text_of(name, "script")
+
+
 def built(name):
     """The texts of a folder's files, by their names."""
-    source = source_of(name)
-    words = assembled(source)
+    words = assembled(source_of(name))
     assert isinstance(words, list), (name, words)
-    image = "".join(word.to_bytes(4, "little").hex() + "\n" for word in words)
-    script = cut_at(lines_of(text_of(name, "stdin")))[1]
-    stdin = image + "".join(line + "\n" for line in ["--", *script])
-    stdout, status = wanted(stdin, text_of(name, "words").split())
+    image = image_of_words(words)
+    stdout, status = wanted(image + text_of(name, "script"), text_of(name, "words").split())
     assert status == 0, (name, stdout)
-    files = {"image": image, "listing": listing_of(source, words), "stdin": stdin, "stdout": stdout}
-    return files | ({"other": other_of(stdin)} if has_secret(name) else {})
+    return {"image": image, "stdout": stdout}
 
 
 def are_alike(stdout):
@@ -114,10 +105,10 @@ def has_counted(stdout):
 def fault_of(name):
     """How an attack did not fail, or nothing."""
     stdout = text_of(name, "stdout")
-    if name == "race":
+    if name == RACE:
         return ""
     if has_secret(name):
-        other = wanted(text_of(name, "other"), text_of(name, "words").split())[0]
+        other = wanted(other_of(input_of(name)), text_of(name, "words").split())[0]
         return "" if other == stdout != "" else "its secret changes the output"
     if is_twin(name):
         return "" if are_alike(stdout) else "the benches differ"

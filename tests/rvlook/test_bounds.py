@@ -5,7 +5,7 @@ import pytest
 from support.hostile import check, run
 
 LITTLE = 400 << 20  # bytes
-SUM = "examples/sum/stdin"
+SUM = "examples/programs/sum/stdin"
 
 
 @pytest.fixture

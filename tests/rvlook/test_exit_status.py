@@ -7,7 +7,7 @@ import pytest
 
 from conftest import ROOT, RVLOOK
 
-SUM, RACE = "examples/sum/stdin", "examples/race/image"
+SUM, RACE = "examples/programs/sum/stdin", "examples/programs/race/image"
 LEAK = ("--at", "secret", "10000000", "00000100")
 NO_LEAK = ("--at", "secret", "10000000", "10000000")
 RACES = ("races", "--monitor", "--harts", "2", RACE, "--limit", "17", "--outcome", "0.a0", "--outcome", "1.a0")
@@ -47,7 +47,7 @@ def test_races(rvlook):
 
 
 def test_races_with_one_end(rvlook):
-    assert rvlook("races", "--monitor", "examples/enclave_adds/image").returncode == 0
+    assert rvlook("races", "--monitor", "examples/enclaves/adds/image").returncode == 0
 
 
 def test_races_that_seconds_cut(rvlook):

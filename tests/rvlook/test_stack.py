@@ -22,11 +22,11 @@ def test_exit_zero_keeps_the_message(rvlook, program):
     assert (done.returncode, done.stderr) == (0, FRAME)
 
 
-@pytest.mark.parametrize("name", ["enclave_adds", "enclave_hmac", "enclave_store", "two_harts"])
+@pytest.mark.parametrize("name", ["adds", "hmac", "store", "two_harts"])
 def test_the_examples_stay_inside_their_stacks(rvlook, name):
-    folder = ROOT / "examples" / name
-    harts = ["--harts", "2"] if name in ("two_harts", "enclave_store") else []
-    done = rvlook("map", "--monitor", *harts, folder / "stdin", "--symbols", folder / "listing")
+    folder = ROOT / "examples" / "enclaves" / name
+    harts = ["--harts", "2"] if name in ("two_harts", "store") else []
+    done = rvlook("map", "--monitor", *harts, folder / "image", "--script", folder / "script", "--symbols", folder / "symbols")
     assert "stack overflow" not in done.stderr
     assert done.returncode == 0
 

@@ -17,8 +17,8 @@ sys.path.insert(0, os.path.join(ROOT, "tests"))
 from support.hostile import named  # noqa: E402
 
 LOOK = os.path.join(ROOT, "rvlook")
-ADDS, LISTING = "examples/enclave_adds/image", "examples/enclave_adds/listing"
-SUM = "examples/sum/stdin"
+ADDS, LISTING = "examples/enclaves/adds/image", "examples/enclaves/adds/symbols"
+SUM = "examples/programs/sum/stdin"
 SYMBOLS = ["--symbols", LISTING]
 LEAKS = "tests/rvlook/golden/leak/image"
 LEAK_TRIES = ["--monitor", LEAKS, "--tries", "2", "--at"]
@@ -196,7 +196,7 @@ def cases(files):
         "the two have": leak("80020800", "00", "0001"),
         "--at PLACE:BYTES": lambda: ran(["leak", *LEAK_TRIES, "80020800"]),
         "the enclave of slot NUMBER is never": lambda: ran([*LEAK_PAIR, "--steps", "6158"]),
-        "--steps COUNT": lambda: ran(["timer", "--monitor", "examples/enclave_timer/image", "--steps", "60"]),
+        "--steps COUNT": lambda: ran(["timer", "--monitor", "examples/enclaves/timer/image", "--steps", "60"]),
         "--seconds ends leak": lambda: ran(["leak", *LEAK_TRIES, "80020f00:4", "--seconds", "0"]),
         "the host does not": lambda: ran(["timer", "--monitor", ADDS]),
         "the enclave of slot NUMBER does not come": lambda: ran(["leak", *LEAK_TRIES, "a0@80020f00"]),
@@ -220,7 +220,7 @@ def cases(files):
         "the registers": lambda: patched(REGISTERS, ["trace", SUM]),
         "DIR: WHY": lambda: ran(["races", *COUNTED, files.counter, "--scripts", files.text]),
         "there is no enclave": lambda: ran(["timer", SUM, "--monitor", "--steps", "9"]),
-        "the enclave of slot NUMBER does nothing": lambda: ran(["timer", "--monitor", "examples/monitor_at_rest/image"]),
+        "the enclave of slot NUMBER does nothing": lambda: ran(["timer", "--monitor", "examples/enclaves/at_rest/image"]),
         "create refuses": lambda: ran(["measure", files.region, "80020000", "1001", "0", "0", "80020000"]),
         "FILE has COUNT": lambda: ran(["measure", "docs/LOOK.md", "80020000", "1000", "0", "0", "80020000"]),
         "there are no source": lambda: ran(["touch", SUM, "--lcov"]),
@@ -241,7 +241,7 @@ def cases(files):
         "--public needs": lambda: ran(["window", "--monitor", ADDS, "--public", "80030000"]),
         "SUBCOMMAND needs": lambda: ran(["leak", SUM, "--at", "80000000", "00", "01"]),
         "touch merges all modes of a bare image, and FILE enters": lambda: ran(["touch", BARE_USER]),
-        "touch merges all modes of a bare image, and FILE writes": lambda: ran(["touch", "examples/pmp/stdin"]),
+        "touch merges all modes of a bare image, and FILE writes": lambda: ran(["touch", "examples/programs/pmp/stdin"]),
         "a debugger": lambda: typed(["gdb", SUM]),
         "port NUMBER": lambda: ran(["gdb", SUM, "--port", "99999"]),
         "--harts 2": lambda: ran(["map", SUM, "--harts", "2"]),
@@ -310,7 +310,7 @@ def words_over(files):
         "leak --tries": (["leak", "--monitor", LEAKS, "--at", "80020800:4", "--tries", "1000"],
                          ["leak", "--monitor", LEAKS, "--at", "80020800:4", "--tries", "1"]),
         "races": (["races", *COUNTED, files.many], ["races", "--monitor", ADDS]),
-        "timer": (["timer", "--monitor", "examples/enclave_hmac/image"], ["timer", "--monitor", ADDS]),
+        "timer": (["timer", "--monitor", "examples/enclaves/hmac/image"], ["timer", "--monitor", ADDS]),
         "measure": (None, ["measure", files.region, "80020000", "1000", "0", "0", "80020000"]),
         "explain": (None, ["explain", SUM]), "the prompt": (None, [SUM])}
 

@@ -10,11 +10,11 @@ from xml.etree import ElementTree
 from look_checks import bench, expect, objects, report
 from look_gdb_client import Client, packet_of, registers
 
-TIMER, HARTS = ("examples/enclave_timer/image", ["--monitor"]), ("examples/two_harts/image", ["--monitor", "--harts", "2"])
-BUG, ADDS = ("examples/enclave_bug/image", ["--monitor"]), ("examples/enclave_adds/image", ["--monitor"])
+TIMER, HARTS = ("examples/enclaves/timer/image", ["--monitor"]), ("examples/enclaves/two_harts/image", ["--monitor", "--harts", "2"])
+BUG, ADDS = ("examples/enclaves/bug/image", ["--monitor"]), ("examples/enclaves/adds/image", ["--monitor"])
 KINDS = {"2": "w", "3": "r", "4": "rw"}
 TURNS = "0" * 32 + "1" * 32
-SHOP, COUNT = 0x800201A0, 0x800201B0  # of examples/enclave_bug: a table in the enclave, and the number behind it
+SHOP, COUNT = 0x800201A0, 0x800201B0  # of examples/enclaves/bug: a table in the enclave, and the number behind it
 INSIDE = "800200f8"  # the loop of its application
 STOPS = (  # an image, its words, the breaks, and the watches, each with its kind, place and length
     (*TIMER, ["80010000"], [("4", 0x80030003, 1)]), (*BUG, ["80020000", "800100f4"], []), (*BUG, [INSIDE], [("2", COUNT, 4)]),
@@ -168,7 +168,7 @@ def check_catches():
         client.halt("vCont;c")
         expect("the timer's stop", wanted, client.told)
     client.end()
-    client = Client("examples/primes/stdin", [])
+    client = Client("examples/programs/primes/stdin", [])
     expect("a switch without the monitor", True, "write ./rvlook gdb --monitor" in client.monitor("catch switch"))
     client.end()
 

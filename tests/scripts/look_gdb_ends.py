@@ -13,7 +13,7 @@ import time
 from look_checks import expect, report
 from look_gdb_client import LOOK, Client, packet_of, started
 
-TIMER = ("examples/enclave_timer/image", ["--monitor"])
+TIMER = ("examples/enclaves/timer/image", ["--monitor"])
 ENDLESS = "1303130013031300\n6ff09fff\n"  # a loop that never stays
 SOON = 0.05  # seconds in which Ctrl-C halts
 HOME = os.path.dirname(LOOK)

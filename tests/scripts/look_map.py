@@ -74,11 +74,11 @@ def check_derived(image, words):
 
 
 def main():
-    check_bytes("examples/enclave_timer/image", ["--monitor"], 0x40000, "S", (2,))
-    check_bytes("examples/pmp/stdin", [], 0x10000, "MSU", (-3,))
-    check_moments("examples/pmp/stdin", [])
-    check_moments("examples/enclave_timer/image", ["--monitor"])
-    check_moments("examples/monitor_at_rest/image", ["--monitor"])
+    check_bytes("examples/enclaves/timer/image", ["--monitor"], 0x40000, "S", (2,))
+    check_bytes("examples/programs/pmp/stdin", [], 0x10000, "MSU", (-3,))
+    check_moments("examples/programs/pmp/stdin", [])
+    check_moments("examples/enclaves/timer/image", ["--monitor"])
+    check_moments("examples/enclaves/at_rest/image", ["--monitor"])
     for example in ("enclave_timer", "enclave_refused", "attacks/window"):
         check_derived("examples/%s/stdin" % example, ["--monitor"])
     report()

@@ -61,7 +61,7 @@ def own_steps(bench, raised=None):
 
 
 def check_timer():
-    path = "examples/enclave_timer/image"
+    path = "examples/enclaves/timer/image"
     own, *end = own_steps(started(path))
     told = objects("timer", "--monitor", path)[-1]
     expect("timer: the enclave's steps", (own, own, True), (told["steps"], told["stops"], told["same"]))

@@ -14,8 +14,8 @@ from look_checks import PROGRAM, ROOT, expect, report
 
 LOOK = os.path.join(ROOT, "rvlook")
 # an input without an ELF file, which wants no package
-RAW = "examples/primes/stdin"
-TIMER = ["--monitor", "examples/enclave_timer/image", "--symbols", "examples/enclave_timer/listing"]
+RAW = "examples/programs/primes/stdin"
+TIMER = ["--monitor", "examples/enclaves/timer/image", "--symbols", "examples/enclaves/timer/symbols"]
 LIMIT = 20  # seconds until a terminal is given up
 
 
@@ -130,7 +130,7 @@ def failure(words, **environment):
 
 def check_ends():
     """A program that is not there, is none, ends at once, or in the midst; a package that is missing; who reads goes away."""
-    image = "examples/enclave_timer/image"
+    image = "examples/enclaves/timer/image"
     expect("no program", (2, "rvlook: there is no program at /none, which RVBENCH names\n"),
            failure(["map", image, "--monitor"], RVBENCH="/none"))
     expect("a program that ends", (3, "rvlook: %s: the bench ended with status 0\n" % image),
@@ -159,7 +159,7 @@ def check_packages():
                    failure(["measure", os.path.join(folder, "cut.elf"), "80020000", "1000", "0", "0", "80020000"], PYTHONPATH=folder)))
         expect("no pyelftools, map", (0, "rvlook: pyelftools is not there, so there are addresses in place of symbols; apt-get install "
                                       "python3-pyelftools brings it\n"),
-               failure(["map", "--monitor", "examples/enclave_adds/image"], PYTHONPATH=folder))
+               failure(["map", "--monitor", "examples/enclaves/adds/image"], PYTHONPATH=folder))
 
 
 def check_closed():

@@ -224,7 +224,7 @@ def check_known(folder):
     expect("what an enclave keeps while it has stopped", ["0700000000000000", "0700000007000000"], sorted(
         it["values"]["80013000:8"] for it in found))
     found, last = races(os.path.join(ROOT, "examples", "race", "image"), "--limit", "17", "--outcome", "0.a0", "--outcome", "1.a0")
-    expect("examples/race, 17 by 17 steps", [(0x80020000, 0), (0xFFFFFFF9, 0)], sorted(
+    expect("examples/programs/race, 17 by 17 steps", [(0x80020000, 0), (0xFFFFFFF9, 0)], sorted(
         (it["values"]["0.a0"], it["values"]["1.a0"]) for it in found))
 
 

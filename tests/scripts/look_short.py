@@ -15,7 +15,7 @@ from rvlook.protocol.instructions import short_form  # noqa: E402
 from rvlook.protocol.names import with_abi_names  # noqa: E402
 
 LOOK = os.path.join(ROOT, "rvlook")
-TIMER = ["--monitor", "examples/enclave_timer/image", "--symbols", "examples/enclave_timer/listing"]
+TIMER = ["--monitor", "examples/enclaves/timer/image", "--symbols", "examples/enclaves/timer/symbols"]
 DUMP = "riscv64-unknown-elf-objdump"
 SOURCE = """nop
 addi x1, x0, 5
@@ -145,8 +145,8 @@ def main():
     check_short()
     check_spike()
     check_targets()
-    check_brief("--monitor", "examples/enclave_adds/image")
-    check_brief("--monitor", "examples/enclave_refused/stdin")
+    check_brief("--monitor", "examples/enclaves/adds/image")
+    check_brief("--monitor", "examples/enclaves/refused/stdin")
     report()
 
 

@@ -71,10 +71,10 @@ def check_counts(image, words, status=0):
 
 
 def main():
-    check_steps("examples/enclave_timer/image", ["--monitor"])
-    check_steps("examples/enclave_refused/image", ["--monitor"])
-    check_steps("examples/elf/image", [])
-    check_touches("examples/enclave_refused/image", ["--monitor"])
+    check_steps("examples/enclaves/timer/image", ["--monitor"])
+    check_steps("examples/enclaves/refused/image", ["--monitor"])
+    check_steps("examples/programs/elf/image", [])
+    check_touches("examples/enclaves/refused/image", ["--monitor"])
     for name in ("enclave_refused", "enclave_timer", "enclave_bug", "monitor_at_rest", "attacks/timer", "attacks/window"):
         check_counts("examples/%s/stdin" % name, ["--monitor", "--steps", "3000"])
     for name in ("two_harts", "race", "attacks/running_access", "attacks/running_race"):
@@ -83,7 +83,7 @@ def main():
         check_counts("examples/%s/stdin" % name, [])
     for name in ("handler", "pmp"):  # which write a PMP register
         expect("%s: touch refuses it" % name, [], objects("touch", "examples/%s/stdin" % name, status=2))
-    check_counts("examples/traps/stdin", [], 2)
+    check_counts("examples/programs/traps/stdin", [], 2)
     check_counts("tests/rvlook/golden/trace_script/image", ["--script", "tests/rvlook/golden/trace_script/script", "--steps", "50"], 2)
     report()
 

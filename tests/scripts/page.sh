@@ -27,10 +27,10 @@ install_browser() {
 }
 
 if "$python" -c 'import jinja2' 2> "$scratch/out"; then
-  page_of enclave_timer --monitor --symbols "$here/../examples/enclave_timer/listing"
+  page_of enclave_timer --monitor --symbols "$here/../examples/enclaves/timer/symbols"
   page_of two_harts --monitor --harts 2
   page_of pmp
-  "$look" page "$here/../examples/pmp/stdin" --json > "$scratch/page" 2> "$scratch/out"
+  "$look" page "$here/../examples/programs/pmp/stdin" --json > "$scratch/page" 2> "$scratch/out"
   status=$?
   echo "rvlook: page has no --json: it shows what map --json and trace --json write" > "$scratch/wanted"
   expect "the page with --json" 1 $status "$scratch/wanted" "$scratch/out"
@@ -42,7 +42,7 @@ if "$python" -c 'import jinja2' 2> "$scratch/out"; then
   "$look" page "$scratch/empty" > "$scratch/outside.html" 2> "$scratch/out"
   expect "the page of an empty image" 0 $? /dev/null "$scratch/out"
   if has_browser || { install_browser && has_browser; }; then
-    "$python" "$here/scripts/page_check.py" browser "$scratch/enclave_timer.html" "$program" "$here/../examples/enclave_timer/stdin" \
+    "$python" "$here/scripts/page_check.py" browser "$scratch/enclave_timer.html" "$program" "$here/../examples/enclaves/timer/stdin" \
       "$scratch/page.png" > "$scratch/out" 2>&1
     if [ $? = 0 ]; then pass; else fail "the page in a browser" "$(head -1 "$scratch/out")"; fi
     # a loop that stores and loads, a million steps of it
@@ -66,6 +66,6 @@ fi
 mkdir "$scratch/without"
 echo "raise ImportError" > "$scratch/without/jinja2.py"
 echo "rvlook: jinja2 is not there, so the page cannot be made; apt-get install python3-jinja2 brings it" > "$scratch/wanted"
-PYTHONPATH="$here/..:$scratch/without" "$python" -B -m look page "$here/../examples/pmp/stdin" > "$scratch/page" 2> "$scratch/out"
+PYTHONPATH="$here/..:$scratch/without" "$python" -B -m look page "$here/../examples/programs/pmp/stdin" > "$scratch/page" 2> "$scratch/out"
 expect "the page without Jinja2" 1 $? "$scratch/wanted" "$scratch/out"
 expect "nothing is written without Jinja2" 0 0 /dev/null "$scratch/page"

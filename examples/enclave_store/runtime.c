@@ -1,2 +1,0 @@
-// The runtime, in mode S: that of enclave_hmac.
-#include "../enclave_hmac/runtime.c"

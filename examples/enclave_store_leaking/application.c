@@ -1,2 +1,0 @@
-#define LEAKING
-#include "../enclave_store/application.c"

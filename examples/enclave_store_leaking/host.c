@@ -1,1 +1,0 @@
-#include "../enclave_store/host.c"

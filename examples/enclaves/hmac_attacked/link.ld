@@ -1,0 +1,2 @@
+/* The enclave lies where that of enclave_hmac does. */
+INCLUDE ../hmac/link.ld

@@ -1,0 +1,2 @@
+// The runtime, in mode S: that of enclave_hmac.
+#include "../hmac/runtime.c"

@@ -1,0 +1,2 @@
+#define LEAKING
+#include "../store/application.c"

@@ -1,0 +1,1 @@
+#include "../store/host.c"

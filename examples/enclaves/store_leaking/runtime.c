@@ -1,0 +1,1 @@
+#include "../store/runtime.c"
