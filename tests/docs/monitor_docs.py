@@ -22,7 +22,7 @@ def text_of(*names):
 
 def session_of(name):
     """Each command of the example's script with what is told of its reply, of both where there are two benches."""
-    image, script = cut_at(lines_of(text_of(name, "stdin")))
+    image, script = cut_at(lines_of(text_of(name, "image") + text_of(name, "script")))
     first, second = cut_at(script)
     words = text_of(name, "words").split()
     setup = setup_of(words)
