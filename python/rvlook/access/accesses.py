@@ -5,8 +5,8 @@ from typing import NamedTuple
 
 from rvlook.protocol import names
 from rvlook.protocol.instructions import instruction_of
+from rvlook.protocol.replies import NO_TRAP, RAN_FIELDS
 from rvlook.protocol.run import End, Stretch
-from rvlook.trace.tracer import NO_TRAP, RAN_FIELDS
 
 
 class Access(NamedTuple):

@@ -12,9 +12,8 @@ from typing import NamedTuple, Optional
 from rvlook.protocol import names
 from rvlook.access.accesses import begin
 from rvlook.protocol.instructions import instruction_of
-from rvlook.protocol.replies import enclave_of, register_values
+from rvlook.protocol.replies import NO_TRAP, RAN_FIELDS, enclave_of, register_values
 from rvlook.protocol.run import Line, Stretch
-from rvlook.trace.tracer import NO_TRAP, RAN_FIELDS
 
 DIVIDES = re.compile(r"(?:div|rem)u? x\d+, x(\d+), x(\d+)")
 MODES = {b"U": 0, b"S": 1, b"M": 3}

@@ -1,7 +1,7 @@
 """The lines and functions that each world executed, as the file of lcov that genhtml takes: a test for each world."""
-from rvlook.image.escapes import visible
+from rvlook.output.escapes import visible
 from rvlook.errors import Fault
-from rvlook.page.sources import files_of
+from rvlook.image.source_paths import files_of
 from rvlook.access.touch import Touches, covered_functions, covered_lines
 
 

@@ -2,10 +2,9 @@
 worlds that do not run."""
 from dataclasses import dataclass
 
+from rvlook.protocol.memory_map import MONITOR_END, RAM_BASE
 from rvlook.protocol.replies import entry_of
 
-RAM_BASE = 0x80000000
-MONITOR_END = 0x80010000
 KINDS = "rwx"
 TOR, NA4, NAPOT = 1, 2, 3
 NOTHING, ALL, DATA = "---", "rwx", "rw-"

@@ -9,7 +9,7 @@ from rvlook.finders.timer import show_timer
 from rvlook.finders.window import show_window
 from rvlook.gdb.server import serve_gdb
 from rvlook.image.measure import show_measure
-from rvlook.page import page
+from rvlook.page.page import page_template, show_page
 from rvlook.prompt.explain import show_explain
 from rvlook.prompt.prompt import show_prompt
 from rvlook.trace.spike import show_spike
@@ -101,4 +101,9 @@ def do_explain(arguments):
 
 
 def do_page(arguments):
-    page.main(arguments)
+    if arguments.json:
+        raise Fault("page has no --json: it shows what map --json and trace --json write")
+    template = page_template()
+    run, symbols, printer = opened(arguments)
+    paths = [it for it in (arguments.symbols, arguments.image) if it] if arguments.has_sources else []
+    show_page(run, symbols, printer, template, paths, arguments.sources)

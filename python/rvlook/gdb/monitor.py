@@ -8,7 +8,7 @@ from typing import Callable, NamedTuple
 
 from rvlook.protocol.bench_line import words_of
 from rvlook.protocol.commands import COMMANDS, Form, is_form, written
-from rvlook.image.escapes import visible
+from rvlook.output.escapes import visible
 from rvlook.errors import Fault
 from rvlook.gdb.entry import Entry
 from rvlook.gdb.moves import FORGOTTEN

@@ -6,7 +6,7 @@ import sys
 import threading
 
 from rvlook.protocol import names
-from rvlook.image.escapes import visible
+from rvlook.output.escapes import visible
 from rvlook.errors import BenchEnded, Fault
 from rvlook.gdb.reverse import Back
 from rvlook.gdb.link import Gone, Link, escaped, hex_of, little, number_of, unescaped

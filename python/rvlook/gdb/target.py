@@ -2,7 +2,7 @@
 from xml.sax.saxutils import quoteattr
 
 from rvlook.protocol import names
-from rvlook.access.ranges import RAM_BASE
+from rvlook.protocol.memory_map import RAM_BASE
 
 ABI_KINDS = {"ra": "code_ptr", "sp": "data_ptr", "gp": "data_ptr", "tp": "data_ptr", "s0": "data_ptr"}
 ROLES = {"sp": "sp", "s0": "fp", "ra": "ra", "pc": "pc"}  # as lldb has them

@@ -4,7 +4,7 @@ import struct
 import sys
 from array import array
 
-from rvlook.access.ranges import MONITOR_END
+from rvlook.protocol.memory_map import MONITOR_END
 
 AT_SEGMENTS, AT_FLAGS, AT_SIZES = 28, 36, 42  # in the header of an ELF file
 SEGMENT = struct.Struct("<8I")

@@ -1,11 +1,10 @@
 """The image, in whatever form it stands in a file: an ELF file, raw bytes, or the text that the bench reads."""
 import re
-from dataclasses import dataclass
 
 from rvlook.protocol.bench_line import LONGEST_LINE, ended, is_separator, lines_of
 from rvlook.errors import Fault
+from rvlook.protocol.inputs import Image, ScriptLine
 
-ELF_MAGIC = b"\x7fELF"
 DIGITS_A_LINE = 120
 MOST_BYTES = 33554432  # of an image, as the bench has it
 MOST_READ = 3 * MOST_BYTES  # bytes of a file; two digits for each byte of an image, line ends and a script
@@ -14,29 +13,6 @@ SEPARATOR = re.compile(rb"(?m)^([ \t]*--[ \t]*)(\r?\n|\Z)")
 MARKS = {b"\xef\xbb\xbf": "utf-8", b"\xff\xfe": "utf-16-le", b"\xfe\xff": "utf-16-be"}  # byte order marks
 TEXT = re.compile(rb"[0-9A-Fa-f \t\r\n]*\Z")
 PRINTABLE = re.compile(rb"[\t\r\n\x20-\x7e]*\Z")
-
-
-@dataclass(frozen=True)
-class ScriptLine:
-    """A line of a script: as it stands, where it stands, and what the bench is given for it."""
-    given: str
-    place: str
-    text: str
-    refused: str = ""  # why a name in it says no address, if one does not
-
-
-@dataclass(frozen=True)
-class Image:
-    """`text` is what the bench reads up to the line `--`, `data` the bytes that it says (None where it says none rightly), `script` the
-    lines behind that line, where the file had them."""
-    name: str
-    text: bytes
-    data: bytes
-    script: tuple = ()
-
-    @property
-    def is_elf(self):
-        return self.data is not None and self.data.startswith(ELF_MAGIC)
 
 
 def read_file(path):

@@ -5,8 +5,9 @@ import struct
 
 from rvlook.protocol import names
 from rvlook.errors import Fault, Unfinished, package_missing
-from rvlook.image.files import ELF_MAGIC, read_file
-from rvlook.access.ranges import MONITOR_END
+from rvlook.image.files import read_file
+from rvlook.protocol.inputs import ELF_MAGIC
+from rvlook.protocol.memory_map import MONITOR_END
 from rvlook.output.printer import hex8
 from rvlook.image.symbols import symbols_of
 

@@ -1,8 +1,8 @@
 """The page's axis of memory: RAM is cut where a row of the map ends, and where what is touched begins and ends. What nobody touched is
 shut."""
 from rvlook.page.data import GRANULE
+from rvlook.protocol.memory_map import RAM_BASE
 
-RAM_BASE = 0x80000000
 JOINED = 1024  # touched places nearer than that are one segment
 
 

@@ -9,34 +9,10 @@ from typing import Optional
 
 from rvlook.protocol.bench import COUNTS, program_path
 from rvlook.protocol.bench_line import LONGEST_LINE, has_reply, is_separator, lines_of, words_of
-from rvlook.protocol.commands import COMMANDS, is_form, rewritten
+from rvlook.protocol.commands import COMMANDS
+from rvlook.protocol.messages import input_error, line_error
 from rvlook.errors import Unfinished
 from rvlook.image.files import bounded, read_file
-
-IMAGE_FAULTS = {
-    1: ("it begins as an ELF file, or is asked to be one, and has fewer than 52 bytes", "all of the file; or --kind raw"),
-    2: ("it does not begin as an ELF file", "--kind raw, or no --kind"),
-    3: ("it is for 64 bits, or the highest byte comes first", "a build with -march=rv32im -mabi=ilp32"),
-    4: ("it is an object file, or position-independent", "a link without -c, -r, -shared and -pie"),
-    5: ("it is for another machine than RISC-V", "a build for the target riscv32"),
-    6: ("its table of program headers is cut, damaged, or has more than 64", "a link with PHDRS in the linker script"),
-    7: ("a segment has bytes past the end of the file", "all of the file"),
-    8: ("a segment has more bytes in the file than in memory", "the file anew, for it is damaged"),
-    9: ("bytes of it are outside RAM, or under the monitor below 80010000",
-        "a link for 80000000 on, under the monitor for 80010000 on; or a larger --ram"),
-    10: ("two of its segments share a byte", "load addresses that are apart"),
-    11: ("its entry is no multiple of 4, or is not in RAM, or is in the monitor's range", "ENTRY(_start), where the image may be")}
-WORDS_OF_OTHERS = {
-    "x": "mem", "print": "reg", "p": "reg", "info": "regs", "registers": "regs", "c": "run", "continue": "run", "s": "step",
-    "si": "step", "stepi": "step", "n": "step", "next": "step", "b": "break", "breakpoint": "break", "delete": "clear", "set": "setreg",
-    "write": "poke", "disas": "dis", "disassemble": "dis", "memory": "mem", "watchpoint": "watch", "read": "mem"}
-TABLE = {"too long": ("the image has more than 33554432 bytes", "a smaller image"),
-         "hex": ("a line of its text is faulty; rvlook explain tells which", None), "memory": ("no memory was found", "fewer bytes"), "read": ("the input failed", "the input again"),
-         "ram 1": ("a RAM has from 65536 to 16777216 bytes, a multiple of 65536", "--ram 1048576"),
-         "ram 2": ("no memory was found for the RAM", "a smaller --ram")}
-
-
-WHOLE_FAULTS = {"rvbench: " + it for it in [*TABLE, *("image %d" % number for number in IMAGE_FAULTS)]}
 
 
 @dataclass(frozen=True)
@@ -77,12 +53,7 @@ def explained(words, data):
 
 def whole_fault(reply):
     """A fault of the image as a whole."""
-    what = reply[len("rvbench: "):]
-    if what.startswith("image "):
-        meant, write = IMAGE_FAULTS[int(what.split()[1])]
-    else:
-        meant, write = TABLE.get(what, ("the bench has ended", None))
-    return Explained(0, "", reply, meant, write)
+    return Explained(0, "", reply, *input_error(reply))
 
 
 def image_faults(lines):
@@ -135,7 +106,7 @@ def script_faults(lines, replies, is_twin):
             continue
         if reply.startswith("error "):
             place += 1
-            found.append(Explained(number, shown(line), reply, *line_fault(reply, words)))
+            found.append(Explained(number, shown(line), reply, *line_error(reply, words)))
         else:
             place += marked_count(replies[place:]) or count_of(words, replies[place:])
     return found
@@ -155,59 +126,6 @@ def count_of(words, replies):
     if words[0] == "sched":
         return 2 if len(replies) > 1 and replies[0].startswith("hart 0") and replies[1].startswith("hart 1") else 1
     return COUNTS.get(words[0], 1)
-
-
-def line_fault(reply, words):
-    """What is meant by a fault of a line, and what to write in its place."""
-    if reply == "error command":
-        return command_fault(words)
-    if reply == "error operand":
-        return operand_fault(words)
-    told = {"error line": ("a line has at most 120 bytes, tabs and the bytes 20 to 7e alone", "a shorter line, or plain characters"),
-            "error full": ("32 addresses are set already, the most there may be", "%s of one before it" % (
-                "unwatch" if words[:1] == ["watch"] else "clear")),
-            "error csr": ("there is no such control and status register", None),
-            "error outside": ("a byte of it is outside RAM", "an address from 80000000 on, or a larger --ram"),
-            "error hart": ("the bench has no such hart", "--harts 2, with --monitor"),
-            "error blind": ("the bytes are in the enclave whose secret is compared", None)}
-    return told.get(reply, ("the bench refuses it", None))
-
-
-def command_fault(words):
-    """A first word that is no command."""
-    word = words[0]
-    if word == "--":
-        return "a second -- is a line for `rvbench twin` alone", None
-    if word.startswith("--"):
-        return "this is a word of the command line", "./rvbench run %s" % " ".join(words)
-    near = [word.lower()] if word.lower() in COMMANDS else get_close_matches(word.lower(), COMMANDS, 1, 0.7)
-    meant = WORDS_OF_OTHERS.get(word.lower()) or (near[0] if near else None)
-    if meant is None:
-        return "%s is no command; the commands are %s" % (word, " ".join(COMMANDS)), None
-    return "%s is no command; %s is" % (word, meant), "%s %s" % (meant, COMMANDS[meant].letters)
-
-
-def operand_fault(words):
-    """The operands of a command that are not as it has them."""
-    name, operands = words[0], words[1:]
-    command = COMMANDS[name]
-    comment = next((place for place, word in enumerate(operands) if word.startswith("#")), None)
-    if comment is not None:
-        return "a comment stands in a line of its own", " ".join(words[:comment + 1])
-    if len(operands) != len(command.forms):
-        return count_text(name, len(command.forms), len(operands)), (name + " " + command.letters).strip()
-    for place, (word, form) in enumerate(zip(operands, command.forms)):
-        if not is_form(word, form):
-            better = rewritten(word, form)
-            fixed = [*operands[:place], better, *operands[place + 1:]] if better else None
-            return "%s is not %s" % (word, form.value), " ".join([name, *fixed]) if fixed else None
-    return "the operands are not those of %s" % name, name + " " + command.letters
-
-
-def count_text(name, wanted, given):
-    """What is told of a number of operands that a command does not take."""
-    operands = {0: "no operands", 1: "1 operand"}.get(wanted, "%d operands" % wanted)
-    return "%s takes %s, %d given" % (name, operands, given)
 
 
 def command_line_faults(words):

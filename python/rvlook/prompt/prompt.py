@@ -2,7 +2,7 @@
 import sys
 
 from rvlook.protocol.bench_line import lines_of
-from rvlook.image.escapes import visible_line
+from rvlook.output.escapes import visible_line
 from rvlook.prompt.session import Held, Session, completions
 from rvlook.output.printer import Style
 from rvlook.protocol.timeline import Timeline

@@ -5,8 +5,8 @@ import inspect
 from rvlook.protocol import names
 from rvlook.protocol.bench_line import has_reply, is_malformed, words_of
 from rvlook.protocol.commands import COMMANDS, Form, is_form
-from rvlook.image.escapes import visible
-from rvlook.prompt.explain import line_fault
+from rvlook.output.escapes import visible
+from rvlook.protocol.messages import line_error
 from rvlook.errors import NameRefused
 from rvlook.protocol.lines import resolved
 from rvlook.access.map import Event, Finder
@@ -113,7 +113,7 @@ class Session:
 
     def refused(self, reply, words):
         """What is meant by a fault, and what to write."""
-        meant, write = line_fault(reply, words)
+        meant, write = line_error(reply, words)
         unknown = self.unknown_symbol(words) if reply == "error operand" else None
         if unknown:
             near = nearest(unknown, self.symbols.by_name)

@@ -2,10 +2,10 @@
 line is derived; what the bench replies to it is not."""
 from rvlook.protocol.bench_line import is_malformed, words_of
 from rvlook.protocol.commands import COMMANDS, Form, is_form, written
-from rvlook.image.escapes import visible_line
-from rvlook.prompt.explain import line_fault
+from rvlook.output.escapes import visible_line
+from rvlook.protocol.messages import line_error
 from rvlook.errors import NameRefused
-from rvlook.image.files import ScriptLine
+from rvlook.protocol.inputs import ScriptLine
 from rvlook.protocol.nearest import nearest
 
 LONGEST_SHOWN = 160  # characters of a line in a message
@@ -42,7 +42,7 @@ def fault_text(line, reply, symbols):
 def meaning(reply, words, symbols):
     """What is meant by a fault of a line."""
     unknown = reply == "error operand" and unknown_name(words, symbols)
-    return unknown or line_fault(reply, words)[0]
+    return unknown or line_error(reply, words)[0]
 
 
 def unknown_name(words, symbols):

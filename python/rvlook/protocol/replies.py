@@ -4,6 +4,8 @@ from dataclasses import dataclass
 from typing import Optional
 
 RAN = re.compile(r"ran (\d+) pc=(\w+) mode=(\w) world=(\w+) why=(\S+) trap=(\S+)")
+RAN_FIELDS = re.compile(rb"ran 1 pc=(\w+) mode=(\w) world=(\w+) why=\S+ trap=(\S+)")  # of one step: pc, mode, world and trap
+NO_TRAP = b"-"  # the trap of a step that has none
 STOPS = ("watch", "break")
 
 

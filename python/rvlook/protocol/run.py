@@ -9,11 +9,11 @@ from dataclasses import dataclass, field, replace
 
 from rvlook.protocol.bench import Bench
 from rvlook.protocol.bench_line import has_reply, words_of
-from rvlook.prompt.explain import WHOLE_FAULTS, whole_fault
+from rvlook.protocol.messages import INPUT_REPLIES, input_error
 from rvlook.errors import BenchEnded, Fault, Unfinished
-from rvlook.image.files import Image, ScriptLine
+from rvlook.protocol.inputs import Image, ScriptLine
 from rvlook.protocol.replies import ran_of
-from rvlook.image.symbols import Symbols
+from rvlook.protocol.symbols import Symbols
 
 CHUNK = 16384  # single steps in one exchange
 MOST_STEPS = 1000000  # of one command
@@ -304,6 +304,6 @@ def run_of(setup):
 def told_fault(setup, error):
     """The fault of a bench that ended: where it refuses the image, that is told, and what it means."""
     told = str(error)
-    if told not in WHOLE_FAULTS:
+    if told not in INPUT_REPLIES:
         return Unfinished("%s: %s" % (setup.image.name, told))
-    return Fault("%s: %s: %s" % (setup.image.name, told, whole_fault(told).meant))
+    return Fault("%s: %s: %s" % (setup.image.name, told, input_error(told)[0]))

@@ -3,7 +3,7 @@ from dataclasses import dataclass, field
 from typing import Optional
 
 from rvlook.protocol import names
-from rvlook.image.escapes import visible_line
+from rvlook.output.escapes import visible_line
 from rvlook.protocol.instructions import short_form
 from rvlook.protocol.run import End
 from rvlook.output.printer import Style, end_object, end_text, hex8, run_object

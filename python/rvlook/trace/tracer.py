@@ -3,17 +3,14 @@
 Of an instruction that does not trap only the register that its text names is asked for, and all of them behind a trap and at the end of
 each part of the run, where those that were kept must be the same.
 """
-import re
 from typing import NamedTuple, Optional
 
 from rvlook.protocol import names
 from rvlook.errors import Unfinished
 from rvlook.protocol.instructions import Instruction, instruction_of
-from rvlook.protocol.replies import Trap
+from rvlook.protocol.replies import NO_TRAP, RAN_FIELDS, Trap
 from rvlook.protocol.run import End, Line
 
-RAN_FIELDS = re.compile(rb"ran 1 pc=(\w+) mode=(\w) world=(\w+) why=\S+ trap=(\S+)")
-NO_TRAP = b"-"
 REGISTERS = 33  # lines of `regs`
 STEP = b"step 1\n"
 STEP_AND = [b"step 1\nreg %d\n" % number for number in range(32)]

@@ -3,12 +3,12 @@ control registers, modes and worlds, entries, the table, and each byte of RAM. A
 import os
 
 from rvlook.protocol.bench_line import ended
-from rvlook.image.escapes import visible
+from rvlook.output.escapes import visible
 from rvlook.errors import Fault
 from rvlook.finders.outcomes import Bytes, Register
 from rvlook.finders.races.machine import ROW, commands_of
 from rvlook.protocol.replies import ran_of
-from rvlook.image.symbols import RAM_BASE
+from rvlook.protocol.memory_map import RAM_BASE
 
 LONGEST_COMMENT = 118  # characters behind `# `
 

@@ -1,0 +1,3 @@
+"""Addresses that the memory map of the bench fixes."""
+RAM_BASE = 0x80000000  # the first byte of RAM
+MONITOR_END = 0x80010000  # the first byte after the range of the monitor
