@@ -1,19 +1,27 @@
 """The stays of enclaves in a run, from each entry to the leave behind it, with what they did: each load and store, and the operands of
 divisions. Of a step that does such the registers are asked for that it names, before it. What an instruction is is asked once, for nobody
 but an enclave stores into its region; where it stores into its own code, it is asked at each step of that part of the run."""
+from __future__ import annotations
+
 import itertools
 import re
 from array import array
 from collections import Counter
 from dataclasses import dataclass, field
 from functools import lru_cache
-from typing import NamedTuple, Optional
+from typing import Iterable, Iterator, Mapping, NamedTuple, Optional, Sequence, TYPE_CHECKING, Tuple
 
 from rvlook.protocol import names
 from rvlook.access.accesses import begin
-from rvlook.protocol.instructions import instruction_of
+from rvlook.protocol.instructions import Memory, instruction_of
 from rvlook.protocol.replies import NO_TRAP, RAN_FIELDS, enclave_of, register_values
 from rvlook.protocol.run import Line, Stretch
+
+if TYPE_CHECKING:
+    from rvlook.protocol.bench import Bench
+    from rvlook.protocol.replies import Enclave
+    from rvlook.protocol.run import Run
+    from rvlook.protocol.run import End
 
 DIVIDES = re.compile(r"(?:div|rem)u? x\d+, x(\d+), x(\d+)")
 MODES = {b"U": 0, b"S": 1, b"M": 3}
@@ -29,8 +37,15 @@ class Did(NamedTuple):
     kind: str
     address: Optional[int]
     width: int
-    values: tuple
+    values: tuple[int, ...]
     done: bool
+
+
+class Fields(NamedTuple):
+    """Columns of the steps of a stretch: pc and mode before each step, and its trap, as the bytes of the replies."""
+    pcs: Sequence[bytes]
+    modes: Sequence[bytes]
+    traps: Sequence[bytes]
 
 
 @dataclass
@@ -40,28 +55,31 @@ class Stay:
     hart: int
     first: int
     number: int
-    enclave: object = None
+    enclave: Optional[Enclave] = None
     last: Optional[int] = None
     left: str = ""
-    answer: tuple = ()
+    answer: tuple[int, ...] = ()
     pc: Optional[int] = None  # of the step that left
-    pcs: array = field(default_factory=lambda: array("I"))  # of each step, with its mode in the lowest bits
-    steps: array = field(default_factory=lambda: array("I"))  # the number of each
-    traps: dict = field(default_factory=dict)  # of the steps that trapped, by their place
-    did: list = field(default_factory=list)
-    did_at: array = field(default_factory=lambda: array("I"))  # the places of these steps
+    pcs: array[int] = field(default_factory=lambda: array("I"))  # of each step, with its mode in the lowest bits
+    steps: array[int] = field(default_factory=lambda: array("I"))  # the number of each
+    traps: dict[int, bytes] = field(default_factory=dict)  # of the steps that trapped, by their place
+    did: list[Did] = field(default_factory=list)
+    did_at: array[int] = field(default_factory=lambda: array("I"))  # the places of these steps
     before: bytes = b""
     after: bytes = b""
-    others: tuple = ()  # the world of the other hart, where there is one
-    table: tuple = ()  # of the live enclaves
+    others: tuple[str, ...] = ()  # the world of the other hart, where there is one
+    table: tuple[Enclave, ...] = ()  # of the live enclaves
 
     @property
-    def slot(self):
+    def slot(self) -> int:
         return int(self.world[1:])
 
 
+Wanted = Tuple[Optional[Memory], Tuple[int, ...]]  # an access, or None for a division, and registers
+
+
 @lru_cache(maxsize=65536)
-def wants(line, is_strict):
+def wants(line: bytes, is_strict: bool) -> Wanted | None:
     """Which registers are to be asked for before an instruction: those of the address and of what is stored, or of a division."""
     it = instruction_of(line)
     if it is None:
@@ -75,13 +93,16 @@ def wants(line, is_strict):
 class Stays:
     """The stays of a run behind a step, as far as it goes; `is_strict` asks for divisions too, and `last` ends it."""
 
-    def __init__(self, run, start=0, is_strict=False):
-        self.run, self.start, self.is_strict, self.code = run, start, is_strict, {}
+    def __init__(self, run: Run, start: int = 0, is_strict: bool = False) -> None:
+        self.run, self.start, self.is_strict = run, start, is_strict
+        self.code: dict[int, dict[bytes, bytes]] = {}
         self.places = [(run.pc.encode(), run.mode.encode(), run.world.encode()) for _ in range(run.setup.harts)]
-        self.open, self.numbers = [None] * run.setup.harts, Counter()
-        self.end = None
+        self.open: list[Stay | None] = [None] * run.setup.harts
+        self.numbers: Counter[str] = Counter()
+        self.end: End | None = None
+        self.offset: int | None = None
 
-    def all(self):
+    def all(self) -> Iterator[Stay]:
         """Each stay when it has ended; one that the run leaves open comes last."""
         with self.run.replay() as teller, self.run.replay() as shower:
             self.teller, self.shower = teller, shower
@@ -95,7 +116,7 @@ class Stays:
             for stay in filter(None, self.open):
                 yield self.closed(stay, self.end.steps, None, "nothing")
 
-    def take(self, stretch):
+    def take(self, stretch: Stretch) -> Iterator[Stay]:
         """Steps of one hart: those of enclaves are looked at."""
         hart, place = stretch.hart, 0
         after = list(zip(*RAN_FIELDS.findall(stretch.data)))
@@ -105,14 +126,14 @@ class Stays:
         if stretch.first + stretch.count <= self.start:
             self.numbers.update(self.entered(worlds, after[2]))
             return
-        self.offset = None  # of the teller in the stretch
+        self.offset, fields = None, Fields(pcs, modes, traps)  # offset of the teller in the stretch
         for world, group in itertools.groupby(worlds):
             count = sum(1 for _ in group)
             if world.startswith(b"e"):
                 if self.open[hart] is None:
                     self.open[hart], self.code[hart] = self.opened(world.decode(), hart, stretch.first + place - 1), {}
                 stay, inside = self.open[hart], range(place, place + count)
-                self.extend(stay, stretch.first, inside, pcs, modes, traps, self.looked_at(stretch, pcs, traps, inside))
+                self.extend(stay, stretch.first, inside, fields, self.looked_at(stretch, fields, inside))
                 if place + count < stretch.count or after[2][-1] != world:
                     self.open[hart] = None
                     yield self.closed(stay, stretch.first + place + count - 1, int(pcs[place + count - 1], 16))
@@ -121,13 +142,14 @@ class Stays:
             self.teller.bench.block(b"step %d\n" % (stretch.count - self.offset), 1)
 
     @staticmethod
-    def entered(worlds, after):
+    def entered(worlds: Iterable[bytes], after: Iterable[bytes]) -> list[str]:
         """The worlds that steps entered."""
         return [now.decode() for was, now in zip(worlds, after) if now != was and now.startswith(b"e")]
 
     @staticmethod
-    def extend(stay, step, inside, pcs, modes, traps, did):
-        """Steps of a stay, by their places in a stretch."""
+    def extend(stay: Stay, step: int, inside: range, fields: Fields, did: Mapping[int, Did]) -> None:
+        """Adds steps to a stay, by their places in a stretch that begins with step `step`."""
+        pcs, modes, traps = fields
         begin_at, first, end = len(stay.pcs), inside.start, inside.stop
         stay.pcs.extend([int(pc, 16) | MODES[mode] for pc, mode in zip(pcs[first:end], modes[first:end])])
         stay.steps.extend(range(step + first, step + end))
@@ -138,7 +160,7 @@ class Stays:
 
     # ---- its borders
 
-    def opened(self, world, hart, step):
+    def opened(self, world: str, hart: int, step: int) -> Stay:
         """A stay that begins behind a step."""
         self.numbers[world] += 1
         stay = Stay(world, hart, step + 1, self.numbers[world])
@@ -147,7 +169,7 @@ class Stays:
         stay.others = tuple(it[2].decode() for number, it in enumerate(self.places) if number != hart)
         return stay
 
-    def closed(self, stay, step, pc, left=None):
+    def closed(self, stay: Stay, step: int, pc: int | None, left: str | None = None) -> Stay:
         """A stay that ends with a step."""
         _, stay.after = self.seen(stay.world, step, stay.enclave)
         stay.last, stay.pc, stay.left = step, pc, left
@@ -156,10 +178,10 @@ class Stays:
             stay.left, stay.answer = LEFT_BY.get(values[10], "?"), (values[10], values[11])
         return stay
 
-    def choose(self, hart):
+    def choose(self, hart: int) -> list[str]:
         return ["hart %d" % hart] if self.run.setup.harts > 1 else ["reg 0"]
 
-    def seen(self, world, step, enclave=None):
+    def seen(self, world: str, step: int, enclave: Enclave | None = None) -> tuple[Enclave, bytes]:
         """The enclave's line of the table and its window, behind a step."""
         bench = self.shower.bench
         commands = self.shower.lines_to(step)
@@ -175,8 +197,9 @@ class Stays:
 
     # ---- what its steps did
 
-    def looked_at(self, stretch, pcs, traps, inside):
-        """What each of these steps did, by its place in the stretch."""
+    def looked_at(self, stretch: Stretch, fields: Fields, inside: range) -> dict[int, Did]:
+        """Returns what each of these steps did, by its place in the stretch."""
+        pcs = fields.pcs
         if self.offset is None:
             begin(self.teller, stretch)
             self.offset = 0
@@ -185,27 +208,27 @@ class Stays:
         text = (b"step %d\n" % first if first else b"") + b"".join(b"dis %s\n" % it for it in new)
         code.update(zip(new, bench.block(text, len(new) + bool(first)).split(b"\n")[bool(first):]))
         self.offset = inside.start
-        did = self.asked(bench, stretch, pcs, traps, inside, [code[pcs[n]] for n in inside])
+        did = self.asked(bench, stretch, fields, inside, [code[pcs[n]] for n in inside])
         stored = {at & -4: n for n, it in did.items() if it.kind == "w" and it.done for at in range(it.address, it.address + it.width)}
         written = [it for it in code if int(it, 16) in stored]
         if any(pcs[n] in written and n > stored[int(pcs[n], 16)] for n in inside):
-            did = self.step_by_step(stretch, pcs, traps, inside)
+            did = self.step_by_step(stretch, fields, inside)
         for it in written:
             del code[it]
         return did
 
-    def step_by_step(self, stretch, pcs, traps, inside):
+    def step_by_step(self, stretch: Stretch, fields: Fields, inside: range) -> dict[int, Did]:
         """The same, where each instruction is asked for right before it is done."""
         with self.run.replay() as reader, self.run.replay() as teller:
             begin(reader, stretch)
-            block = reader.bench.block(b"".join([b"dis %s\nstep 1\n" % it for it in pcs]), 2 * stretch.count).split(b"\n")
+            block = reader.bench.block(b"".join([b"dis %s\nstep 1\n" % it for it in fields.pcs]), 2 * stretch.count).split(b"\n")
             begin(teller, stretch)
             kept, self.offset = self.offset, 0
-            did = self.asked(teller.bench, stretch, pcs, traps, inside, [block[2 * n] for n in inside])
+            did = self.asked(teller.bench, stretch, fields, inside, [block[2 * n] for n in inside])
             self.offset = kept
             return did
 
-    def asked(self, bench, stretch, pcs, traps, inside, lines):
+    def asked(self, bench: Bench, stretch: Stretch, fields: Fields, inside: range, lines: Sequence[bytes]) -> dict[int, Did]:
         """The registers before the steps that want them; the bench is then behind the last of these steps."""
         wanted = [(n, *found) for n, found in ((n, wants(line, self.is_strict)) for n, line in zip(inside, lines)) if found]
         questions, count = [], 0
@@ -221,13 +244,13 @@ class Stays:
         values = iter([int(it.split(b"=")[1], 16) for it in replies if it.startswith(b"x")])
         found = {}
         for n, memory, registers in wanted:
-            told, trap = [next(values) for _ in registers], traps[n]
+            told, trap = [next(values) for _ in registers], fields.traps[n]
             if trap == NO_TRAP or memory and trap[:8].decode() in names.ACCESS_FAULTS:
-                found[n] = self.what(stretch.first + n, int(pcs[n], 16), memory, told, trap == NO_TRAP)
+                found[n] = self.what(stretch.first + n, int(fields.pcs[n], 16), memory, told, trap == NO_TRAP)
         return found
 
     @staticmethod
-    def what(step, pc, memory, told, done):
+    def what(step: int, pc: int, memory: Memory | None, told: Sequence[int], done: bool) -> Did:
         """What a step did, by the registers before it."""
         if memory is None:
             return Did(step, pc, "d", None, 0, tuple(told), done)

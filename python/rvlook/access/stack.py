@@ -3,13 +3,19 @@
 A stack is a pair of symbols NAME_stack_bottom and NAME_stack_top. The host uses those whose NAME ends with `host`, an enclave in mode S those
 with `runtime`, in mode U those with `application`. All of this is derived from the instruction at pc, sp before the step, and the symbols.
 """
+from __future__ import annotations
+
 import re
-from typing import NamedTuple
+from typing import NamedTuple, Sequence, TYPE_CHECKING
 
 from rvlook.access.accesses import begin
 from rvlook.protocol.instructions import instruction_of
 from rvlook.protocol.run import Stretch
 from rvlook.output.printer import hex8
+
+if TYPE_CHECKING:
+    from rvlook.protocol.run import Replay, Run
+    from rvlook.protocol.symbols import Symbols
 
 RAN = re.compile(rb"ran 1 pc=(\w+) mode=(\w) world=(\w+)")
 NAME = re.compile(r"(.*(host|runtime|application))_stack_bottom\Z")
@@ -44,9 +50,9 @@ class Overflow(NamedTuple):
     stack: Stack
 
 
-def stacks_of(symbols):
+def stacks_of(symbols: Symbols) -> dict[str, list[Stack]]:
     """The stacks that the symbols give, by their kind: `host`, `runtime` or `application`."""
-    found = {}
+    found: dict[str, list[Stack]] = {}
     for name, symbol in symbols.by_name.items():
         match = NAME.match(name)
         top = match and symbols.by_name.get(match[1] + "_stack_top")
@@ -55,7 +61,7 @@ def stacks_of(symbols):
     return found
 
 
-def kind_of(world, mode):
+def kind_of(world: str, mode: str) -> str | None:
     """The kind of stack that a world uses in a mode."""
     if world in ("host", "bare"):
         return "host"
@@ -65,11 +71,11 @@ def kind_of(world, mode):
 class Finder:
     """Finds the first overflow of each kind of stack. The instruction at each pc is read once, before the steps in which it is first met."""
 
-    def __init__(self, run, stacks):
+    def __init__(self, run: Run, stacks: dict[str, list[Stack]]) -> None:
         self.stacks, self.uses, self.found = stacks, {}, {}
         self.places = [(run.pc.encode(), run.mode.encode(), run.world.encode())] * run.setup.harts
 
-    def take(self, replay, stretch):
+    def take(self, replay: Replay, stretch: Stretch) -> None:
         """Checks steps of one hart, one after another."""
         after = RAN.findall(stretch.data)
         places = [self.places[stretch.hart], *after[:-1]]
@@ -81,7 +87,7 @@ class Finder:
             pc, mode, world = (it.decode() for it in places[at])
             self.check(stretch, at, (pc, world, kind_of(world, mode)), sp)
 
-    def check(self, stretch, at, place, sp):
+    def check(self, stretch: Stretch, at: int, place: tuple[str, str, str], sp: int) -> None:
         """Checks one step that uses the stack."""
         pc, world, kind = place
         if kind in self.found or kind not in self.stacks:
@@ -93,7 +99,7 @@ class Finder:
             stack = min(self.stacks[kind], key=lambda it: min(abs(it.bottom - sp), abs(it.top - sp)))
             self.found[kind] = Overflow(stretch.first + at, stretch.hart, world, int(pc, 16), use.is_store, address, stack)
 
-    def read_instructions(self, replay, pcs):
+    def read_instructions(self, replay: Replay, pcs: Sequence[bytes]) -> None:
         """Reads the instructions that were not met before."""
         new = sorted(pcs - self.uses.keys())
         if new:
@@ -101,7 +107,7 @@ class Finder:
             self.uses.update(zip(new, map(use_of, lines)))
 
 
-def stack_pointers(replay, stretch, steps):
+def stack_pointers(replay: Replay, stretch: Stretch, steps: Sequence[int]) -> list[int]:
     """The value of sp before each of these steps of a stretch; the bench goes to the end of the stretch."""
     asked, done = [], 0
     for at in steps:
@@ -112,7 +118,7 @@ def stack_pointers(replay, stretch, steps):
     return [int(line.split(b"=")[1], 16) for line in lines if line.startswith(b"x")]
 
 
-def use_of(line):
+def use_of(line: bytes) -> Use | None:
     """What the instruction in a reply of `dis` does with the stack, or None."""
     instruction = instruction_of(line)
     if instruction is None:
@@ -124,7 +130,7 @@ def use_of(line):
     return Use(False, int(frame[1])) if frame else None
 
 
-def overflows(run, symbols):
+def overflows(run: Run, symbols: Symbols) -> list[Overflow]:
     """The first overflow of each kind of stack, in the order of the run; none if the symbols give no stack."""
     stacks = stacks_of(symbols)
     if not stacks:
@@ -137,7 +143,7 @@ def overflows(run, symbols):
     return sorted(finder.found.values(), key=lambda it: it.step)
 
 
-def overflow_text(it, symbols):
+def overflow_text(it: Overflow, symbols: Symbols) -> str:
     """An overflow in a line: where, and how far outside."""
     where = symbols.source(it.pc) or symbols.name(it.pc) or hex8(it.pc)
     does = "stores to" if it.is_store else "moves sp to"

@@ -1,7 +1,10 @@
 """The command line: its subcommands, and the arguments that it gives."""
+from __future__ import annotations
+
 import argparse
 import os
 import sys
+from typing import Any, Callable, Sequence, TYPE_CHECKING
 
 from rvlook.cli.options import (Parser, findings_options, gdb_options, image_options, leak_options, map_options, page_options, races_options,
                                 slot_option, timer_options, touch_options, trace_options, window_options)
@@ -11,6 +14,9 @@ from rvlook.gdb.monitor import CommandLine
 from rvlook.errors import Fault, WordsRefused
 from rvlook.output.findings import Findings, check_junit, write_junit
 from rvlook.protocol.nearest import nearest
+
+if TYPE_CHECKING:
+    from argparse import ArgumentParser, Namespace
 
 WORDS = """words:
   map          who may touch what, at each moment at which it changes
@@ -31,7 +37,7 @@ NAMES = ("map", "trace", "touch", "window", "leak", "timer", "races", "measure",
 
 
 
-def add_word(words, name, do, about, *more):
+def add_word(words: Any, name: str, do: Callable[[Namespace], None], about: str, *more: Callable[[ArgumentParser], None]) -> Parser:
     """A word over an image; `more` add its own options."""
     parser = words.add_parser(name, help=about, description=about + ".")
     image_options(parser)
@@ -41,7 +47,7 @@ def add_word(words, name, do, about, *more):
     return parser
 
 
-def measure_word(words):
+def measure_word(words: Any) -> None:
     parser = words.add_parser("measure", help="the digest that create records", description="The digest that create records.")
     parser.add_argument("file", metavar="FILE", help="an ELF file, or the raw bytes of the region")
     for name in ("BASE", "SIZE", "WINDOW", "WINDOW_SIZE", "ENTRY"):
@@ -51,7 +57,7 @@ def measure_word(words):
     parser.set_defaults(do=do_measure)
 
 
-def explain_word(words):
+def explain_word(words: Any) -> None:
     parser = words.add_parser("explain", help="an input read beside its faults", description="An input of the bench, read beside its "
                               "faults: which line, what is meant, what to write.", usage="rvlook explain [--json] INPUT [-- WORD...]")
     parser.add_argument("--json", action="store_true", help="one object a line (docs/LOOK.md)")
@@ -61,7 +67,7 @@ def explain_word(words):
     parser.set_defaults(do=do_explain, word="explain")
 
 
-def parser_of():
+def parser_of() -> Parser:
     """All words."""
     parser = Parser(prog="rvlook", usage="rvlook [WORD] IMAGE [OPTIONS]", epilog=WORDS,
                                      formatter_class=argparse.RawDescriptionHelpFormatter,
@@ -83,13 +89,13 @@ def parser_of():
     return parser
 
 
-def unknown_word(word):
+def unknown_word(word: str) -> str:
     """What is told of a first word that is neither a word nor a file."""
     near = nearest(word, NAMES)
     return "%s is no word of rvlook, and no file%s; rvlook --help tells the words" % (word, "; near it is %s" % near if near else "")
 
 
-def with_secrets(parser, words):
+def with_secrets(parser: Parser, words: Sequence[str]) -> Namespace:
     """The arguments of leak, whose two secrets stand anywhere behind the image."""
     arguments, rest = parser.parse_known_args(words)
     if len(rest) > 2 or any(it.startswith("-") for it in rest):
@@ -98,7 +104,7 @@ def with_secrets(parser, words):
     return arguments
 
 
-def read(words):
+def read(words: Sequence[str]) -> Namespace:
     """The arguments that the words give."""
     parser = parser_of()
     if not words:
@@ -116,7 +122,7 @@ def read(words):
     return alone.parse_args(words)
 
 
-def perform(arguments):
+def perform(arguments: Namespace) -> int:
     """Does what the arguments ask for, and writes the JUnit report, also where that fails; returns the exit status."""
     check_junit(arguments.junit)
     error = ""

@@ -1,7 +1,10 @@
 """The paths of the source files that the line tables of an ELF file name."""
+from __future__ import annotations
+
 import io
 import os
 from collections import Counter
+from typing import Any, Iterator
 
 from rvlook.image.files import read_file
 from rvlook.protocol.inputs import ELF_MAGIC
@@ -9,7 +12,7 @@ from rvlook.image.symbols import checked, knows_all_forms, line_programs, readab
 from rvlook.output.escapes import name_of
 
 
-def files_of(path):
+def files_of(path: str) -> dict[str, str]:
     """Returns the path of each file that the line tables of an ELF file name, by its last part."""
     data = read_file(path)
     if not data.startswith(ELF_MAGIC):
@@ -19,12 +22,12 @@ def files_of(path):
     except ImportError:
         return {}
     knows_all_forms()
-    counts = readable(path, "no source files", lambda: Counter(rows_of_file(checked(ELFFile(io.BytesIO(data)), data)))) or {}
+    counts: Counter[bytes] = readable(path, "no source files", lambda: Counter(rows_of_file(checked(ELFFile(io.BytesIO(data)), data)))) or Counter()
     best = sorted(counts, key=lambda name: counts[name])
     return {name_of(os.path.basename(it)): os.fsdecode(it) for it in best}
 
 
-def rows_of_file(file):
+def rows_of_file(file: Any) -> Iterator[bytes]:
     """The path of the file of each row of all line tables, as bytes."""
     dwarf = file.get_dwarf_info() if file.has_dwarf_info() else None
     for unit, program in line_programs(dwarf) if dwarf else ():
@@ -35,7 +38,7 @@ def rows_of_file(file):
                 yield files[entry.state.file]
 
 
-def paths_in(program, built_in):
+def paths_in(program: Any, built_in: bytes) -> dict[int, bytes]:
     """The path of each file by its number: folders are counted from 1 on, and files too, up to DWARF 4; in DWARF 5 from 0 on."""
     first = 0 if program["version"] >= 5 else 1
     folders = [b""] * first + list(program["include_directory"])

@@ -1,9 +1,12 @@
 """Names and source lines of addresses, from an ELF file by pyelftools, or from lines of text as nm prints them. All of it is derived:
 the bench knows no symbols."""
+from __future__ import annotations
+
 import io
 import re
 import zlib
 from functools import lru_cache
+from typing import Any, Callable, Iterator, TYPE_CHECKING, TypeVar
 
 from rvlook.protocol.bench_line import lines_of
 from rvlook.output.escapes import name_of, visible
@@ -11,6 +14,10 @@ from rvlook.errors import Fault, package_missing, tell
 from rvlook.image.files import read_file
 from rvlook.protocol.inputs import ELF_MAGIC
 from rvlook.protocol.symbols import Symbol, Symbols
+
+if TYPE_CHECKING:
+    from rvlook.protocol.inputs import Image
+    from rvlook.protocol.symbols import Inlined
 
 NM_LINE = re.compile(r"([0-9a-fA-F]{8})\s+(?:[A-Za-z]\s+)?([A-Za-z_.$][\w.$]*)\s*\Z")
 PREFERRED = ("STT_FUNC", "STT_OBJECT")
@@ -21,7 +28,10 @@ MOST_NAMED = 1 << 24  # characters of all names of symbols, which may share the 
 MOST_INFLATED = 1 << 26  # bytes of all compressed sections
 
 
-def symbols_of(path, data):
+T = TypeVar("T")
+
+
+def symbols_of(path: str, data: bytes | None) -> Symbols:
     """The symbols of an ELF file's bytes or of an nm's lines; `path` names them in a fault."""
     if data is None:
         return Symbols()
@@ -31,7 +41,7 @@ def symbols_of(path, data):
     return Symbols([Symbol(int(it[1], 16), 0, visible(it[2]), False) for it in matches if it])
 
 
-def decoded(data):
+def decoded(data: bytes) -> str:
     """Returns the text of a listing: UTF-8 if it is that, else ISO 8859-1."""
     try:
         return data.decode("utf-8")
@@ -39,7 +49,7 @@ def decoded(data):
         return data.decode("latin-1")
 
 
-def symbols_from(path, image):
+def symbols_from(path: str | None, image: Image) -> Symbols:
     """The symbols in the file that is named, or else in the image itself where it is an ELF file."""
     if path:
         found = symbols_of(path, read_file(path))
@@ -49,7 +59,7 @@ def symbols_from(path, image):
     return symbols_of(image.name, image.data if image.is_elf else None)
 
 
-def elf_symbols(path, data):
+def elf_symbols(path: str, data: bytes) -> Symbols:
     """The symbols and source lines of an ELF file."""
     try:
         from elftools.elf.elffile import ELFFile
@@ -65,7 +75,7 @@ def elf_symbols(path, data):
                    lambda: readable(path, "no inlined calls", lambda: list(inlined_calls(file))) or ())
 
 
-def readable(path, without, read):
+def readable(path: str, without: str, read: Callable[[], T]) -> T | None:
     """What `read` gives; where the file is not as it should be, that is told, and what there is then none of."""
     try:
         return read()
@@ -75,7 +85,7 @@ def readable(path, without, read):
         return None
 
 
-def checked(file, data):
+def checked(file: Any, data: bytes) -> Any:
     """Returns an ELF file whose table of sections is in the file, and whose compressed sections are not too large: pyelftools believes both."""
     size, count = file["e_shentsize"], file.num_sections()
     if count > MOST_SECTIONS or count and (size < LEAST_HEADER or file["e_shoff"] + count * size > len(data)):
@@ -89,7 +99,7 @@ def checked(file, data):
     return file
 
 
-def inflated_size(data):
+def inflated_size(data: bytes) -> int:
     """Returns how many bytes the zlib stream of a compressed section gives, which stands after its header; at most MOST_INFLATED + 1."""
     for header in (12, 24):  # of ELF; .zdebug has 12 bytes too
         try:
@@ -100,25 +110,25 @@ def inflated_size(data):
 
 
 @lru_cache(maxsize=None)
-def told(line):
+def told(line: str) -> None:
     """Tells a line, once."""
     tell(line)
 
 
-def knows_all_forms():
+def knows_all_forms() -> None:
     """pyelftools before 0.30 does not know the form in which clang keeps the MD5 of a source file."""
     from elftools.construct import Array
     from elftools.dwarf.structs import DWARFStructs
     create = DWARFStructs._create_dw_form
 
-    def create_more(structs):
+    def create_more(structs: Any) -> None:
         create(structs)
         structs.Dwarf_dw_form.setdefault("DW_FORM_data16", Array(16, structs.Dwarf_uint8("")))
 
     DWARFStructs._create_dw_form = create_more
 
 
-def named(file):
+def named(file: Any) -> Iterator[Symbol]:
     """The symbols of functions, objects and labels."""
     table = file.get_section_by_name(".symtab")
     sections = {number for number, section in enumerate(file.iter_sections()) if section["sh_flags"] & 2}
@@ -136,7 +146,7 @@ def named(file):
             yield Symbol(symbol["st_value"], 0, visible(symbol.name), False, 3)
 
 
-def source_lines(file):
+def source_lines(file: Any) -> Iterator[tuple[int, str | None]]:
     """The rows of all line tables: the address of each and its file and line, or None where a sequence ends."""
     if not file.has_dwarf_info():
         return
@@ -147,7 +157,7 @@ def source_lines(file):
                     for it in states)
 
 
-def line_programs(dwarf):
+def line_programs(dwarf: Any) -> Iterator[tuple[Any, Any]]:
     """Each unit with its line table; a table that more units share comes once."""
     seen = set()
     for unit in dwarf.iter_CUs():
@@ -157,14 +167,14 @@ def line_programs(dwarf):
             yield unit, program
 
 
-def file_names(program):
+def file_names(program: Any) -> dict[int, str]:
     """The names of a line table's files by their numbers: from 1 on up to DWARF 4, from 0 on in DWARF 5."""
     first = 0 if program["version"] >= 5 else 1
     return {first + place: name_of(entry.name.split(b"/")[-1])
             for place, entry in enumerate(program["file_entry"])}
 
 
-def inlined_calls(file):
+def inlined_calls(file: Any) -> Iterator[Inlined]:
     """For each call that the compiler has inlined and that is in no other, the first and the last address of what stands for it, and the
     file and line of the call."""
     if not file.has_dwarf_info():
@@ -180,7 +190,7 @@ def inlined_calls(file):
                 yield from ((first, end - 1, source) for first, end in ranges_of(dwarf, unit, entry) if first < end)
 
 
-def outermost(dwarf, unit):
+def outermost(dwarf: Any, unit: Any) -> Iterator[Any]:
     """The inlined calls of a unit that are in functions and their blocks alone, and in no other call."""
     inside = [True]  # for each entry that is open, whether it is the unit, or a function or block in such
     for entry in entries_of(dwarf, unit):
@@ -196,7 +206,7 @@ def outermost(dwarf, unit):
             inside.append(is_inside and (len(inside) == 1 or entry.tag in ("DW_TAG_subprogram", "DW_TAG_lexical_block")))
 
 
-def entries_of(dwarf, unit):
+def entries_of(dwarf: Any, unit: Any) -> Iterator[Any]:
     """The entries of a unit in the order of the file, each right after the one before. pyelftools goes by the siblings that entries name,
     and does not end where one names itself."""
     from elftools.dwarf.die import DIE
@@ -208,7 +218,7 @@ def entries_of(dwarf, unit):
         yield entry
 
 
-def ranges_of(dwarf, unit, entry):
+def ranges_of(dwarf: Any, unit: Any, entry: Any) -> Iterator[tuple[int, int]]:
     """The ranges of addresses of an entry, each up to, and not with, its end."""
     told = entry.attributes
     if "DW_AT_low_pc" in told and "DW_AT_high_pc" in told:

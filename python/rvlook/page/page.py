@@ -1,5 +1,8 @@
 """The word page: a run as one page for a browser, which needs nothing else. It is made of the objects that --json writes."""
+from __future__ import annotations
+
 import os
+from typing import Any, Sequence, TYPE_CHECKING
 
 from rvlook.errors import Unfinished, package_missing
 from rvlook.access.map_text import moment_object
@@ -12,11 +15,16 @@ from rvlook.output.printer import end_object, run_object
 from rvlook.trace.tracer import Step, Tracer
 from rvlook.trace.text import Objects
 
+if TYPE_CHECKING:
+    from rvlook.output.printer import Printer
+    from rvlook.protocol.run import Run
+    from rvlook.protocol.symbols import Symbols
+
 FOLDER = os.path.dirname(os.path.abspath(__file__))
 SCRIPTS = ("data.js", "chart.js", "marks.js", "panel.js", "find.js", "keys.js")
 
 
-def page_template():
+def page_template() -> Any:
     """Returns the template of the page; raises Unfinished if jinja2 is missing."""
     try:
         from jinja2 import Environment, FileSystemLoader, StrictUndefined
@@ -26,7 +34,7 @@ def page_template():
     return environment.get_template("page.html")
 
 
-def show_page(run, symbols, printer, template, paths, folders):
+def show_page(run: Run, symbols: Symbols, printer: Printer, template: Any, paths: Sequence[str], folders: Sequence[str]) -> None:
     """Writes the page of a run. `paths` are the ELF files whose source files it has, from below their own folders and `folders`."""
     found = collected(run, symbols)
     sources = source_texts(paths, found.source_names(), roots_of(folders))
@@ -35,7 +43,7 @@ def show_page(run, symbols, printer, template, paths, folders):
     printer.document(template.render(title=found.title, data=compressed(data, columns), scripts=SCRIPTS))
 
 
-def collected(run, symbols):
+def collected(run: Run, symbols: Symbols) -> Collector:
     """All objects of a run's map and trace."""
     found = Collector()
     run_object(found, run, symbols)

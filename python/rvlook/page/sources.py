@@ -1,8 +1,11 @@
 """The texts of the source files that the line tables of an ELF file name, if the reader of the page may have them: a line table can name
 any file of this machine, and a page is passed on. So only regular files below the folder of the ELF file are taken in, or below a folder
 of `--sources`, and each is named on standard error."""
+from __future__ import annotations
+
 import os
 import stat
+from typing import Sequence
 
 from rvlook.output.escapes import visible
 from rvlook.errors import Fault, tell
@@ -11,7 +14,7 @@ from rvlook.image.source_paths import files_of
 LARGEST = 200000  # bytes of a source that is shown
 
 
-def roots_of(folders):
+def roots_of(folders: Sequence[str]) -> list[str]:
     """Returns the folders of `--sources`, without symbolic links."""
     for folder in folders:
         if not os.path.isdir(folder):
@@ -19,10 +22,10 @@ def roots_of(folders):
     return [os.path.realpath(it) for it in folders]
 
 
-def source_texts(paths, wanted, roots):
+def source_texts(paths: Sequence[str], wanted: set[str], roots: list[str]) -> dict[str, str]:
     """Returns for each name of a file its text: of the file that most rows of the line tables are of, if more than one has the name.
     `paths` are ELF files, `roots` the folders of `--sources`."""
-    texts = {}
+    texts: dict[str, str] = {}
     for path in paths:
         own = os.path.dirname(os.path.realpath(path))
         allowed = roots + ([own] if own != os.path.sep else [])
@@ -34,7 +37,7 @@ def source_texts(paths, wanted, roots):
     return texts
 
 
-def text_of(path, roots):
+def text_of(path: str, roots: Sequence[str]) -> str | None:
     """Returns the text of a source, or None: it is not there, is no regular file below one of the folders, or is too long."""
     path = os.path.realpath(path)
     if not any(os.path.commonpath([path, it]) == it for it in roots):

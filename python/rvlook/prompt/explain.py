@@ -1,11 +1,13 @@
 """The word explain: an input of the bench, read beside its faults. The bench is given the input as it stands; what its faults mean, and
 what to write in their place, is derived."""
+from __future__ import annotations
+
 import re
 import subprocess
 import sys
 from dataclasses import dataclass
 from difflib import get_close_matches
-from typing import Optional
+from typing import Iterable, Optional, Sequence, TYPE_CHECKING
 
 from rvlook.protocol.bench import COUNTS, program_path
 from rvlook.protocol.bench_line import LONGEST_LINE, has_reply, is_separator, lines_of, words_of
@@ -13,6 +15,10 @@ from rvlook.protocol.commands import COMMANDS
 from rvlook.protocol.messages import input_error, line_error
 from rvlook.errors import Unfinished
 from rvlook.image.files import bounded, read_file
+
+if TYPE_CHECKING:
+    from rvlook.output.findings import Findings
+    from rvlook.output.printer import Printer
 
 
 @dataclass(frozen=True)
@@ -25,7 +31,7 @@ class Explained:
     write: Optional[str]
 
 
-def replies_to(words, data):
+def replies_to(words: Sequence[str], data: bytes) -> list[str]:
     """What the bench writes for an input."""
     try:
         done = subprocess.run([program_path(), *words], input=data, capture_output=True, check=False)
@@ -34,7 +40,7 @@ def replies_to(words, data):
     return done.stdout.decode("latin-1").splitlines()
 
 
-def explained(words, data):
+def explained(words: Sequence[str], data: bytes) -> list[Explained]:
     """All faults of an input, in their order."""
     replies = replies_to(words, data)
     lines = lines_of(data.decode("latin-1"))
@@ -51,12 +57,12 @@ def explained(words, data):
     return script_faults(list(enumerate(lines[cut + 1:], cut + 2)), replies, words[:1] == ["twin"])
 
 
-def whole_fault(reply):
+def whole_fault(reply: str) -> Explained:
     """A fault of the image as a whole."""
     return Explained(0, "", reply, *input_error(reply))
 
 
-def image_faults(lines):
+def image_faults(lines: Sequence[str]) -> list[Explained]:
     """The first line of the image's text that is no text of an image."""
     for number, line in enumerate(lines, 1):
         if is_separator(line):
@@ -67,7 +73,7 @@ def image_faults(lines):
     return [Explained(0, "", "rvbench: hex", "a line of the image is faulty", None)]
 
 
-def image_line_fault(line):
+def image_line_fault(line: str) -> tuple[str, str | None] | None:
     """What is wrong with a line of an image, and what to write; None where it is right."""
     if re.search(r"[^\t\x20-\x7e]", line):
         return "these are bytes, and not their digits", "the file's digits: od -An -v -tx1 -w60 FILE | tr -d ' '; rvlook takes it as it is"
@@ -89,12 +95,12 @@ def image_line_fault(line):
     return None
 
 
-def shown(text):
+def shown(text: str) -> str:
     """A line of the input, as it may be shown."""
     return re.sub(r"[^\x20-\x7e]", "?", text[:LONGEST_LINE])
 
 
-def script_faults(lines, replies, is_twin):
+def script_faults(lines: Iterable[tuple[int, str]], replies: Sequence[str], is_twin: bool) -> list[Explained]:
     """The lines of a script that are answered by a fault."""
     found, place = [], 0
     for number, line in lines:
@@ -112,14 +118,14 @@ def script_faults(lines, replies, is_twin):
     return found
 
 
-def marked_count(replies):
+def marked_count(replies: Sequence[str]) -> int:
     """How many lines of the replies are those of two benches to one command."""
     first = next((n for n, it in enumerate(replies) if not it.startswith("a: ")), len(replies))
     second = next((n for n, it in enumerate(replies[first:]) if not it.startswith("b: ")), len(replies) - first)
     return first + second
 
 
-def count_of(words, replies):
+def count_of(words: Sequence[str], replies: Sequence[str]) -> int:
     """How many lines of the replies are a command's."""
     if words[0] == "enclaves":
         return next((n for n, it in enumerate(replies) if not it.startswith("enclave ")), len(replies))
@@ -128,7 +134,7 @@ def count_of(words, replies):
     return COUNTS.get(words[0], 1)
 
 
-def command_line_faults(words):
+def command_line_faults(words: Sequence[str]) -> list[Explained]:
     """The first word that the bench does not take: the words before it are taken, with a value behind an option that has one."""
     for count in range(1, len(words) + 1):
         tried = [words[:count], [*words[:count], "1"], [*words[:count], "raw"], [*words[:count], "65536"],
@@ -138,7 +144,7 @@ def command_line_faults(words):
     return [Explained(0, " ".join(words), "rvbench: command line", "a value or --monitor is missing", "./rvbench run --help")]
 
 
-def word_fault(words, place):
+def word_fault(words: Sequence[str], place: int) -> tuple[str, str]:
     """Which word it is, and what might be meant."""
     known = ("run", "twin", "asm", "dis", "help", "--kind", "--monitor", "--ram", "--harts", "--slot", "--help", "auto", "raw", "elf")
     near = get_close_matches(words[place].lower(), known, 1, 0.6)
@@ -146,7 +152,7 @@ def word_fault(words, place):
         "./rvbench run --help"
 
 
-def show_explain(path, words, printer, findings):
+def show_explain(path: str, words: Sequence[str], printer: Printer, findings: Findings) -> None:
     """The faults of an input, and what to write; each is a finding."""
     data = bounded(sys.stdin.buffer, "standard input") if path == "-" else read_file(path)
     found = explained(words or ["run"], data)

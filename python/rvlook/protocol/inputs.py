@@ -1,5 +1,8 @@
 """The input of the bench: an image, and the lines of a script."""
+from __future__ import annotations
+
 from dataclasses import dataclass
+from typing import Optional
 
 ELF_MAGIC = b"\x7fELF"
 
@@ -19,9 +22,9 @@ class Image:
     lines behind that line, where the file had them."""
     name: str
     text: bytes
-    data: bytes
-    script: tuple = ()
+    data: Optional[bytes]
+    script: tuple[ScriptLine, ...] = ()
 
     @property
-    def is_elf(self):
+    def is_elf(self) -> bool:
         return self.data is not None and self.data.startswith(ELF_MAGIC)

@@ -1,5 +1,8 @@
 """What the error replies of the bench mean, and what to write instead."""
+from __future__ import annotations
+
 from difflib import get_close_matches
+from typing import Sequence
 
 from rvlook.protocol.commands import COMMANDS, is_form, rewritten
 
@@ -28,7 +31,7 @@ INPUT_ERRORS = {"too long": ("the image has more than 33554432 bytes", "a smalle
 INPUT_REPLIES = frozenset("rvbench: " + it for it in [*INPUT_ERRORS, *("image %d" % number for number in IMAGE_ERRORS)])
 
 
-def input_error(reply):
+def input_error(reply: str) -> tuple[str, str | None]:
     """Returns what an error of the input as a whole means, and what to write instead, or None; `reply` begins with `rvbench: `."""
     what = reply[len("rvbench: "):]
     if what.startswith("image "):
@@ -36,7 +39,7 @@ def input_error(reply):
     return INPUT_ERRORS.get(what, ("the bench has ended", None))
 
 
-def line_error(reply, words):
+def line_error(reply: str, words: Sequence[str]) -> tuple[str, str | None]:
     """What is meant by a fault of a line, and what to write in its place."""
     if reply == "error command":
         return command_error(words)
@@ -52,7 +55,7 @@ def line_error(reply, words):
     return told.get(reply, ("the bench refuses it", None))
 
 
-def command_error(words):
+def command_error(words: Sequence[str]) -> tuple[str, str | None]:
     """A first word that is no command."""
     word = words[0]
     if word == "--":
@@ -66,7 +69,7 @@ def command_error(words):
     return "%s is no command; %s is" % (word, meant), "%s %s" % (meant, COMMANDS[meant].letters)
 
 
-def operand_error(words):
+def operand_error(words: Sequence[str]) -> tuple[str, str | None]:
     """The operands of a command that are not as it has them."""
     name, operands = words[0], words[1:]
     command = COMMANDS[name]
@@ -83,7 +86,7 @@ def operand_error(words):
     return "the operands are not those of %s" % name, name + " " + command.letters
 
 
-def count_text(name, wanted, given):
+def count_text(name: str, wanted: int, given: int) -> str:
     """What is told of a number of operands that a command does not take."""
     operands = {0: "no operands", 1: "1 operand"}.get(wanted, "%d operands" % wanted)
     return "%s takes %s, %d given" % (name, operands, given)
