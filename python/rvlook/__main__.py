@@ -3,7 +3,7 @@ from __future__ import annotations
 
 import os
 import sys
-from typing import Sequence
+from typing import NoReturn, Sequence
 
 from rvlook.cli.parser import perform, read
 from rvlook.errors import UNFINISHED, Fault
@@ -45,7 +45,7 @@ def ended(words: Sequence[str]) -> int:
         return told(str(fault), fault.status)
     except SystemExit as end:  # behind a help text
         sys.stdout.flush()
-        return end.code
+        return end.code if isinstance(end.code, int) else 0
 
 
 def take_all_characters() -> None:
@@ -60,5 +60,10 @@ def drop_output() -> None:
     os.dup2(os.open(os.devnull, os.O_WRONLY), sys.stdout.fileno())
 
 
-if __name__ == "__main__":
+def run() -> NoReturn:
+    """Runs rvlook with the arguments of this process, and ends it with the exit status."""
     sys.exit(main(sys.argv[1:]))
+
+
+if __name__ == "__main__":
+    run()

@@ -33,6 +33,7 @@ def accesses(run: Run) -> tuple[Counter[Access], End]:
                 counter.take(reader, teller, item)
             elif isinstance(item, End):
                 end = item
+    assert end is not None
     return counter.found(), end
 
 
@@ -78,7 +79,7 @@ class Counting:
 
     def found(self) -> Counter[Access]:
         """All of them: a step fetches the word at pc, but where an interrupt comes in its place."""
-        every = Counter({Access(world.decode(), *rest): count for (world, *rest), count in self.touched.items()})
+        every = Counter({Access(it[0].decode(), *it[1:]): count for it, count in self.touched.items()})
         for (pc, world, trap), count in self.steps.items():
             cause, _, value = trap.decode().partition(":")
             is_refused = cause in names.FETCH_FAULTS and value == pc.decode()

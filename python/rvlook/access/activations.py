@@ -9,7 +9,7 @@ from array import array
 from collections import Counter
 from dataclasses import dataclass, field
 from functools import lru_cache
-from typing import Iterable, Iterator, Mapping, NamedTuple, Optional, Sequence, TYPE_CHECKING, Tuple
+from typing import Generator, Iterable, Iterator, Mapping, NamedTuple, Optional, Sequence, TYPE_CHECKING, Tuple
 
 from rvlook.protocol import names
 from rvlook.access.accesses import begin
@@ -30,12 +30,12 @@ ROW = 64  # bytes that `mem` shows at once
 
 
 class Did(NamedTuple):
-    """A load (`r`), a store (`w`) or a division (`d`) of a step: address and width, or None; the value that is stored, or the operands; and
+    """A load (`r`), a store (`w`) or a division (`d`) of a step: address and width, 0 for a division; the value that is stored, or the operands; and
     whether it was done."""
     step: int
     pc: int
     kind: str
-    address: Optional[int]
+    address: int
     width: int
     values: tuple[int, ...]
     done: bool
@@ -55,8 +55,8 @@ class Stay:
     hart: int
     first: int
     number: int
-    enclave: Optional[Enclave] = None
-    last: Optional[int] = None
+    enclave: Enclave
+    last: int = 0
     left: str = ""
     answer: tuple[int, ...] = ()
     pc: Optional[int] = None  # of the step that left
@@ -100,9 +100,9 @@ class Stays:
         self.open: list[Stay | None] = [None] * run.setup.harts
         self.numbers: Counter[str] = Counter()
         self.end: End | None = None
-        self.offset: int | None = None
+        self.offset = -1  # of the teller in the stretch; below 0 if it is not there yet
 
-    def all(self) -> Iterator[Stay]:
+    def all(self) -> Generator[Stay, None, None]:
         """Each stay when it has ended; one that the run leaves open comes last."""
         with self.run.replay() as teller, self.run.replay() as shower:
             self.teller, self.shower = teller, shower
@@ -113,7 +113,8 @@ class Stays:
                     self.code = {hart: {} for hart in self.code} if item.text.startswith("poke") else self.code
                 else:
                     self.end = item
-            for stay in filter(None, self.open):
+            for stay in (it for it in self.open if it):
+                assert self.end is not None
                 yield self.closed(stay, self.end.steps, None, "nothing")
 
     def take(self, stretch: Stretch) -> Iterator[Stay]:
@@ -122,23 +123,24 @@ class Stays:
         after = list(zip(*RAN_FIELDS.findall(stretch.data)))
         traps = after.pop()
         pcs, modes, worlds = ((before, *those[:-1]) for before, those in zip(self.places[hart], after))
-        self.places[hart] = tuple(it[-1] for it in after)
+        self.places[hart] = (after[0][-1], after[1][-1], after[2][-1])
         if stretch.first + stretch.count <= self.start:
             self.numbers.update(self.entered(worlds, after[2]))
             return
-        self.offset, fields = None, Fields(pcs, modes, traps)  # offset of the teller in the stretch
+        self.offset, fields = -1, Fields(pcs, modes, traps)
         for world, group in itertools.groupby(worlds):
             count = sum(1 for _ in group)
             if world.startswith(b"e"):
-                if self.open[hart] is None:
-                    self.open[hart], self.code[hart] = self.opened(world.decode(), hart, stretch.first + place - 1), {}
                 stay, inside = self.open[hart], range(place, place + count)
+                if stay is None:
+                    stay = self.open[hart] = self.opened(world.decode(), hart, stretch.first + place - 1)
+                    self.code[hart] = {}
                 self.extend(stay, stretch.first, inside, fields, self.looked_at(stretch, fields, inside))
                 if place + count < stretch.count or after[2][-1] != world:
                     self.open[hart] = None
                     yield self.closed(stay, stretch.first + place + count - 1, int(pcs[place + count - 1], 16))
             place += count
-        if self.offset is not None and self.offset < stretch.count:
+        if 0 <= self.offset < stretch.count:
             self.teller.bench.block(b"step %d\n" % (stretch.count - self.offset), 1)
 
     @staticmethod
@@ -163,8 +165,8 @@ class Stays:
     def opened(self, world: str, hart: int, step: int) -> Stay:
         """A stay that begins behind a step."""
         self.numbers[world] += 1
-        stay = Stay(world, hart, step + 1, self.numbers[world])
-        stay.enclave, stay.before = self.seen(world, step)
+        enclave, before = self.seen(world, step)
+        stay = Stay(world, hart, step + 1, self.numbers[world], enclave, before=before)
         stay.table = tuple(map(enclave_of, self.shower.bench.ask("enclaves")[0]))
         stay.others = tuple(it[2].decode() for number, it in enumerate(self.places) if number != hart)
         return stay
@@ -172,7 +174,7 @@ class Stays:
     def closed(self, stay: Stay, step: int, pc: int | None, left: str | None = None) -> Stay:
         """A stay that ends with a step."""
         _, stay.after = self.seen(stay.world, step, stay.enclave)
-        stay.last, stay.pc, stay.left = step, pc, left
+        stay.last, stay.pc, stay.left = step, pc, left or ""
         if left is None:
             values = register_values(self.shower.bench.ask(*self.choose(stay.hart), "regs")[-1])
             stay.left, stay.answer = LEFT_BY.get(values[10], "?"), (values[10], values[11])
@@ -190,6 +192,7 @@ class Stays:
         bench.ask(*(commands or ["reg 0"]))
         self.shown_hart = self.shower.hart
         found = next((it for it in map(enclave_of, bench.ask("enclaves")[0]) if it.world == world), enclave)
+        assert found is not None
         rows = ["mem %x %d" % (found.window + at, ROW) for at in range(0, found.window_size, ROW)]
         return found, b"".join(bytes.fromhex(reply[0].split(":")[1]) for reply in (bench.ask(*rows) if rows else ()))
 
@@ -200,7 +203,7 @@ class Stays:
     def looked_at(self, stretch: Stretch, fields: Fields, inside: range) -> dict[int, Did]:
         """Returns what each of these steps did, by its place in the stretch."""
         pcs = fields.pcs
-        if self.offset is None:
+        if self.offset < 0:
             begin(self.teller, stretch)
             self.offset = 0
         code, bench = self.code[stretch.hart], self.teller.bench
@@ -253,6 +256,6 @@ class Stays:
     def what(step: int, pc: int, memory: Memory | None, told: Sequence[int], done: bool) -> Did:
         """What a step did, by the registers before it."""
         if memory is None:
-            return Did(step, pc, "d", None, 0, tuple(told), done)
+            return Did(step, pc, "d", 0, 0, tuple(told), done)
         stored = told[1].to_bytes(4, "little")[:memory.width] if memory.kind == "w" else b""
         return Did(step, pc, memory.kind, (told[0] + memory.offset) & 0xFFFFFFFF, memory.width, tuple(stored), done)

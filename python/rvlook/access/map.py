@@ -13,7 +13,7 @@ from typing import Iterator, Optional, Sequence, TYPE_CHECKING
 
 from rvlook.protocol import names
 from rvlook.access.ranges import Range, meaning, reach, table_borders, verdicts_of
-from rvlook.protocol.replies import Place, enclave_of, ran_of, register_values
+from rvlook.protocol.replies import Place, enclave_of, register_values, step_of
 from rvlook.protocol.run import End, Stretch
 
 if TYPE_CHECKING:
@@ -95,6 +95,7 @@ def moments(run: Run) -> Iterator[Moment | End]:
                 moment = finder.at_step(replay, *item)
                 if moment:
                     yield moment
+    assert end is not None
     yield end
 
 
@@ -154,7 +155,7 @@ class Finder:
         pc = before[32][3:]
         text = bench.one("dis " + pc).split(" ", 2)[-1]
         *_, ran_line, after = bench.ask(*replay.lines_to(step), "regs")
-        ran = ran_of(ran_line[0])
+        ran = step_of(ran_line[0])
         state = self.state_of(replay, [*self.state.worlds[:hart], ran.world, *self.state.worlds[hart + 1:]])
         if state == self.state:
             return None
@@ -201,7 +202,7 @@ class Finder:
         for first, end in zip(borders, borders[1:]):
             may: dict[str, dict[str, str]] = {}
             for column in columns:
-                if column.derived:
+                if column.hart is None:
                     may[column.name] = dict.fromkeys(self.setup.modes, reach(column.world, self.state.enclaves, first))
                 else:
                     at = bisect_right(starts[column.hart], first) - 1
@@ -216,9 +217,11 @@ def event_of(ran: Ran, old: State, hart: int, before: Sequence[int], after: Sequ
     if world == "bare":
         return Event("pmp", text=text)
     status = "%08x" % after[10]
+    assert ran.trap is not None
     if ran.trap.cause == names.TIMER:
         return Event("timer", int(world[1:]), status)
     call = names.call_of(before)
+    assert call is not None
     if world != "host":
         return Event(call.name, int(world[1:]), status)
     if call is names.Call.create:

@@ -56,8 +56,8 @@ def event_text(moment: Moment) -> str:
     if moment.event == "now":
         return "step %d" % moment.step
     if moment.event == "pmp":
-        return "step %d  %s" % (moment.step, names.with_abi_names(moment.text))
-    return "step %d  %s e%d" % (moment.step, moment.event, moment.slot)
+        return "step %d  %s" % (moment.step, names.with_abi_names(moment.text or ""))
+    return "step %d  %s e%s" % (moment.step, moment.event, moment.slot)
 
 
 def moment_text(printer: Printer, moment: Moment, symbols: Symbols) -> None:

@@ -55,8 +55,8 @@ def stacks_of(symbols: Symbols) -> dict[str, list[Stack]]:
     found: dict[str, list[Stack]] = {}
     for name, symbol in symbols.by_name.items():
         match = NAME.match(name)
-        top = match and symbols.by_name.get(match[1] + "_stack_top")
-        if top and symbol.address < top.address:
+        top = symbols.by_name.get(match[1] + "_stack_top") if match else None
+        if match and top and symbol.address < top.address:
             found.setdefault(match[2], []).append(Stack(match[1], match[2], symbol.address, top.address))
     return found
 
@@ -72,7 +72,9 @@ class Finder:
     """Finds the first overflow of each kind of stack. The instruction at each pc is read once, before the steps in which it is first met."""
 
     def __init__(self, run: Run, stacks: dict[str, list[Stack]]) -> None:
-        self.stacks, self.uses, self.found = stacks, {}, {}
+        self.stacks = stacks
+        self.uses: dict[bytes, Use | None] = {}
+        self.found: dict[str, Overflow] = {}
         self.places = [(run.pc.encode(), run.mode.encode(), run.world.encode())] * run.setup.harts
 
     def take(self, replay: Replay, stretch: Stretch) -> None:
@@ -87,19 +89,20 @@ class Finder:
             pc, mode, world = (it.decode() for it in places[at])
             self.check(stretch, at, (pc, world, kind_of(world, mode)), sp)
 
-    def check(self, stretch: Stretch, at: int, place: tuple[str, str, str], sp: int) -> None:
+    def check(self, stretch: Stretch, at: int, place: tuple[str, str, str | None], sp: int) -> None:
         """Checks one step that uses the stack."""
         pc, world, kind = place
-        if kind in self.found or kind not in self.stacks:
+        if kind is None or kind in self.found or kind not in self.stacks:
             return
         use = self.uses[pc.encode()]
+        assert use is not None
         address = (sp + use.offset) & MASK
         last = address if use.is_store else address - 1  # an empty stack has sp at its top
         if not any(it.bottom <= address and last < it.top for it in self.stacks[kind]):
             stack = min(self.stacks[kind], key=lambda it: min(abs(it.bottom - sp), abs(it.top - sp)))
             self.found[kind] = Overflow(stretch.first + at, stretch.hart, world, int(pc, 16), use.is_store, address, stack)
 
-    def read_instructions(self, replay: Replay, pcs: Sequence[bytes]) -> None:
+    def read_instructions(self, replay: Replay, pcs: set[bytes]) -> None:
         """Reads the instructions that were not met before."""
         new = sorted(pcs - self.uses.keys())
         if new:

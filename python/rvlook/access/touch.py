@@ -19,6 +19,7 @@ if TYPE_CHECKING:
     from rvlook.output.printer import Printer
     from rvlook.protocol.run import Run
     from rvlook.protocol.symbols import Symbol, Symbols
+    from rvlook.output.printer import Json
 
 KINDS = {"r": "read", "w": "wrote", "x": "executed"}
 LEAST_SIZE = 4096
@@ -55,7 +56,7 @@ class Permitted:
     def enough(self) -> int:
         """The least lawful size from the base of the range that has all that was touched."""
         size = LEAST_SIZE
-        while self.lowest is not None and self.range.first + size <= self.highest:
+        while self.lowest is not None and self.highest is not None and self.range.first + size <= self.highest:
             size *= 2
         return size
 
@@ -134,8 +135,7 @@ def within(addresses: list[int], found: Range) -> list[int]:
 
 def covered_functions(touches: Touches, world: str, symbols: Symbols) -> Iterator[tuple[Symbol, int, int]]:
     """Each symbol of which a world executed some, with its bytes and how many were executed."""
-    executed = Counter(symbols.at(address) for address in touches.executed(world))
-    executed.pop(None, None)
+    executed = Counter(symbol for symbol in map(symbols.at, touches.executed(world)) if symbol)
     for symbol in sorted(executed, key=lambda it: it.address):
         yield symbol, symbols.size_of(symbol), 4 * executed[symbol]
 
@@ -179,7 +179,7 @@ def refuse_modes(run: Run) -> None:
     than at another, and `touch` has one world for all of it."""
     for item in () if run.setup.monitor else run.stretches():
         found = MODE.search(item.data) if isinstance(item, Stretch) else None
-        if found:
+        if isinstance(item, Stretch) and found:
             step, what = item.first + item.data.count(b"\n", 0, found.start()), "enters mode " + found[1].decode()
             raise WordsRefused(BARE % (run.setup.image.name, what, step))
     for moment in () if run.setup.monitor else moments(run):
@@ -220,9 +220,9 @@ def permitted_objects(touches: Touches, world: str, printer: Printer) -> None:
 
 
 def covered_objects(touches: Touches, world: str, symbols: Symbols, printer: Printer) -> None:
-    functions = [dict(name=symbol.name, first=hex8(symbol.address), size=size, executed=executed)
-                 for symbol, size, executed in covered_functions(touches, world, symbols)]
-    lines = [dict(source=source, count=count) for source, count in covered_lines(touches, world, symbols)]
+    functions: list[dict[str, Json]] = [dict(name=symbol.name, first=hex8(symbol.address), size=size, executed=executed)
+                                        for symbol, size, executed in covered_functions(touches, world, symbols)]
+    lines: list[dict[str, Json]] = [dict(source=source, count=count) for source, count in covered_lines(touches, world, symbols)]
     for kind, members in [("function", it) for it in functions] + [("line", it) for it in lines]:
         printer.object(kind, world=world, **members)
 

@@ -70,7 +70,8 @@ def refuse_json(arguments: Namespace, option: str) -> None:
 def opened(arguments: Namespace) -> tuple[Run, Symbols, Printer]:
     """The run, its symbols and the printer, for a word over an image."""
     if arguments.opened:
-        return (*arguments.opened, Printer(arguments.json))
+        run, symbols = arguments.opened
+        return run, symbols, Printer(arguments.json)
     run = run_from(arguments)
     return run, run.setup.symbols, Printer(arguments.json)
 

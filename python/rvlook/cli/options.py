@@ -98,7 +98,8 @@ def slot_option(parser: ArgumentParser) -> None:
 
 def leak_options(parser: ArgumentParser) -> None:
     parser.add_argument("--at", metavar="PLACE", required=True,
-                        help="where the secret stands: PLACE[:BYTES] in the region, image:PLACE[:BYTES], or REGISTER@PLACE, when it first comes there")
+                        help="where the secret stands: PLACE[:BYTES] in the region, image:PLACE[:BYTES], or REGISTER@PLACE, "
+                             "when it first comes there")
     parser.usage = "rvlook leak IMAGE --at PLACE [ONE TWO] [OPTIONS]; ONE and TWO are the secrets, in hexadecimal digits"
     parser.set_defaults(secrets=())
     parser.add_argument("--strict", action="store_true", help="the operands of divisions too, which take as long as these say")
@@ -126,7 +127,8 @@ def timer_options(parser: ArgumentParser) -> None:
 def races_options(parser: ArgumentParser) -> None:
     parser.add_argument("--outcome", metavar="WHAT", action="append",
                         help="what tells ends apart, more than once: PLACE[:BYTES], HART.REGISTER, enclaves, or one, as e0; else all that both touch")
-    parser.add_argument("--forbid", metavar="CONDITION", action="append", help="what counts as found, in place of more than one end: 'left != 2', stays, waits, livelock, unended")
+    parser.add_argument("--forbid", metavar="CONDITION", action="append",
+                        help="what counts as found, in place of more than one end: 'left != 2', stays, waits, livelock, unended")
     parser.add_argument("--timer", dest="timers", metavar="N", type=count, default=0, help="the timer's line rises so many times at most (0)")
     parser.add_argument("--preemptions", metavar="N", type=count, help="a hart that might go on is left so many times at most (any number)")
     parser.add_argument("--end", metavar="PLACE", action="append", help="a hart is over before this instruction, more than once")

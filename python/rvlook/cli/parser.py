@@ -36,7 +36,6 @@ WORDS = """words:
 NAMES = ("map", "trace", "touch", "window", "leak", "timer", "races", "measure", "explain", "page", "gdb")
 
 
-
 def add_word(words: Any, name: str, do: Callable[[Namespace], None], about: str, *more: Callable[[ArgumentParser], None]) -> Parser:
     """A word over an image; `more` add its own options."""
     parser = words.add_parser(name, help=about, description=about + ".")
@@ -70,16 +69,18 @@ def explain_word(words: Any) -> None:
 def parser_of() -> Parser:
     """All words."""
     parser = Parser(prog="rvlook", usage="rvlook [WORD] IMAGE [OPTIONS]", epilog=WORDS,
-                                     formatter_class=argparse.RawDescriptionHelpFormatter,
-                                     description="See what host and enclave can touch, and when: beside the bench, over a pipe.")
+                    formatter_class=argparse.RawDescriptionHelpFormatter,
+                    description="See what host and enclave can touch, and when: beside the bench, over a pipe.")
     parser.set_defaults(findings=Findings(), is_report=False, junit=None, word=None)
     words = parser.add_subparsers(prog="rvlook", metavar="WORD", help=argparse.SUPPRESS)
     add_word(words, "map", do_map, "Who may touch what, at each moment at which it changes", map_options, findings_options)
     add_word(words, "trace", do_trace, "Each step of a run", trace_options, findings_options)
     add_word(words, "touch", do_touch, "What each world read, wrote and executed, beside what it may", touch_options, findings_options)
-    add_word(words, "window", do_window, "What each stay of an enclave read, read again, wrote and left in its window", window_options, findings_options)
+    add_word(words, "window", do_window, "What each stay of an enclave read, read again, wrote and left in its window", window_options,
+             findings_options)
     add_word(words, "leak", do_leak, "Runs with other secrets in an enclave: where they part", slot_option, leak_options, findings_options)
-    add_word(words, "timer", do_timer, "The timer before each step of an enclave: does it come to its end", slot_option, timer_options, findings_options)
+    add_word(words, "timer", do_timer, "The timer before each step of an enclave: does it come to its end", slot_option, timer_options,
+             findings_options)
     add_word(words, "races", do_races, "All orders of two harts, all moments of the timer: which ends there are", races_options, findings_options)
     measure_word(words)
     explain_word(words)

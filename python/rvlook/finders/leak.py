@@ -71,6 +71,7 @@ def seen(run: Run, secret: Secret, is_strict: bool) -> Seen:
                     return Seen(run, found, stay.last)
     if not found:
         raise Unfinished("the enclave of slot %d is never entered after step %d, from which on runs are compared" % (secret.slot, secret.step))
+    assert stays.end is not None
     return Seen(run, found, stays.end.steps, stays.end.why == "limit" and found[-1].left == "nothing")
 
 
@@ -78,7 +79,9 @@ class Comparison:
     """Two runs; `found` has where they part, by the part and the instruction."""
 
     def __init__(self, one: Seen, two: Seen, secret: Secret, public: Public, is_strict: bool) -> None:
-        self.one, self.two, self.secret, self.public, self.is_strict, self.found, self.writers = one, two, secret, public, is_strict, {}, {}
+        self.one, self.two, self.secret, self.public, self.is_strict = one, two, secret, public, is_strict
+        self.found: dict[tuple[str, int | None], Apart] = {}
+        self.writers: dict[int, int] = {}
         for pair in zip(one.stays, two.stays):
             self.ways(*pair)
             self.leaves(*pair)

@@ -48,7 +48,7 @@ class Leak:
         """What the bench replies to a step."""
         with run.replay() as replay:
             replay.go(step - 1)
-            return replay.go(step)[len("ran 1 "):]
+            return (replay.go(step) or "")[len("ran 1 "):]
 
 
 def show_leak(run: Run, symbols: Symbols, printer: Printer, options: Namespace) -> None:
@@ -116,7 +116,7 @@ def try_pair(leak: Leak, own: Secret, base: Seen, number: int, value: bytes) -> 
     return other, two, found
 
 
-def finish(leak: Leak, own: Secret, base: Seen, told: Mapping[int, tuple[Secret, Seen, Comparison]], done: int) -> None:
+def finish(leak: Leak, own: Secret, base: Seen | None, told: Mapping[int, tuple[Secret, Seen, Comparison]], done: int) -> None:
     """What the pairs told, and the first of them that did."""
     printer = leak.printer
     if printer.as_json:
@@ -129,6 +129,7 @@ def finish(leak: Leak, own: Secret, base: Seen, told: Mapping[int, tuple[Secret,
     number = min(told)
     other, two, found = told[number]
     printer.line("pair %d of %d, the first that tells" % (number, done))
+    assert base is not None  # as something was found
     pair_text(leak, [own, other], (base, two), found)
     numbers = ", ".join(map(str, sorted(told)[:MOST_TRIES])) + (", ..." if len(told) > MOST_TRIES else "")
     parts = sorted({part for *_, it in told.values() for part in it.parts()}, key=PARTS.index)

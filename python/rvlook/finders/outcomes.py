@@ -27,7 +27,7 @@ class Bytes(NamedTuple):
     """So many bytes at an address."""
     name: str
     at: int
-    count: int
+    count: int  # type: ignore[assignment]  # a tuple has a method of that name
 
     def value_in(self, machine: Machine, _state: State, memory: Memory) -> bytes:
         return bytes(machine.bytes_at(memory, self.at, self.count) or ())
@@ -115,7 +115,7 @@ def value_text(value: Value) -> str:
     if isinstance(value, str):
         return value
     size = len(value) if isinstance(value, bytes) else WORD_BYTES
-    if size not in (1, 2, WORD_BYTES):
+    if isinstance(value, bytes) and size not in (1, 2, WORD_BYTES):
         return value.hex()
     number = number_of(value)
     return "%d" % number if number < 65536 else "%0*x" % (2 * size, number)
@@ -143,8 +143,9 @@ def condition_of(text: str, symbols: Symbols) -> Condition:
     """What --forbid says: comparisons joined by and; or stays, waits, livelock, unended."""
     if text.strip() in HOW:
         return Condition(text, (), HOW[text.strip()])
-    parts = [CONDITION.match(it) for it in re.split(r"\band\b", text)]
-    if None in parts:
+    texts = re.split(r"\band\b", text)
+    parts = [match for match in map(CONDITION.match, texts) if match]
+    if len(parts) < len(texts):
         raise Fault("--forbid is NAME OPERATOR VALUE, joined by and, or one of %s; and not %s" % (", ".join(HOW), text))
     return Condition(text, tuple((it[1], it[2], compared_with(it[1], it[3], symbols)) for it in parts))
 

@@ -24,6 +24,7 @@ ROW = 64
 REGISTER_AT = re.compile(r"(\w+)@(.+)\Z")
 CORNERS = (b"\0", b"\xff", b"\x7f", b"\x80", b"\x01", b"\x55", b"\xaa")  # of each byte
 WORD = 4
+Bytes = bytes  # a member of Secret has that name
 
 
 @dataclass(frozen=True)
@@ -32,7 +33,7 @@ class Secret:
     slot: int
     at: int
     step: int
-    bytes: bytes
+    bytes: Bytes
     register: int = 0
     hart: int = 0
 
@@ -41,10 +42,10 @@ class Secret:
             return ["hart %d" % self.hart] * bool(self.hart) + ["setreg %d %x" % (self.register, int.from_bytes(self.bytes, "little"))]
         return ["poke %x %02x" % (self.at + place, value) for place, value in enumerate(self.bytes)]
 
-    def with_bytes(self, value: bytes) -> Secret:
+    def with_bytes(self, value: Bytes) -> Secret:
         return replace(self, bytes=value)
 
-    def bytes_in(self, run: Run) -> bytes:
+    def bytes_in(self, run: Run) -> Bytes:
         """What stands there by itself."""
         with run.replay() as replay:
             replay.go(self.step)
@@ -114,6 +115,7 @@ def drawn(size: int, seed: int, first: int, last: int) -> list[tuple[int, bytes]
     rng.shuffle(bits)
     number = 0
     while len(values) < last:
-        values.append(bits[number // 2 % len(bits)].to_bytes(size, "little") if number % 2 == 0 else rng.randbytes(size))
+        value = rng.getrandbits(8 * size) if number % 2 else bits[number // 2 % len(bits)]
+        values.append(value.to_bytes(size, "little"))
         number += 1
     return list(enumerate(values[:last], 1))[max(0, first - 1):]

@@ -10,7 +10,7 @@ from rvlook.protocol import names
 from rvlook.errors import Unfinished
 from rvlook.access.map import moments
 from rvlook.output.progress import Progress
-from rvlook.protocol.replies import ran_of, register_values
+from rvlook.protocol.replies import step_of, register_values
 from rvlook.protocol.run import End, Stretch
 from rvlook.output.printer import Style, place_text, run_object
 
@@ -76,6 +76,7 @@ def last_of(run: Run, slot: int) -> Last:
             found = Last(moment.step, enclave) if enclave else found
     if found is None:
         raise Unfinished("there is no enclave in slot %d" % slot)
+    assert end is not None
     return found if found.enclave.state in LEFT else Last(end.steps, found.enclave, end.why == "limit")
 
 
@@ -85,7 +86,7 @@ def inside_steps(run: Run, slot: int, last: Last, teller: Replay) -> Iterator[In
     for item in run.stretches():
         if isinstance(item, Stretch) and item.first <= last.step:
             for offset, line in enumerate(item.data.decode().splitlines()):
-                step, was, ran = item.first + offset, world, ran_of(line)
+                step, was, ran = item.first + offset, world, step_of(line)
                 if was == own and run.length < step <= last.step:
                     yield Inside(pc, line, entered, () if ran.world == own else answer_behind(teller, step))
                     entered = False
@@ -149,7 +150,7 @@ def compare(replay: Replay, part: Sequence[tuple[int, Inside]], every: int, outc
 def not_entered(number: int, step: Inside, commands: Sequence[str], told: Sequence[str]) -> Differs | None:
     """The first time at which the host was to enter the enclave before a step and did not, or None."""
     for command, reply in zip(commands, told):
-        if command.startswith("run") and ran_of(reply).why != "break":
+        if command.startswith("run") and step_of(reply).why != "break":
             return Differs(number, step.pc, "the host enters the enclave", reply)
     return None
 
@@ -157,7 +158,7 @@ def not_entered(number: int, step: Inside, commands: Sequence[str], told: Sequen
 def difference(number: int, step: Inside, is_stopped: bool, told: Sequence[str], answer: tuple[str, ...]) -> Differs | None:
     """What came otherwise in one step of the enclave, or None."""
     if is_stopped:
-        stop = ran_of(told[-5])
+        stop = step_of(told[-5])
         if stop.trap is None or stop.trap.cause != names.TIMER:
             return Differs(number, step.pc, "a stop by the timer", told[-5])
     if seen_inside(told[-1]) != seen_inside(step.reply):
@@ -167,7 +168,7 @@ def difference(number: int, step: Inside, is_stopped: bool, told: Sequence[str],
 
 def seen_inside(reply: str) -> object:
     """What the enclave's own step is; where the host goes on is not, for it may be by another call that it entered the enclave."""
-    ran = ran_of(reply)
+    ran = step_of(reply)
     return (ran.world, ran.trap) if ran.world == "host" else reply
 
 
@@ -213,8 +214,8 @@ def show_timer(run: Run, symbols: Symbols, printer: Printer, options: Namespace)
 def timer_object(run: Run, symbols: Symbols, printer: Printer, slot: int, every: int, outcome: Outcome) -> None:
     it = outcome.differs or outcome.not_resumed
     run_object(printer, run, symbols)
-    apart = it and {"step": it.number, "pc": it.pc, "wanted": it.wanted, "found": it.found,
-                    "source": it.pc and symbols.source(int(it.pc, 16))}
+    apart = None if it is None else {"step": it.number, "pc": it.pc, "wanted": it.wanted, "found": it.found,
+                                     "source": symbols.source(int(it.pc, 16)) if it.pc else None}
     printer.object("timer", slot=slot, every=every, stops=outcome.stops, steps=outcome.steps,
                    same=None if outcome.not_resumed else it is None, apart=apart)
 

@@ -95,7 +95,7 @@ def read(byte: Byte, pc: int) -> None:
     if byte.stored_at is None:
         if byte.input_at is None:
             byte.input_at = pc
-        else:
+        elif byte.read_at is not None:
             byte.again[byte.read_at, pc] = True
         byte.read_at = pc
 
@@ -187,7 +187,7 @@ def show_window(run: Run, symbols: Symbols, printer: Printer, options: Namespace
             if slot is None or stay.slot == slot:
                 number += 1
                 progress.clear()
-                view = view_of(stay, left, others.next(stay) if others and stay.slot == secret.slot else None, secret, public)
+                view = view_of(stay, left, others.next(stay) if others and secret and stay.slot == secret.slot else None, secret, public)
                 write(printer, symbols, stay, view, secret)
                 options.findings.add("%s, stay %d" % (stay.world, stay.number), finding_of(stay, view, symbols, secret))
             progress.tell("step %d, %d stays", stay.last or 0, number)
@@ -207,11 +207,12 @@ class Others:
 
     def __init__(self, run: Run, secret: Secret) -> None:
         other = secret.with_bytes(bytes(it ^ 0xFF for it in secret.bytes))
-        self.stays = (it for it in Stays(run.with_lines(other.step, other.lines()), secret.step).all() if it.slot == secret.slot)
+        self.stays: Iterator[Stay] = (it for it in Stays(run.with_lines(other.step, other.lines()), secret.step).all() if it.slot == secret.slot)
 
     def next(self, stay: Stay) -> Stay:
         """The same stay there; one without any store where there is none."""
-        return next(self.stays, None) or Stay(stay.world, stay.hart, 0, 0, stay.enclave)
+        found: Stay | None = next(self.stays, None)
+        return found or Stay(stay.world, stay.hart, 0, 0, stay.enclave)
 
 
 def between_text(stay: Stay, at: int) -> str:
@@ -248,8 +249,9 @@ def secret_text(it: Found | Held) -> str:
     return ("depends on the secret" + (", public" if it.is_public else "")) if it.is_secret else "the same with another secret"
 
 
-def held_text(stay: Stay, it: Held, symbols: Symbols, secret: Secret) -> str:
+def held_text(stay: Stay, it: Held, symbols: Symbols, secret: Secret | None) -> str:
     """A copy of a part of the secret, in a line."""
+    assert secret is not None
     copy, base = it.copy, stay.enclave.window + it.copy.at
     what = "all %d bytes of the secret" % copy.size if copy.size == len(secret.bytes) else \
         "bytes %d to %d of the secret's %d" % (copy.offset, copy.offset + copy.size - 1, len(secret.bytes))
@@ -285,9 +287,9 @@ def stay_text(printer: Printer, symbols: Symbols, stay: Stay, view: View, secret
         printer.line("  touches nothing of its window" if stay.enclave.window_size else "  has no window")
     for at, row in rows_of(stay):
         printer.line(row_text(at, row))
-    for it in view.held:
-        text = held_text(stay, it, symbols, secret)
-        printer.line(printer.styled(text, Style.bad) if it.is_finding else text)
+    for held in view.held:
+        text = held_text(stay, held, symbols, secret)
+        printer.line(printer.styled(text, Style.bad) if held.is_finding else text)
     printer.line()
 
 
@@ -302,6 +304,6 @@ def stay_objects(printer: Printer, symbols: Symbols, stay: Stay, view: View, _se
                        between=between_text(stay, base) if it.what == "reads again" else None)
     for at, row in rows_of(stay):
         printer.object("dump", world=stay.world, stay=stay.number, at=hex8(at), bytes=row.hex())
-    for it in view.held:
-        printer.object("holds", world=stay.world, stay=stay.number, at=hex8(stay.enclave.window + it.copy.at), size=it.copy.size,
-                       offset=it.copy.offset, secret=it.is_secret, public=it.is_public)
+    for held in view.held:
+        printer.object("holds", world=stay.world, stay=stay.number, at=hex8(stay.enclave.window + held.copy.at), size=held.copy.size,
+                       offset=held.copy.offset, secret=held.is_secret, public=held.is_public)

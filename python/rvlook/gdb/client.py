@@ -4,7 +4,7 @@ as the caller; what it shows is read anew behind a `monitor`, which may step; an
 from __future__ import annotations
 
 import gdb
-from gdb.unwinder import Unwinder, register_unwinder
+from gdb.unwinder import Unwinder, register_unwinder  # type: ignore[attr-defined]
 
 SAVED = ["ra", "sp", *("s%d" % number for number in range(12))]  # what a function keeps for its caller
 KEPT = ["world", "priv", "stvec", "host_pc", *("host_" + name for name in SAVED)]  # what a trap leaves as it is
@@ -42,7 +42,8 @@ class Assembly(Unwinder):
     @staticmethod
     def is_function(place: int) -> bool:
         """Whether debugging information has a function there."""
-        block = gdb.current_progspace().block_for_pc(place)
+        space = gdb.current_progspace()
+        block = space.block_for_pc(place) if space else None
         while block and not block.function:
             block = block.superblock
         return block is not None
@@ -89,7 +90,7 @@ def signed(value: int) -> int:
 
 def name_of(place: int) -> str:
     """The label at or before an address."""
-    return gdb.execute("info symbol 0x%x" % place, to_string=True).split(" ")[0]
+    return (gdb.execute("info symbol 0x%x" % place, to_string=True) or "").split(" ")[0]
 
 
 def before_monitor() -> None:

@@ -9,7 +9,7 @@ from typing import Iterator, TYPE_CHECKING
 from rvlook.gdb.lookahead import BLOCK, asked
 from rvlook.gdb.target import SAVED
 from rvlook.protocol.names import NUMBER_OF
-from rvlook.protocol.timeline import Told, part
+from rvlook.protocol.timeline import Told, part, steps_within
 
 if TYPE_CHECKING:
     from rvlook.protocol.timeline import Steps, Timeline
@@ -45,7 +45,7 @@ class Entry:
     def registers(self, timeline: Timeline, hart: int) -> dict[str, str] | None:
         """The registers of the host that entered the enclave in which a hart is; None where it is in none."""
         found = self.find(timeline, hart)
-        return found and found.registers
+        return found.registers if found else None
 
     def find(self, timeline: Timeline, hart: int) -> Entered | None:
         """The entry to the enclave in which a hart is; None where it is in none."""
@@ -92,9 +92,8 @@ def blocks(timeline: Timeline, ahead: Timeline, first: int, end: int) -> Iterato
             ahead.choose(it.hart)
             ahead.do(it.line)
             continue
-        while it:
-            yield next(part([it], 0, BLOCK))
-            it = next(part([it], BLOCK, it.count), None)
+        for at in range(0, it.count, BLOCK):
+            yield steps_within(it, at, at + BLOCK)
 
 
 def blocks_with_traps(timeline: Timeline, hart: int, first: int, end: int) -> list[tuple[int, Steps]]:

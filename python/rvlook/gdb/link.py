@@ -96,7 +96,9 @@ class Link:
         poll.register(self.reading, HUNG_UP)
         while not done.wait(OFTEN):
             if any(event & HUNG_UP for _, event in poll.poll(0)):
-                signal.pthread_kill(threading.main_thread().ident, signal.SIGUSR1)
+                main = threading.main_thread().ident
+                assert main is not None
+                signal.pthread_kill(main, signal.SIGUSR1)
                 return
             if is_impatient and time.monotonic() > told + PATIENCE:
                 self.send("O" + hex_of("."))

@@ -6,7 +6,7 @@ import functools
 import re
 from typing import Callable, Iterable, Iterator, Mapping, Optional, TYPE_CHECKING, Tuple
 
-from rvlook.protocol.replies import RAN, Ran, Trap, trap_of
+from rvlook.protocol.replies import RAN, Ran, Trap, step_of, trap_of
 from rvlook.protocol.run import ALIKE, MOST_STEPS
 from rvlook.protocol.timeline import Steps, part, turned
 
@@ -50,7 +50,8 @@ def planned(turns: str, count: int, is_single: bool, chosen: int) -> tuple[list[
     return runs, ("\n".join(lines) + "\n").encode(), len(lines)
 
 
-def asked(timeline: Timeline, turns: str, count: int, is_single: bool, is_quiet: Callable[[bytes, int], bool] | None = None) -> list[tuple[int, int, Ran]]:
+def asked(timeline: Timeline, turns: str, count: int, is_single: bool,
+          is_quiet: Callable[[bytes, int], bool] | None = None) -> list[tuple[int, int, Ran]]:
     """So many steps by the turns, one by one or each hart's at once: for each run its hart, how many steps it was asked for, and its reply.
     Where one of more steps met a stop, those behind it are not by the turns any more. Where `is_quiet` tells of the replies that they need
     not be looked at, only the last ones are given."""
@@ -95,7 +96,7 @@ def judged(timeline: Timeline, stops: Stops, hart: int, count: int) -> list[tupl
     replies = timeline.bench.block(("\n".join(lines * runs) + "\n").encode(), len(lines) * runs).decode().splitlines()
     found, done = [], 0
     for first in range(0, len(replies), len(lines)):
-        ran = ran_of_match(RANS.fullmatch(replies[first]))
+        ran = step_of(replies[first])
         done += ran.steps
         timeline.reach(hart, ran.mode, ran.world, ran.trap and ran.steps > 1)
         found.append((done, ran, stops.verdict(timeline, ran, dict(zip(questions, replies[first + 1:first + len(lines)])))))
@@ -152,6 +153,6 @@ def block_before(timeline: Timeline, first: int, ends: Mapping[int, RanState]) -
         ahead.settle()
         ahead.choose(hart)
         replies = ahead.do_all(["run %d" % BLOCK] * ((timeline.position - first) // BLOCK))
-        states = [state_of(ran_of_match(RANS.fullmatch(reply))) for reply, in replies]
+        states = [state_of(step_of(reply)) for reply, in replies]
     others = [number for number, it in enumerate(states) if it != state]
     return first + BLOCK * others[-1] if others else first

@@ -8,7 +8,7 @@ from typing import Any, Iterable, Iterator, Sequence, TYPE_CHECKING
 from rvlook.gdb.lookahead import BLOCK, asked, by_turns, judged
 from rvlook.gdb.stops import INTERRUPTED, Halt
 from rvlook.protocol.run import MOST_STEPS
-from rvlook.protocol.timeline import Told, part
+from rvlook.protocol.timeline import Told, part, steps_within
 
 if TYPE_CHECKING:
     from rvlook.gdb.moves import Moves
@@ -155,10 +155,10 @@ class Back:
 
     def single_stops(self, ahead: Timeline, steps: Steps) -> Iterator[tuple[int, Halt]]:
         """The stops in steps of the past that are asked one by one, many in one exchange."""
-        stops, left = self.moves.stops, steps
-        while left:
+        stops = self.moves.stops
+        for at in range(0, steps.count, BLOCK):
             self.ask_person()
-            now = next(part([left], 0, BLOCK))
+            now = steps_within(steps, at, at + BLOCK)
             position, worlds = ahead.position, list(ahead.worlds)
             for hart, _, ran in asked(ahead, now.turns, now.count, True):
                 position += 1
@@ -167,7 +167,6 @@ class Back:
                     if halt:
                         yield position, halt
                 worlds[hart] = ran.world
-            left = next(part([left], BLOCK, left.count), None)
 
     def halt_there(self, ahead: Timeline, position: int, hart: int, ran: Ran, before: str) -> Halt | None:
         """The halt behind a step, for which the bench that is ahead of it is not asked where it would have to be there."""

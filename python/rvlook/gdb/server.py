@@ -6,7 +6,7 @@ import signal
 import socket
 import sys
 import threading
-from typing import Callable, TYPE_CHECKING
+from typing import Callable, Dict, Optional, TYPE_CHECKING
 
 from rvlook.protocol import names
 from rvlook.output.escapes import visible
@@ -80,7 +80,8 @@ class Server:
         """Answers up to the end."""
         while not self.over:
             packet = self.link.packet()
-            name = NAME.match(packet)[0] if packet else ""
+            match = NAME.match(packet)
+            name = match[0] if match else ""
             try:
                 answer = ACTS[name](self, packet[len(name):]) if name in ACTS else ""
             except Refused as refusal:
@@ -150,7 +151,10 @@ class Server:
         if REGISTERS[number] in ENTERED:
             values = self.commands.entry.registers(self.timeline, self.shown)
             return little(values[REGISTERS[number]]) if values else "x" * 8
-        return little(self.moves.view.csr(self.shown, names.CSRS[REGISTERS[number]]))
+        value = self.moves.view.csr(self.shown, names.CSRS[REGISTERS[number]])
+        if value is None:
+            raise ValueError(rest)
+        return little(value)
 
     def state(self) -> dict[int, str]:
         """What the bench tells behind a step alone, by its numbers among the registers."""
@@ -331,9 +335,9 @@ def answers(text: str) -> Callable[[Server, str], str]:
 
 
 MOVING = ("vCont", "c", "s", "bc", "bs")
-ACTS = {
+ACTS: Dict[str, Callable[[Server, str], Optional[str]]] = {
     "!": Server.extend, "?": Server.where, "D": Server.detach, "H": Server.choose, "M": Server.write_memory, "P": Server.write_register,
-    "R": Server.restart, "T": lambda server, rest: server.hart_of(rest) >= 0 and "OK", "X": Server.write_binary, "Z": Server.set_stop,
+    "R": Server.restart, "T": lambda server, rest: "OK" if server.hart_of(rest) >= 0 else "", "X": Server.write_binary, "Z": Server.set_stop,
     "k": Server.end, "m": Server.read_memory, "p": Server.read_register, "z": Server.clear_stop, "g": Server.registers,
     "c": lambda server, rest: server.go_on("c", rest), "s": lambda server, rest: server.go_on("s", rest),
     "bc": Server.go_back, "bs": Server.step_back, "QRvlookFresh": Server.fresh,

@@ -153,8 +153,8 @@ class Stops:
 
     def decided(self, pc: int, reply_to: Callable[[str], str]) -> bool:
         """Whether one of the breakpoints at pc has no condition, or one that holds by the replies to commands."""
-        conditions = [code for it in self.breaks.get(pc, {"": []}).values() for code in (it or [None])]
-        if None in conditions:
+        kinds = self.breaks.get(pc, {"": []}).values()
+        if not all(kinds):
             return True
 
         def register(number: int) -> int:
@@ -164,7 +164,7 @@ class Stops:
             reply = reply_to("mem %x %d" % (at, count))
             return b"" if reply.startswith("error ") else bytes.fromhex(reply.split(":")[1])
 
-        return any(holds(code, register, memory) for code in conditions)
+        return any(holds(code, register, memory) for conditions in kinds for code in conditions)
 
     def verdict(self, timeline: Timeline, ran: Ran, replies: Mapping[str, str]) -> bool | None:
         """Whether there is a halt behind a run of one hart, by the replies to `questions` there; None where they do not tell."""

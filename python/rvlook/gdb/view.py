@@ -4,7 +4,7 @@ from __future__ import annotations
 
 from typing import Any, TYPE_CHECKING
 
-from rvlook.protocol.replies import ran_of
+from rvlook.protocol.replies import step_of
 
 if TYPE_CHECKING:
     from rvlook.protocol.replies import Ran
@@ -80,4 +80,4 @@ class View:
         self.values[hart] = [line.partition("=")[2] for line in seen[:REGISTERS]]
         for at, reply in zip(near, seen[REGISTERS:]):
             self.take_line(at, reply)
-        return ran_of(ran)
+        return step_of(ran)

@@ -24,7 +24,8 @@ KEY_SET = re.compile(r"\s*setreg\s+(17|x17|a7)\s+(0x)?0?a454e43\s*\Z", re.I)
 
 def is_elf_32(image: Image) -> bool:
     """Whether it is an ELF file of 32 bits, the lowest byte first, with a whole header."""
-    return image.is_elf and len(image.data) >= 52 and image.data[4:6] == b"\x01\x01"
+    data = image.data
+    return image.is_elf and data is not None and len(data) >= 52 and data[4:6] == b"\x01\x01"
 
 
 def segments_of(data: bytes) -> Iterator[tuple[int, int]]:
@@ -40,13 +41,13 @@ def segments_of(data: bytes) -> Iterator[tuple[int, int]]:
 
 def has_compressed(image: Image) -> bool:
     """Whether the flags of an ELF file tell of compressed instructions."""
-    return is_elf_32(image) and bool(struct.unpack_from("<I", image.data, AT_FLAGS)[0] & COMPRESSED)
+    return is_elf_32(image) and bool(struct.unpack_from("<I", image.data or b"", AT_FLAGS)[0] & COMPRESSED)
 
 
 def asks_for_monitor(image: Image, script: Iterable[ScriptLine]) -> str | None:
     """By what an image asks for the monitor, or None."""
     if is_elf_32(image):
-        first = min((address for address, _ in segments_of(image.data)), default=0)
+        first = min((address for address, _ in segments_of(image.data or b"")), default=0)
         return "its first address is %08x" % first if first == MONITOR_END else None
     if has_key(image.data or b"") or any(KEY_SET.match(line.given) for line in script):
         return "it has an ecall with the monitor's a7, 0a454e43"

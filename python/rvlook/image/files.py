@@ -66,7 +66,7 @@ def image_of(path: str, kind: str = "auto") -> Image:
     one; and so is any other text before such a line, whose faults are the bench's to tell. All other bytes are the image themselves."""
     data = read_file(path)
     cut = separator_in(data)
-    head, rest = (data[:cut.start()], data[cut.end():]) if cut else (data, None)
+    head, rest = (data[:cut.start()], data[cut.end():]) if cut else (data, b"")
     printable = PRINTABLE.match(data) is not None
     if TEXT.match(head) or cut and PRINTABLE.match(head):
         text = head if head.endswith(b"\n") or not head else ended(head.decode("latin-1")).encode("latin-1")

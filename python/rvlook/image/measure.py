@@ -77,8 +77,8 @@ def show_measure(path: str, numbers: Sequence[str], symbols_path: str | None, pr
     values = [symbols.address(text) for text in numbers]
     if None in values:
         raise Fault("%s is no hexadecimal number and no symbol" % numbers[values.index(None)])
-    base, size, window, window_size, entry = values
-    refusal = refusal_of(*values)
+    base, size, window, window_size, entry = (it for it in values if it is not None)
+    refusal = refusal_of(base, size, window, window_size, entry)
     if refusal:
         raise Fault("create refuses these numbers: %s" % refusal)
     record = (base, size, window if window_size else 0, window_size, entry)

@@ -80,8 +80,8 @@ def readable(path: str, without: str, read: Callable[[], T]) -> T | None:
     try:
         return read()
     except Exception as error:  # pyelftools has no common class for what it cannot read, and lets errors of Python through
-        told("%s: %s, for it is no file that pyelftools reads (%s)" % (path, without, visible(str(error)[:LONGEST_REASON])
-                                                                      or type(error).__name__))
+        reason = visible(str(error)[:LONGEST_REASON]) or type(error).__name__
+        told("%s: %s, for it is no file that pyelftools reads (%s)" % (path, without, reason))
         return None
 
 

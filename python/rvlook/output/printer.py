@@ -5,7 +5,7 @@ import json
 import os
 import sys
 from enum import Enum
-from typing import Any, Mapping, Protocol, Sequence, TYPE_CHECKING, TextIO, Union
+from typing import Any, Mapping, Optional, Protocol, Sequence, TYPE_CHECKING, TextIO, Union, overload
 
 if TYPE_CHECKING:
     from rvlook.protocol.replies import Enclave
@@ -62,6 +62,14 @@ class Printer:
 
     def styled(self, text: str, style: Style) -> str:
         return "\033[%sm%s\033[0m" % (style.value, text) if self.colours else text
+
+
+@overload
+def hex8(number: int) -> str: ...
+
+
+@overload
+def hex8(number: Optional[int]) -> Optional[str]: ...
 
 
 def hex8(number: int | None) -> str | None:

@@ -55,9 +55,9 @@ def collected(run: Run, symbols: Symbols) -> Collector:
             writer.end(item)
         else:
             writer.command(item)
-    for item in moments(run):
-        if isinstance(item, End):
-            end_object(found, item)
+    for moment in moments(run):
+        if isinstance(moment, End):
+            end_object(found, moment)
         else:
-            moment_object(found, item, symbols)
+            moment_object(found, moment, symbols)
     return found

@@ -85,9 +85,9 @@ def image_line_fault(line: str) -> tuple[str, str | None] | None:
         return "this is of the script, and the image has not ended", "-- in a line before it"
     if "0x" in line.lower():
         return "digits have no 0x before them", re.sub(r"0[xX]|[, ]", "", line)
-    if re.search(r"[^0-9a-fA-F]", joined):
-        other = re.search(r"[^0-9a-fA-F]", joined)[0]
-        return "%s is no hexadecimal digit" % other, None
+    other = re.search(r"[^0-9a-fA-F]", joined)
+    if other:
+        return "%s is no hexadecimal digit" % other[0], None
     if len(words) > 1:
         return "no spaces stand between the digits of a line", joined
     if len(joined) % 2:

@@ -91,7 +91,7 @@ class Session:
             self.tell(str(fault), Style.bad)
             return True
 
-    def done(self, text: str) -> bool | None:
+    def done(self, text: str) -> bool:
         """The same; a name that stands for no one address is a fault."""
         words = words_of(text)
         if not has_reply(text):
@@ -171,7 +171,7 @@ class Session:
         moment = self.finder.moment(now.position, now.hart, Event("now"), Place(pc, now.modes[now.hart], now.worlds[now.hart]))
         moment_text(self.printer, moment, self.symbols)
 
-    def back(self, count: int = "1") -> None:
+    def back(self, count: str = "1") -> None:
         """Steps back, by playing what was done up to there."""
         if not (count.isascii() and count.isdigit() and len(count) <= LONGEST_COUNT):
             self.tell(OWN["back"])

@@ -86,8 +86,10 @@ class Bench:
                                             start_new_session=True)
         except OSError as error:
             raise Unfinished("%s: %s" % (path, error.strerror)) from None
-        os.set_blocking(self.process.stdin.fileno(), False)
-        widen(self.process.stdin, self.process.stdout)
+        assert self.process.stdin and self.process.stdout
+        self.stdin, self.stdout = self.process.stdin, self.process.stdout
+        os.set_blocking(self.stdin.fileno(), False)
+        widen(self.stdin, self.stdout)
         self.harts = harts
         self.pending = memoryview(b"")
         self.parts: list[bytes] = []  # what was read and not yet taken
@@ -102,7 +104,7 @@ class Bench:
 
     def close(self) -> None:
         """Ends the program."""
-        for pipe in (self.process.stdin, self.process.stdout):
+        for pipe in (self.stdin, self.stdout):
             try:
                 pipe.close()
             except OSError:
@@ -117,7 +119,7 @@ class Bench:
 
     def transfer(self) -> bytes:
         """Writes what can be written, and reads what can be read; waits for either."""
-        reading, writing = self.process.stdout.fileno(), self.process.stdin.fileno()
+        reading, writing = self.stdout.fileno(), self.stdin.fileno()
         readable, writable, _ = select.select([reading], [writing] if self.pending else [], [])
         if writable:
             try:
@@ -194,7 +196,7 @@ class Bench:
         """Gives commands that it is to do now, whose replies `told` will read."""
         self.give(*commands)
         try:
-            self.pending = self.pending[os.write(self.process.stdin.fileno(), self.pending[:PIPE]):]
+            self.pending = self.pending[os.write(self.stdin.fileno(), self.pending[:PIPE]):]
         except (BlockingIOError, BrokenPipeError):
             pass
 

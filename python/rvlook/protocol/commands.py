@@ -4,7 +4,7 @@ from __future__ import annotations
 import re
 from dataclasses import dataclass
 from enum import Enum
-from typing import TYPE_CHECKING
+from typing import Sequence, TYPE_CHECKING
 
 from rvlook.protocol import names
 
@@ -55,6 +55,7 @@ PATTERNS = {
     Form.width: re.compile(r"[124]\Z"), Form.line: re.compile(r"(on|off)\Z"), Form.hart: re.compile(r"[01]\Z"),
     Form.schedule: re.compile(r"[01]{1,64}\Z")}
 
+
 def is_form(word: str, form: Form) -> bool:
     """Whether a word has the form of an operand, range and all."""
     if form in LIMITS:
@@ -63,19 +64,21 @@ def is_form(word: str, form: Form) -> bool:
     return bool(PATTERNS[form].match(word))
 
 
-def rewritten(word: str, form: Form, symbols: Symbols = None) -> str | None:
+def rewritten(word: str, form: Form, symbols: Symbols | None = None) -> str | None:
     """The word as the form has it, where what is meant is plain: an ABI name, the name of a control and status register, a symbol, a
     number in the other base. None where it is not."""
     if form is Form.address and symbols and word.split("+")[0].split("@")[0] in symbols.places:
-        return "%x" % symbols.address(word)
+        at = symbols.address(word)
+        return None if at is None else "%x" % at
     if is_form(word, form):
         return word
     if form is Form.register and word.lower() in names.NUMBER_OF:
         return str(names.NUMBER_OF[word.lower()])
     if form is Form.csr and (word.lower() in names.CSRS or re.match(r"0x[0-9a-fA-F]{1,3}\Z", word)):
         return "%x" % names.CSRS.get(word.lower(), int(word, 16) if word.startswith("0x") else 0)
-    if form is Form.value and symbols and symbols.address(word) is not None:
-        return "%x" % symbols.address(word)
+    at = symbols.address(word) if form is Form.value and symbols else None
+    if at is not None:
+        return "%x" % at
     return rewritten_number(word, form)
 
 
@@ -90,8 +93,9 @@ def rewritten_number(word: str, form: Form) -> str | None:
     return number if is_form(number, form) else None
 
 
-def written(name: str, operands: list[str], symbols: Symbols = None) -> str | None:
+def written(name: str, operands: Sequence[str], symbols: Symbols | None = None) -> str | None:
     """The command as the bench takes it, or None where an operand cannot be told."""
     forms = COMMANDS[name].forms
     found = [rewritten(word, form, symbols) for word, form in zip(operands, forms)]
-    return None if len(operands) != len(forms) or None in found else " ".join([name, *found])
+    texts = [it for it in found if it is not None]
+    return " ".join([name, *texts]) if len(operands) == len(forms) == len(texts) else None

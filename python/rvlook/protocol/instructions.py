@@ -51,8 +51,8 @@ def instruction_of(line: bytes) -> Instruction | None:
     word, text = line.decode().split(": ")[1].split(" ", 1)
     memory, branch, writes, csr = (it.match(text) for it in (MEMORY, BRANCH, WRITES, SET_CSR))
     is_csr = csr and (csr[1] == "w" or csr[3] != "0")
-    return Instruction(word, text, names.with_abi_names(text), int(writes[1]) if writes else 0, memory and memory_of(memory),
-                       int(branch[1]) if branch else None, text.startswith("jalr "), int(csr[2], 16) if is_csr else None)
+    return Instruction(word, text, names.with_abi_names(text), int(writes[1]) if writes else 0, memory_of(memory) if memory else None,
+                       int(branch[1]) if branch else None, text.startswith("jalr "), int(csr[2], 16) if csr and is_csr else None)
 
 
 def memory_of(match: re.Match[str]) -> Memory:

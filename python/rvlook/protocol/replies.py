@@ -68,14 +68,22 @@ def trap_of(text: str) -> Trap | None:
 def ran_of(line: str) -> Ran | None:
     """The reply of a step, or None where it is a fault."""
     match = RAN.fullmatch(line)
-    return match and Ran(int(match[1]), match[2], match[3], match[4], match[5], trap_of(match[6]))
+    return Ran(int(match[1]), match[2], match[3], match[4], match[5], trap_of(match[6])) if match else None
+
+
+def step_of(line: str) -> Ran:
+    """Decodes the reply of `step` or `run`; raises ValueError if it is an error."""
+    ran = ran_of(line)
+    if ran is None:
+        raise ValueError(line)
+    return ran
 
 
 def enclave_of(line: str) -> Enclave:
     """A live enclave."""
     words = line.split()
-    numbers = [int(word, 16) for word in words[3:8]]
-    return Enclave(int(words[1]), words[2], *numbers, words[8])
+    base, size, window, window_size, entry = (int(word, 16) for word in words[3:8])
+    return Enclave(int(words[1]), words[2], base, size, window, window_size, entry, words[8])
 
 
 def entry_of(line: str) -> Entry:

@@ -15,7 +15,7 @@ from rvlook.protocol.bench_line import has_reply, words_of
 from rvlook.protocol.messages import INPUT_REPLIES, input_error
 from rvlook.errors import BenchEnded, Fault, Unfinished
 from rvlook.protocol.inputs import Image, ScriptLine
-from rvlook.protocol.replies import ran_of
+from rvlook.protocol.replies import ran_of, step_of
 from rvlook.protocol.symbols import Symbols
 
 CHUNK = 16384  # single steps in one exchange
@@ -167,13 +167,16 @@ class Run:
         for item in self.plan:
             if isinstance(item, Steps) and inserted and position < step <= position + item.count:
                 rest = position + item.count - step
-                other.plan += [Steps(step - position), *inserted, *([Steps(rest)] if rest else [])]
+                other.plan.append(Steps(step - position))
+                other.plan += inserted
+                other.plan += [Steps(rest)] if rest else []
                 inserted = []
             else:
                 other.plan.append(item)
             position += item.count if isinstance(item, Steps) else 0
         if inserted:
-            other.plan += ([Steps(step - position)] if step > position else []) + inserted
+            other.plan += [Steps(step - position)] if step > position else []
+            other.plan += inserted
             other.setup = replace(self.setup, limit=max(0, self.setup.limit - (step - position)))
         return other
 
@@ -215,7 +218,7 @@ class Run:
             last = data or last
             yield Stretch(position + 1, hart, data, kept)
             position += kept
-        ran = ran_of(last.splitlines()[-1].decode())
+        ran = step_of(last.splitlines()[-1].decode())
         yield End(position, why, ran.pc, ran.mode, ran.world)
 
     def replay(self) -> Replay:
@@ -287,8 +290,11 @@ class Replay:
     def lines_up_to_next(self) -> list[str]:
         """The script's lines that stand between where it is and the next step."""
         commands: list[str] = []
-        while self.place < len(self.run.plan) and isinstance(self.run.plan[self.place], Line):
-            self.take(self.run.plan[self.place], commands)
+        while self.place < len(self.run.plan):
+            item = self.run.plan[self.place]
+            if not isinstance(item, Line):
+                break
+            self.take(item, commands)
             self.place += 1
         return commands
 

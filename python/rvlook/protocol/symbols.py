@@ -29,7 +29,8 @@ class Symbols:
     """`symbols` in any order; `lines` are pairs of an address and the source line from there on, None where one ends; `inlined` gives, as
     it is asked for, the first and the last address of what stands for a call, and the line of the call."""
 
-    def __init__(self, symbols: Sequence[Symbol] = (), lines: Iterable[tuple[int, str | None]] = (), inlined: Callable[[], Iterable[Inlined]] = tuple) -> None:
+    def __init__(self, symbols: Sequence[Symbol] = (), lines: Iterable[tuple[int, str | None]] = (),
+                 inlined: Callable[[], Iterable[Inlined]] = tuple) -> None:
         best = {it.address: it for it in sorted(symbols, key=lambda it: (it.rank, it.name), reverse=True)}
         self.ordered = [best[address] for address in sorted(best) if address >= RAM_BASE]
         self.addresses = [symbol.address for symbol in self.ordered]
@@ -69,7 +70,7 @@ class Symbols:
     def function(self, address: int) -> str | None:
         """The symbol without how far behind it, or None."""
         symbol = self.at(address)
-        return symbol and symbol.name
+        return symbol.name if symbol else None
 
     def source(self, address: int) -> str | None:
         """The file and line of an instruction, or None."""
@@ -119,9 +120,9 @@ class Symbols:
         places = sorted(self.places[name])
         if first is not None:
             places = [it for it in places if it >= first][:1]
+            if not places:
+                raise NameRefused("there is no %s from %08x on" % (name, first))
         if len(places) == 1:
             return places[0]
-        if not places:
-            raise NameRefused("there is no %s from %08x on" % (name, first))
         shown = " and ".join("%08x" % it for it in places)
         raise NameRefused("%s is at %s; %s@PLACE is the first from a place on" % (name, shown, name))

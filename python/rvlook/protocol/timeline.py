@@ -6,7 +6,7 @@ from dataclasses import dataclass
 from typing import Iterable, Iterator, Sequence, TYPE_CHECKING, Union
 
 from rvlook.protocol.bench_line import has_reply, words_of
-from rvlook.protocol.replies import ran_of
+from rvlook.protocol.replies import step_of
 from rvlook.protocol.run import MOST_STEPS
 
 if TYPE_CHECKING:
@@ -79,6 +79,11 @@ def part(past: Iterable[Part], first: int, end: int) -> Iterator[Part]:
         if count > 0:
             yield Steps(turned(it.turns, skipped), count)
         at += it.count
+
+
+def steps_within(steps: Steps, first: int, end: int) -> Steps:
+    """Returns the steps from number `first` on up to, and not with, number `end`; the first of them has the number 0."""
+    return Steps(turned(steps.turns, first), max(0, min(steps.count, end) - first))
 
 
 def commands_of(past: Iterable[Part], chosen: int, hart: int) -> Iterator[str]:
@@ -198,14 +203,14 @@ class Timeline:
     def run(self, hart: int, count: int, turns: str | None = None) -> Ran:
         """A `run` of a hart; its reply."""
         self.choose(hart)
-        return ran_of(self.do_all(["run %d" % min(count, MOST_STEPS)], turns)[0][0])
+        return step_of(self.do_all(["run %d" % min(count, MOST_STEPS)], turns)[0][0])
 
     # what is kept
 
     def take(self, line: str, hart: int, replies: Sequence[str]) -> None:
         """What is known of the harts behind a command."""
         if line.startswith(("step", "run")):
-            ran = ran_of(replies[0])
+            ran = step_of(replies[0])
             self.reach(hart, ran.mode, ran.world, ran.trap and ran.steps > 1)
         elif line.startswith("sched"):
             for number, reply in enumerate(replies):
@@ -220,7 +225,7 @@ class Timeline:
     def keep(self, word: str, line: str, replies: Sequence[str], turns: str | None = None) -> None:
         """Keeps what was done."""
         if word in ("step", "run"):
-            self.add(Steps(turns or str(self.hart), ran_of(replies[0]).steps))
+            self.add(Steps(turns or str(self.hart), step_of(replies[0]).steps))
         elif word == "sched":
             self.add(Steps(line.split()[1], len(line.split()[1])))
         elif word in CHANGING:
@@ -244,18 +249,17 @@ class Timeline:
 
     def spend(self, it: Part) -> None:
         """Takes what is done now from the future; where it is something else there is none any more."""
-        count = it.count if isinstance(it, Steps) else 0
-        while self.future and count:
-            head = self.future[0]
-            done = min(count, head.count) if isinstance(head, Steps) else 0
-            if not done or not are_alike(it.turns, head.turns, done):
-                self.future = []
-                return
-            rest = [Steps(turned(head.turns, done), head.count - done)] if done < head.count else []
-            self.future[:1], count = rest, count - done
-            it = Steps(turned(it.turns, done), count)
         if isinstance(it, Told):
             self.future = self.future[1:] if self.future[:1] == [it] else []
+            return
+        while self.future and it.count:
+            head = self.future[0]
+            done = min(it.count, head.count) if isinstance(head, Steps) else 0
+            if isinstance(head, Told) or not done or not are_alike(it.turns, head.turns, done):
+                self.future = []
+                return
+            self.future[:1] = [Steps(turned(head.turns, done), head.count - done)] if done < head.count else []
+            it = Steps(turned(it.turns, done), it.count - done)
 
     @property
     def was_told(self) -> bool:
@@ -273,11 +277,15 @@ class Timeline:
 
     def redo(self) -> bool:
         """Tells again what was told at this step before one came back; whether there was such."""
-        found = self.future and isinstance(self.future[0], Told)
-        while self.future and isinstance(self.future[0], Told):
-            self.choose(self.future[0].hart)
-            self.do(self.future[0].line)
-        return bool(found)
+        found = False
+        while self.future:
+            head = self.future[0]
+            if not isinstance(head, Told):
+                break
+            found = True
+            self.choose(head.hart)
+            self.do(head.line)
+        return found
 
     # the way back
 

@@ -30,6 +30,7 @@ def show_spike(run: Run, wanted: Filter, printer: Printer) -> None:
 def commit_text(step: Step, follower: Replay) -> str:
     """One commit. The value of a control and status register is asked for behind the step."""
     it = step.instruction
+    assert it is not None
     text = "core%4d: %d 0x%s (0x%s)" % (step.hart, PRIVILEGE[step.at.mode], step.at.pc, it.word)
     if it.writes:
         text += " x%-2d 0x%s" % (it.writes, step.written)
@@ -39,5 +40,5 @@ def commit_text(step: Step, follower: Replay) -> str:
         text += " c%d_%s 0x%s" % (it.csr, names.CSR_NAMES.get(it.csr, "unknown"), reply.split("=")[-1])
     if step.touch:
         text += " mem 0x%08x" % step.touch.address
-        text += " 0x" + step.touch.value if step.touch.kind == "w" else ""
+        text += " 0x" + (step.touch.value or "") if step.touch.kind == "w" else ""
     return text

@@ -51,7 +51,7 @@ def show_trace(run: Run, symbols: Symbols, printer: Printer, wanted: Filter, is_
     """The steps that are wanted, with the script's lines between them where all are."""
     if printer.as_json:
         run_object(printer, run, symbols)
-    writer = Objects(run, symbols, printer) if printer.as_json else Lines(run, symbols, printer, is_short)
+    writer: Objects | Lines = Objects(run, symbols, printer) if printer.as_json else Lines(run, symbols, printer, is_short)
     shown = 0
     for item in Tracer(run, wanted.first, wanted.last).events():
         if isinstance(item, Step):
@@ -90,22 +90,25 @@ class Objects:
             pc, it = int(step.at.pc, 16), step.instruction
             self.sites[key] = {
                 "symbol": self.symbols.name(pc), "function": self.symbols.function(pc), "source": self.symbols.source(pc),
-                "caller": self.symbols.caller(pc), "word": it and it.word, "text": it and it.text, "abi": it and it.abi,
-                "short": it and it.short}
+                "caller": self.symbols.caller(pc), "word": it.word if it else None, "text": it.text if it else None, "abi": it.abi if it else None,
+                "short": it.short if it else None}
         return self.sites[key]
 
     def touch(self, touch: Touch | None) -> dict[str, Json] | None:
-        return touch and {"kind": touch.kind, "address": hex8(touch.address), "width": touch.width, "value": touch.value,
-                          "symbol": self.symbols.name(touch.address), "done": touch.done}
+        if touch is None:
+            return None
+        return {"kind": touch.kind, "address": hex8(touch.address), "width": touch.width, "value": touch.value,
+                "symbol": self.symbols.name(touch.address), "done": touch.done}
 
     @staticmethod
     def call(call: CallMade | None) -> dict[str, Json] | None:
-        return call and {"name": call.call.name, "arguments": {name: hex8(value) for name, value in call.arguments.items()},
-                         "slot": call.slot}
+        if call is None:
+            return None
+        return {"name": call.call.name, "arguments": {name: hex8(value) for name, value in call.arguments.items()}, "slot": call.slot}
 
     @staticmethod
     def trap(trap: Trap | None) -> dict[str, Json] | None:
-        return trap and {"cause": trap.cause, "value": trap.value, "name": names.cause_name(trap.cause)}
+        return None if trap is None else {"cause": trap.cause, "value": trap.value, "name": names.cause_name(trap.cause)}
 
     def command(self, command: Command) -> None:
         self.printer.object("command", step=command.step, hart=command.hart, line=command.line, given=command.given,
@@ -212,10 +215,12 @@ class Lines:
 
 def call_text(step: Step) -> str:
     """A call, its arguments, and why it is refused where it is."""
-    text = " ".join(ARGUMENT_FORMS.get(name, name + " %x") % value for name, value in step.call.arguments.items())
+    call = step.call
+    assert call is not None
+    text = " ".join(ARGUMENT_FORMS.get(name, name + " %x") % value for name, value in call.arguments.items())
     status = step.changed.get(A0)
     refused = names.STATUSES.get(int(status, 16)) if status and step.next.world == step.at.world else None
-    return "%s %s%s" % (step.call.call.name, text, ": " + refused if refused else "")
+    return "%s %s%s" % (call.call.name, text, ": " + refused if refused else "")
 
 
 def touch_text(touch: Touch, symbols: Symbols) -> str:

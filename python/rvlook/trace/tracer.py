@@ -58,11 +58,11 @@ class Step(NamedTuple):
 
     @property
     def word(self) -> str | None:
-        return self.instruction and self.instruction.word
+        return self.instruction.word if self.instruction else None
 
     @property
     def text(self) -> str | None:
-        return self.instruction and self.instruction.text
+        return self.instruction.text if self.instruction else None
 
     @property
     def is_interrupt(self) -> bool:
@@ -109,6 +109,11 @@ class Hart:
         self.place = place
         self.registers: list[str] | None = None
 
+    def known(self) -> list[str]:
+        """Returns the digits of x0 to x31, which must be known."""
+        assert self.registers is not None
+        return self.registers
+
 
 class Tracer:
     """The steps from `first` to `last`, with what stands between them."""
@@ -143,7 +148,7 @@ class Tracer:
     def cut(self) -> End:
         """The end where no more steps were asked for."""
         place = self.harts[self.hart].place
-        return End(self.last, "limit", place.pc, place.mode, place.world)
+        return End(self.position if self.last is None else self.last, "limit", place.pc, place.mode, place.world)
 
     def steps(self, reader: Replay, teller: Replay, stretch: Stretch) -> Iterator[Step]:
         """The steps of a stretch that are asked for."""
@@ -179,7 +184,8 @@ class Tracer:
         reader.lines_to(begin - 1 + len(rans))
         return [instruction_of(line) for line in block.split(b"\n")[:-1:2]]
 
-    def registers(self, teller: Replay, hart: Hart, begin: int, rans: Sequence[RanFields], instructions: Sequence[Instruction | None]) -> Iterator[bytes]:
+    def registers(self, teller: Replay, hart: Hart, begin: int, rans: Sequence[RanFields],
+                  instructions: Sequence[Instruction | None]) -> Iterator[bytes]:
         """The replies of each of these steps: its own, and then what it may have changed; behind the last all registers."""
         self.begin(teller, begin)
         if hart.registers is None:
@@ -207,15 +213,15 @@ class Tracer:
         if ran[3] == NO_TRAP:
             touch, changed, value = None, {}, None
             if instruction is not None:
-                memory = instruction.memory
-                address = memory and (int(hart.registers[memory.base], 16) + memory.offset) & 0xFFFFFFFF
+                registers, memory = hart.known(), instruction.memory
+                address = (int(registers[memory.base], 16) + memory.offset) & 0xFFFFFFFF if memory else 0
                 if instruction.writes:
                     value = next(replies).split(b"=")[1].decode()
-                    if value != hart.registers[instruction.writes]:
-                        hart.registers[instruction.writes] = value
+                    if value != registers[instruction.writes]:
+                        registers[instruction.writes] = value
                         changed = {instruction.writes: value}
                 if memory:
-                    touch = self.touched(memory, address, hart.registers[memory.register])
+                    touch = self.touched(memory, address, registers[memory.register])
             return Step(number, hart_number, at, instruction, changed, touch, None, None, next_place, value)
         return self.trapped(Step(number, hart_number, at, instruction, {}, None, None, self.trap_of(ran[3]), next_place), hart, replies)
 
@@ -228,15 +234,16 @@ class Tracer:
     @staticmethod
     def trapped(step: Step, hart: Hart, replies: Iterator[bytes]) -> Step:
         """Returns a step that trapped, with what it changed: any register may have another value after it, as another world may continue."""
-        before, trap, instruction, at = hart.registers, step.trap, step.instruction, step.at
+        before, trap, instruction, at = hart.known(), step.trap, step.instruction, step.at
+        assert trap is not None
         after = [line.split(b"=")[1].decode() for line in (next(replies) for _ in range(REGISTERS))][:32]
         hart.registers = after
         changed = {n: after[n] for n in range(1, 32) if after[n] != before[n]}
-        memory = instruction and trap.cause in names.ACCESS_FAULTS and instruction.memory
-        touch = memory and Touch(memory.kind, (int(before[memory.base], 16) + memory.offset) & 0xFFFFFFFF, memory.width, False, None)
+        memory = instruction.memory if instruction and trap.cause in names.ACCESS_FAULTS else None
+        touch = Touch(memory.kind, (int(before[memory.base], 16) + memory.offset) & 0xFFFFFFFF, memory.width, False, None) if memory else None
         is_call = trap.cause == names.ECALL_FROM_S and at.world != "bare"
         call = call_of(at.world, [int(it, 16) for it in before], [int(it, 16) for it in after]) if is_call else None
-        return step._replace(changed=changed, touch=touch or None, call=call)
+        return step._replace(changed=changed, touch=touch, call=call)
 
     def place_of(self, ran: RanFields) -> Place:
         """Where the hart is behind a step."""
@@ -254,6 +261,7 @@ def call_of(world: str, registers: Sequence[int], after: Sequence[int]) -> CallM
     if call is None:
         return None
     words = dict(zip(names.ARGUMENTS[call], registers[10:15]))
+    slot: int | None
     if world != "host":
         slot = int(world[1:])
     elif call is names.Call.create:

@@ -59,7 +59,8 @@ class Ends:
     go on that change the outcome by independent steps; `is_cut` that the time was over."""
 
     def __init__(self, search: Search, outcome: Sequence[Observed]) -> None:
-        self.search, self.machine, self.outcome, self.found, self.orders = search, search.machine, outcome, {}, 0
+        self.search, self.machine, self.outcome, self.orders = search, search.machine, outcome, 0
+        self.found: dict[tuple[tuple[HartEnd, ...], tuple[Value, ...]], End] = {}
         self.are_hidden = self.is_cut = False
         try:
             with search.limit.until(1 + GRACE, SLACK):
@@ -109,7 +110,7 @@ class Ends:
         """The final states of a part: one for each set of values, or one if the values are not known."""
         over = tuple(part.over(hart) if how == OVER else (how, None) for hart, how in enumerate(harts))
         vertex = part.vertices[0]
-        found = {(): (vertex, part.graph.nodes[vertex].place.state, ())}
+        found: dict[tuple[Value, ...], Found] = {(): (vertex, part.graph.nodes[vertex].place.state, ())}
         if LEFT not in harts and (LONG not in harts or OVER in harts):
             found, is_hidden = part.values(self.outcome)
             self.are_hidden = self.are_hidden or is_hidden
@@ -126,7 +127,7 @@ class Part:
         self.vertices = sorted((it for it in vertices if it in graph.nodes), key=lambda it: graph.nodes[it].cost)
         self.all = set(vertices)
         self.moves = moves_inside(graph, vertices, place_of) if self.vertices else {}
-        self.state = graph.nodes[self.vertices[0]].place.state if self.vertices else None
+        self.state = graph.nodes[self.vertices[0]].place.state if self.vertices else search.machine.start
 
     def loop(self, hart: int) -> Loop | None:
         """The endless loop of a hart that nobody can affect, or None."""
@@ -141,7 +142,8 @@ class Part:
         is_still = is_still and not any(loop and loop.changes for loop in map(self.loop, count))
         is_given_up = any((self.state, hart) in self.graph.alone for hart in count)
         harts = [self.how(hart, is_still, is_given_up) for hart in count]
-        return None if None in harts else tuple(harts)
+        known = tuple(it for it in harts if it is not None)
+        return known if len(known) == len(harts) else None
 
     def how(self, hart: int, is_still: bool, is_given_up: bool) -> str | None:
         """How a hart ended here."""
@@ -153,7 +155,8 @@ class Part:
         if graph.moves.get((state, hart, False), self) is None:
             if (state, hart) in graph.unended:
                 return LONG
-            return going if self.loop(hart) and self.loop(hart).accesses else OVER
+            loop = self.loop(hart)
+            return going if loop and loop.accesses else OVER
         return LEFT if is_given_up else None
 
     def over(self, hart: int) -> HartEnd:
@@ -178,7 +181,8 @@ class Part:
     def values(self, outcome: Sequence[Observed]) -> tuple[dict[tuple[Value, ...], Found], bool]:
         """Returns the sets of values that hold again and again, each with a vertex, the state and the schedule from the vertex to it; and
         whether some may be missing."""
-        found, machine = {}, self.machine
+        machine = self.machine
+        found: dict[tuple[Value, ...], Found] = {}
         for vertex in self.vertices:
             state = self.graph.nodes[vertex].place.state
             found.setdefault(values_in(machine, outcome, state), (vertex, state, ()))
@@ -193,15 +197,16 @@ class Part:
 
     def values_alone(self, hart: int, outcome: Sequence[Observed]) -> dict[tuple[Value, ...], Found]:
         """The sets of values while a hart goes on alone, as in `values`."""
-        found, state, watched = {values_in(self.machine, outcome, self.state): (self.vertices[0], self.state, ())}, None, self.search.outcome
+        watched, first = self.search.outcome, self.vertices[0]
+        found: dict[tuple[Value, ...], Found] = {values_in(self.machine, outcome, self.state): (first, self.state, ())}
         if not watched.registers and not watched.addresses:
             return found  # all of it is met, and each value has a node
-        last = None
+        last: object = None
         for work in self.alone(hart):
             now = work.digest, work.table, [work.registers[number] for of, number in watched.registers if of == hart]
             if now != last:
                 state, last = work.kept(), now
-                found.setdefault(values_in(self.machine, outcome, state), (self.vertices[0], state, ((hart, work.done, ""),)))
+                found.setdefault(values_in(self.machine, outcome, state), (first, state, ((hart, work.done, ""),)))
         return found
 
     def round(self, vertex: Vertex, state: State, harts: Sequence[int], tail: Sequence[Piece]) -> tuple[Piece, ...]:
@@ -252,7 +257,7 @@ def counted(graph: Graph, bound: int) -> Graph:
     """A graph whose vertices have the number of preemptions that came, up to the bound."""
     new, start = Graph(), (next(iter(graph.nodes)), 0)
     new.moves, new.loops, new.unended, new.alone = graph.moves, graph.loops, graph.unended, graph.alone
-    waiting = [start]
+    waiting: list[Vertex] = [start]
     while waiting:
         vertex = waiting.pop()
         place, came = vertex
@@ -267,7 +272,7 @@ def counted(graph: Graph, bound: int) -> Graph:
 def round_of(graph: Graph, vertex: Vertex, moving: Sequence[int], part: Set[Vertex]) -> tuple[tuple[int, Move], ...]:
     """Moves from a vertex through its part and back, in which each of these harts moves."""
     here = start = vertex
-    found = []
+    found: list[tuple[int, Move]] = []
     for hart in moving:
         here, path = path_to(graph, here, part, lambda edge: edge[1] == hart)
         found += path
@@ -278,7 +283,8 @@ def round_of(graph: Graph, vertex: Vertex, moving: Sequence[int], part: Set[Vert
 
 def path_to(graph: Graph, here: Vertex, part: Set[Vertex], is_wanted: Callable[[Edge], bool]) -> tuple[Vertex, tuple[tuple[int, Move], ...]]:
     """The shortest path within a part whose last edge is a wanted one; where it leads, and its moves."""
-    waiting, seen = deque([(here, ())]), {here}
+    waiting: deque[tuple[Vertex, tuple[tuple[int, Move], ...]]] = deque([(here, ())])
+    seen = {here}
     while True:
         vertex, path = waiting.popleft()
         for edge in graph.edges.get(vertex, ()):
@@ -295,7 +301,13 @@ class Components:
     """The strongly connected parts of the graph, each behind those that it leads to (Tarjan), and for each vertex the place of its part."""
 
     def __init__(self, graph: Graph) -> None:
-        self.graph, self.number, self.low, self.stack, self.on_stack, self.parts, self.place_of = graph, {}, {}, [], set(), [], {}
+        self.graph = graph
+        self.number: dict[Vertex, int] = {}
+        self.low: dict[Vertex, int] = {}
+        self.stack: list[Vertex] = []
+        self.on_stack: set[Vertex] = set()
+        self.parts: list[list[Vertex]] = []
+        self.place_of: dict[Vertex, int] = {}
         for root in list(graph.nodes):
             if root not in self.number:
                 self.walk(root)
@@ -308,7 +320,7 @@ class Components:
 
     def walk(self, root: Vertex) -> None:
         """All that a vertex leads to."""
-        work = []
+        work: list[tuple[Vertex, Iterator[Edge]]] = []
         self.enter(root, work)
         while work:
             vertex, edges = work[-1]

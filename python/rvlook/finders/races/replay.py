@@ -10,7 +10,7 @@ from rvlook.output.escapes import visible
 from rvlook.errors import Fault
 from rvlook.finders.outcomes import Bytes, Register
 from rvlook.finders.races.machine import ROW, commands_of
-from rvlook.protocol.replies import ran_of
+from rvlook.protocol.replies import step_of
 from rvlook.protocol.memory_map import RAM_BASE
 
 if TYPE_CHECKING:
@@ -49,10 +49,10 @@ class Replays:
     def done(self, bench: Bench, end: End, commands: Sequence[str], state: State) -> None:
         """Does commands, and compares what they came to."""
         machine, chosen, told = self.machine, 0, {}
-        for command, replies in zip(commands, bench.ask(*commands)):
+        for command, lines in zip(commands, bench.ask(*commands)):
             chosen = int(command[5:]) if command.startswith("hart ") else chosen
             if command.startswith("step"):
-                ran = ran_of(replies[0])
+                ran = step_of(lines[0])
                 told[chosen] = ran.mode, ran.world
         for hart in range(machine.count):
             replies = bench.ask(*machine.choose(hart), "regs", *machine.rest)[1:]
@@ -66,10 +66,10 @@ class Replays:
 
     def wanted(self, memory: Memory) -> list[str]:
         """The rows as they should be."""
-        rows = list(self.rows)
+        rows = list(self.rows or ())
         for row in {(at - RAM_BASE) // ROW for at in memory}:
             at = RAM_BASE + ROW * row
-            rows[row] = "%08x: %s" % (at, " ".join("%02x" % it for it in self.machine.bytes_at(memory, at, ROW)))
+            rows[row] = "%08x: %s" % (at, " ".join("%02x" % it for it in self.machine.bytes_at(memory, at, ROW) or ()))
         return rows
 
     @staticmethod

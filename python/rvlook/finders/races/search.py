@@ -12,7 +12,7 @@ from typing import Any, Callable, Iterable, Iterator, NamedTuple, Optional, TYPE
 from rvlook.protocol import names
 from rvlook.finders.outcomes import Watched
 from rvlook.finders.races.loop import LoopDetector, first_arrival, loop_of
-from rvlook.finders.races.machine import State, Work
+from rvlook.finders.races.machine import Called, State, Work
 from rvlook.finders.races.time_limit import OutOfTime, TimeLimit
 
 if TYPE_CHECKING:
@@ -72,6 +72,18 @@ class Node:
         self.place, self.cost, self.alone, self.low = place, cost, alone, low
         self.parent, self.move, self.is_timer = origin
 
+    @property
+    def hart(self) -> int:
+        """The hart of the last move; the start has none."""
+        assert self.place.last is not None
+        return self.place.last
+
+    @property
+    def last_move(self) -> Move:
+        """The last move; the start has none."""
+        assert self.move is not None
+        return self.move
+
     def pieces(self) -> list[Node]:
         """The nodes of the way, the first move's first."""
         found, node = [], self
@@ -82,23 +94,24 @@ class Node:
 
     def way(self) -> list[Piece]:
         """The schedule that leads here: of each piece the hart, its steps, and what is done with the timer's line before them."""
-        return way_of((it.place.last, it.move, it.is_timer) for it in self.pieces())
+        return way_of((it.hart, it.last_move, it.is_timer) for it in self.pieces())
 
 
 def way_of(moves: Iterable[tuple[int, Move, bool]]) -> list[Piece]:
     """Moves as a schedule. On the bare bench the line that was taken is lowered."""
-    joined, lowers = [], False
+    joined: list[Piece] = []
+    lowers = False
     for hart, move, is_timer in moves:
         if lowers:
-            joined.append([hart, 0, "off"])
+            joined.append((hart, 0, "off"))
         if is_timer:
-            joined.append([hart, 0, "on"])
+            joined.append((hart, 0, "on"))
         if joined and joined[-1][0] == hart:
-            joined[-1][1] += move.steps
+            joined[-1] = (hart, joined[-1][1] + move.steps, joined[-1][2])
         else:
-            joined.append([hart, move.steps, ""])
+            joined.append((hart, move.steps, ""))
         lowers = move.met.timed and move.met.world == "bare"
-    return [tuple(it) for it in joined] + ([(joined[-1][0], 0, "off")] if lowers else [])
+    return joined + ([(joined[-1][0], 0, "off")] if lowers else [])
 
 
 class Touches:
@@ -149,7 +162,8 @@ class Search:
     """All orders within bounds. `plain` switches harts before each step; `outcome` is what distinguishes final states; `progress`, which may
     be set, is called with the search at each place."""
 
-    def __init__(self, machine: Machine, bounds: Bounds = Bounds(), plain: bool = False, outcome: Watched = Watched(), limit: TimeLimit = TimeLimit()) -> None:
+    def __init__(self, machine: Machine, bounds: Bounds = Bounds(), plain: bool = False, outcome: Watched = Watched(),
+                 limit: TimeLimit = TimeLimit()) -> None:
         self.machine, self.bounds, self.outcome, self.limit = machine, bounds, outcome, limit
         self.progress: Callable[[Search], None] | None = None
         self.watched = frozenset((*outcome.addresses, -1)) if bounds.timers else frozenset()
@@ -256,7 +270,7 @@ class Search:
         """Where it may go on, with the cost: preemptions, timers, switches, steps."""
         state, last, timers, begun = node.place
         if node.alone > MOST_ALONE:
-            self.graph.alone.add((state, last))
+            self.graph.alone.add((state, node.hart))
             for hart in range(self.machine.count):
                 self.move(state, hart, node.way)  # so that it is known which harts have ended
             return
@@ -326,7 +340,8 @@ class Search:
 
     def made(self, state: State, hart: int, way: Way) -> Move | None:
         """Steps up to one that others could be affected by, this one, and those behind it up to the next such."""
-        machine, work, detector, met = self.machine, Work(self.machine, state, hart), LoopDetector(), None
+        machine, work, detector = self.machine, Work(self.machine, state, hart), LoopDetector()
+        met: Met | None = None
 
         def behind() -> list[Piece]:
             return way() + ([(hart, work.done, "")] if work.done else [])
@@ -393,13 +408,13 @@ class Search:
 
     def log(self, hart: int, world: str, pc: int, look: Look, done: Outcome) -> None:
         """Keeps what a step touched."""
-        agent = (hart, world) if self.bounds.timers else hart
+        agent: Agent = (hart, world) if self.bounds.timers else hart
         self.touches.executed[agent].add(pc)
         if look.kind in ("r", "w"):
             own = self.machine.contexts[look.key[0]]
             if not is_inside(own, look):
                 (self.touches.read if look.kind == "r" else self.touches.written)[agent].update(range(look.at, look.at + look.width))
-        elif look.kind == "call" and done.writes:
+        elif isinstance(done, Called) and look.kind == "call" and done.writes:
             self.touches.written[agent].update(at for at, _ in done.writes)
 
     # ---- harts that do no more
@@ -410,7 +425,8 @@ class Search:
 
     def goes_round(self, state: State, hart: int, way: Way) -> bool:
         """Whether a hart by itself comes back to this state; `cycles` has in how many steps, or 0."""
-        chain, passed, asked, move = {}, [0], state, None
+        chain: dict[State, int] = {}
+        passed, asked, move = [0], state, None
         while (state, hart) not in self.cycles and state not in chain and len(chain) <= MOST_ALONE:
             chain[state] = len(chain)
             move = self.move(state, hart, lambda: way() + ([(hart, passed[-1], "")] if passed[-1] else []))
@@ -427,7 +443,7 @@ def is_taken(done: Outcome | None) -> bool:
     """Whether a step was an interrupt of the timer."""
     if done is None:
         return False
-    return done.trap.startswith(names.TIMER) if hasattr(done, "trap") else done.trapped == names.TIMER
+    return done.trap.startswith(names.TIMER) if isinstance(done, Called) else done.trapped == names.TIMER
 
 
 def is_inside(own: Context, look: Look) -> bool:

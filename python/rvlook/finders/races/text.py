@@ -57,7 +57,9 @@ class Story:
         is_alone = any((state, hart) in it.alone for it in search.graphs())
         return "%d moves alone" % MOST_ALONE if is_alone else counted(search.bounds.steps, "step")
 
-    def place(self, pc: int) -> str:
+    def place(self, pc: int | None) -> str:
+        """Returns the source line of a pc, its symbol or its address; the pc must be known."""
+        assert pc is not None
         return self.symbols.source(pc) or self.symbols.name(pc) or hex8(pc)
 
     def turns(self) -> list[list[Node]]:
@@ -75,13 +77,13 @@ class Story:
         turns = self.turns()
         for number, turn in enumerate(turns):
             if turn[0].is_timer:
-                yield "%s before %s" % (timer_text(turn[0].move.met), self.place(turn[0].move.met.pc))
+                yield "%s before %s" % (timer_text(turn[0].last_move.met), self.place(turn[0].last_move.met.pc))
             elif 0 < number < len(turns) - 1:
                 before, behind = turns[number - 1], turns[number + 1]
-                met = [[it.move.met.pc for it in part if it.move.met.pc is not None] for part in (before, turn, behind)]
-                if all(met) and before[0].place.last == behind[0].place.last != turn[0].place.last and not behind[0].is_timer:
+                met = [[it.last_move.met.pc for it in part if it.last_move.met.pc is not None] for part in (before, turn, behind)]
+                if all(met) and before[0].hart == behind[0].hart != turn[0].hart and not behind[0].is_timer:
                     yield "hart %d does %s between %s and %s of hart %d" % (
-                        turn[0].place.last, self.span(met[1]), self.place(met[0][-1]), self.place(met[2][0]), before[0].place.last)
+                        turn[0].hart, self.span(met[1]), self.place(met[0][-1]), self.place(met[2][0]), before[0].hart)
 
     def span(self, pcs: Sequence[int]) -> str:
         first, last = self.place(pcs[0]), self.place(pcs[-1])
@@ -89,14 +91,15 @@ class Story:
 
     def access(self, node: Node) -> str:
         """One move by what it touched, and where."""
-        move = node.move.met
+        _, pc, look, _, _ = met = node.last_move.met
+        assert pc is not None and look is not None
         if node.is_timer:
-            what = timer_text(move)
-        elif move.look.kind in ("r", "w"):
-            what = "%s %08x %d  %s" % (move.look.kind, move.look.at, move.look.width, self.symbols.name(move.look.at) or "")
+            what = timer_text(met)
+        elif look.kind in ("r", "w"):
+            what = "%s %08x %d  %s" % (look.kind, look.at, look.width, self.symbols.name(look.at) or "")
         else:
-            what = "calls the monitor" if move.look.kind == "call" else "x"
-        return "      %-34s %s" % (what.rstrip(), place_text(hex8(move.pc), self.symbols))
+            what = "calls the monitor" if look.kind == "call" else "x"
+        return "      %-34s %s" % (what.rstrip(), place_text(hex8(pc), self.symbols))
 
     def lines(self, total: int) -> Iterator[str]:
         """The end, line by line, behind its heading."""
@@ -106,8 +109,8 @@ class Story:
                                                     counted(switches, "switch").replace("switchs", "switches"), counted(self.end.steps, "step"))
         yield from ("  " + it for it in self.sentences())
         for turn in self.turns():
-            yield "    hart %d, %s" % (turn[0].place.last, counted(sum(it.move.steps for it in turn), "step"))
-            lines = [self.access(it) for it in turn if it.move.met.pc is not None]
+            yield "    hart %d, %s" % (turn[0].hart, counted(sum(it.last_move.steps for it in turn), "step"))
+            lines = [self.access(it) for it in turn if it.last_move.met.pc is not None]
             yield from lines if len(lines) <= 2 * SHOWN + 1 else \
                 [*lines[:SHOWN], "      ... %d more" % (len(lines) - 2 * SHOWN), *lines[-SHOWN:]]
         for hart, steps, _ in self.end.tail:
@@ -119,8 +122,8 @@ class Story:
     def object(self, printer: Printer) -> None:
         end, count = self.end, self.search.machine.count
         preemptions, timers, switches, _ = end.node.cost
-        turns = [dict(hart=turn[0].place.last, steps=sum(it.move.steps for it in turn),
-                      touched=[self.touched(it) for it in turn if it.move.met.pc is not None]) for turn in self.turns()]
+        turns = [dict(hart=turn[0].hart, steps=sum(it.last_move.steps for it in turn),
+                      touched=[self.touched(it) for it in turn if it.last_move.met.pc is not None]) for turn in self.turns()]
         printer.object("race", end=end.number, values={it.name: shown(value) for it, value in zip(self.outcome, end.values)},
                        over=[dict(hart=hart, how=how, pc=hex8(pc)) for hart, (how, pc) in enumerate(end.harts)], orders=end.orders,
                        preemptions=preemptions, timers=timers, switches=switches, steps=end.steps, told=list(self.sentences()),
@@ -128,7 +131,8 @@ class Story:
                        turns=turns)
 
     def touched(self, node: Node) -> dict[str, Json]:
-        look, pc = node.move.met.look, node.move.met.pc
+        look, pc = node.last_move.met.look, node.last_move.met.pc
+        assert look is not None and pc is not None
         return dict(kind="timer" if node.is_timer else look.kind or "x", address=hex8(look.at) if look.kind in ("r", "w") else None,
                     symbol=self.symbols.name(look.at) if look.kind in ("r", "w") else None, pc=hex8(pc), source=self.symbols.source(pc))
 
