@@ -1,1 +1,6 @@
-"""What rvlook is made of: a companion of the bench, which talks to it over a pipe (docs/LOOK.md)."""
+"""rvlook, the front end of rvbench: it drives rvbench over a pipe, and derives what it shows from the replies (docs/LOOK.md).
+
+A subpackage imports only itself and those before it in this order, which tests/rvlook/test_static.py checks:
+
+    errors output protocol image access trace finders page prompt gdb cli
+"""

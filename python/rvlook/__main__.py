@@ -1,6 +1,9 @@
 """rvlook: what comes wrong is told in one line."""
+from __future__ import annotations
+
 import os
 import sys
+from typing import NoReturn, Sequence
 
 from rvlook.cli.parser import perform, read
 from rvlook.errors import UNFINISHED, Fault
@@ -8,13 +11,13 @@ from rvlook.errors import UNFINISHED, Fault
 INTERRUPTED, CLOSED = 130, 141  # as a shell tells the signals SIGINT and SIGPIPE
 
 
-def told(line, status):
+def told(line: str, status: int) -> int:
     """Ends with one line on standard error."""
     print("rvlook: " + line, file=sys.stderr)
     return status
 
 
-def main(words):
+def main(words: Sequence[str]) -> int:
     """Does what the words ask for; the status of the program."""
     take_all_characters()
     try:
@@ -29,7 +32,7 @@ def main(words):
         return told("the output fails: %s" % error.strerror, UNFINISHED)
 
 
-def ended(words):
+def ended(words: Sequence[str]) -> int:
     """The same, where the output takes what it is given."""
     if sys.stdout is None:
         return told("there is no standard output", UNFINISHED)
@@ -42,20 +45,25 @@ def ended(words):
         return told(str(fault), fault.status)
     except SystemExit as end:  # behind a help text
         sys.stdout.flush()
-        return end.code
+        return end.code if isinstance(end.code, int) else 0
 
 
-def take_all_characters():
+def take_all_characters() -> None:
     """Has the standard streams take names and lines of any bytes, also where the locale has no encoding for them."""
     for stream, errors in ((sys.stdin, "surrogateescape"), (sys.stdout, "backslashreplace"), (sys.stderr, "backslashreplace")):
         if hasattr(stream, "reconfigure"):
             stream.reconfigure(errors=errors)
 
 
-def drop_output():
+def drop_output() -> None:
     """What is left of the output goes nowhere, so that the end of Python does not try again."""
     os.dup2(os.open(os.devnull, os.O_WRONLY), sys.stdout.fileno())
 
 
-if __name__ == "__main__":
+def run() -> NoReturn:
+    """Runs rvlook with the arguments of this process, and ends it with the exit status."""
     sys.exit(main(sys.argv[1:]))
+
+
+if __name__ == "__main__":
+    run()

@@ -1,4 +1,6 @@
 """What can come wrong, told in one line."""
+from __future__ import annotations
+
 import sys
 
 FOUND, REFUSED, UNFINISHED = 1, 2, 3  # statuses (docs/LOOK.md, How it ends); 2 as argparse and the bench have it
@@ -26,11 +28,11 @@ class BenchEnded(Unfinished):
     """The bench ended before it had answered."""
 
 
-def tell(line):
+def tell(line: str) -> None:
     """A line on standard error."""
     print("rvlook: " + line, file=sys.stderr, flush=True)
 
 
-def package_missing(module, package, what):
+def package_missing(module: str, package: str, what: str) -> str:
     """The line for a package of the distribution that is not there."""
     return "%s is not there, so %s; apt-get install %s brings it" % (module, what, package)

@@ -1,12 +1,18 @@
 """What a run fetched, loaded and stored, counted. Of a step that loads or stores the register that its address goes by is asked for before
 it; of the others none is, so that this takes less than a trace."""
+from __future__ import annotations
+
 from collections import Counter
-from typing import NamedTuple
+from typing import NamedTuple, Sequence, TYPE_CHECKING
 
 from rvlook.protocol import names
 from rvlook.protocol.instructions import instruction_of
+from rvlook.protocol.replies import NO_TRAP, RAN_FIELDS
 from rvlook.protocol.run import End, Stretch
-from rvlook.trace.tracer import NO_TRAP, RAN_FIELDS
+
+if TYPE_CHECKING:
+    from rvlook.protocol.instructions import Memory
+    from rvlook.protocol.run import Replay, Run
 
 
 class Access(NamedTuple):
@@ -18,7 +24,7 @@ class Access(NamedTuple):
     done: bool
 
 
-def accesses(run):
+def accesses(run: Run) -> tuple[Counter[Access], End]:
     """How many accesses of each kind there were, and the run's end."""
     counter, end = Counting(run), None
     with run.replay() as reader, run.replay() as teller:
@@ -27,17 +33,19 @@ def accesses(run):
                 counter.take(reader, teller, item)
             elif isinstance(item, End):
                 end = item
+    assert end is not None
     return counter.found(), end
 
 
 class Counting:
     """The counts of the steps by what the first bench replies to them, and of loads and stores."""
 
-    def __init__(self, run):
-        self.steps, self.touched = Counter(), Counter()
+    def __init__(self, run: Run) -> None:
+        self.steps: Counter[tuple[bytes, bytes, bytes]] = Counter()
+        self.touched: Counter[tuple[bytes, str, int, int, bool]] = Counter()
         self.places = [(run.pc.encode(), run.world.encode()) for _ in range(run.setup.harts)]
 
-    def take(self, reader, teller, stretch):
+    def take(self, reader: Replay, teller: Replay, stretch: Stretch) -> None:
         """Steps of one hart, one after another."""
         after, _, worlds, traps = zip(*RAN_FIELDS.findall(stretch.data))
         pc, world = self.places[stretch.hart]
@@ -55,7 +63,7 @@ class Counting:
                 self.touched[worlds[place], memory.kind, address, memory.width, traps[place] == NO_TRAP] += 1
 
     @staticmethod
-    def bases(teller, stretch, found):
+    def bases(teller: Replay, stretch: Stretch, found: Sequence[tuple[int, Memory]]) -> list[int]:
         """The registers that these addresses go by, each before its step."""
         begin(teller, stretch)
         asked, count, done = [], 0, 0
@@ -69,9 +77,9 @@ class Counting:
         lines = teller.bench.block(b"".join(asked), count + 1).split(b"\n")
         return [int(line.split(b"=")[1], 16) for line in lines if line.startswith(b"x")]
 
-    def found(self):
+    def found(self) -> Counter[Access]:
         """All of them: a step fetches the word at pc, but where an interrupt comes in its place."""
-        every = Counter({Access(world.decode(), *rest): count for (world, *rest), count in self.touched.items()})
+        every = Counter({Access(it[0].decode(), *it[1:]): count for it, count in self.touched.items()})
         for (pc, world, trap), count in self.steps.items():
             cause, _, value = trap.decode().partition(":")
             is_refused = cause in names.FETCH_FAULTS and value == pc.decode()
@@ -80,7 +88,7 @@ class Counting:
         return every
 
 
-def begin(replay, stretch):
+def begin(replay: Replay, stretch: Stretch) -> None:
     """Brings a bench to where the next step is the first of these, and takes them as done."""
     replay.bench.ask(*(replay.lines_to(stretch.first - 1) + replay.lines_up_to_next() or ["reg 0"]))
     replay.lines_to(stretch.first - 1 + stretch.count)

@@ -1,20 +1,27 @@
 """The stays of enclaves in a run, from each entry to the leave behind it, with what they did: each load and store, and the operands of
 divisions. Of a step that does such the registers are asked for that it names, before it. What an instruction is is asked once, for nobody
 but an enclave stores into its region; where it stores into its own code, it is asked at each step of that part of the run."""
+from __future__ import annotations
+
 import itertools
 import re
 from array import array
 from collections import Counter
 from dataclasses import dataclass, field
 from functools import lru_cache
-from typing import NamedTuple, Optional
+from typing import Generator, Iterable, Iterator, Mapping, NamedTuple, Optional, Sequence, TYPE_CHECKING, Tuple
 
 from rvlook.protocol import names
 from rvlook.access.accesses import begin
-from rvlook.protocol.instructions import instruction_of
-from rvlook.protocol.replies import enclave_of, register_values
+from rvlook.protocol.instructions import Memory, instruction_of
+from rvlook.protocol.replies import NO_TRAP, RAN_FIELDS, enclave_of, register_values
 from rvlook.protocol.run import Line, Stretch
-from rvlook.trace.tracer import NO_TRAP, RAN_FIELDS
+
+if TYPE_CHECKING:
+    from rvlook.protocol.bench import Bench
+    from rvlook.protocol.replies import Enclave
+    from rvlook.protocol.run import Run
+    from rvlook.protocol.run import End
 
 DIVIDES = re.compile(r"(?:div|rem)u? x\d+, x(\d+), x(\d+)")
 MODES = {b"U": 0, b"S": 1, b"M": 3}
@@ -23,15 +30,22 @@ ROW = 64  # bytes that `mem` shows at once
 
 
 class Did(NamedTuple):
-    """A load (`r`), a store (`w`) or a division (`d`) of a step: address and width, or None; the value that is stored, or the operands; and
+    """A load (`r`), a store (`w`) or a division (`d`) of a step: address and width, 0 for a division; the value that is stored, or the operands; and
     whether it was done."""
     step: int
     pc: int
     kind: str
-    address: Optional[int]
+    address: int
     width: int
-    values: tuple
+    values: tuple[int, ...]
     done: bool
+
+
+class Fields(NamedTuple):
+    """Columns of the steps of a stretch: pc and mode before each step, and its trap, as the bytes of the replies."""
+    pcs: Sequence[bytes]
+    modes: Sequence[bytes]
+    traps: Sequence[bytes]
 
 
 @dataclass
@@ -41,28 +55,31 @@ class Stay:
     hart: int
     first: int
     number: int
-    enclave: object = None
-    last: Optional[int] = None
+    enclave: Enclave
+    last: int = 0
     left: str = ""
-    answer: tuple = ()
+    answer: tuple[int, ...] = ()
     pc: Optional[int] = None  # of the step that left
-    pcs: array = field(default_factory=lambda: array("I"))  # of each step, with its mode in the lowest bits
-    steps: array = field(default_factory=lambda: array("I"))  # the number of each
-    traps: dict = field(default_factory=dict)  # of the steps that trapped, by their place
-    did: list = field(default_factory=list)
-    did_at: array = field(default_factory=lambda: array("I"))  # the places of these steps
+    pcs: array[int] = field(default_factory=lambda: array("I"))  # of each step, with its mode in the lowest bits
+    steps: array[int] = field(default_factory=lambda: array("I"))  # the number of each
+    traps: dict[int, bytes] = field(default_factory=dict)  # of the steps that trapped, by their place
+    did: list[Did] = field(default_factory=list)
+    did_at: array[int] = field(default_factory=lambda: array("I"))  # the places of these steps
     before: bytes = b""
     after: bytes = b""
-    others: tuple = ()  # the world of the other hart, where there is one
-    table: tuple = ()  # of the live enclaves
+    others: tuple[str, ...] = ()  # the world of the other hart, where there is one
+    table: tuple[Enclave, ...] = ()  # of the live enclaves
 
     @property
-    def slot(self):
+    def slot(self) -> int:
         return int(self.world[1:])
 
 
+Wanted = Tuple[Optional[Memory], Tuple[int, ...]]  # an access, or None for a division, and registers
+
+
 @lru_cache(maxsize=65536)
-def wants(line, is_strict):
+def wants(line: bytes, is_strict: bool) -> Wanted | None:
     """Which registers are to be asked for before an instruction: those of the address and of what is stored, or of a division."""
     it = instruction_of(line)
     if it is None:
@@ -76,13 +93,16 @@ def wants(line, is_strict):
 class Stays:
     """The stays of a run behind a step, as far as it goes; `is_strict` asks for divisions too, and `last` ends it."""
 
-    def __init__(self, run, start=0, is_strict=False):
-        self.run, self.start, self.is_strict, self.code = run, start, is_strict, {}
+    def __init__(self, run: Run, start: int = 0, is_strict: bool = False) -> None:
+        self.run, self.start, self.is_strict = run, start, is_strict
+        self.code: dict[int, dict[bytes, bytes]] = {}
         self.places = [(run.pc.encode(), run.mode.encode(), run.world.encode()) for _ in range(run.setup.harts)]
-        self.open, self.numbers = [None] * run.setup.harts, Counter()
-        self.end = None
+        self.open: list[Stay | None] = [None] * run.setup.harts
+        self.numbers: Counter[str] = Counter()
+        self.end: End | None = None
+        self.offset = -1  # of the teller in the stretch; below 0 if it is not there yet
 
-    def all(self):
+    def all(self) -> Generator[Stay, None, None]:
         """Each stay when it has ended; one that the run leaves open comes last."""
         with self.run.replay() as teller, self.run.replay() as shower:
             self.teller, self.shower = teller, shower
@@ -93,42 +113,45 @@ class Stays:
                     self.code = {hart: {} for hart in self.code} if item.text.startswith("poke") else self.code
                 else:
                     self.end = item
-            for stay in filter(None, self.open):
+            for stay in (it for it in self.open if it):
+                assert self.end is not None
                 yield self.closed(stay, self.end.steps, None, "nothing")
 
-    def take(self, stretch):
+    def take(self, stretch: Stretch) -> Iterator[Stay]:
         """Steps of one hart: those of enclaves are looked at."""
         hart, place = stretch.hart, 0
         after = list(zip(*RAN_FIELDS.findall(stretch.data)))
         traps = after.pop()
         pcs, modes, worlds = ((before, *those[:-1]) for before, those in zip(self.places[hart], after))
-        self.places[hart] = tuple(it[-1] for it in after)
+        self.places[hart] = (after[0][-1], after[1][-1], after[2][-1])
         if stretch.first + stretch.count <= self.start:
             self.numbers.update(self.entered(worlds, after[2]))
             return
-        self.offset = None  # of the teller in the stretch
+        self.offset, fields = -1, Fields(pcs, modes, traps)
         for world, group in itertools.groupby(worlds):
             count = sum(1 for _ in group)
             if world.startswith(b"e"):
-                if self.open[hart] is None:
-                    self.open[hart], self.code[hart] = self.opened(world.decode(), hart, stretch.first + place - 1), {}
                 stay, inside = self.open[hart], range(place, place + count)
-                self.extend(stay, stretch.first, inside, pcs, modes, traps, self.looked_at(stretch, pcs, traps, inside))
+                if stay is None:
+                    stay = self.open[hart] = self.opened(world.decode(), hart, stretch.first + place - 1)
+                    self.code[hart] = {}
+                self.extend(stay, stretch.first, inside, fields, self.looked_at(stretch, fields, inside))
                 if place + count < stretch.count or after[2][-1] != world:
                     self.open[hart] = None
                     yield self.closed(stay, stretch.first + place + count - 1, int(pcs[place + count - 1], 16))
             place += count
-        if self.offset is not None and self.offset < stretch.count:
+        if 0 <= self.offset < stretch.count:
             self.teller.bench.block(b"step %d\n" % (stretch.count - self.offset), 1)
 
     @staticmethod
-    def entered(worlds, after):
+    def entered(worlds: Iterable[bytes], after: Iterable[bytes]) -> list[str]:
         """The worlds that steps entered."""
         return [now.decode() for was, now in zip(worlds, after) if now != was and now.startswith(b"e")]
 
     @staticmethod
-    def extend(stay, step, inside, pcs, modes, traps, did):
-        """Steps of a stay, by their places in a stretch."""
+    def extend(stay: Stay, step: int, inside: range, fields: Fields, did: Mapping[int, Did]) -> None:
+        """Adds steps to a stay, by their places in a stretch that begins with step `step`."""
+        pcs, modes, traps = fields
         begin_at, first, end = len(stay.pcs), inside.start, inside.stop
         stay.pcs.extend([int(pc, 16) | MODES[mode] for pc, mode in zip(pcs[first:end], modes[first:end])])
         stay.steps.extend(range(step + first, step + end))
@@ -139,28 +162,28 @@ class Stays:
 
     # ---- its borders
 
-    def opened(self, world, hart, step):
+    def opened(self, world: str, hart: int, step: int) -> Stay:
         """A stay that begins behind a step."""
         self.numbers[world] += 1
-        stay = Stay(world, hart, step + 1, self.numbers[world])
-        stay.enclave, stay.before = self.seen(world, step)
+        enclave, before = self.seen(world, step)
+        stay = Stay(world, hart, step + 1, self.numbers[world], enclave, before=before)
         stay.table = tuple(map(enclave_of, self.shower.bench.ask("enclaves")[0]))
         stay.others = tuple(it[2].decode() for number, it in enumerate(self.places) if number != hart)
         return stay
 
-    def closed(self, stay, step, pc, left=None):
+    def closed(self, stay: Stay, step: int, pc: int | None, left: str | None = None) -> Stay:
         """A stay that ends with a step."""
         _, stay.after = self.seen(stay.world, step, stay.enclave)
-        stay.last, stay.pc, stay.left = step, pc, left
+        stay.last, stay.pc, stay.left = step, pc, left or ""
         if left is None:
             values = register_values(self.shower.bench.ask(*self.choose(stay.hart), "regs")[-1])
             stay.left, stay.answer = LEFT_BY.get(values[10], "?"), (values[10], values[11])
         return stay
 
-    def choose(self, hart):
+    def choose(self, hart: int) -> list[str]:
         return ["hart %d" % hart] if self.run.setup.harts > 1 else ["reg 0"]
 
-    def seen(self, world, step, enclave=None):
+    def seen(self, world: str, step: int, enclave: Enclave | None = None) -> tuple[Enclave, bytes]:
         """The enclave's line of the table and its window, behind a step."""
         bench = self.shower.bench
         commands = self.shower.lines_to(step)
@@ -169,6 +192,7 @@ class Stays:
         bench.ask(*(commands or ["reg 0"]))
         self.shown_hart = self.shower.hart
         found = next((it for it in map(enclave_of, bench.ask("enclaves")[0]) if it.world == world), enclave)
+        assert found is not None
         rows = ["mem %x %d" % (found.window + at, ROW) for at in range(0, found.window_size, ROW)]
         return found, b"".join(bytes.fromhex(reply[0].split(":")[1]) for reply in (bench.ask(*rows) if rows else ()))
 
@@ -176,9 +200,10 @@ class Stays:
 
     # ---- what its steps did
 
-    def looked_at(self, stretch, pcs, traps, inside):
-        """What each of these steps did, by its place in the stretch."""
-        if self.offset is None:
+    def looked_at(self, stretch: Stretch, fields: Fields, inside: range) -> dict[int, Did]:
+        """Returns what each of these steps did, by its place in the stretch."""
+        pcs = fields.pcs
+        if self.offset < 0:
             begin(self.teller, stretch)
             self.offset = 0
         code, bench = self.code[stretch.hart], self.teller.bench
@@ -186,27 +211,27 @@ class Stays:
         text = (b"step %d\n" % first if first else b"") + b"".join(b"dis %s\n" % it for it in new)
         code.update(zip(new, bench.block(text, len(new) + bool(first)).split(b"\n")[bool(first):]))
         self.offset = inside.start
-        did = self.asked(bench, stretch, pcs, traps, inside, [code[pcs[n]] for n in inside])
+        did = self.asked(bench, stretch, fields, inside, [code[pcs[n]] for n in inside])
         stored = {at & -4: n for n, it in did.items() if it.kind == "w" and it.done for at in range(it.address, it.address + it.width)}
         written = [it for it in code if int(it, 16) in stored]
         if any(pcs[n] in written and n > stored[int(pcs[n], 16)] for n in inside):
-            did = self.step_by_step(stretch, pcs, traps, inside)
+            did = self.step_by_step(stretch, fields, inside)
         for it in written:
             del code[it]
         return did
 
-    def step_by_step(self, stretch, pcs, traps, inside):
+    def step_by_step(self, stretch: Stretch, fields: Fields, inside: range) -> dict[int, Did]:
         """The same, where each instruction is asked for right before it is done."""
         with self.run.replay() as reader, self.run.replay() as teller:
             begin(reader, stretch)
-            block = reader.bench.block(b"".join([b"dis %s\nstep 1\n" % it for it in pcs]), 2 * stretch.count).split(b"\n")
+            block = reader.bench.block(b"".join([b"dis %s\nstep 1\n" % it for it in fields.pcs]), 2 * stretch.count).split(b"\n")
             begin(teller, stretch)
             kept, self.offset = self.offset, 0
-            did = self.asked(teller.bench, stretch, pcs, traps, inside, [block[2 * n] for n in inside])
+            did = self.asked(teller.bench, stretch, fields, inside, [block[2 * n] for n in inside])
             self.offset = kept
             return did
 
-    def asked(self, bench, stretch, pcs, traps, inside, lines):
+    def asked(self, bench: Bench, stretch: Stretch, fields: Fields, inside: range, lines: Sequence[bytes]) -> dict[int, Did]:
         """The registers before the steps that want them; the bench is then behind the last of these steps."""
         wanted = [(n, *found) for n, found in ((n, wants(line, self.is_strict)) for n, line in zip(inside, lines)) if found]
         questions, count = [], 0
@@ -222,15 +247,15 @@ class Stays:
         values = iter([int(it.split(b"=")[1], 16) for it in replies if it.startswith(b"x")])
         found = {}
         for n, memory, registers in wanted:
-            told, trap = [next(values) for _ in registers], traps[n]
+            told, trap = [next(values) for _ in registers], fields.traps[n]
             if trap == NO_TRAP or memory and trap[:8].decode() in names.ACCESS_FAULTS:
-                found[n] = self.what(stretch.first + n, int(pcs[n], 16), memory, told, trap == NO_TRAP)
+                found[n] = self.what(stretch.first + n, int(fields.pcs[n], 16), memory, told, trap == NO_TRAP)
         return found
 
     @staticmethod
-    def what(step, pc, memory, told, done):
+    def what(step: int, pc: int, memory: Memory | None, told: Sequence[int], done: bool) -> Did:
         """What a step did, by the registers before it."""
         if memory is None:
-            return Did(step, pc, "d", None, 0, tuple(told), done)
+            return Did(step, pc, "d", 0, 0, tuple(told), done)
         stored = told[1].to_bytes(4, "little")[:memory.width] if memory.kind == "w" else b""
         return Did(step, pc, memory.kind, (told[0] + memory.offset) & 0xFFFFFFFF, memory.width, tuple(stored), done)

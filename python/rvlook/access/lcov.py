@@ -1,16 +1,25 @@
 """The lines and functions that each world executed, as the file of lcov that genhtml takes: a test for each world."""
-from rvlook.image.escapes import visible
+from __future__ import annotations
+
+from typing import Sequence, TYPE_CHECKING
+
+from rvlook.output.escapes import visible
 from rvlook.errors import Fault
-from rvlook.page.sources import files_of
+from rvlook.image.source_paths import files_of
 from rvlook.access.touch import Touches, covered_functions, covered_lines
 
+if TYPE_CHECKING:
+    from rvlook.output.printer import Printer
+    from rvlook.protocol.run import Run
+    from rvlook.protocol.symbols import Symbols
 
-def show_lcov(run, symbols, printer, paths):
+
+def show_lcov(run: Run, symbols: Symbols, printer: Printer, paths: Sequence[str]) -> None:
     """All worlds, each with its files."""
     if not symbols.lines:
         raise Fault("there are no source lines: an ELF file that is built with -g has them")
     touches = Touches(run)
-    places = {}
+    places: dict[str, str] = {}
     for path in paths:
         places.update((name, visible(file)) for name, file in files_of(path).items())
     for world in touches.worlds():
@@ -21,9 +30,10 @@ def show_lcov(run, symbols, printer, paths):
             write(printer, world, places.get(name, name), functions.get(name, []), own)
 
 
-def functions_of(touches, world, symbols):
+def functions_of(touches: Touches, world: str, symbols: Symbols) -> dict[str, list[tuple[int, str, int]]]:
     """For each file the functions of which a world executed some: the line, the name, and how many times the first instruction was."""
-    executed, found = touches.executed(world), {}
+    executed = touches.executed(world)
+    found: dict[str, list[tuple[int, str, int]]] = {}
     for symbol, _, _ in covered_functions(touches, world, symbols):
         source = symbols.source(symbol.address)
         if source:
@@ -32,7 +42,7 @@ def functions_of(touches, world, symbols):
     return found
 
 
-def write(printer, world, path, functions, lines):
+def write(printer: Printer, world: str, path: str, functions: Sequence[tuple[int, str, int]], lines: Sequence[tuple[int, int]]) -> None:
     """The record of a file."""
     printer.line("TN:" + world)
     printer.line("SF:" + path)

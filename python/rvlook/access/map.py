@@ -4,15 +4,23 @@ Under the monitor the entries are laid out anew by a call or the timer's stop al
 moments are among the steps that trapped. On the bare bench only an instruction on such a register writes an entry: so they are among
 the steps of these instructions, by the word that stands at pc before each step.
 """
+from __future__ import annotations
+
 import re
 from bisect import bisect_right
 from dataclasses import dataclass
-from typing import Optional
+from typing import Iterator, Optional, Sequence, TYPE_CHECKING
 
 from rvlook.protocol import names
 from rvlook.access.ranges import Range, meaning, reach, table_borders, verdicts_of
-from rvlook.protocol.replies import enclave_of, ran_of, register_values
+from rvlook.protocol.replies import Place, enclave_of, register_values, step_of
 from rvlook.protocol.run import End, Stretch
+
+if TYPE_CHECKING:
+    from rvlook.protocol.replies import Enclave, Ran
+    from rvlook.protocol.run import Replay, Run
+    from rvlook.protocol.timeline import Timeline
+    from rvlook.access.ranges import Verdicts
 
 CALLED = re.compile(rb"trap=(?:00000009|80000007):")
 ENTRY_WRITTEN = re.compile(rb" csrr\w+ x\d+, 0x3[ab][0-9a-f],")  # pmpcfg0 to pmpaddr15, by the text of dis
@@ -28,7 +36,7 @@ class Column:
     hart: Optional[int]
 
     @property
-    def derived(self):
+    def derived(self) -> bool:
         return self.hart is None
 
 
@@ -37,7 +45,7 @@ class Row:
     """A range of RAM, what it is, and for each column's name the modes and what they may do."""
     range: Range
     what: str
-    may: dict
+    may: dict[str, dict[str, str]]
 
 
 @dataclass(frozen=True)
@@ -52,17 +60,17 @@ class Moment:
     pc: str
     mode: str
     world: str
-    enclaves: tuple
-    columns: tuple
-    rows: tuple
+    enclaves: tuple[Enclave, ...]
+    columns: tuple[Column, ...]
+    rows: tuple[Row, ...]
 
 
 @dataclass(frozen=True)
 class State:
     """What decides who may touch what: the entries and the world of each hart, and the table."""
-    entries: tuple
-    worlds: tuple
-    enclaves: tuple
+    entries: tuple[tuple[str, ...], ...]
+    worlds: tuple[str, ...]
+    enclaves: tuple[Enclave, ...]
 
 
 @dataclass(frozen=True)
@@ -74,7 +82,7 @@ class Event:
     text: Optional[str] = None
 
 
-def moments(run):
+def moments(run: Run) -> Iterator[Moment | End]:
     """Moment for each change, the first for the state at reset, and last End."""
     finder = Finder(run)
     end = None
@@ -87,10 +95,11 @@ def moments(run):
                 moment = finder.at_step(replay, *item)
                 if moment:
                     yield moment
+    assert end is not None
     yield end
 
 
-def changed_steps(run):
+def changed_steps(run: Run) -> Iterator[tuple[int, int] | End]:
     """The number and hart of each step that called the monitor or was the timer's, and End."""
     for item in run.stretches():
         if isinstance(item, End):
@@ -100,7 +109,7 @@ def changed_steps(run):
                 yield item.first + number, item.hart
 
 
-def changed_entries(run):
+def changed_entries(run: Run) -> Iterator[tuple[int, int] | End]:
     """The number and hart of each step of the bare bench that may have written an entry, and End: a second bench follows the first, and
     tells the instruction of each step before it is done."""
     pc = run.pc.encode()
@@ -118,7 +127,7 @@ def changed_entries(run):
                     yield item.first + number // 2, item.hart
 
 
-def places_of(pattern, block):
+def places_of(pattern: re.Pattern[bytes], block: bytes) -> Iterator[int]:
     """The numbers of the lines in which a pattern stands, at most once in each."""
     place = number = 0
     for match in pattern.finditer(block):
@@ -130,29 +139,31 @@ def places_of(pattern, block):
 class Finder:
     """Makes moments of steps, and keeps what `access` replied for entries that it has met."""
 
-    def __init__(self, run):
-        self.run, self.setup, self.verdicts, self.state = run, run.setup, {}, None
+    def __init__(self, run: Run) -> None:
+        self.run, self.setup = run, run.setup
+        self.verdicts: dict[tuple[str, ...], list[Verdicts]] = {}
+        self.state = State((), (), ())  # nothing is known yet
 
-    def at_reset(self, replay):
+    def at_reset(self, replay: Replay) -> Moment:
         self.state = self.state_of(replay, [self.run.world] * self.setup.harts)
-        return self.moment(0, 0, Event("reset"), self.run.pc, self.run.mode, self.run.world)
+        return self.moment(0, 0, Event("reset"), Place(self.run.pc, self.run.mode, self.run.world))
 
-    def at_step(self, replay, step, hart):
+    def at_step(self, replay: Replay, step: int, hart: int) -> Moment | None:
         """The moment behind a step, or None where nothing has changed."""
         bench = replay.bench
         before = bench.ask(*replay.lines_to(step - 1), *replay.lines_up_to_next(), "regs")[-1]
         pc = before[32][3:]
         text = bench.one("dis " + pc).split(" ", 2)[-1]
         *_, ran_line, after = bench.ask(*replay.lines_to(step), "regs")
-        ran = ran_of(ran_line[0])
+        ran = step_of(ran_line[0])
         state = self.state_of(replay, [*self.state.worlds[:hart], ran.world, *self.state.worlds[hart + 1:]])
         if state == self.state:
             return None
         old, self.state = self.state, state
         event = event_of(ran, old, hart, register_values(before), register_values(after), text)
-        return self.moment(step, hart, event, pc, ran.mode, ran.world)
+        return self.moment(step, hart, event, Place(pc, ran.mode, ran.world))
 
-    def state_of(self, replay, worlds):
+    def state_of(self, replay: Replay | Timeline, worlds: Sequence[str]) -> State:
         """The entries of each hart, and the table; the verdicts are asked for where the entries are new."""
         bench, entries = replay.bench, []
         for hart in range(self.setup.harts):
@@ -165,12 +176,13 @@ class Finder:
             bench.ask("hart %d" % replay.hart)
         return State(tuple(entries), tuple(worlds), tuple(enclave_of(line) for line in bench.ask("enclaves")[0]))
 
-    def moment(self, step, hart, event, pc, mode, world):
+    def moment(self, step: int, hart: int, event: Event, place: Place) -> Moment:
+        """Returns the moment after step `step`, in the present state. `place` is the pc before the step, and mode and world after it."""
         columns = self.columns()
-        return Moment(step, hart, event.name, event.slot, event.status, event.text, pc, mode, world, self.state.enclaves, columns,
+        return Moment(step, hart, event.name, event.slot, event.status, event.text, *place, self.state.enclaves, columns,
                       tuple(self.rows(columns)))
 
-    def columns(self):
+    def columns(self) -> tuple[Column, ...]:
         """Each hart's world, and those that run nowhere."""
         worlds = self.state.worlds
         shown = [Column("hart %d: %s" % (hart, world) if len(worlds) > 1 else world, world, hart)
@@ -178,19 +190,19 @@ class Finder:
         live = ["host"] + [it.world for it in self.state.enclaves] if self.setup.monitor else []
         return tuple(shown + [Column(world, world, None) for world in live if world not in worlds])
 
-    def rows(self, columns):
+    def rows(self, columns: Sequence[Column]) -> Iterator[Row]:
         """The ranges between all borders: those of the replies, and those of the table."""
         by_hart = [self.verdicts[lines] for lines in self.state.entries]
         cuts = table_borders(self.state.enclaves, self.setup.ram) if self.setup.monitor else set()
         for verdicts in by_hart:
             cuts.update(it.range.first for it in verdicts)
             cuts.add(verdicts[-1].range.end)
-        cuts = sorted(cuts)
+        borders = sorted(cuts)
         starts = [[it.range.first for it in verdicts] for verdicts in by_hart]
-        for first, end in zip(cuts, cuts[1:]):
-            may = {}
+        for first, end in zip(borders, borders[1:]):
+            may: dict[str, dict[str, str]] = {}
             for column in columns:
-                if column.derived:
+                if column.hart is None:
                     may[column.name] = dict.fromkeys(self.setup.modes, reach(column.world, self.state.enclaves, first))
                 else:
                     at = bisect_right(starts[column.hart], first) - 1
@@ -199,15 +211,17 @@ class Finder:
             yield Row(Range(first, end), what, may)
 
 
-def event_of(ran, old, hart, before, after, text):
+def event_of(ran: Ran, old: State, hart: int, before: Sequence[int], after: Sequence[int], text: str) -> Event:
     """What a step did, by its name."""
     world = old.worlds[hart]
     if world == "bare":
         return Event("pmp", text=text)
     status = "%08x" % after[10]
+    assert ran.trap is not None
     if ran.trap.cause == names.TIMER:
         return Event("timer", int(world[1:]), status)
     call = names.call_of(before)
+    assert call is not None
     if world != "host":
         return Event(call.name, int(world[1:]), status)
     if call is names.Call.create:

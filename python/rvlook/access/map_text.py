@@ -1,5 +1,8 @@
 """The word map: the moments of a run, for a person and as objects."""
+from __future__ import annotations
+
 from bisect import bisect_right
+from typing import Iterable, Iterator, Sequence, TYPE_CHECKING
 
 from rvlook.protocol import names
 from rvlook.access.map import moments
@@ -7,10 +10,17 @@ from rvlook.access.ranges import NOTHING, Range
 from rvlook.protocol.run import End
 from rvlook.output.printer import Style, enclave_object, end_object, end_text, hex8, place_text, run_object
 
+if TYPE_CHECKING:
+    from rvlook.access.map import Column, Moment, Row
+    from rvlook.output.printer import Printer, Writer
+    from rvlook.protocol.replies import Enclave
+    from rvlook.protocol.run import Run
+    from rvlook.protocol.symbols import Symbols
+
 CELL = 6
 
 
-def show_map(run, symbols, printer, is_brief=False):
+def show_map(run: Run, symbols: Symbols, printer: Printer, is_brief: bool = False) -> None:
     """All moments of a run."""
     if printer.as_json:
         run_object(printer, run, symbols)
@@ -29,7 +39,7 @@ def show_map(run, symbols, printer, is_brief=False):
         printer.line("(in brackets: worlds that do not run, by the law of reach over the table)")
 
 
-def moment_object(printer, moment, symbols):
+def moment_object(printer: Writer, moment: Moment, symbols: Symbols) -> None:
     pc = int(moment.pc, 16)
     rows = [{"first": hex8(row.range.first), "last": hex8(row.range.end - 1), "size": row.range.end - row.range.first,
              "what": row.what, "may": row.may} for row in moment.rows]
@@ -39,18 +49,18 @@ def moment_object(printer, moment, symbols):
                    world=moment.world, enclaves=[enclave_object(it) for it in moment.enclaves], columns=columns, rows=rows)
 
 
-def event_text(moment):
+def event_text(moment: Moment) -> str:
     """What happened, in a few words."""
     if moment.event == "reset":
         return "reset"
     if moment.event == "now":
         return "step %d" % moment.step
     if moment.event == "pmp":
-        return "step %d  %s" % (moment.step, names.with_abi_names(moment.text))
-    return "step %d  %s e%d" % (moment.step, moment.event, moment.slot)
+        return "step %d  %s" % (moment.step, names.with_abi_names(moment.text or ""))
+    return "step %d  %s e%s" % (moment.step, moment.event, moment.slot)
 
 
-def moment_text(printer, moment, symbols):
+def moment_text(printer: Printer, moment: Moment, symbols: Symbols) -> None:
     """A moment: what happened and where, the table of enclaves, and the ranges."""
     hart = "hart %d  " % moment.hart if sum(not it.derived for it in moment.columns) > 1 else ""
     heading = "%s%s" % (hart, event_text(moment))
@@ -65,7 +75,7 @@ def moment_text(printer, moment, symbols):
         printer.line(line)
 
 
-def brief_text(printer, moment, before, symbols):
+def brief_text(printer: Printer, moment: Moment, before: Moment | None, symbols: Symbols) -> None:
     """What a moment changes: who runs, the enclaves, and the ranges that a world may touch otherwise than before."""
     hart = "hart %d  " % moment.hart if sum(not it.derived for it in moment.columns) > 1 else ""
     parts = [printer.styled(hart + event_text(moment), Style.heading), "at " + place_text(moment.pc, symbols)]
@@ -81,10 +91,10 @@ def brief_text(printer, moment, before, symbols):
         printer.line("  %s  %s%s" % (ends, "  ".join(changed), "  " + what if what else ""))
 
 
-def changed_rows(moment, before):
+def changed_rows(moment: Moment, before: Moment | None) -> list[tuple[Range, str, list[str]]]:
     """Each range in which a world may do otherwise than before, what it is, and what that is; at first all ranges. Neighbours that change
     alike are one."""
-    found = []
+    found: list[tuple[Range, str, list[str]]] = []
     starts = sorted({row.range.first for it in (moment, before) if it for row in it.rows})
     for first, end in zip(starts, [*starts[1:], moment.rows[-1].range.end]):
         old, new = rights_of(before, first) if before else {}, rights_of(moment, first)
@@ -98,11 +108,11 @@ def changed_rows(moment, before):
     return found
 
 
-def row_at(moment, address):
+def row_at(moment: Moment, address: int) -> Row:
     return moment.rows[bisect_right([it.range.first for it in moment.rows], address) - 1]
 
 
-def rights_of(moment, address):
+def rights_of(moment: Moment, address: int) -> dict[str, str]:
     """What each world may do at an address, in each mode; in both at once under the monitor, where they are alike. A world that is no more,
     or not yet, may do nothing."""
     row, found = row_at(moment, address), {}
@@ -113,23 +123,23 @@ def rights_of(moment, address):
     return found
 
 
-def change_text(name, old, new):
+def change_text(name: str, old: str | None, new: str) -> str:
     """What a world may do from now on, and what it might."""
     return "%s %s" % (name, new) if old is None else "%s %s -> %s" % (name, old, new)
 
 
-def enclave_text(enclave):
+def enclave_text(enclave: Enclave) -> str:
     window = "no window" if not enclave.window_size else "window %08x %4s" % (enclave.window, names.size_text(enclave.window_size))
     return "  %-3s %-8s region %08x %4s  %s  entry %08x" % (
         enclave.world, enclave.state, enclave.base, names.size_text(enclave.size), window, enclave.entry)
 
 
-def is_split(column, moment):
+def is_split(column: Column, moment: Moment) -> bool:
     """Whether the modes of a column may not all do the same."""
     return any(len(set(row.may[column.name].values())) > 1 for row in moment.rows) or column.world == "bare"
 
 
-def heads_of(column, moment):
+def heads_of(column: Column, moment: Moment) -> list[str]:
     """What stands above a column, or above each of its modes."""
     name = "(%s)" % column.name if column.derived else column.name
     if not is_split(column, moment):
@@ -138,14 +148,14 @@ def heads_of(column, moment):
     return list(modes) if column.world == "bare" else ["%s %s" % (name, mode) for mode in modes]
 
 
-def cells_of(row, moment):
+def cells_of(row: Row, moment: Moment) -> Iterator[str]:
     """What each column of a row has."""
     for column in moment.columns:
         values = list(row.may[column.name].values())
         yield from values if is_split(column, moment) else values[:1]
 
 
-def row_text(row, cells, widths):
+def row_text(row: Row, cells: Iterable[str], widths: Sequence[int]) -> str:
     size = names.size_text(row.range.end - row.range.first)
     ends = "%08x-%08x" % (row.range.first, row.range.end - 1)
     shown = "".join(cell.ljust(width) for cell, width in zip(cells, widths))

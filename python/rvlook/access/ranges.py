@@ -1,11 +1,17 @@
 """Who may touch which range of RAM: what `access` replies between the borders that `pmp` shows, and what the law of reach says of the
 worlds that do not run."""
-from dataclasses import dataclass
+from __future__ import annotations
 
+from dataclasses import dataclass
+from typing import Iterable, Sequence, TYPE_CHECKING
+
+from rvlook.protocol.memory_map import MONITOR_END, RAM_BASE
 from rvlook.protocol.replies import entry_of
 
-RAM_BASE = 0x80000000
-MONITOR_END = 0x80010000
+if TYPE_CHECKING:
+    from rvlook.protocol.bench import Bench
+    from rvlook.protocol.replies import Enclave, Entry
+
 KINDS = "rwx"
 TOR, NA4, NAPOT = 1, 2, 3
 NOTHING, ALL, DATA = "---", "rwx", "rw-"
@@ -23,11 +29,11 @@ class Verdicts:
     """What `access` replied for each byte of a range: for each mode the kinds that are allowed, and the replies themselves, which tell
     the entries that decide."""
     range: Range
-    may: dict
-    replies: tuple
+    may: dict[str, str]
+    replies: tuple[str, ...]
 
 
-def entry_range(entries, index):
+def entry_range(entries: Sequence[Entry], index: int) -> Range | None:
     """The range of an entry, or None where it is off or covers nothing."""
     entry = entries[index]
     mode = entry.cfg >> 3 & 3
@@ -43,7 +49,7 @@ def entry_range(entries, index):
     return None
 
 
-def borders(entries, ram):
+def borders(entries: Sequence[Entry], ram: int) -> list[int]:
     """Where the entries begin and end in RAM: between two of them each byte is judged alike."""
     cuts = {RAM_BASE, RAM_BASE + ram}
     for index in range(len(entries)):
@@ -53,7 +59,7 @@ def borders(entries, ram):
     return sorted(cuts)
 
 
-def verdicts_of(bench, pmp_lines, modes, ram):
+def verdicts_of(bench: Bench, pmp_lines: Sequence[str], modes: str, ram: int) -> list[Verdicts]:
     """The verdicts on every byte of RAM under the entries as they stand: `access` of the first byte between two borders."""
     cuts = borders([entry_of(line) for line in pmp_lines], ram)
     asked = [(mode, kind) for mode in modes for kind in KINDS]
@@ -68,9 +74,9 @@ def verdicts_of(bench, pmp_lines, modes, ram):
     return merged(found)
 
 
-def merged(found):
+def merged(found: Iterable[Verdicts]) -> list[Verdicts]:
     """Neighbours on which each verdict is the same, entry and all, are one range: an access across their border is judged so too."""
-    rows = []
+    rows: list[Verdicts] = []
     for it in found:
         if rows and (rows[-1].may, rows[-1].replies) == (it.may, it.replies):
             rows[-1] = Verdicts(Range(rows[-1].range.first, it.range.end), it.may, it.replies)
@@ -79,15 +85,15 @@ def merged(found):
     return rows
 
 
-def region_of(enclave):
+def region_of(enclave: Enclave) -> Range:
     return Range(enclave.base, enclave.base + enclave.size)
 
 
-def window_of(enclave):
+def window_of(enclave: Enclave) -> Range:
     return Range(enclave.window, enclave.window + enclave.window_size)
 
 
-def reach(world, enclaves, at):
+def reach(world: str, enclaves: Sequence[Enclave], at: int) -> str:
     """What a world that does not run may do to a byte, by the law of reach: a text of three letters."""
     if at < MONITOR_END:
         return NOTHING
@@ -100,7 +106,7 @@ def reach(world, enclaves, at):
     return DATA if world in windows else NOTHING
 
 
-def table_borders(enclaves, ram):
+def table_borders(enclaves: Sequence[Enclave], ram: int) -> set[int]:
     """Where the monitor's range, the regions and the windows begin and end."""
     cuts = {RAM_BASE, MONITOR_END, RAM_BASE + ram}
     for it in enclaves:
@@ -110,7 +116,7 @@ def table_borders(enclaves, ram):
     return cuts
 
 
-def meaning(enclaves, at):
+def meaning(enclaves: Sequence[Enclave], at: int) -> str:
     """What a byte is, by the table of enclaves."""
     if at < MONITOR_END:
         return "monitor"

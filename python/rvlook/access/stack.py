@@ -3,13 +3,19 @@
 A stack is a pair of symbols NAME_stack_bottom and NAME_stack_top. The host uses those whose NAME ends with `host`, an enclave in mode S those
 with `runtime`, in mode U those with `application`. All of this is derived from the instruction at pc, sp before the step, and the symbols.
 """
+from __future__ import annotations
+
 import re
-from typing import NamedTuple
+from typing import NamedTuple, Sequence, TYPE_CHECKING
 
 from rvlook.access.accesses import begin
 from rvlook.protocol.instructions import instruction_of
 from rvlook.protocol.run import Stretch
 from rvlook.output.printer import hex8
+
+if TYPE_CHECKING:
+    from rvlook.protocol.run import Replay, Run
+    from rvlook.protocol.symbols import Symbols
 
 RAN = re.compile(rb"ran 1 pc=(\w+) mode=(\w) world=(\w+)")
 NAME = re.compile(r"(.*(host|runtime|application))_stack_bottom\Z")
@@ -44,18 +50,18 @@ class Overflow(NamedTuple):
     stack: Stack
 
 
-def stacks_of(symbols):
+def stacks_of(symbols: Symbols) -> dict[str, list[Stack]]:
     """The stacks that the symbols give, by their kind: `host`, `runtime` or `application`."""
-    found = {}
+    found: dict[str, list[Stack]] = {}
     for name, symbol in symbols.by_name.items():
         match = NAME.match(name)
-        top = match and symbols.by_name.get(match[1] + "_stack_top")
-        if top and symbol.address < top.address:
+        top = symbols.by_name.get(match[1] + "_stack_top") if match else None
+        if match and top and symbol.address < top.address:
             found.setdefault(match[2], []).append(Stack(match[1], match[2], symbol.address, top.address))
     return found
 
 
-def kind_of(world, mode):
+def kind_of(world: str, mode: str) -> str | None:
     """The kind of stack that a world uses in a mode."""
     if world in ("host", "bare"):
         return "host"
@@ -65,11 +71,13 @@ def kind_of(world, mode):
 class Finder:
     """Finds the first overflow of each kind of stack. The instruction at each pc is read once, before the steps in which it is first met."""
 
-    def __init__(self, run, stacks):
-        self.stacks, self.uses, self.found = stacks, {}, {}
+    def __init__(self, run: Run, stacks: dict[str, list[Stack]]) -> None:
+        self.stacks = stacks
+        self.uses: dict[bytes, Use | None] = {}
+        self.found: dict[str, Overflow] = {}
         self.places = [(run.pc.encode(), run.mode.encode(), run.world.encode())] * run.setup.harts
 
-    def take(self, replay, stretch):
+    def take(self, replay: Replay, stretch: Stretch) -> None:
         """Checks steps of one hart, one after another."""
         after = RAN.findall(stretch.data)
         places = [self.places[stretch.hart], *after[:-1]]
@@ -81,19 +89,20 @@ class Finder:
             pc, mode, world = (it.decode() for it in places[at])
             self.check(stretch, at, (pc, world, kind_of(world, mode)), sp)
 
-    def check(self, stretch, at, place, sp):
+    def check(self, stretch: Stretch, at: int, place: tuple[str, str, str | None], sp: int) -> None:
         """Checks one step that uses the stack."""
         pc, world, kind = place
-        if kind in self.found or kind not in self.stacks:
+        if kind is None or kind in self.found or kind not in self.stacks:
             return
         use = self.uses[pc.encode()]
+        assert use is not None
         address = (sp + use.offset) & MASK
         last = address if use.is_store else address - 1  # an empty stack has sp at its top
         if not any(it.bottom <= address and last < it.top for it in self.stacks[kind]):
             stack = min(self.stacks[kind], key=lambda it: min(abs(it.bottom - sp), abs(it.top - sp)))
             self.found[kind] = Overflow(stretch.first + at, stretch.hart, world, int(pc, 16), use.is_store, address, stack)
 
-    def read_instructions(self, replay, pcs):
+    def read_instructions(self, replay: Replay, pcs: set[bytes]) -> None:
         """Reads the instructions that were not met before."""
         new = sorted(pcs - self.uses.keys())
         if new:
@@ -101,7 +110,7 @@ class Finder:
             self.uses.update(zip(new, map(use_of, lines)))
 
 
-def stack_pointers(replay, stretch, steps):
+def stack_pointers(replay: Replay, stretch: Stretch, steps: Sequence[int]) -> list[int]:
     """The value of sp before each of these steps of a stretch; the bench goes to the end of the stretch."""
     asked, done = [], 0
     for at in steps:
@@ -112,7 +121,7 @@ def stack_pointers(replay, stretch, steps):
     return [int(line.split(b"=")[1], 16) for line in lines if line.startswith(b"x")]
 
 
-def use_of(line):
+def use_of(line: bytes) -> Use | None:
     """What the instruction in a reply of `dis` does with the stack, or None."""
     instruction = instruction_of(line)
     if instruction is None:
@@ -124,7 +133,7 @@ def use_of(line):
     return Use(False, int(frame[1])) if frame else None
 
 
-def overflows(run, symbols):
+def overflows(run: Run, symbols: Symbols) -> list[Overflow]:
     """The first overflow of each kind of stack, in the order of the run; none if the symbols give no stack."""
     stacks = stacks_of(symbols)
     if not stacks:
@@ -137,7 +146,7 @@ def overflows(run, symbols):
     return sorted(finder.found.values(), key=lambda it: it.step)
 
 
-def overflow_text(it, symbols):
+def overflow_text(it: Overflow, symbols: Symbols) -> str:
     """An overflow in a line: where, and how far outside."""
     where = symbols.source(it.pc) or symbols.name(it.pc) or hex8(it.pc)
     does = "stores to" if it.is_store else "moves sp to"

@@ -1,8 +1,11 @@
 """The word touch: what each world read, wrote and executed, beside what it might have."""
+from __future__ import annotations
+
 import re
 from bisect import bisect_left, bisect_right
 from collections import Counter, defaultdict
 from dataclasses import dataclass
+from typing import Iterable, Iterator, Optional, TYPE_CHECKING
 
 from rvlook.protocol import names
 from rvlook.access.accesses import accesses
@@ -11,6 +14,12 @@ from rvlook.access.map import Moment, moments
 from rvlook.access.ranges import NOTHING, Range
 from rvlook.protocol.run import Stretch
 from rvlook.output.printer import Style, end_object, end_text, hex8, run_object
+
+if TYPE_CHECKING:
+    from rvlook.output.printer import Printer
+    from rvlook.protocol.run import Run
+    from rvlook.protocol.symbols import Symbol, Symbols
+    from rvlook.output.printer import Json
 
 KINDS = {"r": "read", "w": "wrote", "x": "executed"}
 LEAST_SIZE = 4096
@@ -29,7 +38,7 @@ class Kind:
 class Touched:
     """Bytes within one symbol, and how many accesses there were."""
     range: Range
-    symbol: str
+    symbol: Optional[str]
     count: int
 
 
@@ -39,15 +48,15 @@ class Permitted:
     what: str
     range: Range
     kinds: str
-    touched: dict
-    lowest: int
-    highest: int
+    touched: dict[str, int]
+    lowest: Optional[int]
+    highest: Optional[int]
 
     @property
-    def enough(self):
+    def enough(self) -> int:
         """The least lawful size from the base of the range that has all that was touched."""
         size = LEAST_SIZE
-        while self.lowest is not None and self.range.first + size <= self.highest:
+        while self.lowest is not None and self.highest is not None and self.range.first + size <= self.highest:
             size *= 2
         return size
 
@@ -55,8 +64,9 @@ class Permitted:
 class Touches:
     """What a run touched: counts of accesses by their first byte and width."""
 
-    def __init__(self, run):
-        self.counts, self.permitted = defaultdict(Counter), defaultdict(list)
+    def __init__(self, run: Run) -> None:
+        self.counts: dict[Kind, Counter[tuple[int, int]]] = defaultdict(Counter)
+        self.permitted: dict[str, list[tuple[Range, str, set[str]]]] = defaultdict(list)
         found, self.end = accesses(run)
         for it, count in found.items():
             self.counts[Kind(it.world, it.kind, it.done)][it.address, it.width] += count
@@ -64,18 +74,18 @@ class Touches:
             if isinstance(moment, Moment):
                 self.allow(moment)
 
-    def allow(self, moment):
+    def allow(self, moment: Moment) -> None:
         """What the map permits each world that runs."""
         for column in (it for it in moment.columns if not it.derived):
             self.permitted[column.world] += [(row.range, row.what, set("".join(row.may[column.name].values())) - {"-"})
                                              for row in moment.rows]
 
-    def worlds(self):
+    def worlds(self) -> list[str]:
         return sorted({kind.world for kind in self.counts}, key=lambda it: (it != "host", it))
 
-    def ranges(self, kind, symbols):
+    def ranges(self, kind: Kind, symbols: Symbols) -> list[Touched]:
         """The bytes that were touched, in ranges within one symbol."""
-        found = []
+        found: list[Touched] = []
         for (address, width), count in sorted(self.counts[kind].items()):
             name = symbols.function(address)
             last = found[-1] if found else None
@@ -85,11 +95,11 @@ class Touches:
                 found.append(Touched(Range(address, address + width), name, count))
         return found
 
-    def bytes_of(self, world, kind):
+    def bytes_of(self, world: str, kind: str) -> list[int]:
         """The bytes that a world touched, in rising order."""
         return sorted({address + i for address, width in self.counts[Kind(world, kind, True)] for i in range(width)})
 
-    def permitted_rows(self, world):
+    def permitted_rows(self, world: str) -> Iterator[Permitted]:
         """Beside what the map permitted a world at one time or another, what it touched there."""
         touched = {kind: self.bytes_of(world, kind) for kind in KINDS}
         for found, what, kinds in joined(self.permitted[world]):
@@ -98,15 +108,15 @@ class Touches:
             yield Permitted(what, found, kinds, {kind: len(part) for kind, part in inside.items()}, min(every, default=None),
                             max(every, default=None))
 
-    def executed(self, world):
+    def executed(self, world: str) -> dict[int, int]:
         """How many times each instruction was executed."""
         return {address: count for (address, _), count in self.counts[Kind(world, "x", True)].items()}
 
 
-def joined(rows):
+def joined(rows: Iterable[tuple[Range, str, set[str]]]) -> list[tuple[Range, str, str]]:
     """Ranges that do not meet, of ranges that do: each with all its names and all its kinds, and none without a kind."""
     cuts = sorted({at for it, _, _ in rows for at in (it.first, it.end)})
-    found = []
+    found: list[tuple[Range, str, str]] = []
     for first, end in zip(cuts, cuts[1:]):
         over = [(what, kinds) for it, what, kinds in rows if it.first <= first < it.end]
         what = ", ".join(sorted({what for what, _ in over} - {""}))
@@ -118,22 +128,22 @@ def joined(rows):
     return found
 
 
-def within(addresses, found):
+def within(addresses: list[int], found: Range) -> list[int]:
     """Those of the rising addresses that are in a range."""
     return addresses[bisect_right(addresses, found.first - 1):bisect_right(addresses, found.end - 1)]
 
 
-def covered_functions(touches, world, symbols):
+def covered_functions(touches: Touches, world: str, symbols: Symbols) -> Iterator[tuple[Symbol, int, int]]:
     """Each symbol of which a world executed some, with its bytes and how many were executed."""
-    executed = Counter(symbols.at(address) for address in touches.executed(world))
-    executed.pop(None, None)
+    executed = Counter(symbol for symbol in map(symbols.at, touches.executed(world)) if symbol)
     for symbol in sorted(executed, key=lambda it: it.address):
         yield symbol, symbols.size_of(symbol), 4 * executed[symbol]
 
 
-def covered_lines(touches, world, symbols):
+def covered_lines(touches: Touches, world: str, symbols: Symbols) -> list[tuple[str, int]]:
     """Each source line of the functions of which a world executed some, with how many times its most executed instruction was."""
-    executed, counts = touches.executed(world), {}
+    executed = touches.executed(world)
+    counts: dict[str, int] = {}
     addresses = sorted(executed)
     for symbol, size, _ in covered_functions(touches, world, symbols):
         first, end = symbol.address, symbol.address + size
@@ -145,13 +155,13 @@ def covered_lines(touches, world, symbols):
     return sorted(counts.items(), key=lambda it: place_of(it[0]))
 
 
-def place_of(source):
+def place_of(source: str) -> tuple[str, int]:
     """The file and the line number of a source line. The file's name may have a colon."""
     name, number = source.rsplit(":", 1)
     return name, int(number)
 
 
-def by_file(lines):
+def by_file(lines: Iterable[tuple[str, int]]) -> Iterator[tuple[str, int, int, list[str]]]:
     """Of each file how many of its lines were executed, how many there are, and the numbers of the others."""
     files = defaultdict(list)
     for source, count in lines:
@@ -164,12 +174,12 @@ def by_file(lines):
 MODE = re.compile(rb"mode=([SU])")
 
 
-def refuse_modes(run):
+def refuse_modes(run: Run) -> None:
     """Refuses a bare run that enters S or U, or that writes a PMP register: who may touch what is then another for each mode, and at one time
     than at another, and `touch` has one world for all of it."""
     for item in () if run.setup.monitor else run.stretches():
         found = MODE.search(item.data) if isinstance(item, Stretch) else None
-        if found:
+        if isinstance(item, Stretch) and found:
             step, what = item.first + item.data.count(b"\n", 0, found.start()), "enters mode " + found[1].decode()
             raise WordsRefused(BARE % (run.setup.image.name, what, step))
     for moment in () if run.setup.monitor else moments(run):
@@ -177,7 +187,7 @@ def refuse_modes(run):
             raise WordsRefused(BARE % (run.setup.image.name, "writes a PMP register", moment.step))
 
 
-def show_touch(run, symbols, printer):
+def show_touch(run: Run, symbols: Symbols, printer: Printer) -> None:
     """All of it, world by world."""
     refuse_modes(run)
     touches = Touches(run)
@@ -188,13 +198,13 @@ def show_touch(run, symbols, printer):
     (end_object(printer, touches.end) if printer.as_json else end_text(printer, touches.end, symbols))
 
 
-def all_touched(touches, world, symbols):
+def all_touched(touches: Touches, world: str, symbols: Symbols) -> list[tuple[Kind, Touched]]:
     """All ranges that a world touched, each with its kind."""
     kinds = [Kind(world, kind, done) for kind in KINDS for done in (True, False)]
     return [(kind, it) for kind in kinds for it in touches.ranges(kind, symbols)]
 
 
-def world_objects(touches, world, symbols, printer):
+def world_objects(touches: Touches, world: str, symbols: Symbols, printer: Printer) -> None:
     for kind, it in all_touched(touches, world, symbols):
         printer.object("touched", world=world, kind=kind.kind, first=hex8(it.range.first), last=hex8(it.range.end - 1),
                        symbol=it.symbol, count=it.count, done=kind.done)
@@ -202,22 +212,22 @@ def world_objects(touches, world, symbols, printer):
     covered_objects(touches, world, symbols, printer)
 
 
-def permitted_objects(touches, world, printer):
+def permitted_objects(touches: Touches, world: str, printer: Printer) -> None:
     for it in touches.permitted_rows(world):
         printer.object("permitted", world=world, what=it.what, first=hex8(it.range.first), last=hex8(it.range.end - 1),
                        kinds=it.kinds, size=it.range.end - it.range.first, touched=it.touched, lowest=hex8(it.lowest),
                        highest=hex8(it.highest), enough=it.enough)
 
 
-def covered_objects(touches, world, symbols, printer):
-    functions = [dict(name=symbol.name, first=hex8(symbol.address), size=size, executed=executed)
-                 for symbol, size, executed in covered_functions(touches, world, symbols)]
-    lines = [dict(source=source, count=count) for source, count in covered_lines(touches, world, symbols)]
+def covered_objects(touches: Touches, world: str, symbols: Symbols, printer: Printer) -> None:
+    functions: list[dict[str, Json]] = [dict(name=symbol.name, first=hex8(symbol.address), size=size, executed=executed)
+                                        for symbol, size, executed in covered_functions(touches, world, symbols)]
+    lines: list[dict[str, Json]] = [dict(source=source, count=count) for source, count in covered_lines(touches, world, symbols)]
     for kind, members in [("function", it) for it in functions] + [("line", it) for it in lines]:
         printer.object(kind, world=world, **members)
 
 
-def world_text(touches, world, symbols, printer):
+def world_text(touches: Touches, world: str, symbols: Symbols, printer: Printer) -> None:
     printer.line(printer.styled(world, Style.heading))
     lines = [touched_text(kind, it) for kind, it in all_touched(touches, world, symbols)]
     lines += ["  %-16s %s" % ("permitted", permitted_text(it)) for it in touches.permitted_rows(world)]
@@ -229,13 +239,13 @@ def world_text(touches, world, symbols, printer):
         printer.line(line)
 
 
-def touched_text(kind, it):
+def touched_text(kind: Kind, it: Touched) -> str:
     """A range that was touched."""
     what = KINDS[kind.kind] + ("" if kind.done else ", refused")
     return "  %-16s %08x-%08x %7d  %s" % (what, it.range.first, it.range.end - 1, it.count, it.symbol or "")
 
 
-def permitted_text(it):
+def permitted_text(it: Permitted) -> str:
     """A range that was permitted, and how much of it was used."""
     size = it.range.end - it.range.first
     used = "  ".join("%s %d" % (kind, it.touched[kind]) for kind in it.kinds if kind != "-") if it.lowest is not None else "nothing"

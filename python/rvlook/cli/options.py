@@ -1,8 +1,14 @@
 """The options of the subcommands, and the types of their values."""
+from __future__ import annotations
+
 import argparse
 import re
+from typing import Any, NoReturn, TYPE_CHECKING
 
 from rvlook.errors import WordsRefused
+
+if TYPE_CHECKING:
+    from argparse import ArgumentParser
 
 WORLD = re.compile(r"host\Z|bare\Z|e([0-9]|1[0-2])\Z")
 
@@ -10,21 +16,21 @@ WORLD = re.compile(r"host\Z|bare\Z|e([0-9]|1[0-2])\Z")
 class Parser(argparse.ArgumentParser):
     """A parser that tells what is refused in one line, and takes no option but as it is."""
 
-    def __init__(self, **words):
+    def __init__(self, **words: Any) -> None:
         super().__init__(allow_abbrev=False, **words)
 
-    def error(self, message):
+    def error(self, message: str) -> NoReturn:
         raise WordsRefused("%s; %s --help tells the words" % (message, self.prog))
 
 
-def count(text):
+def count(text: str) -> int:
     """A number of steps."""
     if int(text) < 0:
         raise ValueError
     return int(text)
 
 
-def positive(text):
+def positive(text: str) -> int:
     """A number from 1 on."""
     if int(text) < 1:
         raise ValueError
@@ -34,14 +40,14 @@ def positive(text):
 count.__name__, positive.__name__ = "number from 0 on", "number from 1 on"  # as argparse tells of a value that is none
 
 
-def world(text):
+def world(text: str) -> str:
     """The name of a world."""
     if not WORLD.match(text):
         raise argparse.ArgumentTypeError("%s is no world: host, e0 to e12, bare" % text)
     return text
 
 
-def image_options(parser):
+def image_options(parser: ArgumentParser) -> None:
     """The image and how it is run."""
     parser.add_argument("image", metavar="IMAGE", help="an ELF file, raw bytes, or the text of an image; a script may stand behind its --")
     parser.add_argument("--script", metavar="FILE", help="commands that come before; their steps are shown too")
@@ -56,19 +62,19 @@ def image_options(parser):
     parser.set_defaults(opened=None)
 
 
-def page_options(parser):
+def page_options(parser: ArgumentParser) -> None:
     parser.add_argument("--sources", metavar="DIR", action="append", default=[],
                         help="takes in source files below this folder too, more than once; else those below the folder of the ELF file alone")
     parser.set_defaults(has_sources=True)
 
 
-def findings_options(parser):
+def findings_options(parser: ArgumentParser) -> None:
     """How what a subcommand found is told to the program that ran it."""
     parser.add_argument("--exit-zero", dest="is_report", action="store_true", help="end with status 0 in place of 1 if something is found")
     parser.add_argument("--junit", metavar="FILE", help="write the findings to FILE as JUnit XML, a test case for each question")
 
 
-def trace_options(parser):
+def trace_options(parser: ArgumentParser) -> None:
     parser.add_argument("--from", dest="first", metavar="N", type=positive, default=1, help="the first step that is shown")
     parser.add_argument("--to", dest="last", metavar="N", type=positive, help="the last one")
     parser.add_argument("--world", metavar="W", type=world, help="of this world alone: host, e0 to e12, bare")
@@ -78,21 +84,22 @@ def trace_options(parser):
     parser.add_argument("--format", choices=("rows", "spike"), default="rows", help="spike: the log of commits that Spike writes")
 
 
-def map_options(parser):
+def map_options(parser: ArgumentParser) -> None:
     parser.add_argument("--brief", action="store_true", help="of each moment what it changes alone")
 
 
-def touch_options(parser):
+def touch_options(parser: ArgumentParser) -> None:
     parser.add_argument("--lcov", action="store_true", help="the lines and functions that were executed, as genhtml takes them")
 
 
-def slot_option(parser):
+def slot_option(parser: ArgumentParser) -> None:
     parser.add_argument("--slot", metavar="K", type=int, choices=range(13), default=0, help="the enclave's slot (0)")
 
 
-def leak_options(parser):
+def leak_options(parser: ArgumentParser) -> None:
     parser.add_argument("--at", metavar="PLACE", required=True,
-                        help="where the secret stands: PLACE[:BYTES] in the region, image:PLACE[:BYTES], or REGISTER@PLACE, when it first comes there")
+                        help="where the secret stands: PLACE[:BYTES] in the region, image:PLACE[:BYTES], or REGISTER@PLACE, "
+                             "when it first comes there")
     parser.usage = "rvlook leak IMAGE --at PLACE [ONE TWO] [OPTIONS]; ONE and TWO are the secrets, in hexadecimal digits"
     parser.set_defaults(secrets=())
     parser.add_argument("--strict", action="store_true", help="the operands of divisions too, which take as long as these say")
@@ -102,25 +109,26 @@ def leak_options(parser):
     part_options(parser, "the secrets of the N that are drawn")
 
 
-def window_options(parser):
+def window_options(parser: ArgumentParser) -> None:
     parser.add_argument("--slot", metavar="K", type=int, choices=range(13), help="of the enclave of this slot alone")
     parser.add_argument("--at", metavar="PLACE", help="a secret, as for leak: does what is written depend on it, and where is a copy of it")
     public_option(parser)
 
 
-def public_option(parser):
+def public_option(parser: ArgumentParser) -> None:
     parser.add_argument("--public", metavar="WHAT", action="append",
                         help="what may differ, more than once: PLACE[:BYTES] of the window, or of the instructions that make it; answer")
 
 
-def timer_options(parser):
+def timer_options(parser: ArgumentParser) -> None:
     parser.add_argument("--every", metavar="N", type=positive, default=1, help="before every Nth step (1)")
 
 
-def races_options(parser):
+def races_options(parser: ArgumentParser) -> None:
     parser.add_argument("--outcome", metavar="WHAT", action="append",
                         help="what tells ends apart, more than once: PLACE[:BYTES], HART.REGISTER, enclaves, or one, as e0; else all that both touch")
-    parser.add_argument("--forbid", metavar="CONDITION", action="append", help="what counts as found, in place of more than one end: 'left != 2', stays, waits, livelock, unended")
+    parser.add_argument("--forbid", metavar="CONDITION", action="append",
+                        help="what counts as found, in place of more than one end: 'left != 2', stays, waits, livelock, unended")
     parser.add_argument("--timer", dest="timers", metavar="N", type=count, default=0, help="the timer's line rises so many times at most (0)")
     parser.add_argument("--preemptions", metavar="N", type=count, help="a hart that might go on is left so many times at most (any number)")
     parser.add_argument("--end", metavar="PLACE", action="append", help="a hart is over before this instruction, more than once")
@@ -130,13 +138,13 @@ def races_options(parser):
     part_options(parser, "steps behind which a hart is left, or the timer comes, for the first time")
 
 
-def part_options(parser, what):
+def part_options(parser: ArgumentParser, what: str) -> None:
     """A part of long work, and how long it may take."""
     parser.add_argument("--from", dest="first", metavar="N", type=count, default=0, help="from N on: " + what)
     parser.add_argument("--to", dest="last", metavar="N", type=count, help="the last of them")
     parser.add_argument("--seconds", metavar="S", type=float, help="stops then, and tells what was covered")
 
 
-def gdb_options(parser):
+def gdb_options(parser: ArgumentParser) -> None:
     parser.add_argument("--port", metavar="N", type=int, help="a port of this machine, 0 for any, in place of the standard streams")
     parser.add_argument("--allow-files", action="store_true", help="lets a debugger on the port read and write files by `monitor`")

@@ -1,7 +1,10 @@
 """The command line: its subcommands, and the arguments that it gives."""
+from __future__ import annotations
+
 import argparse
 import os
 import sys
+from typing import Any, Callable, Sequence, TYPE_CHECKING
 
 from rvlook.cli.options import (Parser, findings_options, gdb_options, image_options, leak_options, map_options, page_options, races_options,
                                 slot_option, timer_options, touch_options, trace_options, window_options)
@@ -11,6 +14,9 @@ from rvlook.gdb.monitor import CommandLine
 from rvlook.errors import Fault, WordsRefused
 from rvlook.output.findings import Findings, check_junit, write_junit
 from rvlook.protocol.nearest import nearest
+
+if TYPE_CHECKING:
+    from argparse import ArgumentParser, Namespace
 
 WORDS = """words:
   map          who may touch what, at each moment at which it changes
@@ -30,8 +36,7 @@ WORDS = """words:
 NAMES = ("map", "trace", "touch", "window", "leak", "timer", "races", "measure", "explain", "page", "gdb")
 
 
-
-def add_word(words, name, do, about, *more):
+def add_word(words: Any, name: str, do: Callable[[Namespace], None], about: str, *more: Callable[[ArgumentParser], None]) -> Parser:
     """A word over an image; `more` add its own options."""
     parser = words.add_parser(name, help=about, description=about + ".")
     image_options(parser)
@@ -41,7 +46,7 @@ def add_word(words, name, do, about, *more):
     return parser
 
 
-def measure_word(words):
+def measure_word(words: Any) -> None:
     parser = words.add_parser("measure", help="the digest that create records", description="The digest that create records.")
     parser.add_argument("file", metavar="FILE", help="an ELF file, or the raw bytes of the region")
     for name in ("BASE", "SIZE", "WINDOW", "WINDOW_SIZE", "ENTRY"):
@@ -51,7 +56,7 @@ def measure_word(words):
     parser.set_defaults(do=do_measure)
 
 
-def explain_word(words):
+def explain_word(words: Any) -> None:
     parser = words.add_parser("explain", help="an input read beside its faults", description="An input of the bench, read beside its "
                               "faults: which line, what is meant, what to write.", usage="rvlook explain [--json] INPUT [-- WORD...]")
     parser.add_argument("--json", action="store_true", help="one object a line (docs/LOOK.md)")
@@ -61,19 +66,21 @@ def explain_word(words):
     parser.set_defaults(do=do_explain, word="explain")
 
 
-def parser_of():
+def parser_of() -> Parser:
     """All words."""
     parser = Parser(prog="rvlook", usage="rvlook [WORD] IMAGE [OPTIONS]", epilog=WORDS,
-                                     formatter_class=argparse.RawDescriptionHelpFormatter,
-                                     description="See what host and enclave can touch, and when: beside the bench, over a pipe.")
+                    formatter_class=argparse.RawDescriptionHelpFormatter,
+                    description="See what host and enclave can touch, and when: beside the bench, over a pipe.")
     parser.set_defaults(findings=Findings(), is_report=False, junit=None, word=None)
     words = parser.add_subparsers(prog="rvlook", metavar="WORD", help=argparse.SUPPRESS)
     add_word(words, "map", do_map, "Who may touch what, at each moment at which it changes", map_options, findings_options)
     add_word(words, "trace", do_trace, "Each step of a run", trace_options, findings_options)
     add_word(words, "touch", do_touch, "What each world read, wrote and executed, beside what it may", touch_options, findings_options)
-    add_word(words, "window", do_window, "What each stay of an enclave read, read again, wrote and left in its window", window_options, findings_options)
+    add_word(words, "window", do_window, "What each stay of an enclave read, read again, wrote and left in its window", window_options,
+             findings_options)
     add_word(words, "leak", do_leak, "Runs with other secrets in an enclave: where they part", slot_option, leak_options, findings_options)
-    add_word(words, "timer", do_timer, "The timer before each step of an enclave: does it come to its end", slot_option, timer_options, findings_options)
+    add_word(words, "timer", do_timer, "The timer before each step of an enclave: does it come to its end", slot_option, timer_options,
+             findings_options)
     add_word(words, "races", do_races, "All orders of two harts, all moments of the timer: which ends there are", races_options, findings_options)
     measure_word(words)
     explain_word(words)
@@ -83,13 +90,13 @@ def parser_of():
     return parser
 
 
-def unknown_word(word):
+def unknown_word(word: str) -> str:
     """What is told of a first word that is neither a word nor a file."""
     near = nearest(word, NAMES)
     return "%s is no word of rvlook, and no file%s; rvlook --help tells the words" % (word, "; near it is %s" % near if near else "")
 
 
-def with_secrets(parser, words):
+def with_secrets(parser: Parser, words: Sequence[str]) -> Namespace:
     """The arguments of leak, whose two secrets stand anywhere behind the image."""
     arguments, rest = parser.parse_known_args(words)
     if len(rest) > 2 or any(it.startswith("-") for it in rest):
@@ -98,7 +105,7 @@ def with_secrets(parser, words):
     return arguments
 
 
-def read(words):
+def read(words: Sequence[str]) -> Namespace:
     """The arguments that the words give."""
     parser = parser_of()
     if not words:
@@ -116,7 +123,7 @@ def read(words):
     return alone.parse_args(words)
 
 
-def perform(arguments):
+def perform(arguments: Namespace) -> int:
     """Does what the arguments ask for, and writes the JUnit report, also where that fails; returns the exit status."""
     check_junit(arguments.junit)
     error = ""

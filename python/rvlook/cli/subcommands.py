@@ -1,4 +1,8 @@
 """What each subcommand does with its arguments."""
+from __future__ import annotations
+
+from typing import TYPE_CHECKING
+
 from rvlook.access.lcov import show_lcov
 from rvlook.access.map_text import show_map
 from rvlook.access.stack import overflow_text, overflows
@@ -9,7 +13,7 @@ from rvlook.finders.timer import show_timer
 from rvlook.finders.window import show_window
 from rvlook.gdb.server import serve_gdb
 from rvlook.image.measure import show_measure
-from rvlook.page import page
+from rvlook.page.page import page_template, show_page
 from rvlook.prompt.explain import show_explain
 from rvlook.prompt.prompt import show_prompt
 from rvlook.trace.spike import show_spike
@@ -19,15 +23,20 @@ from rvlook.errors import Fault, WordsRefused, tell
 from rvlook.output.printer import Printer
 from rvlook.protocol.lines import no_symbol
 
+if TYPE_CHECKING:
+    from argparse import Namespace
+    from rvlook.protocol.run import Run
+    from rvlook.protocol.symbols import Symbols
 
-def report_overflows(arguments, run, symbols):
+
+def report_overflows(arguments: Namespace, run: Run, symbols: Symbols) -> None:
     """Reports each stack that the run uses outside its range; it is a finding."""
     for it in overflows(run, symbols):
         tell(overflow_text(it, symbols))
         arguments.findings.add("stack", overflow_text(it, symbols))
 
 
-def do_map(arguments):
+def do_map(arguments: Namespace) -> None:
     if arguments.brief:
         refuse_json(arguments, "--brief")
     run, symbols, printer = opened(arguments)
@@ -35,7 +44,7 @@ def do_map(arguments):
     report_overflows(arguments, run, symbols)
 
 
-def do_trace(arguments):
+def do_trace(arguments: Namespace) -> None:
     refuse_empty_part(arguments, 1)
     if arguments.format == "spike":
         refuse_json(arguments, "--format spike")
@@ -50,7 +59,7 @@ def do_trace(arguments):
     report_overflows(arguments, run, symbols)
 
 
-def do_touch(arguments):
+def do_touch(arguments: Namespace) -> None:
     if arguments.lcov:
         refuse_json(arguments, "--lcov")
         show_lcov(*opened(arguments), [it for it in (arguments.symbols, arguments.image) if it])
@@ -60,45 +69,50 @@ def do_touch(arguments):
         report_overflows(arguments, run, symbols)
 
 
-def do_leak(arguments):
+def do_leak(arguments: Namespace) -> None:
     refuse_empty_part(arguments, 1)
     if arguments.tries is not None and arguments.first > arguments.tries:
         raise WordsRefused("--from %d is after --tries %d" % (arguments.first, arguments.tries))
     show_leak(*opened_monitored(arguments), arguments)
 
 
-def do_window(arguments):
+def do_window(arguments: Namespace) -> None:
     if arguments.public and not arguments.at:
         raise WordsRefused("--public needs --at PLACE, which says what the secret is")
     show_window(*opened_monitored(arguments), arguments)
 
 
-def do_timer(arguments):
+def do_timer(arguments: Namespace) -> None:
     show_timer(*opened_monitored(arguments), arguments)
 
 
-def do_races(arguments):
+def do_races(arguments: Namespace) -> None:
     refuse_empty_part(arguments, 0)
     show_races(*opened(arguments), arguments)
 
 
-def do_measure(arguments):
+def do_measure(arguments: Namespace) -> None:
     numbers = (arguments.base, arguments.size, arguments.window, arguments.window_size, arguments.entry)
     show_measure(arguments.file, numbers, arguments.symbols, Printer(arguments.json))
 
 
-def do_prompt(arguments):
+def do_prompt(arguments: Namespace) -> None:
     show_prompt(*opened(arguments))
 
 
-def do_gdb(arguments):
+def do_gdb(arguments: Namespace) -> None:
     setup = setup_of(arguments)
     serve_gdb(setup, lambda: setup.symbols, arguments.port, arguments.allow_files, arguments.command_line)
 
 
-def do_explain(arguments):
+def do_explain(arguments: Namespace) -> None:
     show_explain(arguments.input, arguments.words, Printer(arguments.json), arguments.findings)
 
 
-def do_page(arguments):
-    page.main(arguments)
+def do_page(arguments: Namespace) -> None:
+    if arguments.json:
+        raise Fault("page has no --json: it shows what map --json and trace --json write")
+    template = page_template()
+    run, symbols, printer = opened(arguments)
+    paths = [it for it in (arguments.symbols, arguments.image) if it] if arguments.has_sources else []
+    show_page(run, symbols, printer, template, paths, arguments.sources)

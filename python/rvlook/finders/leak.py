@@ -1,16 +1,25 @@
 """The word leak: runs that differ in a secret of an enclave alone; where they part, in what a host can see or time while the enclave runs and
 when it leaves: where each step is, how many there are, the addresses of loads and stores, the operands of divisions where that is asked
 for, the answers, and the window. Where two runs go different ways they are compared from where they come together again."""
+from __future__ import annotations
+
 from array import array
 from bisect import bisect_left
 from collections import defaultdict
 from contextlib import closing
 from dataclasses import dataclass
-from typing import Optional
+from typing import Any, Mapping, Optional, Sequence, TYPE_CHECKING
 
 from rvlook.errors import Fault, Unfinished
 from rvlook.finders.secrets import place_and_size
 from rvlook.access.activations import Stays
+
+if TYPE_CHECKING:
+    from rvlook.access.activations import Did, Stay
+    from rvlook.finders.secrets import Secret
+    from rvlook.protocol.replies import Enclave
+    from rvlook.protocol.run import Run
+    from rvlook.protocol.symbols import Symbols
 
 PARTS = ("pc", "steps", "address", "operand", "answer", "window")
 SAME, FAR = 4, 4096  # so many steps alike, and two runs are together again; looked for within so many steps
@@ -20,8 +29,8 @@ SAME, FAR = 4, 4096  # so many steps alike, and two runs are together again; loo
 class Apart:
     """Where two runs part: in what, at which step of each first, with what values, the instruction that made it, and how many times there."""
     what: str
-    steps: tuple
-    values: tuple
+    steps: tuple[int, int]
+    values: tuple[Any, ...]  # of a form for each `what`
     pc: Optional[int] = None
     count: int = 1
 
@@ -29,8 +38,8 @@ class Apart:
 @dataclass
 class Seen:
     """One run from where the secret is put: the enclave's stays, and the step that is its last."""
-    run: object
-    stays: list
+    run: Run
+    stays: list[Stay]
     last: int
     is_cut: bool = False  # by --steps, before the enclave exited
 
@@ -39,19 +48,19 @@ class Seen:
 class Public:
     """What may differ: the answer, bytes of the window, and what instructions of a range make."""
     answer: bool = False
-    ranges: tuple = ()
+    ranges: tuple[tuple[int, int], ...] = ()
 
-    def has(self, address):
+    def has(self, address: int) -> bool:
         return any(at <= address < at + count for at, count in self.ranges)
 
 
-def public_of(texts, symbols):
+def public_of(texts: Sequence[str] | None, symbols: Symbols) -> Public:
     """What --public names."""
     found = [it for it in texts or () if it != "answer"]
     return Public("answer" in (texts or ()), tuple((at, count or 4) for at, count in (place_and_size(it, symbols) for it in found)))
 
 
-def seen(run, secret, is_strict):
+def seen(run: Run, secret: Secret, is_strict: bool) -> Seen:
     """What a host sees of the slot's enclave, until it exits."""
     found, stays = [], Stays(run, secret.step, is_strict)
     with closing(stays.all()) as every:
@@ -62,14 +71,17 @@ def seen(run, secret, is_strict):
                     return Seen(run, found, stay.last)
     if not found:
         raise Unfinished("the enclave of slot %d is never entered after step %d, from which on runs are compared" % (secret.slot, secret.step))
+    assert stays.end is not None
     return Seen(run, found, stays.end.steps, stays.end.why == "limit" and found[-1].left == "nothing")
 
 
 class Comparison:
     """Two runs; `found` has where they part, by the part and the instruction."""
 
-    def __init__(self, one, two, secret, public, is_strict):
-        self.one, self.two, self.secret, self.public, self.is_strict, self.found, self.writers = one, two, secret, public, is_strict, {}, {}
+    def __init__(self, one: Seen, two: Seen, secret: Secret, public: Public, is_strict: bool) -> None:
+        self.one, self.two, self.secret, self.public, self.is_strict = one, two, secret, public, is_strict
+        self.found: dict[tuple[str, int | None], Apart] = {}
+        self.writers: dict[int, int] = {}
         for pair in zip(one.stays, two.stays):
             self.ways(*pair)
             self.leaves(*pair)
@@ -78,20 +90,20 @@ class Comparison:
         if len(one.stays) != len(two.stays) and not any(it.what == "answer" for it in self.found.values()):
             self.add("answer", (one.last, two.last), tuple("%d leaves" % len(it.stays) for it in (one, two)))
 
-    def parts(self):
+    def parts(self) -> list[str]:
         return [it for it in PARTS if any(found.what == it for found in self.found.values())]
 
-    def all(self):
+    def all(self) -> list[Apart]:
         return sorted(self.found.values(), key=lambda it: (PARTS.index(it.what), it.steps))
 
-    def add(self, what, steps, values, pc=None):
+    def add(self, what: str, steps: tuple[int, int], values: tuple[Any, ...], pc: int | None = None) -> None:
         """A difference, or one more where there was such."""
         if pc is not None and self.public.has(pc):
             return
         old = self.found.setdefault((what, pc), Apart(what, steps, values, pc, 0))
         old.count += 1
 
-    def ways(self, one, two):
+    def ways(self, one: Stay, two: Stay) -> None:
         """Step by step, and from where two ways come together again."""
         theirs = dict(zip(two.did_at, two.did))
         x = y = 0
@@ -106,7 +118,7 @@ class Comparison:
                 return
             x, y = self.diverge(one, x, two, y, theirs)
 
-    def diverge(self, one, x, two, y, theirs):
+    def diverge(self, one: Stay, x: int, two: Stay, y: int, theirs: Mapping[int, Did]) -> tuple[int, int]:
         """Adds the step by which two ways diverge before x and y; returns where they are compared again. At the same pc that step is the
         next one, which traps in one run and not, or otherwise, in the other. Its access is compared too."""
         if x < len(one.pcs) and y < len(two.pcs) and one.pcs[x] == two.pcs[y]:
@@ -120,7 +132,7 @@ class Comparison:
         self.add("pc", steps, (), one.pcs[max(0, x - 1)] & -4)
         return together(one, x, two, y)
 
-    def access(self, mine, theirs, enclave):
+    def access(self, mine: Did, theirs: Did, enclave: Enclave) -> None:
         """What two steps did that were at the same place."""
         steps = mine.step, theirs.step
         if mine.kind == "d":
@@ -131,12 +143,12 @@ class Comparison:
         elif mine.kind == "w" and mine.values != theirs.values and self.is_shown(mine, enclave):
             self.add("window", steps, tuple((it.address, bytes(it.values)) for it in (mine, theirs)), mine.pc)
 
-    def is_shown(self, it, enclave):
+    def is_shown(self, it: Did, enclave: Enclave) -> bool:
         """Whether a store is to a byte of the window that may not differ."""
         places = range(it.address, it.address + it.width)
         return any(enclave.window <= at < enclave.window + enclave.window_size and not self.public.has(at) for at in places)
 
-    def leaves(self, one, two):
+    def leaves(self, one: Stay, two: Stay) -> None:
         """The answer and the window when the enclave leaves."""
         if not self.public.answer and (one.left, one.answer) != (two.left, two.answer):
             self.add("answer", (one.last, two.last), tuple((it.left, *it.answer) for it in (one, two)), one.pc)
@@ -149,15 +161,15 @@ class Comparison:
                     self.add("window", (one.last, two.last), ((base + at, bytes([x])), (base + at, bytes([y]))), pc)
 
 
-def did_at(stay, place):
+def did_at(stay: Stay, place: int) -> Did | None:
     """Returns what the step at a place of the stay did, or None."""
     at = bisect_left(stay.did_at, place)
     return stay.did[at] if stay.did_at[at:at + 1] == array("I", [place]) else None
 
 
-def writers_of(one, two):
+def writers_of(one: Stay, two: Stay) -> dict[int, int]:
     """The instruction that stored each byte last, in either run."""
-    found = {}
+    found: dict[int, int] = {}
     for stay in (two, one):
         for it in stay.did:
             if it.kind == "w" and it.done:
@@ -165,7 +177,7 @@ def writers_of(one, two):
     return found
 
 
-def alike(one, x, two, y):
+def alike(one: Stay, x: int, two: Stay, y: int) -> int:
     """How many steps from these on are at the same places, in the same modes, with the same traps."""
     count, most = 0, min(len(one.pcs) - x, len(two.pcs) - y)
     if one.pcs[x:x + most] == two.pcs[y:y + most]:
@@ -182,7 +194,7 @@ def alike(one, x, two, y):
     return min((n for n in trapped if one.traps.get(x + n) != two.traps.get(y + n)), default=count)
 
 
-def together(one, x, two, y):
+def together(one: Stay, x: int, two: Stay, y: int) -> tuple[int, int]:
     """Where two ways come together again: the fewest steps behind these, from which on some are alike; else the ends."""
     places = defaultdict(list)
     for n in range(y, min(y + FAR, len(two.pcs))):
@@ -199,6 +211,6 @@ def together(one, x, two, y):
     return best[1:] if best else (len(one.pcs), len(two.pcs))
 
 
-def check_values(values):
+def check_values(values: Sequence[bytes]) -> None:
     if len(values[0]) != len(values[1]):
         raise Fault("the two have not the same number of bytes")

@@ -1,11 +1,22 @@
 """What the word leak tells: for a pair of secrets, or for each of many, in what the runs part, and where; for a person and as objects."""
+from __future__ import annotations
+
 import time
+from typing import Mapping, Sequence, TYPE_CHECKING
 
 from rvlook.errors import Fault, WordsRefused
 from rvlook.finders.leak import PARTS, Comparison, check_values, public_of, seen
 from rvlook.finders.secrets import drawn, secret_of
 from rvlook.output.progress import Progress
 from rvlook.output.printer import Style, hex8, run_object
+
+if TYPE_CHECKING:
+    from argparse import Namespace
+    from rvlook.finders.leak import Apart, Seen
+    from rvlook.finders.secrets import Secret
+    from rvlook.output.printer import Printer
+    from rvlook.protocol.run import Run
+    from rvlook.protocol.symbols import Symbols
 
 WORDS = {"pc": "each step goes on at the same pc", "address": "each load and store is at the same address",
          "operand": "each division has the same operands"}
@@ -15,32 +26,32 @@ MOST_TRIES = 10  # numbers of pairs that are told
 class Leak:
     """A run, its secret, and how it is compared."""
 
-    def __init__(self, run, symbols, printer, options):
+    def __init__(self, run: Run, symbols: Symbols, printer: Printer, options: Namespace) -> None:
         self.run, self.symbols, self.printer, self.options, self.findings = run, symbols, printer, options, options.findings
         self.public, self.is_strict = public_of(options.public, symbols), options.strict
         self.parts = [it for it in PARTS if it != "operand" or self.is_strict]
 
-    def secret(self, size=None):
+    def secret(self, size: int | None = None) -> Secret:
         return secret_of(self.options.at, self.symbols, self.run, self.options.slot, size)
 
-    def seen(self, secret):
+    def seen(self, secret: Secret) -> Seen:
         """The run with a secret."""
         found = seen(self.run.with_lines(secret.step, secret.lines()), secret, self.is_strict)
         if found.is_cut and not self.findings.cut:
             self.findings.cut_short("--steps %d ends the run before the enclave of slot %d leaves" % (self.run.setup.limit, secret.slot))
         return found
 
-    def compared(self, one, two, secret):
+    def compared(self, one: Seen, two: Seen, secret: Secret) -> Comparison:
         return Comparison(one, two, secret, self.public, self.is_strict)
 
-    def reply(self, run, step):
+    def reply(self, run: Run, step: int) -> str:
         """What the bench replies to a step."""
         with run.replay() as replay:
             replay.go(step - 1)
-            return replay.go(step)[len("ran 1 "):]
+            return (replay.go(step) or "")[len("ran 1 "):]
 
 
-def show_leak(run, symbols, printer, options):
+def show_leak(run: Run, symbols: Symbols, printer: Printer, options: Namespace) -> None:
     """One pair of secrets, or as many as are asked for."""
     leak = Leak(run, symbols, printer, options)
     if options.tries is not None:
@@ -64,7 +75,7 @@ def show_leak(run, symbols, printer, options):
         leak.findings.add(what, "\n".join(heading_of(leak, it, secret) for it in found.all() if it.what == what))
 
 
-def show_tries(leak):
+def show_tries(leak: Leak) -> None:
     """Many secrets, each beside what stands there by itself."""
     options, printer = leak.options, leak.printer
     first = leak.secret()
@@ -93,7 +104,7 @@ def show_tries(leak):
         raise KeyboardInterrupt
 
 
-def try_pair(leak, own, base, number, value):
+def try_pair(leak: Leak, own: Secret, base: Seen, number: int, value: bytes) -> tuple[Secret, Seen, Comparison]:
     """Compares the run with a drawn value, or with another if that is the secret itself; notes what was found."""
     other = own.with_bytes(value if value != own.bytes else bytes(it ^ 0xA5 for it in value))
     two = leak.seen(other)
@@ -105,7 +116,7 @@ def try_pair(leak, own, base, number, value):
     return other, two, found
 
 
-def finish(leak, own, base, told, done):
+def finish(leak: Leak, own: Secret, base: Seen | None, told: Mapping[int, tuple[Secret, Seen, Comparison]], done: int) -> None:
     """What the pairs told, and the first of them that did."""
     printer = leak.printer
     if printer.as_json:
@@ -118,22 +129,23 @@ def finish(leak, own, base, told, done):
     number = min(told)
     other, two, found = told[number]
     printer.line("pair %d of %d, the first that tells" % (number, done))
+    assert base is not None  # as something was found
     pair_text(leak, [own, other], (base, two), found)
     numbers = ", ".join(map(str, sorted(told)[:MOST_TRIES])) + (", ..." if len(told) > MOST_TRIES else "")
     parts = sorted({part for *_, it in told.values() for part in it.parts()}, key=PARTS.index)
     printer.line("%d of %s told, in %s: %s" % (len(told), pairs_text(done), ", ".join(parts), numbers))
 
 
-def pairs_text(count):
+def pairs_text(count: int) -> str:
     return "1 pair" if count == 1 else "%d pairs" % count
 
 
-def place_text(pc, symbols):
+def place_text(pc: int, symbols: Symbols) -> str:
     """An instruction with its symbol and source line."""
     return "  ".join(part for part in ("%08x" % pc, symbols.name(pc), symbols.line(pc)) if part)
 
 
-def values_of(leak, it, both):
+def values_of(leak: Leak, it: Apart, both: Sequence[Seen]) -> list[str]:
     """The two values of a difference, in words."""
     if it.what == "pc":
         return [leak.reply(one.run, step) for one, step in zip(both, it.steps)]
@@ -146,7 +158,7 @@ def values_of(leak, it, both):
     return list(it.values)
 
 
-def pair_text(leak, secrets, both, comparison):
+def pair_text(leak: Leak, secrets: Sequence[Secret], both: Sequence[Seen], comparison: Comparison) -> None:
     """Each part of one pair, with all places at which it parts."""
     printer, first = leak.printer, secrets[0]
     printer.line("e%d, from step %d on, with %s and with %s at %s  %s" % (
@@ -164,7 +176,7 @@ def pair_text(leak, secrets, both, comparison):
     printer.line("they part in " + ", ".join(parts) if parts else "alike for 1 pair in " + ", ".join(leak.parts))
 
 
-def heading_of(leak, it, secret):
+def heading_of(leak: Leak, it: Apart, secret: Secret) -> str:
     """In what two runs part, and where."""
     if it.what == "steps":
         return "apart: %d and %d" % tuple(step - secret.step for step in it.steps)
@@ -174,13 +186,13 @@ def heading_of(leak, it, secret):
     return "apart at %s%s%s" % (step, where, times)
 
 
-def apart_text(leak, it, secret, both):
+def apart_text(leak: Leak, it: Apart, secret: Secret, both: Sequence[Seen]) -> str:
     """The same, with both values."""
     values = () if it.what == "steps" else values_of(leak, it, both)
     return heading_of(leak, it, secret) + "".join("\n          " + value.rstrip() for value in values)
 
 
-def pair_objects(leak, secrets, both, comparison):
+def pair_objects(leak: Leak, secrets: Sequence[Secret], both: Sequence[Seen], comparison: Comparison) -> None:
     printer, first, symbols = leak.printer, secrets[0], leak.symbols
     run_object(printer, leak.run, symbols)
     printer.object("secret", slot=first.slot, at=first.text(), step=first.step, bytes=[it.bytes.hex() for it in secrets])

@@ -1,7 +1,9 @@
 """What tells the ends of races apart, and what is forbidden of them: bytes, registers, the states of enclaves."""
+from __future__ import annotations
+
 import operator
 import re
-from typing import NamedTuple
+from typing import Any, Iterable, NamedTuple, Sequence, TYPE_CHECKING, Tuple, Union
 
 from rvlook.protocol import names
 from rvlook.errors import Fault
@@ -9,6 +11,11 @@ from rvlook.protocol.lines import no_symbol
 from rvlook.finders.races.machine import operands
 from rvlook.protocol.replies import enclave_of
 from rvlook.output.printer import hex8
+
+if TYPE_CHECKING:
+    from rvlook.finders.races.ends import End
+    from rvlook.finders.races.machine import Look, Machine, Memory, State
+    from rvlook.protocol.symbols import Symbols
 
 OPERATORS = {"==": operator.eq, "!=": operator.ne, "<=": operator.le, ">=": operator.ge, "<": operator.lt, ">": operator.gt}
 CONDITION = re.compile(r"\s*([^\s=!<>]+)\s*(==|!=|<=|>=|<|>)\s*([^\s=!<>]+)\s*\Z")
@@ -20,9 +27,9 @@ class Bytes(NamedTuple):
     """So many bytes at an address."""
     name: str
     at: int
-    count: int
+    count: int  # type: ignore[assignment]  # a tuple has a method of that name
 
-    def value_in(self, machine, _state, memory):
+    def value_in(self, machine: Machine, _state: State, memory: Memory) -> bytes:
         return bytes(machine.bytes_at(memory, self.at, self.count) or ())
 
 
@@ -32,7 +39,7 @@ class Register(NamedTuple):
     hart: int
     number: int
 
-    def value_in(self, machine, state, _memory):
+    def value_in(self, machine: Machine, state: State, _memory: Memory) -> int:
         return machine.harts[state.harts[self.hart]][2][self.number]
 
 
@@ -41,7 +48,7 @@ class Slot(NamedTuple):
     name: str
     slot: int
 
-    def value_in(self, machine, state, _memory):
+    def value_in(self, machine: Machine, state: State, _memory: Memory) -> str:
         return states_of(machine, state).get(self.slot, "none")
 
 
@@ -49,16 +56,20 @@ class Table(NamedTuple):
     """The states of all enclaves."""
     name: str = "enclaves"
 
-    def value_in(self, machine, state, _memory):
+    def value_in(self, machine: Machine, state: State, _memory: Memory) -> tuple[tuple[int, str], ...]:
         return tuple(sorted(states_of(machine, state).items()))
+
+
+Observed = Union[Bytes, Register, Slot, Table]
+Value = Union[bytes, int, str, Tuple[Tuple[int, str], ...]]  # of one of those, in this order
 
 
 class Watched(NamedTuple):
     """The bytes and the registers, each with its hart, that distinguish final states."""
-    addresses: frozenset = frozenset()
-    registers: frozenset = frozenset()
+    addresses: frozenset[int] = frozenset()
+    registers: frozenset[tuple[int, int]] = frozenset()
 
-    def may_change(self, hart, look):
+    def may_change(self, hart: int, look: Look) -> bool:
         """Returns whether a step of a hart may change one of them."""
         if look.kind in ("call", "timer"):
             return True
@@ -68,7 +79,7 @@ class Watched(NamedTuple):
         return word is not None and (hart, operands(word)[0]) in self.registers
 
 
-def watched_of(outcome):
+def watched_of(outcome: Iterable[Observed]) -> Watched:
     """Returns what the steps of a hart may change of an outcome."""
     return Watched(frozenset(at for it in outcome if isinstance(it, Bytes) for at in range(it.at, it.at + it.count)),
                    frozenset((it.hart, it.number) for it in outcome if isinstance(it, Register)))
@@ -77,10 +88,10 @@ def watched_of(outcome):
 class Condition(NamedTuple):
     """Comparisons that are forbidden together: of each the name, the operator and the value; or how a hart must not end."""
     text: str
-    parts: tuple
+    parts: tuple[tuple[str, str, Union[int, str]], ...]
     how: str = ""
 
-    def holds(self, end, names_of):
+    def holds(self, end: End, names_of: Sequence[str]) -> bool:
         """Whether an end is as it must not be."""
         if self.how:
             return any(how == self.how for how, _ in end.harts)
@@ -88,29 +99,29 @@ class Condition(NamedTuple):
         return bool(values) and all(OPERATORS[compared](number_of(values[name]), value) for name, compared, value in self.parts)
 
 
-def states_of(machine, state):
+def states_of(machine: Machine, state: State) -> dict[int, str]:
     return {it.slot: it.state for it in map(enclave_of, machine.tables[state.table][0])}
 
 
-def number_of(value):
+def number_of(value: Value) -> Any:
     """A value as it is compared: bytes are a number, the lowest byte first."""
     return int.from_bytes(value, "little") if isinstance(value, bytes) else value
 
 
-def value_text(value):
+def value_text(value: Value) -> str:
     """A value as it is shown: a small number decimal, a larger one in hexadecimal digits."""
     if isinstance(value, tuple):
         return " ".join("e%d %s" % it for it in value) or "none"
     if isinstance(value, str):
         return value
     size = len(value) if isinstance(value, bytes) else WORD_BYTES
-    if size not in (1, 2, WORD_BYTES):
+    if isinstance(value, bytes) and size not in (1, 2, WORD_BYTES):
         return value.hex()
     number = number_of(value)
     return "%d" % number if number < 65536 else "%0*x" % (2 * size, number)
 
 
-def outcome_of(text, symbols, harts):
+def outcome_of(text: str, symbols: Symbols, harts: int) -> Observed:
     """What --outcome names: PLACE or PLACE:BYTES, HART.REGISTER, a slot, or enclaves."""
     hart, dot, register = text.partition(".")
     if text == "enclaves":
@@ -128,17 +139,18 @@ def outcome_of(text, symbols, harts):
     return Bytes(text, at, int(count or (symbol and symbol.size) or WORD_BYTES))
 
 
-def condition_of(text, symbols):
+def condition_of(text: str, symbols: Symbols) -> Condition:
     """What --forbid says: comparisons joined by and; or stays, waits, livelock, unended."""
     if text.strip() in HOW:
         return Condition(text, (), HOW[text.strip()])
-    parts = [CONDITION.match(it) for it in re.split(r"\band\b", text)]
-    if None in parts:
+    texts = re.split(r"\band\b", text)
+    parts = [match for match in map(CONDITION.match, texts) if match]
+    if len(parts) < len(texts):
         raise Fault("--forbid is NAME OPERATOR VALUE, joined by and, or one of %s; and not %s" % (", ".join(HOW), text))
     return Condition(text, tuple((it[1], it[2], compared_with(it[1], it[3], symbols)) for it in parts))
 
 
-def compared_with(name, value, symbols):
+def compared_with(name: str, value: str, symbols: Symbols) -> int | str:
     """The value of a comparison: a number, decimal or after 0x, or a symbol's address; the state of an enclave."""
     if re.fullmatch(r"e\d+", name) and name not in symbols.by_name:
         return value
@@ -151,15 +163,15 @@ def compared_with(name, value, symbols):
         return at
 
 
-def outcomes_of(texts, conditions, symbols, harts):
+def outcomes_of(texts: Iterable[str] | None, conditions: Sequence[Condition], symbols: Symbols, harts: int) -> list[Observed]:
     """What tells ends apart, with what is forbidden; none where all that both touch does."""
     named = list(texts or ()) + [part[0] for it in conditions for part in it.parts]
     return [outcome_of(it, symbols, harts) for it in dict.fromkeys(named)]
 
 
-def ranges_of(addresses, symbols):
+def ranges_of(addresses: Iterable[int], symbols: Symbols) -> list[Bytes]:
     """Addresses as bytes of one symbol each."""
-    found = []
+    found: list[Bytes] = []
     for at in sorted(addresses):
         if found and found[-1].at + found[-1].count == at and symbols.function(at) == symbols.function(found[-1].at):
             found[-1] = found[-1]._replace(count=found[-1].count + 1)

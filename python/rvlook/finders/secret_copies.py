@@ -1,5 +1,7 @@
 """Where bytes have a copy of a part of a secret: each maximal run of bytes that the secret has too, in the same order."""
-from typing import NamedTuple
+from __future__ import annotations
+
+from typing import Iterable, NamedTuple
 
 LEAST = 4  # bytes of a copy that is told; the whole secret if that is shorter
 
@@ -11,9 +13,11 @@ class Copy(NamedTuple):
     offset: int
 
 
-def copies_in(data, secret):
+def copies_in(data: bytes, secret: bytes) -> list[Copy]:
     """Returns the copies, by their places. Bytes that are all equal, such as zeros, are none, and neither is what a longer copy covers."""
-    least, found, ends = min(LEAST, len(secret)), [], {}
+    least = min(LEAST, len(secret))
+    found: list[Copy] = []
+    ends: dict[int, int] = {}  # of the last copy at each distance between the bytes and the secret
     for offset in range(len(secret) - least + 1):
         part = secret[offset:offset + least]
         at = data.find(part) if len(set(part)) > 1 else -1
@@ -26,7 +30,7 @@ def copies_in(data, secret):
     return not_covered(found)
 
 
-def extended(data, secret, at, offset, size):
+def extended(data: bytes, secret: bytes, at: int, offset: int, size: int) -> Copy:
     """Returns the maximal copy that has the bytes at a place."""
     while at and offset and data[at - 1] == secret[offset - 1]:
         at, offset, size = at - 1, offset - 1, size + 1
@@ -35,7 +39,7 @@ def extended(data, secret, at, offset, size):
     return Copy(at, size, offset)
 
 
-def not_covered(copies):
+def not_covered(copies: Iterable[Copy]) -> list[Copy]:
     """Returns those that no longer copy covers; of copies at the same bytes the one with the lowest offset."""
     kept, end = [], -1
     for it in sorted(copies, key=lambda it: (it.at, -it.size, it.offset)):

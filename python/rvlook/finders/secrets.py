@@ -1,9 +1,12 @@
 """Where a secret is: bytes of an enclave's region, which are poked right behind its create; bytes of the image, which are poked at reset; or
 a register, at the moment at which an enclave first comes to a place. And which values it is given."""
+from __future__ import annotations
+
 import random
 import re
 from contextlib import closing
 from dataclasses import dataclass, replace
+from typing import TYPE_CHECKING
 
 from rvlook.protocol import names
 from rvlook.errors import Fault, Unfinished
@@ -12,10 +15,16 @@ from rvlook.protocol.replies import bytes_of
 from rvlook.protocol.run import End
 from rvlook.access.activations import Stays
 
+if TYPE_CHECKING:
+    from rvlook.access.map import Moment
+    from rvlook.protocol.run import Run
+    from rvlook.protocol.symbols import Symbols
+
 ROW = 64
 REGISTER_AT = re.compile(r"(\w+)@(.+)\Z")
 CORNERS = (b"\0", b"\xff", b"\x7f", b"\x80", b"\x01", b"\x55", b"\xaa")  # of each byte
 WORD = 4
+Bytes = bytes  # a member of Secret has that name
 
 
 @dataclass(frozen=True)
@@ -24,19 +33,19 @@ class Secret:
     slot: int
     at: int
     step: int
-    bytes: bytes
+    bytes: Bytes
     register: int = 0
     hart: int = 0
 
-    def lines(self):
+    def lines(self) -> list[str]:
         if self.register:
             return ["hart %d" % self.hart] * bool(self.hart) + ["setreg %d %x" % (self.register, int.from_bytes(self.bytes, "little"))]
         return ["poke %x %02x" % (self.at + place, value) for place, value in enumerate(self.bytes)]
 
-    def with_bytes(self, value):
+    def with_bytes(self, value: Bytes) -> Secret:
         return replace(self, bytes=value)
 
-    def bytes_in(self, run):
+    def bytes_in(self, run: Run) -> Bytes:
         """What stands there by itself."""
         with run.replay() as replay:
             replay.go(self.step)
@@ -46,11 +55,11 @@ class Secret:
             reads = ["mem %x %d" % (self.at + at, min(ROW, len(self.bytes) - at)) for at in range(0, len(self.bytes), ROW)]
             return b"".join(bytes_of(reply[0]) for reply in replay.bench.ask(*reads))
 
-    def text(self):
+    def text(self) -> str:
         return names.abi_name(self.register) if self.register else "%08x" % self.at
 
 
-def created(run, slot):
+def created(run: Run, slot: int) -> Moment:
     """The moment at which the slot's enclave is created."""
     for moment in moments(run):
         if not isinstance(moment, End) and moment.event == "create" and moment.slot == slot:
@@ -58,7 +67,7 @@ def created(run, slot):
     raise Unfinished("no enclave is created in slot %d" % slot)
 
 
-def place_and_size(text, symbols):
+def place_and_size(text: str, symbols: Symbols) -> tuple[int, int | None]:
     """PLACE or PLACE:BYTES, as an address and how many bytes, None where it is not told."""
     place, _, count = text.partition(":")
     at = symbols.address(place)
@@ -68,7 +77,7 @@ def place_and_size(text, symbols):
     return at, int(count) if count else symbol.size if symbol and symbol.size else None
 
 
-def secret_of(text, symbols, run, slot, size=None):
+def secret_of(text: str, symbols: Symbols, run: Run, slot: int, size: int | None = None) -> Secret:
     """The secret that --at names, of zeros; `size` is that of the values that it is given, where there are such."""
     register = REGISTER_AT.match(text)
     if register and register[1] in names.NUMBER_OF and text.split("@")[0] not in symbols.by_name:
@@ -87,7 +96,7 @@ def secret_of(text, symbols, run, slot, size=None):
     return Secret(slot, at, moment.step, bytes(count))
 
 
-def register_secret(match, symbols, run, slot):
+def register_secret(match: re.Match[str], symbols: Symbols, run: Run, slot: int) -> Secret:
     """A register at the first step of the slot's enclave at a place."""
     pc, _ = place_and_size(match[2], symbols)
     with closing(Stays(run).all()) as every:
@@ -98,7 +107,7 @@ def register_secret(match, symbols, run, slot):
     raise Unfinished("the enclave of slot %d does not come to %08x" % (slot, pc))
 
 
-def drawn(size, seed, first, last):
+def drawn(size: int, seed: int, first: int, last: int) -> list[tuple[int, bytes]]:
     """The values from one number to another of a list that goes on: corner values, and then single bits and random ones in turn."""
     rng = random.Random(seed)
     values = [it * size for it in CORNERS] + [bytes([1]) + bytes(size - 1), bytes(size - 1) + b"\x80"]
@@ -106,6 +115,7 @@ def drawn(size, seed, first, last):
     rng.shuffle(bits)
     number = 0
     while len(values) < last:
-        values.append(bits[number // 2 % len(bits)].to_bytes(size, "little") if number % 2 == 0 else rng.randbytes(size))
+        value = rng.getrandbits(8 * size) if number % 2 else bits[number // 2 % len(bits)]
+        values.append(value.to_bytes(size, "little"))
         number += 1
     return list(enumerate(values[:last], 1))[max(0, first - 1):]

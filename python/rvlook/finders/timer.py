@@ -1,16 +1,26 @@
 """The word timer: the timer's line is raised before each step of an enclave, or before every Nth; whether it comes to the same end as
 without, and in how many stops. The script comes before, as it stands."""
+from __future__ import annotations
+
 import itertools
 from dataclasses import dataclass
-from typing import Optional
+from typing import Iterable, Iterator, Optional, Sequence, TYPE_CHECKING
 
 from rvlook.protocol import names
 from rvlook.errors import Unfinished
 from rvlook.access.map import moments
 from rvlook.output.progress import Progress
-from rvlook.protocol.replies import ran_of, register_values
+from rvlook.protocol.replies import step_of, register_values
 from rvlook.protocol.run import End, Stretch
 from rvlook.output.printer import Style, place_text, run_object
+
+if TYPE_CHECKING:
+    from argparse import Namespace
+    from rvlook.output.printer import Printer
+    from rvlook.protocol.bench import Bench
+    from rvlook.protocol.replies import Enclave
+    from rvlook.protocol.run import Replay, Run
+    from rvlook.protocol.symbols import Symbols
 
 MOST_STEPS = 200  # of the enclave in one exchange
 PATIENCE = 1000000  # steps in which the host has to enter it
@@ -25,7 +35,7 @@ class Inside:
     pc: str
     reply: str
     is_entered: bool
-    answer: tuple = ()
+    answer: tuple[str, ...] = ()
 
 
 @dataclass(frozen=True)
@@ -33,7 +43,7 @@ class Last:
     """The step with which the enclave has left for good, or the run's last if it has not left; its line of the table; and whether it
     still runs where --steps ends the run."""
     step: int
-    enclave: object
+    enclave: Enclave
     is_cut: bool = False
 
 
@@ -55,7 +65,7 @@ class Outcome:
     not_resumed: Optional[Differs] = None  # the step before which the host did not enter the enclave
 
 
-def last_of(run, slot):
+def last_of(run: Run, slot: int) -> Last:
     """Where the slot's enclave leaves for good, behind the script."""
     found, end = None, None
     for moment in moments(run):
@@ -66,16 +76,17 @@ def last_of(run, slot):
             found = Last(moment.step, enclave) if enclave else found
     if found is None:
         raise Unfinished("there is no enclave in slot %d" % slot)
+    assert end is not None
     return found if found.enclave.state in LEFT else Last(end.steps, found.enclave, end.why == "limit")
 
 
-def inside_steps(run, slot, last, teller):
+def inside_steps(run: Run, slot: int, last: Last, teller: Replay) -> Iterator[Inside]:
     """The steps of the enclave behind the script, with no timer; `teller`, a replay, tells what the host is answered."""
     pc, world, own, entered = run.pc, run.world, "e%d" % slot, True
     for item in run.stretches():
         if isinstance(item, Stretch) and item.first <= last.step:
             for offset, line in enumerate(item.data.decode().splitlines()):
-                step, was, ran = item.first + offset, world, ran_of(line)
+                step, was, ran = item.first + offset, world, step_of(line)
                 if was == own and run.length < step <= last.step:
                     yield Inside(pc, line, entered, () if ran.world == own else answer_behind(teller, step))
                     entered = False
@@ -83,17 +94,17 @@ def inside_steps(run, slot, last, teller):
                 pc, world = ran.pc, ran.world
 
 
-def answer_behind(teller, step):
+def answer_behind(teller: Replay, step: int) -> tuple[str, ...]:
     """The host's a0 and a1 behind a step."""
     return tuple(reply[0] for reply in teller.bench.ask(*teller.lines_to(step), *ANSWER)[-len(ANSWER):])
 
 
-def enter(pc):
+def enter(pc: str) -> list[str]:
     """Lets the host go on until the enclave is at pc."""
     return ["break " + pc, "run %d" % PATIENCE, "clear " + pc]
 
 
-def commands_for(step, is_stopped, is_first):
+def commands_for(step: Inside, is_stopped: bool, is_first: bool) -> list[str]:
     """What is asked for one step of the enclave; the last command is the step itself, or reads the answer behind it."""
     commands = enter(step.pc) if step.is_entered and not is_first else []
     if is_stopped:
@@ -101,7 +112,7 @@ def commands_for(step, is_stopped, is_first):
     return commands + ["step 1"] + (ANSWER if step.answer else [])
 
 
-def interrupted(replay, steps, every):
+def interrupted(replay: Replay, steps: Iterable[Inside], every: int) -> Outcome:
     """The same steps with the timer before every one of them that is on turn; behind the first difference they are only counted."""
     outcome = Outcome()
     with Progress() as progress:
@@ -113,7 +124,7 @@ def interrupted(replay, steps, every):
     return outcome
 
 
-def parts_of(steps):
+def parts_of(steps: Iterator[tuple[int, Inside]]) -> Iterator[list[tuple[int, Inside]]]:
     """Steps for one exchange each. The first are few, since behind a difference each of them may cost the host's whole patience."""
     count = 1
     while part := list(itertools.islice(steps, count)):
@@ -121,7 +132,7 @@ def parts_of(steps):
         count = min(2 * count, MOST_STEPS)
 
 
-def compare(replay, part, every, outcome):
+def compare(replay: Replay, part: Sequence[tuple[int, Inside]], every: int, outcome: Outcome) -> None:
     """Some steps of the enclave, up to the first that comes to something else."""
     lists = [commands_for(step, number % every == 0, number == 0 and not step.is_entered) for number, step in part]
     replies = iter(replay.bench.ask(*(command for it in lists for command in it)))
@@ -136,18 +147,18 @@ def compare(replay, part, every, outcome):
             return
 
 
-def not_entered(number, step, commands, told):
+def not_entered(number: int, step: Inside, commands: Sequence[str], told: Sequence[str]) -> Differs | None:
     """The first time at which the host was to enter the enclave before a step and did not, or None."""
     for command, reply in zip(commands, told):
-        if command.startswith("run") and ran_of(reply).why != "break":
+        if command.startswith("run") and step_of(reply).why != "break":
             return Differs(number, step.pc, "the host enters the enclave", reply)
     return None
 
 
-def difference(number, step, is_stopped, told, answer):
+def difference(number: int, step: Inside, is_stopped: bool, told: Sequence[str], answer: tuple[str, ...]) -> Differs | None:
     """What came otherwise in one step of the enclave, or None."""
     if is_stopped:
-        stop = ran_of(told[-5])
+        stop = step_of(told[-5])
         if stop.trap is None or stop.trap.cause != names.TIMER:
             return Differs(number, step.pc, "a stop by the timer", told[-5])
     if seen_inside(told[-1]) != seen_inside(step.reply):
@@ -155,13 +166,13 @@ def difference(number, step, is_stopped, told, answer):
     return None if answer == step.answer else Differs(number, step.pc, " ".join(step.answer), " ".join(answer))
 
 
-def seen_inside(reply):
+def seen_inside(reply: str) -> object:
     """What the enclave's own step is; where the host goes on is not, for it may be by another call that it entered the enclave."""
-    ran = ran_of(reply)
+    ran = step_of(reply)
     return (ran.world, ran.trap) if ran.world == "host" else reply
 
 
-def finish_of(bench, enclave):
+def finish_of(bench: Bench, enclave: Enclave) -> list[str]:
     """What the enclave has left behind: the host's a0 and a1, its region and its window."""
     values = register_values(bench.ask("regs")[0])
     ranges = [(enclave.base, enclave.size), (enclave.window, enclave.window_size)]
@@ -169,7 +180,7 @@ def finish_of(bench, enclave):
     return ["a0=%08x" % values[10], "a1=%08x" % values[11]] + [reply[0] for reply in bench.ask(*reads)]
 
 
-def behind_script(run):
+def behind_script(run: Run) -> Replay:
     """The run, brought behind its script; what the script had set of breaks and watches is not set there."""
     replay = run.replay()
     commands = replay.lines_to(run.length) + replay.lines_up_to_next()
@@ -178,7 +189,7 @@ def behind_script(run):
     return replay
 
 
-def show_timer(run, symbols, printer, options):
+def show_timer(run: Run, symbols: Symbols, printer: Printer, options: Namespace) -> None:
     """Both runs, and whether they end alike; a host that does not resume the enclave is no finding, but leaves the question open."""
     slot, every, findings = options.slot, options.every, options.findings
     last = last_of(run, slot)
@@ -200,16 +211,16 @@ def show_timer(run, symbols, printer, options):
         findings.cut_short("--steps %d ends the run before the enclave of slot %d leaves" % (run.setup.limit, slot))
 
 
-def timer_object(run, symbols, printer, slot, every, outcome):
+def timer_object(run: Run, symbols: Symbols, printer: Printer, slot: int, every: int, outcome: Outcome) -> None:
     it = outcome.differs or outcome.not_resumed
     run_object(printer, run, symbols)
-    apart = it and {"step": it.number, "pc": it.pc, "wanted": it.wanted, "found": it.found,
-                    "source": it.pc and symbols.source(int(it.pc, 16))}
+    apart = None if it is None else {"step": it.number, "pc": it.pc, "wanted": it.wanted, "found": it.found,
+                                     "source": symbols.source(int(it.pc, 16)) if it.pc else None}
     printer.object("timer", slot=slot, every=every, stops=outcome.stops, steps=outcome.steps,
                    same=None if outcome.not_resumed else it is None, apart=apart)
 
 
-def timer_text(_run, symbols, printer, slot, every, outcome):
+def timer_text(_run: Run, symbols: Symbols, printer: Printer, slot: int, every: int, outcome: Outcome) -> None:
     it = outcome.differs or outcome.not_resumed
     how = "each" if every == 1 else "one in %d" % every
     stops = "1 stop" if outcome.stops == 1 else "%d stops" % outcome.stops

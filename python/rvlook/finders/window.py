@@ -1,9 +1,11 @@
 """The word window: for each stay of an enclave what it did with each byte of its window: which it read before it wrote them, which it read
 again with nothing of its own between (a double fetch, if another writes between), which it wrote, which are left of an earlier stay, and
 whether what it wrote depends on a secret, by a second run in which the secret is another; and where the window has a copy of the secret."""
+from __future__ import annotations
+
 from collections import defaultdict
 from dataclasses import dataclass, field
-from typing import NamedTuple
+from typing import Iterable, Iterator, Mapping, NamedTuple, Optional, TYPE_CHECKING, Tuple
 
 from rvlook.errors import Unfinished
 from rvlook.finders.leak import public_of
@@ -14,7 +16,20 @@ from rvlook.access.ranges import reach
 from rvlook.output.printer import Style, hex8, run_object
 from rvlook.access.activations import Stay, Stays
 
+if TYPE_CHECKING:
+    from argparse import Namespace
+    from rvlook.finders.leak import Public
+    from rvlook.finders.secret_copies import Copy
+    from rvlook.finders.secrets import Secret
+    from rvlook.output.printer import Printer
+    from rvlook.protocol.run import Run
+    from rvlook.protocol.symbols import Symbols
+
 WIDTH = 16  # bytes of a row of the dump
+
+
+Marks = Tuple[Tuple[int, ...], Optional[bool], bool]  # instructions, whether it is secret, and whether it is public
+Kept = Tuple[int, int, int]  # a value, the instruction that stored it, and the number of the stay
 
 
 class Found(NamedTuple):
@@ -23,47 +38,48 @@ class Found(NamedTuple):
     what: str
     first: int
     size: int
-    pcs: tuple
-    is_secret: object = None
+    pcs: tuple[int, ...]
+    is_secret: Optional[bool] = None
     is_public: bool = False
 
     @property
-    def is_finding(self):
+    def is_finding(self) -> bool:
         return self.what == "reads again" or bool(self.is_secret) and not self.is_public
 
 
 class Held(NamedTuple):
     """A copy of a part of the secret in the window, whether it is another with another secret, and whether --public names it."""
-    copy: object
+    copy: Copy
     is_secret: bool
     is_public: bool
 
     @property
-    def is_finding(self):
+    def is_finding(self) -> bool:
         return self.is_secret and not self.is_public
 
 
 @dataclass(frozen=True)
 class View:
     """What is told of one stay: its ranges, and the copies of the secret."""
-    found: list
-    held: list
+    found: list[Found]
+    held: list[Held]
 
 
 @dataclass
 class Byte:
     """A byte of the window in one stay: where it was read last with no store of the enclave since, where first, where it was read again, and
     what was stored to it and where last."""
-    read_at: object = None
-    input_at: object = None
-    again: dict = field(default_factory=dict)  # of pairs of instructions
-    stored_at: object = None
+    read_at: Optional[int] = None
+    input_at: Optional[int] = None
+    again: dict[tuple[int, int], bool] = field(default_factory=dict)  # of pairs of instructions
+    stored_at: Optional[int] = None
     values: bytearray = field(default_factory=bytearray)
 
 
-def bytes_of(stay):
+def bytes_of(stay: Stay) -> dict[int, Byte]:
     """What the stay did with each byte of its window, by its offset."""
-    found, base, size = defaultdict(Byte), stay.enclave.window, stay.enclave.window_size
+    found: dict[int, Byte] = defaultdict(Byte)
+    base, size = stay.enclave.window, stay.enclave.window_size
     for it in stay.did:
         if it.done and it.kind in "rw" and it.address < base + size and base < it.address + it.width:
             for n in range(it.width):
@@ -74,25 +90,25 @@ def bytes_of(stay):
     return found
 
 
-def read(byte, pc):
+def read(byte: Byte, pc: int) -> None:
     """A load: of what the host may have put there, as long as the enclave has stored nothing to it in this stay."""
     if byte.stored_at is None:
         if byte.input_at is None:
             byte.input_at = pc
-        else:
+        elif byte.read_at is not None:
             byte.again[byte.read_at, pc] = True
         byte.read_at = pc
 
 
-def stored(byte, pc, value):
+def stored(byte: Byte, pc: int, value: int) -> None:
     """A store."""
     byte.stored_at = pc
     byte.values.append(value)
 
 
-def ranges(what, told):
+def ranges(what: str, told: Mapping[int, Marks]) -> list[Found]:
     """Neighbours of which the same is told, as one; `told` gives for an offset its instructions, and whether it is secret and public."""
-    found = []
+    found: list[Found] = []
     for at in sorted(told):
         last = found[-1] if found else None
         if last and last.first + last.size == at and last[3:] == told[at]:
@@ -105,15 +121,15 @@ def ranges(what, told):
 class Left:
     """What the stays of each enclave have left in its window: the value of each byte, where it was stored, and in which stay."""
 
-    def __init__(self):
-        self.kept = defaultdict(dict)
+    def __init__(self) -> None:
+        self.kept: dict[str, dict[int, Kept]] = defaultdict(dict)
 
-    def of(self, stay):
+    def of(self, stay: Stay) -> dict[int, Kept]:
         """The bytes at the stay's end that an earlier one has left as they are."""
         return {at: it for at, it in self.kept[stay.world].items() if at < len(stay.after) and stay.after[at] == it[0] == stay.before[at]
                 and it[2] != stay.number}
 
-    def take(self, stay, found):
+    def take(self, stay: Stay, found: Mapping[int, Byte]) -> dict[int, Kept]:
         kept = self.kept[stay.world]
         for at in [it for it in kept if it >= len(stay.before) or stay.before[it] != kept[it][0]]:
             del kept[at]  # the host has written there
@@ -125,12 +141,13 @@ class Left:
         return told
 
 
-def view_of(stay, left, other, secret, public):
+def view_of(stay: Stay, left: Left, other: Stay | None, secret: Secret | None, public: Public) -> View:
     """All that is told of a stay; `other` is the same stay of the run with another secret, where there is one."""
     found, base = bytes_of(stay), stay.enclave.window
     theirs = bytes_of(other) if other else {}
     kept = left.take(stay, found)
-    again, writes = defaultdict(dict), {}
+    again: dict[tuple[int, int], dict[int, Marks]] = defaultdict(dict)
+    writes: dict[int, Marks] = {}
     for at, byte in found.items():
         for pair in byte.again:
             again[pair][at] = (pair, None, False)
@@ -145,7 +162,7 @@ def view_of(stay, left, other, secret, public):
     return View(told, list(held_in(stay, other, secret, writers, public)) if secret else [])
 
 
-def held_in(stay, other, secret, writers, public):
+def held_in(stay: Stay, other: Stay | None, secret: Secret, writers: Mapping[int, int], public: Public) -> Iterator[Held]:
     """The copies of parts of the secret that the window has when the stay ends; `writers` has the instruction that stored each byte."""
     base = stay.enclave.window
     for copy in copies_in(stay.after, secret.bytes):
@@ -154,7 +171,7 @@ def held_in(stay, other, secret, writers, public):
         yield Held(copy, is_secret, all(public.has(base + at) or at in writers and public.has(writers[at]) for at in places))
 
 
-def show_window(run, symbols, printer, options):
+def show_window(run: Run, symbols: Symbols, printer: Printer, options: Namespace) -> None:
     """Each stay of the slot's enclave, or of all, one after another."""
     secret, slot, public = None, options.slot, public_of(options.public, symbols)
     if options.at:
@@ -170,7 +187,7 @@ def show_window(run, symbols, printer, options):
             if slot is None or stay.slot == slot:
                 number += 1
                 progress.clear()
-                view = view_of(stay, left, others.next(stay) if others and stay.slot == secret.slot else None, secret, public)
+                view = view_of(stay, left, others.next(stay) if others and secret and stay.slot == secret.slot else None, secret, public)
                 write(printer, symbols, stay, view, secret)
                 options.findings.add("%s, stay %d" % (stay.world, stay.number), finding_of(stay, view, symbols, secret))
             progress.tell("step %d, %d stays", stay.last or 0, number)
@@ -178,7 +195,7 @@ def show_window(run, symbols, printer, options):
         raise Unfinished("no enclave runs" if slot is None else "there is no enclave in slot %d" % slot)
 
 
-def finding_of(stay, view, symbols, secret):
+def finding_of(stay: Stay, view: View, symbols: Symbols, secret: Secret | None) -> str:
     """Returns the rows that are findings, as a text; empty if there is none."""
     rows = [found_text(stay, it, symbols) for it in view.found if it.is_finding]
     rows += [held_text(stay, it, symbols, secret) for it in view.held if it.is_finding]
@@ -188,16 +205,17 @@ def finding_of(stay, view, symbols, secret):
 class Others:
     """The stays of the run in which the secret is another: its complement."""
 
-    def __init__(self, run, secret):
+    def __init__(self, run: Run, secret: Secret) -> None:
         other = secret.with_bytes(bytes(it ^ 0xFF for it in secret.bytes))
-        self.stays = (it for it in Stays(run.with_lines(other.step, other.lines()), secret.step).all() if it.slot == secret.slot)
+        self.stays: Iterator[Stay] = (it for it in Stays(run.with_lines(other.step, other.lines()), secret.step).all() if it.slot == secret.slot)
 
-    def next(self, stay):
+    def next(self, stay: Stay) -> Stay:
         """The same stay there; one without any store where there is none."""
-        return next(self.stays, None) or Stay(stay.world, stay.hart, 0, 0, stay.enclave)
+        found: Stay | None = next(self.stays, None)
+        return found or Stay(stay.world, stay.hart, 0, 0, stay.enclave)
 
 
-def between_text(stay, at):
+def between_text(stay: Stay, at: int) -> str:
     """Who may write to a byte of the window between two loads of a stay."""
     for world in stay.others:
         if "w" in reach(world, stay.table, at):
@@ -205,11 +223,11 @@ def between_text(stay, at):
     return "the host may write between, where the timer stops it there"
 
 
-def places_text(pcs, symbols):
+def places_text(pcs: Iterable[int], symbols: Symbols) -> str:
     return " and ".join(dict.fromkeys(symbols.source(pc) or symbols.name(pc) or hex8(pc) for pc in pcs))
 
 
-def found_text(stay, it, symbols):
+def found_text(stay: Stay, it: Found, symbols: Symbols) -> str:
     """A range in a line."""
     base = stay.enclave.window + it.first
     parts = ["  %-11s %08x-%08x %6d" % (it.what, base, base + it.size - 1, it.size), symbols.name(base) or ""]
@@ -226,13 +244,14 @@ def found_text(stay, it, symbols):
     return "  ".join(part for part in parts if part)
 
 
-def secret_text(it):
+def secret_text(it: Found | Held) -> str:
     """Whether bytes of the window are other ones with another secret."""
     return ("depends on the secret" + (", public" if it.is_public else "")) if it.is_secret else "the same with another secret"
 
 
-def held_text(stay, it, symbols, secret):
+def held_text(stay: Stay, it: Held, symbols: Symbols, secret: Secret | None) -> str:
     """A copy of a part of the secret, in a line."""
+    assert secret is not None
     copy, base = it.copy, stay.enclave.window + it.copy.at
     what = "all %d bytes of the secret" % copy.size if copy.size == len(secret.bytes) else \
         "bytes %d to %d of the secret's %d" % (copy.offset, copy.offset + copy.size - 1, len(secret.bytes))
@@ -240,7 +259,7 @@ def held_text(stay, it, symbols, secret):
     return "  ".join(part for part in parts if part)
 
 
-def rows_of(stay):
+def rows_of(stay: Stay) -> Iterator[tuple[int, bytes]]:
     """The rows of the window at the end that have a byte that is not 0."""
     for at in range(0, len(stay.after), WIDTH):
         row = stay.after[at:at + WIDTH]
@@ -248,18 +267,18 @@ def rows_of(stay):
             yield stay.enclave.window + at, row
 
 
-def row_text(at, row):
+def row_text(at: int, row: bytes) -> str:
     shown = "".join(chr(it) if 0x20 <= it < 0x7F else "." for it in row)
     return "  %08x  %s  %s" % (at, " ".join("%02x" % it for it in row), shown)
 
 
-def heading_of(stay):
+def heading_of(stay: Stay) -> str:
     hart = "hart %d  " % stay.hart if stay.others else ""
     answer = "  a0=%08x a1=%08x" % stay.answer if stay.answer else ""
     return "%s%s, stay %d: steps %d to %d, left by %s%s" % (hart, stay.world, stay.number, stay.first, stay.last, stay.left, answer)
 
 
-def stay_text(printer, symbols, stay, view, secret):
+def stay_text(printer: Printer, symbols: Symbols, stay: Stay, view: View, secret: Secret | None) -> None:
     printer.line(printer.styled(heading_of(stay), Style.heading))
     for it in view.found:
         text = found_text(stay, it, symbols)
@@ -268,13 +287,13 @@ def stay_text(printer, symbols, stay, view, secret):
         printer.line("  touches nothing of its window" if stay.enclave.window_size else "  has no window")
     for at, row in rows_of(stay):
         printer.line(row_text(at, row))
-    for it in view.held:
-        text = held_text(stay, it, symbols, secret)
-        printer.line(printer.styled(text, Style.bad) if it.is_finding else text)
+    for held in view.held:
+        text = held_text(stay, held, symbols, secret)
+        printer.line(printer.styled(text, Style.bad) if held.is_finding else text)
     printer.line()
 
 
-def stay_objects(printer, symbols, stay, view, _secret):
+def stay_objects(printer: Printer, symbols: Symbols, stay: Stay, view: View, _secret: Secret | None) -> None:
     printer.object("stay", world=stay.world, hart=stay.hart, stay=stay.number, first=stay.first, last=stay.last, left=stay.left,
                    answer=[hex8(it) for it in stay.answer], window=hex8(stay.enclave.window), size=stay.enclave.window_size)
     for it in view.found:
@@ -285,6 +304,6 @@ def stay_objects(printer, symbols, stay, view, _secret):
                        between=between_text(stay, base) if it.what == "reads again" else None)
     for at, row in rows_of(stay):
         printer.object("dump", world=stay.world, stay=stay.number, at=hex8(at), bytes=row.hex())
-    for it in view.held:
-        printer.object("holds", world=stay.world, stay=stay.number, at=hex8(stay.enclave.window + it.copy.at), size=it.copy.size,
-                       offset=it.copy.offset, secret=it.is_secret, public=it.is_public)
+    for held in view.held:
+        printer.object("holds", world=stay.world, stay=stay.number, at=hex8(stay.enclave.window + held.copy.at), size=held.copy.size,
+                       offset=held.copy.offset, secret=held.is_secret, public=held.is_public)

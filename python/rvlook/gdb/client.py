@@ -1,8 +1,10 @@
 """For gdb itself, which reads it by `-x python/rvlook/gdb/client.py`: what it cannot learn by the protocol. A backtrace goes on over a handler of
 traps to what it interrupted, and from an enclave to the host that entered it, so that `up`, `finish` and `next` over the call know the host
 as the caller; what it shows is read anew behind a `monitor`, which may step; and it waits as long as a run of the bench may take."""
+from __future__ import annotations
+
 import gdb
-from gdb.unwinder import Unwinder, register_unwinder
+from gdb.unwinder import Unwinder, register_unwinder  # type: ignore[attr-defined]
 
 SAVED = ["ra", "sp", *("s%d" % number for number in range(12))]  # what a function keeps for its caller
 KEPT = ["world", "priv", "stvec", "host_pc", *("host_" + name for name in SAVED)]  # what a trap leaves as it is
@@ -14,7 +16,7 @@ STORE, TO_SP, MOVE_SP = 0x2023, 0x2, 0x10113  # sw with the base sp; addi sp, sp
 class FrameId:
     """Which frame it is."""
 
-    def __init__(self, sp, pc):
+    def __init__(self, sp: gdb.Value, pc: gdb.Value) -> None:
         self.sp, self.pc = sp, pc
 
 
@@ -22,10 +24,10 @@ class Assembly(Unwinder):
     """Frames in code that no debugging information describes as a function: a handler of traps, and in an enclave what the host has entered,
     as the assembly is with which an enclave begins."""
 
-    def __init__(self):
+    def __init__(self) -> None:
         super().__init__("rvbench")
 
-    def __call__(self, pending):
+    def __call__(self, pending: gdb.PendingFrame) -> gdb.UnwindInfo | None:
         try:
             place = int(pending.read_register("pc")) & 0xFFFFFFFF
             if self.is_function(place):
@@ -38,15 +40,16 @@ class Assembly(Unwinder):
             return None  # a register of this frame is not known, or there is none of that name without the bridge
 
     @staticmethod
-    def is_function(place):
+    def is_function(place: int) -> bool:
         """Whether debugging information has a function there."""
-        block = gdb.current_progspace().block_for_pc(place)
+        space = gdb.current_progspace()
+        block = space.block_for_pc(place) if space else None
         while block and not block.function:
             block = block.superblock
         return block is not None
 
     @staticmethod
-    def interrupted(pending, place, handler):
+    def interrupted(pending: gdb.PendingFrame, place: int, handler: int) -> gdb.UnwindInfo:
         """The frame of a handler, with what it interrupted as its caller: of its instructions up to here, those that put registers on its
         stack and that change the stack tell where these are."""
         stack, saved, moved, swapped = int(pending.read_register("sp")), {}, 0, False
@@ -70,7 +73,7 @@ class Assembly(Unwinder):
         return info
 
     @staticmethod
-    def caller(pending, place):
+    def caller(pending: gdb.PendingFrame, place: int) -> gdb.UnwindInfo:
         """The frame, with the host's registers as those of its caller."""
         values = {name: pending.read_register("host_" + name) for name in ["pc", *SAVED]}
         int(values["pc"])  # which fails where the bridge has found no entry
@@ -80,17 +83,17 @@ class Assembly(Unwinder):
         return info
 
 
-def signed(value):
+def signed(value: int) -> int:
     """Twelve bits as a number."""
     return (value & 0xFFF) - (1 << 12 if value & 0x800 else 0)
 
 
-def name_of(place):
+def name_of(place: int) -> str:
     """The label at or before an address."""
-    return gdb.execute("info symbol 0x%x" % place, to_string=True).split(" ")[0]
+    return (gdb.execute("info symbol 0x%x" % place, to_string=True) or "").split(" ")[0]
 
 
-def before_monitor():
+def before_monitor() -> None:
     """Tells the bridge that all is read anew behind a line of `monitor`."""
     try:
         gdb.execute("maintenance packet QRvlookFresh", to_string=True)

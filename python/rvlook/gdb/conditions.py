@@ -1,6 +1,9 @@
 """Conditions of breakpoints: agent expressions of the GDB manual (appendix F), asked where the bench halts, so that a debugger is not
 told of halts at which they do not hold."""
+from __future__ import annotations
+
 import operator
+from typing import Callable
 
 FIRST_OF_64 = 1 << 64
 READS = {0x17: 1, 0x18: 2, 0x19: 4, 0x1A: 8}
@@ -12,18 +15,18 @@ class Refused(Exception):
     """An expression that is not understood, or not answered."""
 
 
-def signed(value):
+def signed(value: int) -> int:
     return value - FIRST_OF_64 if value >> 63 else value
 
 
-def divided(one, other):
+def divided(one: int, other: int) -> int:
     """The quotient, towards zero."""
     if other == 0:
         raise Refused("a division by zero")
     return abs(one) // abs(other) * (1 if (one < 0) == (other < 0) else -1)
 
 
-def on_signed(operation):
+def on_signed(operation: Callable[[int, int], int]) -> Callable[[int, int], int]:
     return lambda one, other: operation(signed(one), signed(other))
 
 
@@ -35,7 +38,7 @@ TWO = {
     0x13: operator.eq, 0x14: on_signed(operator.lt), 0x15: operator.lt}
 
 
-def extended(value, bits):
+def extended(value: int, bits: int) -> int:
     """The low bits, with the highest of them as their sign."""
     if bits == 0:
         raise Refused("a value of no bits")
@@ -46,24 +49,25 @@ def extended(value, bits):
 class Machine:
     """The stack of an expression. `register` and `memory` answer a register by its number and bytes by their place."""
 
-    def __init__(self, code, register, memory):
-        self.code, self.register, self.memory, self.stack, self.at = code, register, memory, [], 0
+    def __init__(self, code: bytes, register: Callable[[int], int], memory: Callable[[int, int], bytes]) -> None:
+        self.code, self.register, self.memory, self.at = code, register, memory, 0
+        self.stack: list[int] = []
 
-    def number(self, size):
+    def number(self, size: int) -> int:
         """The next bytes of the code, the highest first."""
         self.at += size
         return int.from_bytes(self.code[self.at - size:self.at], "big")
 
-    def push(self, value):
+    def push(self, value: int) -> None:
         self.stack.append(int(value) % FIRST_OF_64)
 
-    def read(self, size):
+    def read(self, size: int) -> None:
         found = self.memory(self.stack.pop() & 0xFFFFFFFF, size)
         if len(found) < size:
             raise Refused("it reads outside RAM")
         self.push(int.from_bytes(found, "little"))
 
-    def run(self):
+    def run(self) -> int:
         """What stands on the stack at the end."""
         for _ in range(MOST):
             code = self.number(1)
@@ -72,7 +76,7 @@ class Machine:
             self.do(code)
         raise Refused("it comes to no end")
 
-    def do(self, code):
+    def do(self, code: int) -> None:
         """One operation."""
         stack = self.stack
         if code in TWO:
@@ -87,18 +91,18 @@ class Machine:
         else:
             raise Refused("the operation %02x" % code)
 
-    def jump_if(self):
+    def jump_if(self) -> None:
         target = self.number(2)
         if self.stack.pop():
             self.at = target
 
-    def jump(self):
+    def jump(self) -> None:
         self.at = self.number(2)
 
-    def swap(self):
+    def swap(self) -> None:
         self.stack[-2:] = self.stack[:-3:-1]
 
-    def rotate(self):
+    def rotate(self) -> None:
         self.stack[-3:] = [self.stack[-1], *self.stack[-3:-1]]
 
 
@@ -110,7 +114,7 @@ MOVES = {
     0x32: lambda it: it.push(it.stack[-1 - it.number(1)]), 0x33: Machine.rotate}
 
 
-def holds(code, register, memory):
+def holds(code: bytes, register: Callable[[int], int], memory: Callable[[int, int], bytes]) -> bool:
     """Whether a condition holds; where it cannot be told it does, and the debugger asks it itself."""
     try:
         return bool(Machine(code, register, memory).run())

@@ -1,12 +1,18 @@
 """Where the host entered the enclave in which a hart is: at the last step that brought the hart to another world. It is looked for in the
 past, from here back, and kept for as long as the hart cannot have left."""
+from __future__ import annotations
+
 import contextlib
 from dataclasses import dataclass
+from typing import Iterator, TYPE_CHECKING
 
 from rvlook.gdb.lookahead import BLOCK, asked
 from rvlook.gdb.target import SAVED
 from rvlook.protocol.names import NUMBER_OF
-from rvlook.protocol.timeline import Told, part
+from rvlook.protocol.timeline import Told, part, steps_within
+
+if TYPE_CHECKING:
+    from rvlook.protocol.timeline import Steps, Timeline
 
 FIRST_PART, MORE = 4096, 8  # steps of the first part that is looked through, and times as many in the next
 PC, CALL = 32, 4  # the register pc, and the bytes of an ecall
@@ -17,10 +23,10 @@ class Entered:
     """The step that entered, and the host's registers before it, in digits: `pc` is that of its ecall."""
     step: int
     pc: str
-    values: tuple
+    values: tuple[str, ...]
 
     @property
-    def registers(self):
+    def registers(self) -> dict[str, str]:
         """What the host goes on with, by the names that a debugger is told."""
         behind = "%08x" % ((int(self.pc, 16) + CALL) & 0xFFFFFFFF)
         return {"host_pc": behind, **{"host_" + name: self.values[NUMBER_OF[name]] for name in SAVED}}
@@ -29,19 +35,19 @@ class Entered:
 class Entry:
     """For each hart what was found last: the entry, up to which step it is sure, and by what the timeline tells that the hart stayed."""
 
-    def __init__(self):
-        self.known = {}
+    def __init__(self) -> None:
+        self.known: dict[int, tuple[Entered | None, int, tuple[Timeline, int] | None]] = {}
 
-    def limit(self, position):
+    def limit(self, position: int) -> None:
         """Behind this step it is sure no more: something else may be done than what had been done."""
         self.known = {hart: (entry, min(sure, position), witness) for hart, (entry, sure, witness) in self.known.items()}
 
-    def registers(self, timeline, hart):
+    def registers(self, timeline: Timeline, hart: int) -> dict[str, str] | None:
         """The registers of the host that entered the enclave in which a hart is; None where it is in none."""
         found = self.find(timeline, hart)
-        return found and found.registers
+        return found.registers if found else None
 
-    def find(self, timeline, hart):
+    def find(self, timeline: Timeline, hart: int) -> Entered | None:
         """The entry to the enclave in which a hart is; None where it is in none."""
         timeline.settle()
         if not timeline.worlds[hart].startswith("e"):
@@ -57,7 +63,7 @@ class Entry:
         return entry
 
     @staticmethod
-    def at(timeline, hart, step):
+    def at(timeline: Timeline, hart: int, step: int) -> Entered:
         """The entry that a step made."""
         with contextlib.closing(timeline.again(step - 1)) as before:
             before.settle()
@@ -66,7 +72,7 @@ class Entry:
         return Entered(step, values[PC], tuple(values[:PC]))
 
 
-def last_switch(timeline, hart, lowest):
+def last_switch(timeline: Timeline, hart: int, lowest: int) -> int | None:
     """The last step behind `lowest` that brought a hart to another world, or None."""
     end, size = timeline.position, FIRST_PART
     while end > lowest:
@@ -79,19 +85,18 @@ def last_switch(timeline, hart, lowest):
     return None
 
 
-def blocks(timeline, ahead, first, end):
+def blocks(timeline: Timeline, ahead: Timeline, first: int, end: int) -> Iterator[Steps]:
     """The steps of a part of the past in blocks; what was told between them is told to the bench ahead."""
     for it in part(timeline.past, first, end):
         if isinstance(it, Told):
             ahead.choose(it.hart)
             ahead.do(it.line)
             continue
-        while it:
-            yield next(part([it], 0, BLOCK))
-            it = next(part([it], BLOCK, it.count), None)
+        for at in range(0, it.count, BLOCK):
+            yield steps_within(it, at, at + BLOCK)
 
 
-def blocks_with_traps(timeline, hart, first, end):
+def blocks_with_traps(timeline: Timeline, hart: int, first: int, end: int) -> list[tuple[int, Steps]]:
     """The blocks in which a hart trapped, as it does where it goes to another world; the step before each."""
     found = []
     with contextlib.closing(timeline.again(first)) as ahead:
@@ -102,7 +107,7 @@ def blocks_with_traps(timeline, hart, first, end):
     return found
 
 
-def switch_in(timeline, hart, start, steps):
+def switch_in(timeline: Timeline, hart: int, start: int, steps: Steps) -> int | None:
     """The last step of a block that brought a hart to another world, or None."""
     found = None
     with contextlib.closing(timeline.again(start)) as ahead:

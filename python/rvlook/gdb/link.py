@@ -1,4 +1,6 @@
 """Packets of the GDB remote serial protocol, over two file descriptors. Their bytes stand in texts, as latin-1."""
+from __future__ import annotations
+
 import contextlib
 import os
 import re
@@ -6,6 +8,7 @@ import select
 import signal
 import threading
 import time
+from typing import Any, Iterator, NoReturn
 
 PACKET = re.compile(rb"\$([^#$]*)#(..)", re.S)  # a dollar sign in a packet begins another one
 MOST = 1 << 16  # bytes of a packet; what is announced to a debugger is less
@@ -24,10 +27,11 @@ class Gone(Exception):
 class Link:
     """The connection with the debugger. What comes is a packet, or Ctrl-C, or an acknowledgement, which is passed over."""
 
-    def __init__(self, reading, writing):
+    def __init__(self, reading: int, writing: int) -> None:
         self.reading, self.writing, self.buffer, self.acknowledged = reading, writing, b"", True
+        self.kept: Any = None  # what must not be closed while the descriptors are used
 
-    def fill(self):
+    def fill(self) -> None:
         """Reads more."""
         try:
             data = os.read(self.reading, 65536)
@@ -37,7 +41,7 @@ class Link:
             raise Gone
         self.buffer += data
 
-    def packet(self):
+    def packet(self) -> str:
         """The next packet."""
         while True:
             match = PACKET.search(self.buffer)
@@ -52,7 +56,7 @@ class Link:
             if is_right:
                 return match[1].decode("latin-1")
 
-    def drop(self):
+    def drop(self) -> None:
         """Drops what begins no packet, and a packet that is too long, which is refused as a damaged one."""
         start = self.buffer.rfind(b"$")
         self.buffer = self.buffer[start:] if start >= 0 else b""
@@ -61,7 +65,7 @@ class Link:
             if self.acknowledged:
                 self.write(b"-")
 
-    def interrupted(self):
+    def interrupted(self) -> bool:
         """Whether Ctrl-C came while the harts go on: no packet comes then."""
         if len(self.buffer) < MOST and select.select([self.reading], [], [], 0)[0]:
             self.fill()
@@ -70,10 +74,10 @@ class Link:
         return found
 
     @contextlib.contextmanager
-    def watched(self, is_impatient=False):
+    def watched(self, is_impatient: bool = False) -> Iterator[None]:
         """While something is done that asks nothing of the connection: where that ends, it ends too. An impatient debugger is shown a dot
         from time to time."""
-        def end(*_):
+        def end(*_: object) -> NoReturn:
             raise Gone
 
         before, done = signal.signal(signal.SIGUSR1, end), threading.Event()
@@ -86,27 +90,29 @@ class Link:
             watcher.join()
             signal.signal(signal.SIGUSR1, before)
 
-    def watch(self, done, is_impatient):
+    def watch(self, done: threading.Event, is_impatient: bool) -> None:
         """Wakes the main thread once the debugger has gone."""
         poll, told = select.poll(), time.monotonic()
         poll.register(self.reading, HUNG_UP)
         while not done.wait(OFTEN):
             if any(event & HUNG_UP for _, event in poll.poll(0)):
-                signal.pthread_kill(threading.main_thread().ident, signal.SIGUSR1)
+                main = threading.main_thread().ident
+                assert main is not None
+                signal.pthread_kill(main, signal.SIGUSR1)
                 return
             if is_impatient and time.monotonic() > told + PATIENCE:
                 self.send("O" + hex_of("."))
                 told = time.monotonic()
 
-    def send(self, text):
+    def send(self, text: str) -> None:
         data = text.encode("latin-1", "replace")
         self.write(b"$%s#%02x" % (data, sum(data) & 0xFF))
 
-    def tell(self, line):
+    def tell(self, line: str) -> None:
         """Has the debugger show a line while the harts go on."""
         self.send("O" + hex_of(line + "\n"))
 
-    def write(self, data):
+    def write(self, data: bytes) -> None:
         try:
             while data:
                 data = data[os.write(self.writing, data):]
@@ -114,28 +120,28 @@ class Link:
             raise Gone from None
 
 
-def escaped(text):
+def escaped(text: str) -> str:
     """A text as binary data."""
     return ESCAPED.sub(lambda match: "}" + chr(ord(match[0]) ^ 0x20), text)
 
 
-def unescaped(text):
+def unescaped(text: str) -> str:
     """Binary data as it is meant."""
     return re.sub(r"\}(.)", lambda match: chr(ord(match[1]) ^ 0x20), text, flags=re.S)
 
 
-def hex_of(text):
+def hex_of(text: str) -> str:
     """Returns a text for the person as the protocol has it."""
     return text.encode("utf-8", "replace").hex()
 
 
-def number_of(text):
+def number_of(text: str) -> int:
     """Returns a hexadecimal number of the protocol; raises ValueError if the text is none. `int` takes signs, blanks and `0x` too."""
     if not NUMBER.match(text):
         raise ValueError(text)
     return int(text, 16)
 
 
-def little(word):
+def little(word: str) -> str:
     """Eight hexadecimal digits as four bytes, the lowest first; and back."""
     return word[6:8] + word[4:6] + word[2:4] + word[0:2]

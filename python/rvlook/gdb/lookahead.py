@@ -1,11 +1,18 @@
 """Many steps of a timeline in one exchange, and where its harts do nothing any more."""
+from __future__ import annotations
+
 import contextlib
 import functools
 import re
+from typing import Callable, Iterable, Iterator, Mapping, Optional, TYPE_CHECKING, Tuple
 
-from rvlook.protocol.replies import RAN, Ran, trap_of
+from rvlook.protocol.replies import RAN, Ran, Trap, step_of, trap_of
 from rvlook.protocol.run import ALIKE, MOST_STEPS
 from rvlook.protocol.timeline import Steps, part, turned
+
+if TYPE_CHECKING:
+    from rvlook.gdb.stops import Halt, Stops
+    from rvlook.protocol.timeline import Timeline
 
 RANS = re.compile(RAN.pattern)
 BLOCK = 4096  # steps that are looked through at once
@@ -13,7 +20,10 @@ LONGEST, NO_TRAP = 100, b"trap=-"  # bytes of a reply to `run`, at most; and the
 RUNS, MOST_QUESTIONS = 256, 16  # runs in one exchange, and what is asked behind each
 
 
-def runs_of(turns, count, is_single):
+RanState = Tuple[str, str, str, Optional[Trap]]  # pc, mode, world and trap
+
+
+def runs_of(turns: str, count: int, is_single: bool) -> list[tuple[int, int]]:
     """Steps as runs: their harts, and how many steps each."""
     if len(set(turns)) == 1 and not is_single:
         return [(int(turns[0]), count)]
@@ -23,7 +33,7 @@ def runs_of(turns, count, is_single):
     return pieces[0] * rounds + pieces[1]
 
 
-def commands_of_runs(runs, chosen):
+def commands_of_runs(runs: Iterable[tuple[int, int]], chosen: int) -> Iterator[str]:
     """The commands that do runs, where hart `chosen` is the chosen one."""
     for hart, length in runs:
         if hart != chosen:
@@ -33,14 +43,15 @@ def commands_of_runs(runs, chosen):
 
 
 @functools.lru_cache(maxsize=8)
-def planned(turns, count, is_single, chosen):
+def planned(turns: str, count: int, is_single: bool, chosen: int) -> tuple[list[tuple[int, int]], bytes, int]:
     """The runs of steps by the turns, the text that asks for them, and the number of lines of its replies."""
     runs = runs_of(turns, count, is_single)
     lines = list(commands_of_runs(runs, chosen))
     return runs, ("\n".join(lines) + "\n").encode(), len(lines)
 
 
-def asked(timeline, turns, count, is_single, is_quiet=None):
+def asked(timeline: Timeline, turns: str, count: int, is_single: bool,
+          is_quiet: Callable[[bytes, int], bool] | None = None) -> list[tuple[int, int, Ran]]:
     """So many steps by the turns, one by one or each hart's at once: for each run its hart, how many steps it was asked for, and its reply.
     Where one of more steps met a stop, those behind it are not by the turns any more. Where `is_quiet` tells of the replies that they need
     not be looked at, only the last ones are given."""
@@ -60,7 +71,7 @@ def asked(timeline, turns, count, is_single, is_quiet=None):
     return [(hart, length, ran) for (hart, length), ran in zip(runs, rans)]
 
 
-def by_turns(timeline, stops, turns, count):
+def by_turns(timeline: Timeline, stops: Stops, turns: str, count: int) -> Iterator[Halt | None]:
     """So many steps by the turns, each run of a hart in an exchange of its own, so that the bench is never further than a stop: behind each
     run the halt there, or None."""
     end = timeline.position + count
@@ -74,7 +85,7 @@ def by_turns(timeline, stops, turns, count):
         yield stops.met(timeline, hart, ran, before) if stops.may_meet(timeline, ran, before) else None
 
 
-def judged(timeline, stops, hart, count):
+def judged(timeline: Timeline, stops: Stops, hart: int, count: int) -> list[tuple[int, Ran, bool | None]]:
     """Runs of a hart alone, of so many steps in all at most, in one exchange, each with what decides whether it halts: the steps up to it,
     its reply, and whether it does, or None where that is to be asked there."""
     timeline.settle()
@@ -85,7 +96,7 @@ def judged(timeline, stops, hart, count):
     replies = timeline.bench.block(("\n".join(lines * runs) + "\n").encode(), len(lines) * runs).decode().splitlines()
     found, done = [], 0
     for first in range(0, len(replies), len(lines)):
-        ran = ran_of_match(RANS.fullmatch(replies[first]))
+        ran = step_of(replies[first])
         done += ran.steps
         timeline.reach(hart, ran.mode, ran.world, ran.trap and ran.steps > 1)
         found.append((done, ran, stops.verdict(timeline, ran, dict(zip(questions, replies[first + 1:first + len(lines)])))))
@@ -93,18 +104,18 @@ def judged(timeline, stops, hart, count):
     return found
 
 
-def ran_of_match(match):
+def ran_of_match(match: re.Match[str]) -> Ran:
     return Ran(int(match[1]), match[2], match[3], match[4], match[5], trap_of(match[6]))
 
 
-def state_of(ran):
+def state_of(ran: Ran) -> RanState:
     """What stays as it is where a hart does nothing any more."""
     return ran.pc, ran.mode, ran.world, ran.trap
 
 
-def ends_of(found):
+def ends_of(found: Iterable[tuple[int, int, Ran]]) -> dict[int, RanState] | None:
     """For each hart of single steps what its last ones leave, or None where some hart does something."""
-    last = {}
+    last: dict[int, list[RanState]] = {}
     for hart, _, ran in found:
         last.setdefault(hart, []).append(state_of(ran))
     if any(len(states) < ALIKE or len(set(states[-ALIKE:])) > 1 for states in last.values()):
@@ -112,11 +123,11 @@ def ends_of(found):
     return {hart: states[-1] for hart, states in last.items()}
 
 
-def first_alike(timeline, first, ends):
+def first_alike(timeline: Timeline, first: int, ends: Mapping[int, RanState]) -> int:
     """The first step behind `first` from which on each hart does nothing; `ends` are what it leaves where the timeline is."""
     end = timeline.position
     with contextlib.closing(timeline.again(block_before(timeline, first, ends))) as ahead:
-        since = {}
+        since: dict[int, int] = {}
         for it in part(timeline.past, ahead.position, end):
             while isinstance(it, Steps) and it.count:
                 count = min(it.count, BLOCK)
@@ -133,7 +144,7 @@ def first_alike(timeline, first, ends):
         return max(since.values(), default=end)
 
 
-def block_before(timeline, first, ends):
+def block_before(timeline: Timeline, first: int, ends: Mapping[int, RanState]) -> int:
     """A step near the one that is looked for, and before it: behind the last block of a hart alone that leaves something else."""
     if len(ends) > 1:
         return first
@@ -142,6 +153,6 @@ def block_before(timeline, first, ends):
         ahead.settle()
         ahead.choose(hart)
         replies = ahead.do_all(["run %d" % BLOCK] * ((timeline.position - first) // BLOCK))
-        states = [state_of(ran_of_match(RANS.fullmatch(reply))) for reply, in replies]
+        states = [state_of(step_of(reply)) for reply, in replies]
     others = [number for number, it in enumerate(states) if it != state]
     return first + BLOCK * others[-1] if others else first

@@ -1,14 +1,16 @@
 """What `monitor` takes: the lines of the bench and of the prompt, the words of rvlook over what was done up to now, and what is asked of
 the bridge itself."""
+from __future__ import annotations
+
 import contextlib
 import inspect
 import io
 import os
-from typing import Callable, NamedTuple
+from typing import Callable, NamedTuple, Sequence, TYPE_CHECKING, TextIO
 
 from rvlook.protocol.bench_line import words_of
 from rvlook.protocol.commands import COMMANDS, Form, is_form, written
-from rvlook.image.escapes import visible
+from rvlook.output.escapes import visible
 from rvlook.errors import Fault
 from rvlook.gdb.entry import Entry
 from rvlook.gdb.moves import FORGOTTEN
@@ -17,6 +19,11 @@ from rvlook.protocol.run import run_of
 from rvlook.prompt.session import Session
 from rvlook.output.printer import Printer, place_text
 from rvlook.protocol.timeline import commands_of
+
+if TYPE_CHECKING:
+    from argparse import Namespace
+    from rvlook.gdb.moves import Moves
+    from rvlook.protocol.symbols import Symbols
 
 OTHERS = ("measure", "explain")  # words over a file of their own
 FROM_HERE = ("leak", "timer", "races")  # which look at what comes behind what was done
@@ -32,19 +39,20 @@ READ_FILES, FOLDERS = ("script", "symbols", "file", "input"), ("scripts", "sourc
 
 class CommandLine(NamedTuple):
     """The command line of rvlook, as `monitor` offers it: the names of the subcommands, and what reads the arguments of one."""
-    names: tuple
-    read: Callable
+    names: tuple[str, ...]
+    read: Callable[[Sequence[str]], Namespace]
 
 
 class Monitor:
     """Answers a line of `monitor` over the moves of a debugger. `symbols` reads the symbols; with `has_files` a line may name files."""
 
-    def __init__(self, moves, symbols, command_line, has_files=True):
-        self.moves, self.symbols, self.session, self.entry, self.is_fresh = moves, symbols, None, Entry(), False
+    def __init__(self, moves: Moves, symbols: Callable[[], Symbols], command_line: CommandLine, has_files: bool = True) -> None:
+        self.moves, self.symbols, self.entry, self.is_fresh = moves, symbols, Entry(), False
+        self.session: Session | None = None
         self.has_files, self.read = has_files, command_line.read
         self.subcommands = tuple(it for it in command_line.names if it not in (*OTHERS, "gdb"))  # over an image
 
-    def line(self, text):
+    def line(self, text: str) -> str:
         """What a line tells. What `page` tells beside the page goes to standard error."""
         out, moves = io.StringIO(), self.moves
         before, told = (moves.timeline, moves.timeline.changes), moves.timeline.was_told
@@ -63,7 +71,7 @@ class Monitor:
             out.write("" if self.is_fresh else STALE_IN_LLDB if moves.behind_watches else STALE)
         return out.getvalue()
 
-    def do(self, text, out):
+    def do(self, text: str, out: TextIO) -> None:
         words = words_of(text)
         if "\n" in text:
             print("monitor takes one line")
@@ -76,7 +84,7 @@ class Monitor:
         else:
             self.opened(out).line(text)
 
-    def own(self, name, *operands):
+    def own(self, name: str, *operands: str) -> None:
         """What is asked of the bridge."""
         act = getattr(self, name)
         try:
@@ -87,25 +95,25 @@ class Monitor:
         act(*operands)
 
     @staticmethod
-    def is_command(words):
+    def is_command(words: Sequence[str]) -> bool:
         """Whether a line is one of the bench: `timer on` is, and `timer --every 2` is a word."""
         return words[0] in COMMANDS and written(words[0], words[1:]) is not None
 
-    def opened(self, out=None):
+    def opened(self, out: TextIO | None = None) -> Session:
         """What the prompt does with a line, over the bench of the debugger."""
         if not self.session:
             self.session = Session(self.moves, run_of(self.moves.timeline.setup.with_script((), 0)), self.symbols(), Printer())
         self.session.printer = Printer(stream=out)
         return self.session
 
-    def help(self):
+    def help(self) -> None:
         print("of the bridge:")
         for text in OWN.values():
             print("  " + text)
         print("words over what was done up to now: %s; and %s" % (" ".join(self.subcommands), " ".join(OTHERS)))
         self.opened().help()
 
-    def word(self, words):
+    def word(self, words: Sequence[str]) -> None:
         """A word of rvlook, over a run of what was done up to now."""
         words = [it.encode("latin-1", "replace").decode("utf-8", "surrogateescape") for it in words]
         if not words or words[0] not in (*self.subcommands, *OTHERS):
@@ -124,7 +132,7 @@ class Monitor:
             arguments.opened = run_of(setup), self.opened().symbols
         arguments.do(arguments)
 
-    def check_files(self, arguments):
+    def check_files(self, arguments: Namespace) -> None:
         """Refuses what names files if a debugger may name none, and files that are not regular: to read one may wait for ever, as it does
         for the debugger's own input."""
         read_files = [it for it in (getattr(arguments, name, None) for name in READ_FILES) if it]
@@ -138,7 +146,7 @@ class Monitor:
 
     # of the bridge
 
-    def catch(self, what=None):
+    def catch(self, what: str | None = None) -> None:
         """Adds a catchpoint, or takes all away; and tells which there are."""
         stops, has_worlds = self.moves.stops, self.moves.timeline.setup.monitor
         if what == "none":
@@ -152,7 +160,7 @@ class Monitor:
             print(OWN["catch"])
         print("caught: %s" % (" ".join(it for it in CAUGHT if it in stops.caught) or "none"))
 
-    def schedule(self, digits=None):
+    def schedule(self, digits: str | None = None) -> None:
         """The turns of two harts."""
         if self.moves.timeline.setup.harts == 1:
             print("the bench has one hart: write ./rvlook gdb --monitor --harts 2 %s" % self.moves.timeline.setup.image.name)
@@ -163,7 +171,7 @@ class Monitor:
             self.moves.schedule = digits
         print("schedule: " + self.moves.schedule)
 
-    def entered(self):
+    def entered(self) -> None:
         """Where the host entered the enclave in which the hart is."""
         timeline, symbols = self.moves.timeline, self.opened().symbols
         found = self.entry.find(timeline, timeline.hart)

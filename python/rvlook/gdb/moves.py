@@ -1,6 +1,9 @@
 """How harts go on under a debugger. What a person may wait for is asked in few exchanges; where that brings the bench further than the
 stop, another one is brought to the stop itself, by the timeline."""
+from __future__ import annotations
+
 import time
+from typing import Container, NamedTuple, Sequence, TYPE_CHECKING
 
 from rvlook.protocol import names
 from rvlook.gdb.lookahead import asked, by_turns, ends_of, first_alike, judged
@@ -8,6 +11,11 @@ from rvlook.gdb.stops import INTERRUPTED, Halt, Stops, signal_of
 from rvlook.gdb.view import View
 from rvlook.protocol.run import ALIKE, MOST_STEPS
 from rvlook.protocol.timeline import Steps, part
+
+if TYPE_CHECKING:
+    from rvlook.gdb.link import Link
+    from rvlook.protocol.replies import Ran
+    from rvlook.protocol.timeline import Part, Timeline
 
 SCHEDULE = "0" * 32 + "1" * 32  # of two harts, where no other is asked for
 FIRST_RUN, MORE = 1024, 4  # steps of the first part of a continue, and times as many in the next
@@ -17,20 +25,29 @@ FORGOTTEN = "[what had been done behind step %d is forgotten]"
 CAREFUL = 4096  # steps that are done one exchange a turn, behind a stop that was none
 
 
+class Start(NamedTuple):
+    """Where steps began: the position, and what had been done after it before the debugger went back."""
+    position: int
+    future: list[Part]
+
+
 class Moves:
     """What a debugger does with the harts. `link` tells of Ctrl-C, and takes what is told meanwhile; `ready` has benches at earlier steps,
     by those, and `follower` one that goes the way of this one behind it, so that it comes to a stop at which this one has been."""
 
-    def __init__(self, timeline, link):
+    def __init__(self, timeline: Timeline, link: Link) -> None:
         self.timeline, self.view, self.link, self.stops, self.schedule = timeline, View(timeline), link, Stops(), SCHEDULE
-        self.ready, self.follower, self.careful, self.notes = {}, None, 0, []
+        self.ready: dict[int, Timeline] = {}
+        self.follower: Timeline | None = None
+        self.careful = 0
+        self.notes: list[str] = []
         self.behind_watches = False  # whether a debugger expects to be behind the access that a watch met
 
-    def close(self):
+    def close(self) -> None:
         self.forget(0)
         self.timeline.close()
 
-    def forget(self, position):
+    def forget(self, position: int) -> None:
         """Ends the other benches at and behind a step: what they did may no longer be what was done."""
         for it in [it for it in self.ready if it >= position]:
             self.ready.pop(it).close()
@@ -38,7 +55,7 @@ class Moves:
             self.follower.close()
             self.follower = None
 
-    def go(self, position):
+    def go(self, position: int) -> None:
         """Goes to an earlier step, by a bench that is there or near."""
         if position == self.timeline.position:
             return
@@ -49,7 +66,7 @@ class Moves:
         self.timeline, self.view = new, View(new)
         self.forget(position)
 
-    def tell(self, lines):
+    def tell(self, lines: Sequence[str]) -> None:
         """Does commands of the person that change registers or bytes: they are part of what was done, and what had been done behind here
         is no longer what would come."""
         self.forget(self.timeline.position)
@@ -58,18 +75,18 @@ class Moves:
         if had and not self.timeline.was_told:
             self.notes.append(FORGOTTEN % self.timeline.position)
 
-    def tell_notes(self):
+    def tell_notes(self) -> None:
         """Has the debugger show what could not be told before."""
         for note in self.notes:
             self.link.tell(note)
         self.notes = []
 
-    def redo(self):
+    def redo(self) -> None:
         """Tells again what was told at this step before one came back."""
         if self.timeline.redo():
             self.forget(self.timeline.position)
 
-    def followed(self, position):
+    def followed(self, position: int) -> Timeline | None:
         """The bench that follows, at a step, or None where it is further."""
         found = self.follower if self.follower and self.follower.position <= position else None
         if found:
@@ -77,7 +94,7 @@ class Moves:
             self.follower = None
         return found
 
-    def follow(self):
+    def follow(self) -> None:
         """Has a bench follow up to here."""
         if self.follower:
             self.follower.settle()
@@ -85,20 +102,20 @@ class Moves:
         else:
             self.follower = self.timeline.again(self.timeline.position)
 
-    def turns_of(self, harts):
+    def turns_of(self, harts: Sequence[int]) -> str:
         """The turns of these harts, from the next one on."""
         if len(harts) == 1:
             return str(harts[0])
         return self.timeline.turns_of(self.schedule)
 
-    def turn_of(self, hart):
+    def turn_of(self, hart: int) -> str:
         """The turns, where the next one is this hart's; else the hart alone."""
         turns = self.timeline.turns_of(self.schedule) if self.timeline.setup.harts > 1 else ""
         return turns if turns.startswith(str(hart)) else str(hart)
 
     # one step
 
-    def step(self, hart, others, inside=()):
+    def step(self, hart: int, others: Sequence[int], inside: Container[int] = ()) -> Halt:
         """A step of a hart, or so many as end inside a range; the others go on by their turns up to it."""
         last, alike = None, 0
         while True:
@@ -121,7 +138,7 @@ class Moves:
             if self.link.interrupted():
                 return Halt(hart, signal=INTERRUPTED)
 
-    def tell_step(self, ran, before):
+    def tell_step(self, ran: Ran, before: str) -> None:
         """Tells the trap of a step, and the world that it went to."""
         if ran.trap:
             self.link.tell("[%s, %s]" % (names.cause_name(ran.trap.cause), ran.trap.value))
@@ -130,7 +147,7 @@ class Moves:
 
     # many steps
 
-    def go_on(self, harts):
+    def go_on(self, harts: Sequence[int]) -> Halt:
         """Steps of these harts by their turns, up to a stop, to Ctrl-C, or to where they all stay."""
         size, by_turns, self.careful = FIRST_RUN, len(harts) > 1 or self.stops.is_single, 0
         while True:
@@ -152,34 +169,34 @@ class Moves:
             elif took > LONG:
                 size = max(FIRST_RUN, size // 2)
 
-    def advance(self, turns, count):
+    def advance(self, turns: str, count: int) -> Halt | None:
         """So many steps, or fewer; the halt where there is one before."""
         if len(set(turns)) == 1 and not self.stops.is_single and not self.stops.has_conditions or self.careful > 0:
             self.careful -= count
             return self.exactly(turns, count, LONG)
-        first, future, worlds, done = self.timeline.position, list(self.timeline.future), list(self.timeline.worlds), 0
+        start, worlds, done = Start(self.timeline.position, list(self.timeline.future)), list(self.timeline.worlds), 0
         if len(set(turns)) == 1 and not self.stops.is_single:
             for done, ran, verdict in judged(self.timeline, self.stops, int(turns[0]), count):
                 if verdict is not False:
-                    return self.met_at(first, Steps(turns, done), future, int(turns[0]), ran, worlds[int(turns[0])])
+                    return self.met_at(start, Steps(turns, done), int(turns[0]), ran, worlds[int(turns[0])])
             return None
         for hart, wanted, ran in asked(self.timeline, turns, count, self.stops.is_single, self.stops.is_quiet(self.timeline)):
             done += ran.steps
             if ran.steps < wanted or self.stops.may_meet(self.timeline, ran, worlds[hart]):
-                return self.met_at(first, Steps(turns, done), future, hart, ran, worlds[hart])
+                return self.met_at(start, Steps(turns, done), hart, ran, worlds[hart])
             worlds[hart] = ran.world
         return None
 
-    def met_at(self, first, steps, future, hart, ran, before):
-        """The halt behind these steps from step `first` on, if it is one: the bench has gone further, and perhaps not by the turns."""
-        if self.timeline.position != first + steps.count:
-            self.go(first + steps.count)
-            self.timeline.future = future
+    def met_at(self, start: Start, steps: Steps, hart: int, ran: Ran, before: str) -> Halt | None:
+        """Returns the halt after these steps, or None. The bench has gone further, and perhaps not by the turns; it is brought back."""
+        if self.timeline.position != start.position + steps.count:
+            self.go(start.position + steps.count)
+            self.timeline.future = start.future
             self.timeline.spend(steps)
         self.careful = CAREFUL
         return self.stops.met(self.timeline, hart, ran, before)
 
-    def exactly(self, turns, count, seconds=None):
+    def exactly(self, turns: str, count: int, seconds: float | None = None) -> Halt | None:
         """Steps of which each run is an exchange, or as many as are done in some seconds; the halt where there is one."""
         began = time.monotonic()
         for halt in by_turns(self.timeline, self.stops, turns, count):
@@ -187,7 +204,7 @@ class Moves:
                 return halt
         return None
 
-    def halt_at(self, halt):
+    def halt_at(self, halt: Halt) -> Halt:
         """Halts where the bench is; but for a watch before the access, where gdb has it on RISC-V, and does the step itself."""
         if halt.told:
             self.link.tell(halt.told)
@@ -195,14 +212,14 @@ class Moves:
             self.go(self.timeline.position - 1)
         return halt
 
-    def end_of(self, harts, first):
+    def end_of(self, harts: Sequence[int], first: int) -> Halt | None:
         """Where these harts do nothing any more: the halt at the first step behind `first` from which on they do not."""
         turns = self.turns_of(harts)
-        start, future, worlds = self.timeline.position, list(self.timeline.future), list(self.timeline.worlds)
+        start, worlds = Start(self.timeline.position, list(self.timeline.future)), list(self.timeline.worlds)
         found = asked(self.timeline, turns, ALIKE * len(turns), True)
         for done, (hart, _, ran) in enumerate(found, 1):
             if self.stops.may_meet(self.timeline, ran, worlds[hart]):
-                halt = self.met_at(start, Steps(turns, done), future, hart, ran, worlds[hart])
+                halt = self.met_at(start, Steps(turns, done), hart, ran, worlds[hart])
                 if halt or done < len(found):
                     return halt
             worlds[hart] = ran.world
@@ -212,7 +229,7 @@ class Moves:
         self.go(first_alike(self.timeline, first, ends))
         return self.stays(harts, found[-1][0], found[-1][2])
 
-    def stays(self, harts, hart, ran):
+    def stays(self, harts: Sequence[int], hart: int, ran: Ran) -> Halt:
         """The halt of harts that do nothing any more."""
         cause = ran.trap and ran.trap.cause
         who = "hart %d stays" % hart if len(harts) == 1 else "all harts stay"

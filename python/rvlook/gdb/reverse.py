@@ -1,11 +1,19 @@
 """How harts go back under a debugger: to the step before, or to the last stop before, which is looked for on other benches that play parts
 of the past again."""
+from __future__ import annotations
+
 import contextlib
+from typing import Any, Iterable, Iterator, Sequence, TYPE_CHECKING
 
 from rvlook.gdb.lookahead import BLOCK, asked, by_turns, judged
 from rvlook.gdb.stops import INTERRUPTED, Halt
 from rvlook.protocol.run import MOST_STEPS
-from rvlook.protocol.timeline import Told, part
+from rvlook.protocol.timeline import Told, part, steps_within
+
+if TYPE_CHECKING:
+    from rvlook.gdb.moves import Moves
+    from rvlook.protocol.replies import Ran
+    from rvlook.protocol.timeline import Part, Steps, Timeline
 
 FIRST_PART, MORE_BACK = 4096, 8  # steps of the first part that is looked through, and times as many in the next
 MOST_BY_TURNS = 1 << 18  # of a part of two harts, or of single steps
@@ -21,14 +29,16 @@ class Interrupted(Exception):
 class Back:
     """The way back of the moves of a debugger. The stops of the part that was looked through last are kept."""
 
-    def __init__(self, moves):
-        self.moves, self.key, self.first, self.end, self.found = moves, None, 0, 0, []
+    def __init__(self, moves: Moves) -> None:
+        self.moves, self.first, self.end = moves, 0, 0
+        self.key: tuple[Any, ...] | None = None
+        self.found: list[tuple[int, Halt]] = []
 
-    def forget(self):
+    def forget(self) -> None:
         """Forgets what was found: what is done from here on may be something else than what had been done."""
         self.key, self.found = None, []
 
-    def step(self, hart):
+    def step(self, hart: int) -> Halt:
         """Goes before the last step of a hart."""
         moves = self.moves
         position = moves.timeline.step_before(hart)
@@ -38,7 +48,7 @@ class Back:
         self.prepare(range(position - 1, position - 1 - AHEAD, -1))
         return Halt(hart)
 
-    def prepare(self, positions):
+    def prepare(self, positions: Iterable[int]) -> None:
         """Sends benches to steps that may be asked for next, where that takes time."""
         ready = self.moves.ready
         for position in positions:
@@ -47,12 +57,12 @@ class Back:
         while len(ready) > MOST_READY:
             ready.pop(min(ready)).close()
 
-    def ask_person(self):
+    def ask_person(self) -> None:
         """Whether Ctrl-C came, which ends a search."""
         if self.moves.link.interrupted():
             raise Interrupted
 
-    def go(self, hart, harts):
+    def go(self, hart: int, harts: Sequence[int]) -> Halt:
         """Goes to the last stop of these harts before here, or stays here where Ctrl-C comes before it is found."""
         try:
             return self.go_to_stop(hart, harts)
@@ -60,7 +70,7 @@ class Back:
             self.forget()
             return Halt(hart, signal=INTERRUPTED)
 
-    def go_to_stop(self, hart, harts):
+    def go_to_stop(self, hart: int, harts: Sequence[int]) -> Halt:
         """Goes to the last stop of these harts before here; or a watch here, whose access the debugger undoes itself."""
         moves, here = self.moves, self.moves.timeline.position
         by_turns_alone = moves.stops.is_single or moves.timeline.setup.harts > 1
@@ -85,13 +95,14 @@ class Back:
         at_break = here and moves.stops.is_break(moves.timeline, moves.view.registers(hart)[32])
         return Halt(hart, "" if at_break else AT_RESET)
 
-    def before(self, here):
+    def before(self, here: int) -> list[tuple[int, Halt]]:
         """The stops before a step, and a watch there."""
         return [(position, halt) for position, halt in self.found if position < here + bool(halt.reason)]
 
-    def stops_between(self, first, end, harts):
+    def stops_between(self, first: int, end: int, harts: Sequence[int]) -> list[tuple[int, Halt]]:
         """The stops behind step `first`, up to step `end`."""
-        moves, found = self.moves, {}
+        moves = self.moves
+        found: dict[int, Halt] = {}
         pieces = list(part(moves.timeline.past, first, end))
         if not moves.stops.is_single and not self.may_stop(first, pieces):
             return []
@@ -109,7 +120,7 @@ class Back:
                     found.update(self.stops_by_turns(ahead, it))
         return sorted(((position, halt) for position, halt in found.items() if halt.hart in harts), key=lambda it: it[0])
 
-    def may_stop(self, first, pieces):
+    def may_stop(self, first: int, pieces: Sequence[Part]) -> bool:
         """Whether there may be a stop in steps of two harts; of one hart it is as soon looked at."""
         if all(isinstance(it, Told) or it.chosen for it in pieces):
             return True
@@ -124,14 +135,14 @@ class Back:
                     return True
         return False
 
-    def stops_by_turns(self, ahead, steps):
+    def stops_by_turns(self, ahead: Timeline, steps: Steps) -> Iterator[tuple[int, Halt]]:
         """The stops in steps of the past, each run of a hart an exchange."""
         for halt in by_turns(ahead, self.moves.stops, steps.turns, steps.count):
             self.ask_person()
             if halt:
                 yield ahead.position, halt
 
-    def judged_stops(self, ahead, steps):
+    def judged_stops(self, ahead: Timeline, steps: Steps) -> Iterator[tuple[int, Halt]]:
         """The stops in steps of one hart, where conditions decide, many in one exchange."""
         hart, end = int(steps.turns), ahead.position + steps.count
         while ahead.position < end:
@@ -142,12 +153,12 @@ class Back:
                 if halt:
                     yield position + done, halt
 
-    def single_stops(self, ahead, steps):
+    def single_stops(self, ahead: Timeline, steps: Steps) -> Iterator[tuple[int, Halt]]:
         """The stops in steps of the past that are asked one by one, many in one exchange."""
-        stops, left = self.moves.stops, steps
-        while left:
+        stops = self.moves.stops
+        for at in range(0, steps.count, BLOCK):
             self.ask_person()
-            now = next(part([left], 0, BLOCK))
+            now = steps_within(steps, at, at + BLOCK)
             position, worlds = ahead.position, list(ahead.worlds)
             for hart, _, ran in asked(ahead, now.turns, now.count, True):
                 position += 1
@@ -156,9 +167,8 @@ class Back:
                     if halt:
                         yield position, halt
                 worlds[hart] = ran.world
-            left = next(part([left], BLOCK, left.count), None)
 
-    def halt_there(self, ahead, position, hart, ran, before):
+    def halt_there(self, ahead: Timeline, position: int, hart: int, ran: Ran, before: str) -> Halt | None:
         """The halt behind a step, for which the bench that is ahead of it is not asked where it would have to be there."""
         stops = self.moves.stops
         if not stops.asks(ran):

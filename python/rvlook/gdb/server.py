@@ -1,12 +1,15 @@
 """The word gdb: the bench for a debugger that speaks the GDB remote serial protocol. Each hart is a thread."""
+from __future__ import annotations
+
 import re
 import signal
 import socket
 import sys
 import threading
+from typing import Callable, Dict, Optional, TYPE_CHECKING
 
 from rvlook.protocol import names
-from rvlook.image.escapes import visible
+from rvlook.output.escapes import visible
 from rvlook.errors import BenchEnded, Fault
 from rvlook.gdb.reverse import Back
 from rvlook.gdb.link import Gone, Link, escaped, hex_of, little, number_of, unescaped
@@ -16,6 +19,11 @@ from rvlook.gdb.stops import Halt, Watch
 from rvlook.gdb.target import CORE, ENTERED, MODES, PC, PRIV, REGISTERS, TRIPLE, WORLD, WORLDS, memory_text, target_text, threads_text
 from rvlook.protocol.run import told_fault
 from rvlook.protocol.timeline import Timeline
+
+if TYPE_CHECKING:
+    from rvlook.gdb.monitor import CommandLine
+    from rvlook.protocol.run import Setup
+    from rvlook.protocol.symbols import Symbols
 
 NAME = re.compile(r"[Qqv][A-Za-z]+\??|b[cs]|.", re.S)
 CONDITION = re.compile(r"X([0-9a-f]{1,4}),([0-9a-f]+)")
@@ -38,40 +46,42 @@ class Server:
     """Answers packets. `shown` is the hart that is looked at, `moved` the one that goes on or back (None where any may), `last` the one
     that halted."""
 
-    def __init__(self, link, setup, symbols, command_line, has_files=True):
+    def __init__(self, link: Link, setup: Setup, symbols: Callable[[], Symbols], command_line: CommandLine, has_files: bool = True) -> None:
         self.link, self.setup, self.symbols, self.has_files, self.command_line = link, setup, symbols, has_files, command_line
         self.extended = self.over = False
-        self.running = self.back = self.commands = None
+        self.running: Moves | None = None
+        self.moved: int | None = None
         self.start()
 
-    def start(self):
+    def start(self) -> None:
         """The bench behind its script."""
         self.close()
-        self.running = Moves(Timeline.of_script(self.setup), self.link)
-        self.back, self.commands = Back(self.running), Monitor(self.running, self.symbols, self.command_line, self.has_files)
-        self.shown = self.last = self.running.timeline.hart
+        moves = self.running = Moves(Timeline.of_script(self.setup), self.link)
+        self.back, self.commands = Back(moves), Monitor(moves, self.symbols, self.command_line, self.has_files)
+        self.shown = self.last = moves.timeline.hart
         self.moved = None
 
-    def close(self):
+    def close(self) -> None:
         if self.running:
             self.running.close()
         self.running = None
 
     @property
-    def moves(self):
+    def moves(self) -> Moves:
         if not self.running:
             raise Refused("the bench was ended")
         return self.running
 
     @property
-    def timeline(self):
+    def timeline(self) -> Timeline:
         return self.moves.timeline
 
-    def serve(self):
+    def serve(self) -> None:
         """Answers up to the end."""
         while not self.over:
             packet = self.link.packet()
-            name = NAME.match(packet)[0] if packet else ""
+            match = NAME.match(packet)
+            name = match[0] if match else ""
             try:
                 answer = ACTS[name](self, packet[len(name):]) if name in ACTS else ""
             except Refused as refusal:
@@ -88,11 +98,11 @@ class Server:
 
     # what there is
 
-    def no_acknowledgements(self, _):
+    def no_acknowledgements(self, _: str) -> None:
         self.link.send("OK")
         self.link.acknowledged = False
 
-    def transfer(self, rest):
+    def transfer(self, rest: str) -> str:
         """A part of a document."""
         kind, _, name, place = rest[1:].split(":")
         made = {("features", "target.xml"): target_text, ("memory-map", ""): lambda: memory_text(self.setup.ram),
@@ -101,22 +111,22 @@ class Server:
         first, count = map(number_of, place.split(","))
         return ("m" if first + count < len(text) else "l") + escaped(text[first:first + count])
 
-    def threads(self, _):
+    def threads(self, _: str) -> str:
         return "m" + ",".join("%x" % (hart + 1) for hart in range(self.setup.harts)) if self.running else "l"
 
-    def hart_text(self, hart):
+    def hart_text(self, hart: int) -> str:
         """What is said of a hart among the threads."""
         self.timeline.settle()
         return "hart %d: %s in %s" % (hart, self.timeline.worlds[hart], self.timeline.modes[hart])
 
-    def hart_of(self, thread):
+    def hart_of(self, thread: str) -> int:
         """The hart of a thread; that which halted where any will do."""
         hart = self.last if thread in ("", "0", "-1") else number_of(thread) - 1
         if not 0 <= hart < self.setup.harts:
             raise Refused("there is no such thread")
         return hart
 
-    def choose(self, rest):
+    def choose(self, rest: str) -> str:
         """The hart that is shown, or that is moved."""
         hart = self.hart_of(rest[1:])
         if rest[0] == "g":
@@ -127,11 +137,11 @@ class Server:
 
     # registers and memory
 
-    def registers(self, _=""):
+    def registers(self, _: str = "") -> str:
         """The values of CORE, as the protocol has them."""
         return "".join(map(little, self.moves.view.registers(self.shown)))
 
-    def read_register(self, rest):
+    def read_register(self, rest: str) -> str:
         """Any of REGISTERS."""
         number = number_of(rest)
         if number < len(CORE):
@@ -141,23 +151,26 @@ class Server:
         if REGISTERS[number] in ENTERED:
             values = self.commands.entry.registers(self.timeline, self.shown)
             return little(values[REGISTERS[number]]) if values else "x" * 8
-        return little(self.moves.view.csr(self.shown, names.CSRS[REGISTERS[number]]))
+        value = self.moves.view.csr(self.shown, names.CSRS[REGISTERS[number]])
+        if value is None:
+            raise ValueError(rest)
+        return little(value)
 
-    def state(self):
+    def state(self) -> dict[int, str]:
         """What the bench tells behind a step alone, by its numbers among the registers."""
         self.timeline.settle()
         return {PRIV: little("%08x" % MODES[self.timeline.modes[self.shown]]),
                 WORLD: little("%08x" % WORLDS[self.timeline.worlds[self.shown]])}
 
-    def changing(self):
+    def changing(self) -> None:
         """Something is done, perhaps something else than what had been done behind this step."""
         self.back.forget()
         self.commands.entry.limit(self.timeline.position)
 
-    def write_register(self, rest):
+    def write_register(self, rest: str) -> str:
         """x1 to x31: no command of the bench writes another."""
-        number, value = rest.split("=")
-        number = number_of(number)
+        digits, value = rest.split("=")
+        number = number_of(digits)
         if not 0 < number < PC:
             raise Refused("no command of the bench writes %s" % REGISTERS[number])
         if not VALUE.match(value):
@@ -167,7 +180,7 @@ class Server:
         self.moves.tell(["setreg %d %s" % (number, little(value))])
         return "OK"
 
-    def read_memory(self, rest):
+    def read_memory(self, rest: str) -> str:
         """Bytes, up to the first that is outside."""
         first, count = map(number_of, rest.split(","))
         found = self.moves.view.bytes(first, min(count, MOST_READ))
@@ -175,15 +188,15 @@ class Server:
             raise Refused("%08x is outside RAM" % first)
         return found.hex()
 
-    def write_memory(self, rest):
+    def write_memory(self, rest: str) -> str:
         place, digits = rest.split(":", 1)
         return self.write(place, bytes.fromhex(digits))
 
-    def write_binary(self, rest):
+    def write_binary(self, rest: str) -> str:
         place, data = rest.split(":", 1)
         return self.write(place, unescaped(data).encode("latin-1"))
 
-    def write(self, place, data):
+    def write(self, place: str, data: bytes) -> str:
         """Bytes, each by a poke; none where one is outside."""
         first, count = map(number_of, place.split(","))
         if len(data) != count:
@@ -196,7 +209,7 @@ class Server:
 
     # breakpoints and watchpoints
 
-    def set_stop(self, rest):
+    def set_stop(self, rest: str) -> str:
         kind, first, count = self.stop_of(rest)
         if kind in BREAKS:
             conditions = [bytes.fromhex(it[2])[:int(it[1], 16)] for it in CONDITION.finditer(rest)]
@@ -206,7 +219,7 @@ class Server:
             raise Refused("the bench watches %d bytes at most" % MOST_WATCHED)
         return "OK"
 
-    def clear_stop(self, rest):
+    def clear_stop(self, rest: str) -> str:
         kind, first, count = self.stop_of(rest)
         if kind in BREAKS:
             self.moves.stops.clear_break(self.timeline, kind, first)
@@ -215,28 +228,28 @@ class Server:
         return "OK"
 
     @staticmethod
-    def stop_of(rest):
+    def stop_of(rest: str) -> tuple[str, int, int]:
         """The kind, the address and the length of a break or watch."""
         kind, first, count = rest.split(";")[0].split(",")
         return kind, number_of(first), number_of(count)
 
     # on and back
 
-    def halted(self, halt):
+    def halted(self, halt: Halt) -> str:
         """The reply that tells where a hart halts, with its registers."""
         self.shown = self.last = halt.hart
         values = [*enumerate(map(little, self.moves.view.registers(halt.hart))), *self.state().items()]
         return "T%02xthread:%x;%s%s" % (halt.signal, halt.hart + 1, halt.reason, "".join("%02x:%s;" % it for it in values))
 
-    def where(self, _):
+    def where(self, _: str) -> str:
         """Why the harts halt: they have not gone on."""
         return self.halted(Halt(self.shown)) if self.running else "W00"
 
-    def resume(self, rest):
+    def resume(self, rest: str) -> str:
         """vCont: each hart does what the first action that names it tells."""
         self.moves.tell_notes()
         self.changing()
-        actions = {}
+        actions: dict[int, str] = {}
         for it in rest[1:].split(";"):
             action, _, thread = it.partition(":")
             for hart in range(self.setup.harts) if thread in ("", "-1", "0") else [self.hart_of(thread)]:
@@ -252,23 +265,23 @@ class Server:
         self.moves.redo()
         return self.halted(halt)
 
-    def go_on(self, action, place):
+    def go_on(self, action: str, place: str) -> str:
         """c and s of a debugger without vCont."""
         if place:
             raise Refused("no command of the bench writes pc")
         return self.resume(";%s:%s" % (action, "-1" if self.moved is None else "%x" % (self.moved + 1)))
 
-    def step_back(self, _):
+    def step_back(self, _: str) -> str:
         """Where no thread is named, it is the one that is looked at."""
         return self.halted(self.back.step(self.shown if self.moved is None else self.moved))
 
-    def go_back(self, _):
+    def go_back(self, _: str) -> str:
         harts = range(self.setup.harts) if self.moved is None else [self.moved]
         return self.halted(self.back.go(self.shown if self.moved is None else self.moved, list(harts)))
 
     # what else
 
-    def monitor(self, rest):
+    def monitor(self, rest: str) -> str:
         """A line of the bench or of the prompt, or a word over what was done up to now."""
         self.changing()
         self.timeline.choose(self.last if self.moves.behind_watches else self.shown)  # lldb reads registers of each hart, and names none here
@@ -279,52 +292,52 @@ class Server:
             self.link.send("O" + hex_of(text[first:first + PIECE]))
         return "OK"
 
-    def detach(self, _):
+    def detach(self, _: str) -> str:
         self.over = not self.extended
         return "OK"
 
-    def kill(self, _):
+    def kill(self, _: str) -> str:
         """The bench ends; an extended debugger may run it again."""
         self.close()
         return self.detach("")
 
-    def end(self, _):
+    def end(self, _: str) -> str | None:
         """k: gdb wants no answer, and lldb one."""
         answers_it = self.running and self.running.behind_watches
         self.close()
         self.over = not self.extended
         return GONE if answers_it else None
 
-    def extend(self, _):
+    def extend(self, _: str) -> str:
         self.extended = True
         return "OK"
 
-    def run_again(self, _):
+    def run_again(self, _: str) -> str:
         self.start()
         return self.where("")
 
-    def restart(self, _):
+    def restart(self, _: str) -> None:
         self.start()
 
-    def host(self, _):
+    def host(self, _: str) -> str:
         """What lldb asks, and gdb does not."""
         self.moves.behind_watches = True
         return "triple:%s;ptrsize:4;endian:little;watchpoint_exceptions_received:after;" % hex_of(TRIPLE)
 
-    def fresh(self, _):
+    def fresh(self, _: str) -> str:
         """A debugger that reads all anew behind each line of `monitor`."""
         self.commands.is_fresh = True
         return "OK"
 
 
-def answers(text):
+def answers(text: str) -> Callable[[Server, str], str]:
     return lambda server, rest: text
 
 
 MOVING = ("vCont", "c", "s", "bc", "bs")
-ACTS = {
+ACTS: Dict[str, Callable[[Server, str], Optional[str]]] = {
     "!": Server.extend, "?": Server.where, "D": Server.detach, "H": Server.choose, "M": Server.write_memory, "P": Server.write_register,
-    "R": Server.restart, "T": lambda server, rest: server.hart_of(rest) >= 0 and "OK", "X": Server.write_binary, "Z": Server.set_stop,
+    "R": Server.restart, "T": lambda server, rest: "OK" if server.hart_of(rest) >= 0 else "", "X": Server.write_binary, "Z": Server.set_stop,
     "k": Server.end, "m": Server.read_memory, "p": Server.read_register, "z": Server.clear_stop, "g": Server.registers,
     "c": lambda server, rest: server.go_on("c", rest), "s": lambda server, rest: server.go_on("s", rest),
     "bc": Server.go_back, "bs": Server.step_back, "QRvlookFresh": Server.fresh,
@@ -335,7 +348,7 @@ ACTS = {
     "vCont?": answers("vCont;c;C;s;S;r"), "vKill": Server.kill, "vRun": Server.run_again}
 
 
-def link_of(setup, port):
+def link_of(setup: Setup, port: int | None) -> Link:
     """The connection with the debugger: over the standard streams, or over a port of this machine, to the first that comes. Whoever comes
     to the port after that one is turned away, in a thread of its own."""
     if port is None and sys.stdin.isatty():
@@ -357,14 +370,14 @@ def link_of(setup, port):
     return link
 
 
-def turn_away(listening):
+def turn_away(listening: socket.socket) -> None:
     """Tells each that comes to the port that there is a debugger already."""
     while True:
         listening.accept()[0].close()
         print("rvlook: a second debugger came to the port, and was turned away", file=sys.stderr, flush=True)
 
 
-def serve_gdb(setup, symbols, port, allow_files, command_line):
+def serve_gdb(setup: Setup, symbols: Callable[[], Symbols], port: int | None, allow_files: bool, command_line: CommandLine) -> None:
     """Serves a debugger. `symbols` reads the symbols, which are wanted by `monitor` alone: gdb waits two seconds for the first answer.
     Over a port, on which any program of this machine may come, files are read and written if that is allowed."""
     if port is None:

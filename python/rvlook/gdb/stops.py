@@ -1,11 +1,18 @@
 """Where harts halt under a debugger: breakpoints with their conditions, watchpoints by the kind of the access, and catchpoints. The bench
 asks its own breaks and watches; what it tells is judged here."""
+from __future__ import annotations
+
 import contextlib
 from dataclasses import dataclass
+from typing import Any, Callable, Mapping, TYPE_CHECKING
 
 from rvlook.protocol import names
 from rvlook.gdb.conditions import holds
 from rvlook.protocol.instructions import instruction_of
+
+if TYPE_CHECKING:
+    from rvlook.protocol.replies import Ran, Trap
+    from rvlook.protocol.timeline import Timeline
 
 STEPPED, INTERRUPTED, STOPPED = 5, 2, 0  # signals, as the protocol numbers them
 SIGNALS = {"00000000": 10, "00000001": 11, "00000002": 4, "00000003": 5, "00000005": 11, "00000007": 11}  # of traps, by their cause
@@ -21,10 +28,10 @@ class Watch:
     count: int
 
     @property
-    def bytes(self):
+    def bytes(self) -> range:
         return range(self.first, self.first + self.count)
 
-    def meets(self, first, width):
+    def meets(self, first: int, width: int) -> bool:
         return self.first < first + width and first < self.first + self.count
 
 
@@ -38,7 +45,7 @@ class Halt:
     told: str = ""
 
 
-def signal_of(trap):
+def signal_of(trap: Trap | None) -> int:
     """The signal for a trap; that of an interrupt or a call only stops."""
     return SIGNALS.get(trap.cause, STOPPED) if trap else STOPPED
 
@@ -47,41 +54,44 @@ class Stops:
     """What is asked for. `breaks` has for each address its kinds of breakpoint, each with its conditions; those `beyond` have no room in
     the bench."""
 
-    def __init__(self):
-        self.breaks, self.beyond, self.watches, self.caught = {}, set(), [], set()
-        self.questions = {}  # the commands whose replies decided conditions
+    def __init__(self) -> None:
+        self.breaks: dict[int, dict[str, list[bytes]]] = {}
+        self.beyond: set[int] = set()
+        self.watches: list[Watch] = []
+        self.caught: set[str] = set()
+        self.questions: dict[str, None] = {}  # the commands whose replies decided conditions
 
     @property
-    def is_single(self):
+    def is_single(self) -> bool:
         """Whether it is asked behind each step, and not by the bench alone."""
         return bool(self.beyond or self.caught)
 
     @property
-    def has_conditions(self):
+    def has_conditions(self) -> bool:
         return any(code for it in self.breaks.values() for code in it.values())
 
-    def key(self, timeline):
+    def key(self, timeline: Timeline) -> tuple[Any, ...]:
         """What decides where the harts halt."""
         return (frozenset(timeline.stops), frozenset(self.beyond), tuple(self.watches), frozenset(self.caught),
                 repr(sorted((at, sorted(it.items())) for at, it in self.breaks.items())))
 
     # what is set
 
-    def set_break(self, timeline, kind, at, conditions):
+    def set_break(self, timeline: Timeline, kind: str, at: int, conditions: list[bytes]) -> None:
         self.breaks.setdefault(at, {})[kind] = conditions
         if timeline.do("break %x" % at)[0] != "ok":
             self.beyond.add(at)
         if conditions:
             self.holds(timeline, timeline.hart, at)  # what it asks is asked behind each run from then on
 
-    def clear_break(self, timeline, kind, at):
+    def clear_break(self, timeline: Timeline, kind: str, at: int) -> None:
         self.breaks.get(at, {}).pop(kind, None)
         if not self.breaks.get(at):
             self.breaks.pop(at, None)
             self.beyond.discard(at)
             timeline.do("clear %x" % at)
 
-    def set_watch(self, timeline, watch):
+    def set_watch(self, timeline: Timeline, watch: Watch) -> bool:
         """Watches; False where the bench has no room."""
         self.watches.append(watch)
         if any("ok" not in replies for replies in timeline.do_all(["watch %x" % at for at in watch.bytes])):
@@ -89,7 +99,7 @@ class Stops:
             return False
         return True
 
-    def clear_watch(self, timeline, watch):
+    def clear_watch(self, timeline: Timeline, watch: Watch) -> None:
         """Takes a watch away, if it is set."""
         if watch not in self.watches:
             return
@@ -99,29 +109,29 @@ class Stops:
 
     # what is met
 
-    def is_break(self, timeline, pc):
+    def is_break(self, timeline: Timeline, pc: str) -> bool:
         return timeline.is_break(pc) or int(pc, 16) in self.beyond
 
-    def is_quiet(self, timeline):
+    def is_quiet(self, timeline: Timeline) -> Callable[[bytes, int], bool]:
         """What tells of the replies to so many runs, as bytes, that no halt is behind any of them."""
         places = [b"pc=%s " % it.split()[1].rjust(8, "0").encode() for it in timeline.stops if it.startswith("break")]
         places += [b"pc=%08x " % at for at in self.beyond]
 
-        def is_quiet(block, runs):
+        def is_quiet(block: bytes, runs: int) -> bool:
             return block.count(b"why=done") == runs and not (self.caught and block.count(NO_TRAP) < runs) \
                 and not any(it in block for it in places)
 
         return is_quiet
 
-    def may_meet(self, timeline, ran, before):
+    def may_meet(self, timeline: Timeline, ran: Ran, before: str) -> bool:
         """Whether a halt may be behind a run, by its reply alone. `before` is the world before it."""
         return ran.why != "done" or self.is_break(timeline, ran.pc) or bool(self.caught and self.catch(0, ran, before))
 
-    def asks(self, ran):
+    def asks(self, ran: Ran) -> bool:
         """Whether registers or memory decide if there is a halt."""
         return ran.why.startswith("watch") or any(code for it in self.breaks.get(int(ran.pc, 16), {}).values() for code in it)
 
-    def met(self, timeline, hart, ran, before):
+    def met(self, timeline: Timeline, hart: int, ran: Ran, before: str) -> Halt | None:
         """The halt behind a run, where the timeline is, or None."""
         if ran.why.startswith("watch"):
             reason = self.watched(timeline, hart, ran)
@@ -131,32 +141,32 @@ class Stops:
             return Halt(hart)
         return self.catch(hart, ran, before)
 
-    def holds(self, timeline, hart, pc):
+    def holds(self, timeline: Timeline, hart: int, pc: int) -> bool:
         """Whether one of the breakpoints at pc has no condition, or one that holds."""
         timeline.choose(hart)
 
-        def reply_to(line):
+        def reply_to(line: str) -> str:
             self.questions[line] = None
             return timeline.ask(line)[0][0]
 
         return self.decided(pc, reply_to)
 
-    def decided(self, pc, reply_to):
+    def decided(self, pc: int, reply_to: Callable[[str], str]) -> bool:
         """Whether one of the breakpoints at pc has no condition, or one that holds by the replies to commands."""
-        conditions = [code for it in self.breaks.get(pc, {"": []}).values() for code in (it or [None])]
-        if None in conditions:
+        kinds = self.breaks.get(pc, {"": []}).values()
+        if not all(kinds):
             return True
 
-        def register(number):
+        def register(number: int) -> int:
             return pc if number == PC else int(reply_to("reg %d" % number).split("=")[1], 16)
 
-        def memory(at, count):
+        def memory(at: int, count: int) -> bytes:
             reply = reply_to("mem %x %d" % (at, count))
             return b"" if reply.startswith("error ") else bytes.fromhex(reply.split(":")[1])
 
-        return any(holds(code, register, memory) for code in conditions)
+        return any(holds(code, register, memory) for conditions in kinds for code in conditions)
 
-    def verdict(self, timeline, ran, replies):
+    def verdict(self, timeline: Timeline, ran: Ran, replies: Mapping[str, str]) -> bool | None:
         """Whether there is a halt behind a run of one hart, by the replies to `questions` there; None where they do not tell."""
         if ran.why.startswith("watch"):
             return None
@@ -165,7 +175,7 @@ class Stops:
         except KeyError:
             return None
 
-    def watched(self, timeline, hart, ran):
+    def watched(self, timeline: Timeline, hart: int, ran: Ran) -> str | None:
         """Why the harts halt behind an access; None where they go on, for it was of a kind that is not watched there. A watch that was
         set by a command of the bench is for any access."""
         lowest = int(ran.why[6:], 16)
@@ -175,7 +185,7 @@ class Stops:
         met = [it for it in self.watches if kind in it.kinds and it.meets(first, width)]
         return "%s:%x;" % (met[0].name, max(first, met[0].first)) if met else None
 
-    def catch(self, hart, ran, before):
+    def catch(self, hart: int, ran: Ran, before: str) -> Halt | None:
         """What a catchpoint tells of a single step."""
         if "switch" in self.caught and ran.world != before:
             return Halt(hart, "", STOPPED, "[hart %d: from %s to %s, by %s]" % (
@@ -187,7 +197,7 @@ class Stops:
         return None
 
 
-def access_before(timeline, hart, ran):
+def access_before(timeline: Timeline, hart: int, ran: Ran) -> tuple[str, int, int]:
     """The kind, the address and the width of the access that the last step made: the instruction stands before pc, for it did not jump.
     Where it loaded its own base, the registers are asked on another bench, before the step."""
     timeline.choose(hart)

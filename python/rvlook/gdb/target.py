@@ -1,8 +1,11 @@
 """What the debugger is told of the bench: its registers, by the features of RISC-V and one of its own; its memory; and its harts."""
+from __future__ import annotations
+
 from xml.sax.saxutils import quoteattr
+from typing import Iterable
 
 from rvlook.protocol import names
-from rvlook.access.ranges import RAM_BASE
+from rvlook.protocol.memory_map import RAM_BASE
 
 ABI_KINDS = {"ra": "code_ptr", "sp": "data_ptr", "gp": "data_ptr", "tp": "data_ptr", "s0": "data_ptr"}
 ROLES = {"sp": "sp", "s0": "fp", "ra": "ra", "pc": "pc"}  # as lldb has them
@@ -26,7 +29,7 @@ MEMORY = """<?xml version="1.0"?><!DOCTYPE memory-map SYSTEM "gdb-memory-map.dtd
 <memory-map><memory type="ram" start="0x%x" length="0x%x"/></memory-map>"""
 
 
-def register(name, kind="int", more=""):
+def register(name: str, kind: str = "int", more: str = "") -> str:
     """A register, at its place in all of them."""
     number = NUMBERS[name]
     if name in names.ABI:
@@ -36,7 +39,7 @@ def register(name, kind="int", more=""):
     return '<reg name="%s" bitsize="32" regnum="%d" offset="%d" type="%s"%s/>' % (name, number, 4 * number, kind, more)
 
 
-def target_text():
+def target_text() -> str:
     """target.xml."""
     core = "".join(register(it, "code_ptr" if it == "pc" else ABI_KINDS.get(it, "int")) for it in CORE)
     csrs = "".join(register(it, more=' group="csr" save-restore="no"') for it in names.CSRS)
@@ -46,12 +49,12 @@ def target_text():
     return TARGET % (ARCHITECTURE, core, csrs, register("priv"), values, own)
 
 
-def memory_text(ram):
+def memory_text(ram: int) -> str:
     """The memory map: beside RAM there is nothing."""
     return MEMORY % (RAM_BASE, ram)
 
 
-def threads_text(lines):
+def threads_text(lines: Iterable[str]) -> str:
     """The harts, each with what is said of it."""
     threads = "".join('<thread id="%x" core="%d" name=%s/>' % (hart + 1, hart, quoteattr(it)) for hart, it in enumerate(lines))
     return '<?xml version="1.0"?><threads>%s</threads>' % threads

@@ -1,32 +1,42 @@
 """What a debugger sees of a bench that halts, each thing asked once: registers, and memory by lines of 64 bytes. A debugger asks for two
 bytes at a time, and for those around pc and above sp at each step; these come with the step, in one exchange."""
-from rvlook.protocol.replies import ran_of
+from __future__ import annotations
+
+from typing import Any, TYPE_CHECKING
+
+from rvlook.protocol.replies import step_of
+
+if TYPE_CHECKING:
+    from rvlook.protocol.replies import Ran
+    from rvlook.protocol.timeline import Timeline
 
 LINE = 64
 SP, PC, REGISTERS = 2, 32, 33
 
 
-def value_of(reply):
+def value_of(reply: str) -> str:
     """The digits of a line of `regs` or of `csr`."""
     return reply[reply.index("=") + 1:]
 
 
-def line_of(address):
+def line_of(address: int) -> str:
     return "mem %x %d" % (address & -LINE & 0xFFFFFFFF, LINE)
 
 
 class View:
     """The registers and the memory of a timeline, as it stands; forgotten where anything changes."""
 
-    def __init__(self, timeline):
-        self.timeline, self.changes, self.values, self.lines = timeline, -1, {}, {}
+    def __init__(self, timeline: Timeline) -> None:
+        self.timeline, self.changes = timeline, -1
+        self.values: dict[Any, Any] = {}  # registers by hart, and control registers by hart and number
+        self.lines: dict[int, bytes] = {}
 
-    def check(self):
+    def check(self) -> None:
         """Forgets what may have changed."""
         if self.changes != self.timeline.changes:
             self.changes, self.values, self.lines = self.timeline.changes, {}, {}
 
-    def registers(self, hart):
+    def registers(self, hart: int) -> list[str]:
         """x0 to x31 and pc, in digits."""
         self.check()
         if hart not in self.values:
@@ -34,7 +44,7 @@ class View:
             self.values[hart] = [value_of(line) for line in self.timeline.ask("regs")[0]]
         return self.values[hart]
 
-    def csr(self, hart, number):
+    def csr(self, hart: int, number: int) -> str | None:
         """A control and status register, in digits, or None where there is none."""
         self.check()
         if (hart, number) not in self.values:
@@ -43,7 +53,7 @@ class View:
             self.values[hart, number] = None if reply.startswith("error ") else value_of(reply)
         return self.values[hart, number]
 
-    def bytes(self, first, count):
+    def bytes(self, first: int, count: int) -> bytes:
         """Bytes, up to the first that is outside RAM."""
         self.check()
         lines = range(first & -LINE, first + count, LINE)
@@ -57,10 +67,10 @@ class View:
             found += self.lines[at]
         return found[first & LINE - 1:][:count]
 
-    def take_line(self, address, reply):
+    def take_line(self, address: int, reply: str) -> None:
         self.lines[address] = b"" if reply.startswith("error ") else bytes.fromhex(reply[reply.index(":") + 1:])
 
-    def step(self, hart, turns):
+    def step(self, hart: int, turns: str) -> Ran:
         """A single `run` of a hart, whose reply it gives; what is seen behind it is asked in the same exchange."""
         before = self.registers(hart)
         self.timeline.choose(hart)
@@ -70,4 +80,4 @@ class View:
         self.values[hart] = [line.partition("=")[2] for line in seen[:REGISTERS]]
         for at, reply in zip(near, seen[REGISTERS:]):
             self.take_line(at, reply)
-        return ran_of(ran)
+        return step_of(ran)

@@ -1,10 +1,16 @@
 """What an image says of itself: whether it is made for the monitor, and whether it has instructions that the bench has not."""
+from __future__ import annotations
+
 import re
 import struct
 import sys
 from array import array
+from typing import Iterable, Iterator, TYPE_CHECKING
 
-from rvlook.access.ranges import MONITOR_END
+from rvlook.protocol.memory_map import MONITOR_END
+
+if TYPE_CHECKING:
+    from rvlook.protocol.inputs import Image, ScriptLine
 
 AT_SEGMENTS, AT_FLAGS, AT_SIZES = 28, 36, 42  # in the header of an ELF file
 SEGMENT = struct.Struct("<8I")
@@ -16,12 +22,13 @@ ECALL = 0x00000073
 KEY_SET = re.compile(r"\s*setreg\s+(17|x17|a7)\s+(0x)?0?a454e43\s*\Z", re.I)
 
 
-def is_elf_32(image):
+def is_elf_32(image: Image) -> bool:
     """Whether it is an ELF file of 32 bits, the lowest byte first, with a whole header."""
-    return image.is_elf and len(image.data) >= 52 and image.data[4:6] == b"\x01\x01"
+    data = image.data
+    return image.is_elf and data is not None and len(data) >= 52 and data[4:6] == b"\x01\x01"
 
 
-def segments_of(data):
+def segments_of(data: bytes) -> Iterator[tuple[int, int]]:
     """The address, and the size in memory, of each segment that is loaded."""
     offset = struct.unpack_from("<I", data, AT_SEGMENTS)[0]
     size, count = struct.unpack_from("<HH", data, AT_SIZES)
@@ -32,22 +39,22 @@ def segments_of(data):
                 yield address, length
 
 
-def has_compressed(image):
+def has_compressed(image: Image) -> bool:
     """Whether the flags of an ELF file tell of compressed instructions."""
-    return is_elf_32(image) and bool(struct.unpack_from("<I", image.data, AT_FLAGS)[0] & COMPRESSED)
+    return is_elf_32(image) and bool(struct.unpack_from("<I", image.data or b"", AT_FLAGS)[0] & COMPRESSED)
 
 
-def asks_for_monitor(image, script):
+def asks_for_monitor(image: Image, script: Iterable[ScriptLine]) -> str | None:
     """By what an image asks for the monitor, or None."""
     if is_elf_32(image):
-        first = min((address for address, _ in segments_of(image.data)), default=0)
+        first = min((address for address, _ in segments_of(image.data or b"")), default=0)
         return "its first address is %08x" % first if first == MONITOR_END else None
     if has_key(image.data or b"") or any(KEY_SET.match(line.given) for line in script):
         return "it has an ecall with the monitor's a7, 0a454e43"
     return None
 
 
-def has_key(data):
+def has_key(data: bytes) -> bool:
     """Whether the words of an image put the monitor's key into a7, and have an ecall."""
     words = array("I", data[:len(data) // 4 * 4])
     if sys.byteorder == "big":

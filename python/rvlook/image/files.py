@@ -1,11 +1,13 @@
 """The image, in whatever form it stands in a file: an ELF file, raw bytes, or the text that the bench reads."""
+from __future__ import annotations
+
 import re
-from dataclasses import dataclass
+from typing import BinaryIO
 
 from rvlook.protocol.bench_line import LONGEST_LINE, ended, is_separator, lines_of
 from rvlook.errors import Fault
+from rvlook.protocol.inputs import Image, ScriptLine
 
-ELF_MAGIC = b"\x7fELF"
 DIGITS_A_LINE = 120
 MOST_BYTES = 33554432  # of an image, as the bench has it
 MOST_READ = 3 * MOST_BYTES  # bytes of a file; two digits for each byte of an image, line ends and a script
@@ -16,30 +18,7 @@ TEXT = re.compile(rb"[0-9A-Fa-f \t\r\n]*\Z")
 PRINTABLE = re.compile(rb"[\t\r\n\x20-\x7e]*\Z")
 
 
-@dataclass(frozen=True)
-class ScriptLine:
-    """A line of a script: as it stands, where it stands, and what the bench is given for it."""
-    given: str
-    place: str
-    text: str
-    refused: str = ""  # why a name in it says no address, if one does not
-
-
-@dataclass(frozen=True)
-class Image:
-    """`text` is what the bench reads up to the line `--`, `data` the bytes that it says (None where it says none rightly), `script` the
-    lines behind that line, where the file had them."""
-    name: str
-    text: bytes
-    data: bytes
-    script: tuple = ()
-
-    @property
-    def is_elf(self):
-        return self.data is not None and self.data.startswith(ELF_MAGIC)
-
-
-def read_file(path):
+def read_file(path: str) -> bytes:
     """The bytes of a file, at most MOST_READ."""
     try:
         with open(path, "rb") as file:
@@ -50,7 +29,7 @@ def read_file(path):
         raise Fault("%s: %s" % (path, error)) from None
 
 
-def bounded(file, path):
+def bounded(file: BinaryIO, path: str) -> bytes:
     """Returns all bytes of an open file; a Fault if there are more than MOST_READ. A device without end is such a file."""
     data = file.read(MOST_READ + 1)
     if len(data) > MOST_READ:
@@ -58,14 +37,14 @@ def bounded(file, path):
     return data
 
 
-def digits_of(data):
+def digits_of(data: bytes) -> bytes:
     """Bytes as the text of an image."""
     digits = data.hex()
     lines = [digits[i:i + DIGITS_A_LINE] for i in range(0, len(digits), DIGITS_A_LINE)]
     return "".join(line + "\n" for line in lines).encode("ascii")
 
 
-def script_lines(data, path, before=0):
+def script_lines(data: bytes, path: str, before: int = 0) -> tuple[ScriptLine, ...]:
     """The lines of a script that stands in a file behind so many lines. A line -- in it is for two benches, and left out."""
     if data.count(b"\n") > MOST_LINES:
         raise Fault("%s: the script is too long: it has more than %d lines" % (path, MOST_LINES))
@@ -74,7 +53,7 @@ def script_lines(data, path, before=0):
                  if line.strip(" \t") and not is_separator(line) or len(line) > LONGEST_LINE)
 
 
-def decoded(text):
+def decoded(text: bytes) -> bytes | None:
     """The bytes that an image's text says, or None where it is faulty."""
     try:
         return bytes.fromhex(text.decode("ascii"))
@@ -82,12 +61,12 @@ def decoded(text):
         return None
 
 
-def image_of(path, kind="auto"):
+def image_of(path: str, kind: str = "auto") -> Image:
     """The image in a file. A text of hexadecimal digits is taken as the bench takes it, with the script behind its line `--` if it has
     one; and so is any other text before such a line, whose faults are the bench's to tell. All other bytes are the image themselves."""
     data = read_file(path)
     cut = separator_in(data)
-    head, rest = (data[:cut.start()], data[cut.end():]) if cut else (data, None)
+    head, rest = (data[:cut.start()], data[cut.end():]) if cut else (data, b"")
     printable = PRINTABLE.match(data) is not None
     if TEXT.match(head) or cut and PRINTABLE.match(head):
         text = head if head.endswith(b"\n") or not head else ended(head.decode("latin-1")).encode("latin-1")
@@ -101,12 +80,12 @@ def image_of(path, kind="auto"):
     return Image(path, digits_of(data), data)
 
 
-def separator_in(data):
+def separator_in(data: bytes) -> re.Match[bytes] | None:
     """Returns where the line `--` is that ends the text of an image, as a match, or None."""
     return next((it for it in SEPARATOR.finditer(data) if len(it[1]) <= LONGEST_LINE), None)
 
 
-def is_marked_text(data):
+def is_marked_text(data: bytes) -> bool:
     """Whether the bytes are a text behind a byte order mark, which no image begins with and editors put there unasked."""
     mark = next((it for it in MARKS if data.startswith(it)), None)
     if mark is None:
@@ -117,6 +96,6 @@ def is_marked_text(data):
         return False
 
 
-def script_of(path):
+def script_of(path: str | None) -> tuple[ScriptLine, ...]:
     """The lines of a file of commands."""
     return script_lines(read_file(path), path) if path else ()

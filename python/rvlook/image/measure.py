@@ -1,19 +1,26 @@
 """The word measure: the digest that create records, worked out by hashlib; none of it is a reply."""
+from __future__ import annotations
+
 import hashlib
 import io
 import struct
+from typing import Sequence, TYPE_CHECKING
 
 from rvlook.protocol import names
 from rvlook.errors import Fault, Unfinished, package_missing
-from rvlook.image.files import ELF_MAGIC, read_file
-from rvlook.access.ranges import MONITOR_END
+from rvlook.image.files import read_file
+from rvlook.protocol.inputs import ELF_MAGIC
+from rvlook.protocol.memory_map import MONITOR_END
 from rvlook.output.printer import hex8
 from rvlook.image.symbols import symbols_of
+
+if TYPE_CHECKING:
+    from rvlook.output.printer import Printer
 
 LEAST_SIZE = 4096
 
 
-def region_bytes(path, data, base, size):
+def region_bytes(path: str, data: bytes, base: int, size: int) -> bytes:
     """The bytes of a region as the file has them: of an ELF file what its segments put there, of another file its bytes from the
     region's base on; and zeros."""
     if not data.startswith(ELF_MAGIC):
@@ -28,7 +35,7 @@ def region_bytes(path, data, base, size):
     return bytes(region)
 
 
-def segments(path, data):
+def segments(path: str, data: bytes) -> list[tuple[int, bytes]]:
     """The load address and the bytes of each segment of an ELF file."""
     try:
         from elftools.common.exceptions import ELFError
@@ -42,17 +49,17 @@ def segments(path, data):
         raise Fault("%s: %s" % (path, error)) from None
 
 
-def measurement(record, region):
+def measurement(record: Sequence[int], region: bytes) -> str:
     """SHA-256 over base, size, window base, window size and entry, and then the region."""
     return hashlib.sha256(struct.pack("<5I", *record) + region).hexdigest()
 
 
-def is_lawful(base, size, least):
+def is_lawful(base: int, size: int, least: int) -> bool:
     """Whether create takes such a range."""
     return size >= LEAST_SIZE and size & (size - 1) == 0 and base % size == 0 and base >= least
 
 
-def refusal_of(base, size, window, window_size, entry):
+def refusal_of(base: int, size: int, window: int, window_size: int, entry: int) -> str | None:
     """The status that create answers whatever the machine is, or None."""
     if not is_lawful(base, size, 0x80000000):
         return "BadRegion"
@@ -63,15 +70,15 @@ def refusal_of(base, size, window, window_size, entry):
     return None if entry % 4 == 0 and base <= entry < base + size else "BadEntry"
 
 
-def show_measure(path, numbers, symbols_path, printer):
+def show_measure(path: str, numbers: Sequence[str], symbols_path: str | None, printer: Printer) -> None:
     """The digest, and whether create would take these numbers at all."""
     data = read_file(path)
     symbols = symbols_of(symbols_path or path, read_file(symbols_path) if symbols_path else data)
     values = [symbols.address(text) for text in numbers]
     if None in values:
         raise Fault("%s is no hexadecimal number and no symbol" % numbers[values.index(None)])
-    base, size, window, window_size, entry = values
-    refusal = refusal_of(*values)
+    base, size, window, window_size, entry = (it for it in values if it is not None)
+    refusal = refusal_of(base, size, window, window_size, entry)
     if refusal:
         raise Fault("create refuses these numbers: %s" % refusal)
     record = (base, size, window if window_size else 0, window_size, entry)

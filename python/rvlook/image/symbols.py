@@ -1,22 +1,26 @@
 """Names and source lines of addresses, from an ELF file by pyelftools, or from lines of text as nm prints them. All of it is derived:
 the bench knows no symbols."""
+from __future__ import annotations
+
 import io
 import re
 import zlib
-from bisect import bisect_right
-from collections import defaultdict
-from dataclasses import dataclass
 from functools import lru_cache
+from typing import Any, Callable, Iterator, TYPE_CHECKING, TypeVar
 
 from rvlook.protocol.bench_line import lines_of
-from rvlook.image.escapes import name_of, visible
-from rvlook.errors import Fault, NameRefused, package_missing, tell
-from rvlook.image.files import ELF_MAGIC, read_file
+from rvlook.output.escapes import name_of, visible
+from rvlook.errors import Fault, package_missing, tell
+from rvlook.image.files import read_file
+from rvlook.protocol.inputs import ELF_MAGIC
+from rvlook.protocol.symbols import Symbol, Symbols
+
+if TYPE_CHECKING:
+    from rvlook.protocol.inputs import Image
+    from rvlook.protocol.symbols import Inlined
 
 NM_LINE = re.compile(r"([0-9a-fA-F]{8})\s+(?:[A-Za-z]\s+)?([A-Za-z_.$][\w.$]*)\s*\Z")
 PREFERRED = ("STT_FUNC", "STT_OBJECT")
-RAM_BASE = 0x80000000
-UNSIZED = 4096  # how far a symbol without a size goes at most
 LEAST_HEADER = 40  # bytes of a section header
 MOST_SECTIONS = 65536
 LONGEST_REASON = 200  # characters of an error of pyelftools that are shown
@@ -24,118 +28,10 @@ MOST_NAMED = 1 << 24  # characters of all names of symbols, which may share the 
 MOST_INFLATED = 1 << 26  # bytes of all compressed sections
 
 
-@dataclass(frozen=True)
-class Symbol:
-    """A name at an address; size 0 where none is told."""
-    address: int
-    size: int
-    name: str
-    is_function: bool
-    rank: int = 0  # the lower one names the address where there are more
+T = TypeVar("T")
 
 
-class Symbols:
-    """`symbols` in any order; `lines` are pairs of an address and the source line from there on, None where one ends; `inlined` gives, as
-    it is asked for, the first and the last address of what stands for a call, and the line of the call."""
-
-    def __init__(self, symbols=(), lines=(), inlined=tuple):
-        best = {it.address: it for it in sorted(symbols, key=lambda it: (it.rank, it.name), reverse=True)}
-        self.ordered = [best[address] for address in sorted(best) if address >= RAM_BASE]
-        self.addresses = [symbol.address for symbol in self.ordered]
-        self.by_name = {it.name: it for it in reversed(symbols)}
-        self.places = defaultdict(set)  # of each name
-        for it in symbols:
-            self.places[it.name].add(it.address)
-        # What the linker has dropped has lines too, at addresses where there is no memory.
-        self.lines = sorted((it for it in lines if it[0] >= RAM_BASE), key=lambda it: (it[0], it[1] is not None))
-        self.line_starts = [address for address, _ in self.lines]
-        self.read_inlined, self.inlined = inlined, None
-
-    def __bool__(self):
-        return bool(self.ordered)
-
-    def at(self, address):
-        """The symbol that an address belongs to, or None: that with the nearest address at or below it, as far as its size goes."""
-        place = bisect_right(self.addresses, address) - 1
-        symbol = self.ordered[place] if place >= 0 else None
-        return symbol if symbol and address < symbol.address + (symbol.size or UNSIZED) else None
-
-    def size_of(self, symbol):
-        """The bytes of a symbol: those that are told, or else those up to the next one."""
-        place = bisect_right(self.addresses, symbol.address)
-        following = self.addresses[place] - symbol.address if place < len(self.addresses) else UNSIZED
-        return symbol.size or min(following, UNSIZED)
-
-    def name(self, address):
-        """The address as a symbol, and how far behind it, or None."""
-        symbol = self.at(address)
-        if symbol is None:
-            return None
-        offset = address - symbol.address
-        return "%s+%x" % (symbol.name, offset) if offset else symbol.name
-
-    def function(self, address):
-        """The symbol without how far behind it, or None."""
-        symbol = self.at(address)
-        return symbol and symbol.name
-
-    def source(self, address):
-        """The file and line of an instruction, or None."""
-        place = bisect_right(self.line_starts, address) - 1
-        return self.lines[place][1] if place >= 0 else None
-
-    def sources_in(self, first, end):
-        """The file and line of each instruction of four bytes from one address on up to another, each row of the line table once; None
-        where there is no line. A size that a file tells may be that of all memory, and the rows are not more for it."""
-        place = max(0, bisect_right(self.line_starts, first) - 1)
-        for at in range(place, len(self.lines)):
-            start = max(self.line_starts[at], first)
-            start += (first - start) % 4
-            following = self.line_starts[at + 1] if at + 1 < len(self.lines) else end
-            if self.line_starts[at] >= end:
-                return
-            if start < min(following, end):
-                yield self.lines[at][1]
-
-    def caller(self, address):
-        """The file and line of the call that an instruction was inlined for, or None."""
-        if self.inlined is None:
-            self.inlined = sorted(self.read_inlined())
-        place = bisect_right(self.inlined, (address, 1 << 32)) - 1
-        _, last, source = self.inlined[place] if place >= 0 else (0, -1, None)
-        return source if address <= last else None
-
-    def line(self, address):
-        """The source line of an instruction, behind that of the call that it was inlined for, or None."""
-        source, caller = self.source(address), self.caller(address)
-        return "%s, in %s" % (caller, source) if caller and source else source
-
-    def address(self, text):
-        """The address that a name, a name+offset or hexadecimal digits say, or None. Of a name at more places, name@place is the first from
-        that place on."""
-        named, plus, offset = text.partition("+")
-        name, at, place = named.partition("@")
-        try:
-            if name in self.places:
-                return self.place_of(name, self.address(place) if at else None) + (int(offset, 16) if plus else 0)
-            return int(text, 16) & 0xFFFFFFFF
-        except ValueError:
-            return None
-
-    def place_of(self, name, first):
-        """Where a name is: the only place, or the first from an address on."""
-        places = sorted(self.places[name])
-        if first is not None:
-            places = [it for it in places if it >= first][:1]
-        if len(places) == 1:
-            return places[0]
-        if not places:
-            raise NameRefused("there is no %s from %08x on" % (name, first))
-        shown = " and ".join("%08x" % it for it in places)
-        raise NameRefused("%s is at %s; %s@PLACE is the first from a place on" % (name, shown, name))
-
-
-def symbols_of(path, data):
+def symbols_of(path: str, data: bytes | None) -> Symbols:
     """The symbols of an ELF file's bytes or of an nm's lines; `path` names them in a fault."""
     if data is None:
         return Symbols()
@@ -145,7 +41,7 @@ def symbols_of(path, data):
     return Symbols([Symbol(int(it[1], 16), 0, visible(it[2]), False) for it in matches if it])
 
 
-def decoded(data):
+def decoded(data: bytes) -> str:
     """Returns the text of a listing: UTF-8 if it is that, else ISO 8859-1."""
     try:
         return data.decode("utf-8")
@@ -153,7 +49,7 @@ def decoded(data):
         return data.decode("latin-1")
 
 
-def symbols_from(path, image):
+def symbols_from(path: str | None, image: Image) -> Symbols:
     """The symbols in the file that is named, or else in the image itself where it is an ELF file."""
     if path:
         found = symbols_of(path, read_file(path))
@@ -163,7 +59,7 @@ def symbols_from(path, image):
     return symbols_of(image.name, image.data if image.is_elf else None)
 
 
-def elf_symbols(path, data):
+def elf_symbols(path: str, data: bytes) -> Symbols:
     """The symbols and source lines of an ELF file."""
     try:
         from elftools.elf.elffile import ELFFile
@@ -179,17 +75,17 @@ def elf_symbols(path, data):
                    lambda: readable(path, "no inlined calls", lambda: list(inlined_calls(file))) or ())
 
 
-def readable(path, without, read):
+def readable(path: str, without: str, read: Callable[[], T]) -> T | None:
     """What `read` gives; where the file is not as it should be, that is told, and what there is then none of."""
     try:
         return read()
     except Exception as error:  # pyelftools has no common class for what it cannot read, and lets errors of Python through
-        told("%s: %s, for it is no file that pyelftools reads (%s)" % (path, without, visible(str(error)[:LONGEST_REASON])
-                                                                      or type(error).__name__))
+        reason = visible(str(error)[:LONGEST_REASON]) or type(error).__name__
+        told("%s: %s, for it is no file that pyelftools reads (%s)" % (path, without, reason))
         return None
 
 
-def checked(file, data):
+def checked(file: Any, data: bytes) -> Any:
     """Returns an ELF file whose table of sections is in the file, and whose compressed sections are not too large: pyelftools believes both."""
     size, count = file["e_shentsize"], file.num_sections()
     if count > MOST_SECTIONS or count and (size < LEAST_HEADER or file["e_shoff"] + count * size > len(data)):
@@ -203,7 +99,7 @@ def checked(file, data):
     return file
 
 
-def inflated_size(data):
+def inflated_size(data: bytes) -> int:
     """Returns how many bytes the zlib stream of a compressed section gives, which stands after its header; at most MOST_INFLATED + 1."""
     for header in (12, 24):  # of ELF; .zdebug has 12 bytes too
         try:
@@ -214,25 +110,25 @@ def inflated_size(data):
 
 
 @lru_cache(maxsize=None)
-def told(line):
+def told(line: str) -> None:
     """Tells a line, once."""
     tell(line)
 
 
-def knows_all_forms():
+def knows_all_forms() -> None:
     """pyelftools before 0.30 does not know the form in which clang keeps the MD5 of a source file."""
     from elftools.construct import Array
     from elftools.dwarf.structs import DWARFStructs
     create = DWARFStructs._create_dw_form
 
-    def create_more(structs):
+    def create_more(structs: Any) -> None:
         create(structs)
         structs.Dwarf_dw_form.setdefault("DW_FORM_data16", Array(16, structs.Dwarf_uint8("")))
 
     DWARFStructs._create_dw_form = create_more
 
 
-def named(file):
+def named(file: Any) -> Iterator[Symbol]:
     """The symbols of functions, objects and labels."""
     table = file.get_section_by_name(".symtab")
     sections = {number for number, section in enumerate(file.iter_sections()) if section["sh_flags"] & 2}
@@ -250,7 +146,7 @@ def named(file):
             yield Symbol(symbol["st_value"], 0, visible(symbol.name), False, 3)
 
 
-def source_lines(file):
+def source_lines(file: Any) -> Iterator[tuple[int, str | None]]:
     """The rows of all line tables: the address of each and its file and line, or None where a sequence ends."""
     if not file.has_dwarf_info():
         return
@@ -261,7 +157,7 @@ def source_lines(file):
                     for it in states)
 
 
-def line_programs(dwarf):
+def line_programs(dwarf: Any) -> Iterator[tuple[Any, Any]]:
     """Each unit with its line table; a table that more units share comes once."""
     seen = set()
     for unit in dwarf.iter_CUs():
@@ -271,14 +167,14 @@ def line_programs(dwarf):
             yield unit, program
 
 
-def file_names(program):
+def file_names(program: Any) -> dict[int, str]:
     """The names of a line table's files by their numbers: from 1 on up to DWARF 4, from 0 on in DWARF 5."""
     first = 0 if program["version"] >= 5 else 1
     return {first + place: name_of(entry.name.split(b"/")[-1])
             for place, entry in enumerate(program["file_entry"])}
 
 
-def inlined_calls(file):
+def inlined_calls(file: Any) -> Iterator[Inlined]:
     """For each call that the compiler has inlined and that is in no other, the first and the last address of what stands for it, and the
     file and line of the call."""
     if not file.has_dwarf_info():
@@ -294,7 +190,7 @@ def inlined_calls(file):
                 yield from ((first, end - 1, source) for first, end in ranges_of(dwarf, unit, entry) if first < end)
 
 
-def outermost(dwarf, unit):
+def outermost(dwarf: Any, unit: Any) -> Iterator[Any]:
     """The inlined calls of a unit that are in functions and their blocks alone, and in no other call."""
     inside = [True]  # for each entry that is open, whether it is the unit, or a function or block in such
     for entry in entries_of(dwarf, unit):
@@ -310,7 +206,7 @@ def outermost(dwarf, unit):
             inside.append(is_inside and (len(inside) == 1 or entry.tag in ("DW_TAG_subprogram", "DW_TAG_lexical_block")))
 
 
-def entries_of(dwarf, unit):
+def entries_of(dwarf: Any, unit: Any) -> Iterator[Any]:
     """The entries of a unit in the order of the file, each right after the one before. pyelftools goes by the siblings that entries name,
     and does not end where one names itself."""
     from elftools.dwarf.die import DIE
@@ -322,7 +218,7 @@ def entries_of(dwarf, unit):
         yield entry
 
 
-def ranges_of(dwarf, unit, entry):
+def ranges_of(dwarf: Any, unit: Any, entry: Any) -> Iterator[tuple[int, int]]:
     """The ranges of addresses of an entry, each up to, and not with, its end."""
     told = entry.attributes
     if "DW_AT_low_pc" in told and "DW_AT_high_pc" in told:

@@ -1,5 +1,8 @@
 """What a subcommand found, as its exit status and as a JUnit report: a test case for each question, with the finding if there is one."""
+from __future__ import annotations
+
 from dataclasses import dataclass
+from typing import Any
 
 from rvlook.errors import FOUND, REFUSED, UNFINISHED, Unfinished, package_missing, tell
 
@@ -14,28 +17,30 @@ class Case:
 class Findings:
     """The cases of one subcommand; the lines of the script that the bench refused; and why it could not finish, if it could not."""
 
-    def __init__(self):
-        self.cases, self.refused, self.cut = [], [], ""
+    def __init__(self) -> None:
+        self.cases: list[Case] = []
+        self.refused: list[str] = []
+        self.cut = ""
 
-    def add(self, name, finding=""):
+    def add(self, name: str, finding: str = "") -> None:
         """Adds a case."""
         self.cases.append(Case(name, finding))
 
-    def refuse(self, line):
+    def refuse(self, line: str) -> None:
         """Notes a line of the script that the bench refused."""
         tell(line)
         self.refused.append(line)
 
-    def cut_short(self, line):
+    def cut_short(self, line: str) -> None:
         """Notes that not everything was examined; the line says why."""
         tell(line)
         self.cut = line
 
     @property
-    def has_found(self):
+    def has_found(self) -> bool:
         return any(it.finding for it in self.cases)
 
-    def status(self, is_report):
+    def status(self, is_report: bool) -> int:
         """Returns the exit status. A report (--exit-zero) does not count what was found."""
         if self.refused:
             return REFUSED
@@ -44,7 +49,7 @@ class Findings:
         return UNFINISHED if self.cut else 0
 
 
-def check_junit(path):
+def check_junit(path: str | None) -> None:
     """Checks that a JUnit report can be written, before the work is done."""
     if path is not None:
         try:
@@ -53,13 +58,13 @@ def check_junit(path):
             raise Unfinished(package_missing("junitparser", "python3-junitparser", "--junit cannot write its report")) from None
 
 
-def write_junit(path, name, findings, error=""):
+def write_junit(path: str, name: str, findings: Findings, error: str = "") -> None:
     """Writes one test suite. A finding is a failure; a refused line, why the work was cut short, and `error` are errors."""
     from junitparser import Error, Failure, JUnitXml, TestCase, TestSuite
     suite = TestSuite("rvlook " + name)
     for it in findings.cases:
         suite.add_testcase(case_of(TestCase(it.name, classname="rvlook." + name), Failure, it.finding))
-    for text in filter(None, dict.fromkeys((*findings.refused, findings.cut, error))):
+    for text in dict.fromkeys(it for it in (*findings.refused, findings.cut, error) if it):
         suite.add_testcase(case_of(TestCase("the run", classname="rvlook." + name), Error, text))
     report = JUnitXml()
     report.add_testsuite(suite)
@@ -70,7 +75,7 @@ def write_junit(path, name, findings, error=""):
         raise Unfinished("%s: %s" % (path, fault.strerror)) from None
 
 
-def case_of(case, kind, text):
+def case_of(case: Any, kind: Any, text: str) -> Any:
     """Returns the test case with its result, if it has one: the first line is the message."""
     if text:
         result = kind(text.split("\n")[0])

@@ -1,8 +1,26 @@
 """How things are written: lines for a person, objects for a program, and colours where a terminal has them."""
+from __future__ import annotations
+
 import json
 import os
 import sys
 from enum import Enum
+from typing import Any, Mapping, Optional, Protocol, Sequence, TYPE_CHECKING, TextIO, Union, overload
+
+if TYPE_CHECKING:
+    from rvlook.protocol.replies import Enclave
+    from rvlook.protocol.run import End, Run
+    from rvlook.protocol.symbols import Symbols
+
+
+Json = Union[None, bool, int, float, str, Sequence[Any], Mapping[str, Any]]  # the value of a member
+
+
+class Writer(Protocol):
+    """What takes the objects of a run."""
+
+    def object(self, __kind: str, **members: Json) -> None:
+        """Takes an object by its kind and its members."""
 
 
 class Style(Enum):
@@ -13,7 +31,7 @@ class Style(Enum):
     aside = "2"
 
 
-def has_colours(stream):
+def has_colours(stream: TextIO) -> bool:
     """Whether the stream is a terminal that takes them."""
     return stream.isatty() and os.environ.get("TERM", "dumb") != "dumb" and "NO_COLOR" not in os.environ
 
@@ -21,14 +39,14 @@ def has_colours(stream):
 class Printer:
     """Writes lines and objects to standard output."""
 
-    def __init__(self, as_json=False, stream=None):
+    def __init__(self, as_json: bool = False, stream: TextIO | None = None) -> None:
         self.as_json, self.stream = as_json, stream or sys.stdout
         self.colours = not as_json and has_colours(self.stream)
 
-    def line(self, text=""):
+    def line(self, text: str = "") -> None:
         self.stream.write(text.rstrip() + "\n")
 
-    def document(self, text):
+    def document(self, text: str) -> None:
         """Writes a text in UTF-8, whatever the locale has."""
         stream = getattr(self.stream, "buffer", None)
         if stream:
@@ -38,43 +56,52 @@ class Printer:
         else:
             self.stream.write(text + "\n")
 
-    def object(self, kind_of_object, **members):
-        self.stream.write(json.dumps({"object": kind_of_object, **members}, separators=(",", ":")) + "\n")
+    def object(self, __kind: str, **members: Json) -> None:
+        """Writes an object of a kind, in a line."""
+        self.stream.write(json.dumps({"object": __kind, **members}, separators=(",", ":")) + "\n")
 
-    def styled(self, text, style):
+    def styled(self, text: str, style: Style) -> str:
         return "\033[%sm%s\033[0m" % (style.value, text) if self.colours else text
 
 
-def hex8(number):
+@overload
+def hex8(number: int) -> str: ...
+
+
+@overload
+def hex8(number: Optional[int]) -> Optional[str]: ...
+
+
+def hex8(number: int | None) -> str | None:
     """A number as the replies write it, None as it is."""
     return None if number is None else "%08x" % number
 
 
-def end_object(printer, end):
+def end_object(printer: Writer, end: End) -> None:
     printer.object("end", steps=end.steps, why=end.why, pc=end.pc, mode=end.mode, world=end.world)
 
 
-def end_text(printer, end, symbols):
+def end_text(printer: Printer, end: End, symbols: Symbols) -> None:
     """The last line of a run."""
     why = "stays at" if end.why == "stays" else "has come to"
     count = "1 step" if end.steps == 1 else "%d steps" % end.steps
     printer.line("%s: %s %s %s in %s" % (count, end.world, why, place_text(end.pc, symbols), end.mode))
 
 
-def place_text(pc, symbols):
+def place_text(pc: str, symbols: Symbols) -> str:
     """An address, with its symbol and source line where there are such."""
     number = int(pc, 16)
     return "  ".join(it for it in (pc, symbols.name(number), symbols.line(number)) if it)
 
 
-def run_object(printer, run, symbols):
+def run_object(printer: Writer, run: Run, symbols: Symbols) -> None:
     """The first line of an output."""
     setup = run.setup
     printer.object("run", image=setup.image.name, monitor=setup.monitor, harts=setup.harts, ram=setup.ram, pc=run.pc, mode=run.mode,
                    world=run.world, symbols=bool(symbols))
 
 
-def enclave_object(enclave):
+def enclave_object(enclave: Enclave) -> dict[str, Json]:
     """A line of `enclaves` as an object."""
     return {"slot": enclave.slot, "state": enclave.state, "base": hex8(enclave.base), "size": enclave.size,
             "window": hex8(enclave.window), "window_size": enclave.window_size, "entry": hex8(enclave.entry),

@@ -1,6 +1,9 @@
 """A line on a terminal that tells how far long work is; nothing is written where standard error is no terminal."""
+from __future__ import annotations
+
 import sys
 import time
+from typing import TextIO
 
 EVERY = 0.2  # seconds
 
@@ -8,17 +11,17 @@ EVERY = 0.2  # seconds
 class Progress:
     """The line; it is written anew at most five times a second, and taken away at the end."""
 
-    def __init__(self, stream=None):
+    def __init__(self, stream: TextIO | None = None) -> None:
         self.stream = stream or sys.stderr
         self.is_shown, self.last, self.width = self.stream.isatty(), time.monotonic(), 0
 
-    def __enter__(self):
+    def __enter__(self) -> Progress:
         return self
 
-    def __exit__(self, *_):
+    def __exit__(self, *_: object) -> None:
         self.clear()
 
-    def tell(self, text, *values):
+    def tell(self, text: str, *values: object) -> None:
         """Shows a line, of a form and its values."""
         if not self.is_shown or time.monotonic() - self.last < EVERY:
             return
@@ -27,13 +30,13 @@ class Progress:
         self.stream.flush()
         self.width = len(told)
 
-    def bar(self, done, of, found):
+    def bar(self, done: int, of: int, found: str) -> None:
         """Shows how much of a known amount is done, and what was found."""
         if self.is_shown and of:
             filled = 30 * done // of
             self.tell("[%s%s] %d of %d  %s", "#" * filled, "." * (30 - filled), done, of, found)
 
-    def clear(self):
+    def clear(self) -> None:
         if self.width:
             self.stream.write("\r" + " " * self.width + "\r")
             self.stream.flush()

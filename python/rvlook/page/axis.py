@@ -1,12 +1,19 @@
 """The page's axis of memory: RAM is cut where a row of the map ends, and where what is touched begins and ends. What nobody touched is
 shut."""
-from rvlook.page.data import GRANULE
+from __future__ import annotations
 
-RAM_BASE = 0x80000000
+from typing import Any, Iterator, Sequence, TYPE_CHECKING
+
+from rvlook.page.data import GRANULE
+from rvlook.protocol.memory_map import RAM_BASE
+
+if TYPE_CHECKING:
+    from rvlook.page.data import Collector
+
 JOINED = 1024  # touched places nearer than that are one segment
 
 
-def segments_of(found):
+def segments_of(found: Collector) -> list[dict[str, Any]]:
     """The segments of RAM from below, each with its first and last address, whether something is touched in it, and the names in it."""
     borders = sorted(int(first, 16) for first in found.borders)
     ends = borders[1:] + [RAM_BASE + found.run["ram"]]
@@ -22,12 +29,12 @@ def segments_of(found):
     return segments + ([outside(ends[-1], 1 << 32)] if above else [])
 
 
-def outside(first, end):
+def outside(first: int, end: int) -> dict[str, Any]:
     """Where there is no memory, and something was tried."""
     return {"first": "%08x" % first, "last": "%08x" % (end - 1), "range": "%08x" % first, "open": True, "outside": True, "labels": []}
 
 
-def cut(first, end, touched):
+def cut(first: int, end: int, touched: Sequence[int]) -> Iterator[tuple[int, int, bool]]:
     """The parts of a range: from, to, and whether it is touched."""
     place, at = first, 0
     while at < len(touched):

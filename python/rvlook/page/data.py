@@ -1,6 +1,8 @@
 """The objects of a run, packed for the page: what comes again and again is a number in a table, and numbers are columns of bytes. All
 of it is compressed by zlib, and stands as digits of base 64: the length of an object in JSON, in four bytes, the lowest first; the object;
 and the columns, at the places that it tells."""
+from __future__ import annotations
+
 import base64
 import json
 import os
@@ -9,8 +11,12 @@ import struct
 import sys
 import zlib
 from array import array
+from typing import Any, Hashable, Mapping, TYPE_CHECKING
 
 from rvlook.protocol.names import STATUSES
+
+if TYPE_CHECKING:
+    from rvlook.output.printer import Json
 
 GRANULE = 16  # bytes that are touched are kept by so many, which bounds the memory for them
 KINDS = {"r": 0, "w": 1}
@@ -25,13 +31,13 @@ BRANCH = re.compile(r"b|jal ")
 class Table:
     """Values with a number each, in the order in which they came."""
 
-    def __init__(self):
-        self.numbers = {}
+    def __init__(self) -> None:
+        self.numbers: dict[Any, int] = {}
 
-    def number(self, value):
+    def number(self, value: Hashable) -> int:
         return self.numbers.setdefault(value, len(self.numbers))
 
-    def rows(self, *names):
+    def rows(self, *names: str) -> list[dict[str, Any]]:
         """The values, each as an object with these members."""
         return [dict(zip(names, value)) for value in self.numbers]
 
@@ -39,10 +45,10 @@ class Table:
 class Columns:
     """Arrays of numbers as bytes behind one another, each from a multiple of four on."""
 
-    def __init__(self):
+    def __init__(self) -> None:
         self.bytes = bytearray()
 
-    def add(self, numbers):
+    def add(self, numbers: array[int]) -> dict[str, int]:
         """An array, in numbers of as few bytes as hold the largest, the lowest byte first: where it stands."""
         largest = max(numbers, default=0)
         narrow = array(next(kind for kind in KINDS_OF_ARRAYS if largest < 256 ** array(kind).itemsize), numbers)
@@ -53,20 +59,20 @@ class Columns:
         return place
 
 
-def compressed(data, columns):
+def compressed(data: Mapping[str, Any], columns: Columns) -> str:
     """The data of a page and its columns, as text."""
     told = json.dumps(data, separators=(",", ":")).encode("utf-8")
     told += b" " * (-len(told) % 4)
     return base64.b64encode(zlib.compress(struct.pack("<I", len(told)) + told + bytes(columns.bytes), LEVEL)).decode("ascii")
 
 
-def refusal(step):
+def refusal(step: Mapping[str, Any]) -> str | None:
     """The name of the status by which the monitor has refused a call, or None: a0, where no other world goes on."""
     status = step["registers"].get("x10", next(iter(step["call"]["arguments"].values())))
     return STATUSES.get(int(status, 16)) if step["next"]["world"] == step["world"] else None
 
 
-def shown_text(step):
+def shown_text(step: Mapping[str, Any]) -> str | None:
     """The text of an instruction, with what a branch or jump goes to in place of how far that is."""
     text, target = step["abi"], step["target"]
     if not target or not BRANCH.match(text):
@@ -77,38 +83,44 @@ def shown_text(step):
 class Collector:
     """Takes objects as a printer does, and keeps what the page shows of them."""
 
-    def __init__(self):
-        self.run = self.end = None
+    def __init__(self) -> None:
+        self.run: dict[str, Any] = {}
+        self.end: dict[str, Any] = {}
         self.sites, self.places, self.traps, self.names = Table(), Table(), Table(), Table()
         self.site, self.place, self.trap = array("I"), array("B"), array("I")
         self.changes, self.registers, self.values = array("B"), array("B"), array("I")
         self.touch = {"step": array("I"), "address": array("I"), "width": array("B"), "kind": array("B"), "name": array("I"),
                       "value": array("I")}
-        self.calls, self.commands, self.moments = [], [], []
-        self.granules, self.labels = set(), {}
-        self.maps, self.borders = Table(), set()
+        self.calls: list[dict[str, Any]] = []
+        self.commands: list[dict[str, Any]] = []
+        self.moments: list[dict[str, Any]] = []
+        self.granules: set[int] = set()
+        self.labels: dict[str, int] = {}
+        self.maps = Table()
+        self.borders: set[str] = set()
         self.points = self.rows = 0
 
     @property
-    def title(self):
+    def title(self) -> str:
         """The image's name: that of its folder, where the file has a common one."""
         path = os.path.abspath(self.run["image"])
         name = os.path.basename(path)
         return os.path.basename(os.path.dirname(path)) if name in COMMON else os.path.splitext(name)[0] if name.endswith(".elf") else name
 
-    def object(self, name, **members):
-        getattr(self, "take_" + name)(members)
+    def object(self, __kind: str, **members: Json) -> None:
+        """Takes an object of a kind."""
+        getattr(self, "take_" + __kind)(members)
 
-    def take_run(self, it):
+    def take_run(self, it: dict[str, Any]) -> None:
         self.run = it
 
-    def take_end(self, it):
+    def take_end(self, it: dict[str, Any]) -> None:
         self.end = it
 
-    def take_command(self, it):
+    def take_command(self, it: dict[str, Any]) -> None:
         self.commands.append(it)
 
-    def take_moment(self, it):
+    def take_moment(self, it: dict[str, Any]) -> None:
         """The map of a moment is that of others mostly, and stands once."""
         self.rows += len(it["rows"])
         self.borders.update(row["first"] for row in it["rows"])
@@ -116,7 +128,7 @@ class Collector:
         rest = {name: value for name, value in it.items() if name not in MAP}
         self.moments.append({**rest, "map": self.maps.number(shown)})
 
-    def take_step(self, it):
+    def take_step(self, it: dict[str, Any]) -> None:
         self.site.append(self.sites.number((it["pc"], it["word"], it["abi"], it["symbol"], it["function"], it["source"], it["caller"],
                                             shown_text(it))))
         self.place.append(self.places.number((it["hart"], it["world"], it["mode"])))
@@ -130,7 +142,7 @@ class Collector:
             self.calls.append({"step": it["step"], **it["call"], "to": it["next"]["world"], "refused": refusal(it)})
         self.take_points(it)
 
-    def take_points(self, it):
+    def take_points(self, it: dict[str, Any]) -> None:
         """What is drawn of a step: the instruction that was fetched, where no interrupt came, and what it loaded or stored."""
         if not (it["trap"] and it["trap"]["cause"].startswith("8")):
             self.add_point(int(it["pc"], 16), 4, it["symbol"])
@@ -143,19 +155,19 @@ class Collector:
             for column, value in zip(self.touch.values(), values):
                 column.append(value)
 
-    def add_point(self, address, width, symbol):
+    def add_point(self, address: int, width: int, symbol: str | None) -> None:
         self.points += 1
         self.granules.update((address // GRANULE, (address + width - 1) // GRANULE))
         name = symbol and symbol.split("+")[0]
         if name and address < self.labels.get(name, 1 << 32):
             self.labels[name] = address
 
-    def source_names(self):
+    def source_names(self) -> set[str]:
         """The files of which a line was executed."""
         sources = [source for site in self.sites.numbers for source in site[5:7] if source]
         return {source.rsplit(":", 1)[0] for source in sources}
 
-    def data(self, columns):
+    def data(self, columns: Columns) -> dict[str, Any]:
         """All of it, as one object, and the columns behind it."""
         return {
             "title": self.title, "run": self.run, "end": self.end, "steps": len(self.site), "points": self.points,

@@ -1,8 +1,10 @@
 """The word page: a run as one page for a browser, which needs nothing else. It is made of the objects that --json writes."""
-import os
+from __future__ import annotations
 
-from rvlook.cli.opening import opened
-from rvlook.errors import Fault, Unfinished, package_missing
+import os
+from typing import Any, Sequence, TYPE_CHECKING
+
+from rvlook.errors import Unfinished, package_missing
 from rvlook.access.map_text import moment_object
 from rvlook.access.map import moments
 from rvlook.page.axis import segments_of
@@ -13,34 +15,35 @@ from rvlook.output.printer import end_object, run_object
 from rvlook.trace.tracer import Step, Tracer
 from rvlook.trace.text import Objects
 
+if TYPE_CHECKING:
+    from rvlook.output.printer import Printer
+    from rvlook.protocol.run import Run
+    from rvlook.protocol.symbols import Symbols
+
 FOLDER = os.path.dirname(os.path.abspath(__file__))
 SCRIPTS = ("data.js", "chart.js", "marks.js", "panel.js", "find.js", "keys.js")
 
 
-def main(arguments):
-    """Writes the page of a run to standard output."""
-    if arguments.json:
-        raise Fault("page has no --json: it shows what map --json and trace --json write")
-    environment = templates()
-    run, symbols, printer = opened(arguments)
-    found = collected(run, symbols)
-    paths = [it for it in (arguments.symbols, arguments.image) if it] if arguments.has_sources else []
-    sources = source_texts(paths, found.source_names(), roots_of(arguments.sources))
-    columns = Columns()
-    data = {**found.data(columns), "segments": segments_of(found), "sources": sources}
-    printer.document(environment.get_template("page.html").render(title=found.title, data=compressed(data, columns), scripts=SCRIPTS))
-
-
-def templates():
-    """Where the page's parts stand."""
+def page_template() -> Any:
+    """Returns the template of the page; raises Unfinished if jinja2 is missing."""
     try:
         from jinja2 import Environment, FileSystemLoader, StrictUndefined
     except ImportError:
         raise Unfinished(package_missing("jinja2", "python3-jinja2", "the page cannot be made")) from None
-    return Environment(loader=FileSystemLoader(FOLDER), autoescape=True, undefined=StrictUndefined, keep_trailing_newline=False)
+    environment = Environment(loader=FileSystemLoader(FOLDER), autoescape=True, undefined=StrictUndefined, keep_trailing_newline=False)
+    return environment.get_template("page.html")
 
 
-def collected(run, symbols):
+def show_page(run: Run, symbols: Symbols, printer: Printer, template: Any, paths: Sequence[str], folders: Sequence[str]) -> None:
+    """Writes the page of a run. `paths` are the ELF files whose source files it has, from below their own folders and `folders`."""
+    found = collected(run, symbols)
+    sources = source_texts(paths, found.source_names(), roots_of(folders))
+    columns = Columns()
+    data = {**found.data(columns), "segments": segments_of(found), "sources": sources}
+    printer.document(template.render(title=found.title, data=compressed(data, columns), scripts=SCRIPTS))
+
+
+def collected(run: Run, symbols: Symbols) -> Collector:
     """All objects of a run's map and trace."""
     found = Collector()
     run_object(found, run, symbols)
@@ -52,9 +55,9 @@ def collected(run, symbols):
             writer.end(item)
         else:
             writer.command(item)
-    for item in moments(run):
-        if isinstance(item, End):
-            end_object(found, item)
+    for moment in moments(run):
+        if isinstance(moment, End):
+            end_object(found, moment)
         else:
-            moment_object(found, item, symbols)
+            moment_object(found, moment, symbols)
     return found

@@ -1,42 +1,24 @@
 """The word explain: an input of the bench, read beside its faults. The bench is given the input as it stands; what its faults mean, and
 what to write in their place, is derived."""
+from __future__ import annotations
+
 import re
 import subprocess
 import sys
 from dataclasses import dataclass
 from difflib import get_close_matches
-from typing import Optional
+from typing import Iterable, Optional, Sequence, TYPE_CHECKING
 
 from rvlook.protocol.bench import COUNTS, program_path
 from rvlook.protocol.bench_line import LONGEST_LINE, has_reply, is_separator, lines_of, words_of
-from rvlook.protocol.commands import COMMANDS, is_form, rewritten
+from rvlook.protocol.commands import COMMANDS
+from rvlook.protocol.messages import input_error, line_error
 from rvlook.errors import Unfinished
 from rvlook.image.files import bounded, read_file
 
-IMAGE_FAULTS = {
-    1: ("it begins as an ELF file, or is asked to be one, and has fewer than 52 bytes", "all of the file; or --kind raw"),
-    2: ("it does not begin as an ELF file", "--kind raw, or no --kind"),
-    3: ("it is for 64 bits, or the highest byte comes first", "a build with -march=rv32im -mabi=ilp32"),
-    4: ("it is an object file, or position-independent", "a link without -c, -r, -shared and -pie"),
-    5: ("it is for another machine than RISC-V", "a build for the target riscv32"),
-    6: ("its table of program headers is cut, damaged, or has more than 64", "a link with PHDRS in the linker script"),
-    7: ("a segment has bytes past the end of the file", "all of the file"),
-    8: ("a segment has more bytes in the file than in memory", "the file anew, for it is damaged"),
-    9: ("bytes of it are outside RAM, or under the monitor below 80010000",
-        "a link for 80000000 on, under the monitor for 80010000 on; or a larger --ram"),
-    10: ("two of its segments share a byte", "load addresses that are apart"),
-    11: ("its entry is no multiple of 4, or is not in RAM, or is in the monitor's range", "ENTRY(_start), where the image may be")}
-WORDS_OF_OTHERS = {
-    "x": "mem", "print": "reg", "p": "reg", "info": "regs", "registers": "regs", "c": "run", "continue": "run", "s": "step",
-    "si": "step", "stepi": "step", "n": "step", "next": "step", "b": "break", "breakpoint": "break", "delete": "clear", "set": "setreg",
-    "write": "poke", "disas": "dis", "disassemble": "dis", "memory": "mem", "watchpoint": "watch", "read": "mem"}
-TABLE = {"too long": ("the image has more than 33554432 bytes", "a smaller image"),
-         "hex": ("a line of its text is faulty; rvlook explain tells which", None), "memory": ("no memory was found", "fewer bytes"), "read": ("the input failed", "the input again"),
-         "ram 1": ("a RAM has from 65536 to 16777216 bytes, a multiple of 65536", "--ram 1048576"),
-         "ram 2": ("no memory was found for the RAM", "a smaller --ram")}
-
-
-WHOLE_FAULTS = {"rvbench: " + it for it in [*TABLE, *("image %d" % number for number in IMAGE_FAULTS)]}
+if TYPE_CHECKING:
+    from rvlook.output.findings import Findings
+    from rvlook.output.printer import Printer
 
 
 @dataclass(frozen=True)
@@ -49,7 +31,7 @@ class Explained:
     write: Optional[str]
 
 
-def replies_to(words, data):
+def replies_to(words: Sequence[str], data: bytes) -> list[str]:
     """What the bench writes for an input."""
     try:
         done = subprocess.run([program_path(), *words], input=data, capture_output=True, check=False)
@@ -58,7 +40,7 @@ def replies_to(words, data):
     return done.stdout.decode("latin-1").splitlines()
 
 
-def explained(words, data):
+def explained(words: Sequence[str], data: bytes) -> list[Explained]:
     """All faults of an input, in their order."""
     replies = replies_to(words, data)
     lines = lines_of(data.decode("latin-1"))
@@ -75,17 +57,12 @@ def explained(words, data):
     return script_faults(list(enumerate(lines[cut + 1:], cut + 2)), replies, words[:1] == ["twin"])
 
 
-def whole_fault(reply):
+def whole_fault(reply: str) -> Explained:
     """A fault of the image as a whole."""
-    what = reply[len("rvbench: "):]
-    if what.startswith("image "):
-        meant, write = IMAGE_FAULTS[int(what.split()[1])]
-    else:
-        meant, write = TABLE.get(what, ("the bench has ended", None))
-    return Explained(0, "", reply, meant, write)
+    return Explained(0, "", reply, *input_error(reply))
 
 
-def image_faults(lines):
+def image_faults(lines: Sequence[str]) -> list[Explained]:
     """The first line of the image's text that is no text of an image."""
     for number, line in enumerate(lines, 1):
         if is_separator(line):
@@ -96,7 +73,7 @@ def image_faults(lines):
     return [Explained(0, "", "rvbench: hex", "a line of the image is faulty", None)]
 
 
-def image_line_fault(line):
+def image_line_fault(line: str) -> tuple[str, str | None] | None:
     """What is wrong with a line of an image, and what to write; None where it is right."""
     if re.search(r"[^\t\x20-\x7e]", line):
         return "these are bytes, and not their digits", "the file's digits: od -An -v -tx1 -w60 FILE | tr -d ' '; rvlook takes it as it is"
@@ -108,9 +85,9 @@ def image_line_fault(line):
         return "this is of the script, and the image has not ended", "-- in a line before it"
     if "0x" in line.lower():
         return "digits have no 0x before them", re.sub(r"0[xX]|[, ]", "", line)
-    if re.search(r"[^0-9a-fA-F]", joined):
-        other = re.search(r"[^0-9a-fA-F]", joined)[0]
-        return "%s is no hexadecimal digit" % other, None
+    other = re.search(r"[^0-9a-fA-F]", joined)
+    if other:
+        return "%s is no hexadecimal digit" % other[0], None
     if len(words) > 1:
         return "no spaces stand between the digits of a line", joined
     if len(joined) % 2:
@@ -118,12 +95,12 @@ def image_line_fault(line):
     return None
 
 
-def shown(text):
+def shown(text: str) -> str:
     """A line of the input, as it may be shown."""
     return re.sub(r"[^\x20-\x7e]", "?", text[:LONGEST_LINE])
 
 
-def script_faults(lines, replies, is_twin):
+def script_faults(lines: Iterable[tuple[int, str]], replies: Sequence[str], is_twin: bool) -> list[Explained]:
     """The lines of a script that are answered by a fault."""
     found, place = [], 0
     for number, line in lines:
@@ -135,20 +112,20 @@ def script_faults(lines, replies, is_twin):
             continue
         if reply.startswith("error "):
             place += 1
-            found.append(Explained(number, shown(line), reply, *line_fault(reply, words)))
+            found.append(Explained(number, shown(line), reply, *line_error(reply, words)))
         else:
             place += marked_count(replies[place:]) or count_of(words, replies[place:])
     return found
 
 
-def marked_count(replies):
+def marked_count(replies: Sequence[str]) -> int:
     """How many lines of the replies are those of two benches to one command."""
     first = next((n for n, it in enumerate(replies) if not it.startswith("a: ")), len(replies))
     second = next((n for n, it in enumerate(replies[first:]) if not it.startswith("b: ")), len(replies) - first)
     return first + second
 
 
-def count_of(words, replies):
+def count_of(words: Sequence[str], replies: Sequence[str]) -> int:
     """How many lines of the replies are a command's."""
     if words[0] == "enclaves":
         return next((n for n, it in enumerate(replies) if not it.startswith("enclave ")), len(replies))
@@ -157,60 +134,7 @@ def count_of(words, replies):
     return COUNTS.get(words[0], 1)
 
 
-def line_fault(reply, words):
-    """What is meant by a fault of a line, and what to write in its place."""
-    if reply == "error command":
-        return command_fault(words)
-    if reply == "error operand":
-        return operand_fault(words)
-    told = {"error line": ("a line has at most 120 bytes, tabs and the bytes 20 to 7e alone", "a shorter line, or plain characters"),
-            "error full": ("32 addresses are set already, the most there may be", "%s of one before it" % (
-                "unwatch" if words[:1] == ["watch"] else "clear")),
-            "error csr": ("there is no such control and status register", None),
-            "error outside": ("a byte of it is outside RAM", "an address from 80000000 on, or a larger --ram"),
-            "error hart": ("the bench has no such hart", "--harts 2, with --monitor"),
-            "error blind": ("the bytes are in the enclave whose secret is compared", None)}
-    return told.get(reply, ("the bench refuses it", None))
-
-
-def command_fault(words):
-    """A first word that is no command."""
-    word = words[0]
-    if word == "--":
-        return "a second -- is a line for `rvbench twin` alone", None
-    if word.startswith("--"):
-        return "this is a word of the command line", "./rvbench run %s" % " ".join(words)
-    near = [word.lower()] if word.lower() in COMMANDS else get_close_matches(word.lower(), COMMANDS, 1, 0.7)
-    meant = WORDS_OF_OTHERS.get(word.lower()) or (near[0] if near else None)
-    if meant is None:
-        return "%s is no command; the commands are %s" % (word, " ".join(COMMANDS)), None
-    return "%s is no command; %s is" % (word, meant), "%s %s" % (meant, COMMANDS[meant].letters)
-
-
-def operand_fault(words):
-    """The operands of a command that are not as it has them."""
-    name, operands = words[0], words[1:]
-    command = COMMANDS[name]
-    comment = next((place for place, word in enumerate(operands) if word.startswith("#")), None)
-    if comment is not None:
-        return "a comment stands in a line of its own", " ".join(words[:comment + 1])
-    if len(operands) != len(command.forms):
-        return count_text(name, len(command.forms), len(operands)), (name + " " + command.letters).strip()
-    for place, (word, form) in enumerate(zip(operands, command.forms)):
-        if not is_form(word, form):
-            better = rewritten(word, form)
-            fixed = [*operands[:place], better, *operands[place + 1:]] if better else None
-            return "%s is not %s" % (word, form.value), " ".join([name, *fixed]) if fixed else None
-    return "the operands are not those of %s" % name, name + " " + command.letters
-
-
-def count_text(name, wanted, given):
-    """What is told of a number of operands that a command does not take."""
-    operands = {0: "no operands", 1: "1 operand"}.get(wanted, "%d operands" % wanted)
-    return "%s takes %s, %d given" % (name, operands, given)
-
-
-def command_line_faults(words):
+def command_line_faults(words: Sequence[str]) -> list[Explained]:
     """The first word that the bench does not take: the words before it are taken, with a value behind an option that has one."""
     for count in range(1, len(words) + 1):
         tried = [words[:count], [*words[:count], "1"], [*words[:count], "raw"], [*words[:count], "65536"],
@@ -220,7 +144,7 @@ def command_line_faults(words):
     return [Explained(0, " ".join(words), "rvbench: command line", "a value or --monitor is missing", "./rvbench run --help")]
 
 
-def word_fault(words, place):
+def word_fault(words: Sequence[str], place: int) -> tuple[str, str]:
     """Which word it is, and what might be meant."""
     known = ("run", "twin", "asm", "dis", "help", "--kind", "--monitor", "--ram", "--harts", "--slot", "--help", "auto", "raw", "elf")
     near = get_close_matches(words[place].lower(), known, 1, 0.6)
@@ -228,7 +152,7 @@ def word_fault(words, place):
         "./rvbench run --help"
 
 
-def show_explain(path, words, printer, findings):
+def show_explain(path: str, words: Sequence[str], printer: Printer, findings: Findings) -> None:
     """The faults of an input, and what to write; each is a finding."""
     data = bounded(sys.stdin.buffer, "standard input") if path == "-" else read_file(path)
     found = explained(words or ["run"], data)

@@ -1,17 +1,25 @@
 """The prompt: lines from a terminal, with the history and the completion of Python's readline, or as they come."""
+from __future__ import annotations
+
 import sys
+from typing import Iterator, TYPE_CHECKING
 
 from rvlook.protocol.bench_line import lines_of
-from rvlook.image.escapes import visible_line
+from rvlook.output.escapes import visible_line
 from rvlook.prompt.session import Held, Session, completions
 from rvlook.output.printer import Style
 from rvlook.protocol.timeline import Timeline
+
+if TYPE_CHECKING:
+    from rvlook.output.printer import Printer
+    from rvlook.protocol.run import Run
+    from rvlook.protocol.symbols import Symbols
 
 
 LONGEST_INPUT = 1 << 16  # characters of a line; a longer one is taken in parts
 
 
-def plain_lines(session):
+def plain_lines(session: Session) -> Iterator[str]:
     """Lines as they come, each shown behind its prompt."""
     while True:
         sys.stdout.write(session.prompt())
@@ -24,14 +32,14 @@ def plain_lines(session):
         yield line
 
 
-def complete_by(session):
+def complete_by(session: Session) -> None:
     """Has a tab complete the word before the cursor."""
     try:
         import readline
     except ImportError:
         return  # a Python that was built without it
 
-    def complete(text, number):
+    def complete(text: str, number: int) -> str | None:
         words = (readline.get_line_buffer()[:readline.get_begidx()] + "|").split()
         found = [it + " " for it in completions(session, words) if it.startswith(text)]
         return found[number] if number < len(found) else None
@@ -41,7 +49,7 @@ def complete_by(session):
     readline.parse_and_bind("tab: complete")
 
 
-def terminal_lines(session):
+def terminal_lines(session: Session) -> Iterator[str]:
     """Lines from a terminal."""
     complete_by(session)
     while True:
@@ -54,13 +62,13 @@ def terminal_lines(session):
             return
 
 
-def bytes_text(line):
+def bytes_text(line: str) -> str:
     """Returns a line of standard input as the text of ISO 8859-1 that has its bytes, without the line feed."""
     data = line.encode(sys.stdin.encoding or "utf-8", "surrogateescape")
     return next(iter(lines_of(data.decode("latin-1"))), "")
 
 
-def done(session, line):
+def done(session: Session, line: str) -> bool:
     """Does a line; where Ctrl-C stops it, the bench is brought back to where it was before."""
     position = session.timeline.position
     try:
@@ -71,7 +79,7 @@ def done(session, line):
         return True
 
 
-def show_prompt(run, symbols, printer):
+def show_prompt(run: Run, symbols: Symbols, printer: Printer) -> None:
     """Reads lines and does them, up to the end."""
     held = Held(Timeline.of_script(run.setup))
     session = Session(held, run, symbols, printer)

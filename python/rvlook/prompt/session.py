@@ -1,20 +1,29 @@
 """What the prompt does with a line: the bench's commands, in which symbols and ABI names may stand, and a few of its own, for what a
 debugger has not."""
+from __future__ import annotations
+
 import inspect
+from typing import Protocol, Sequence, TYPE_CHECKING
 
 from rvlook.protocol import names
 from rvlook.protocol.bench_line import has_reply, is_malformed, words_of
 from rvlook.protocol.commands import COMMANDS, Form, is_form
-from rvlook.image.escapes import visible
-from rvlook.prompt.explain import line_fault
+from rvlook.output.escapes import visible
+from rvlook.protocol.messages import line_error
 from rvlook.errors import NameRefused
 from rvlook.protocol.lines import resolved
 from rvlook.access.map import Event, Finder
 from rvlook.access.map_text import moment_text
 from rvlook.protocol.nearest import nearest
-from rvlook.protocol.replies import ran_of
+from rvlook.protocol.replies import Place, ran_of
 from rvlook.protocol.run import ALIKE, MOST_STEPS, alike_at_end
 from rvlook.output.printer import Style, place_text
+
+if TYPE_CHECKING:
+    from rvlook.output.printer import Printer
+    from rvlook.protocol.run import Run
+    from rvlook.protocol.symbols import Symbols
+    from rvlook.protocol.timeline import Timeline
 
 CHUNK = 2048  # steps that are looked through at once
 LONGEST_COUNT = 18  # digits of the operand of `back`
@@ -29,13 +38,21 @@ OWN = {
     "quit": "quit: leaves; so does the end of the input"}
 
 
+class Keeper(Protocol):
+    """What has the timeline of a session."""
+    timeline: Timeline
+
+    def go(self, position: int) -> None:
+        """Goes back to a step."""
+
+
 class Held:
     """A timeline, in whose place another one at an earlier step may come; what had been done behind that is forgotten."""
 
-    def __init__(self, timeline):
+    def __init__(self, timeline: Timeline) -> None:
         self.timeline = timeline
 
-    def go(self, position):
+    def go(self, position: int) -> None:
         old, self.timeline = self.timeline, self.timeline.again(position)
         self.timeline.set_stops(old.stops)
         old.close()
@@ -44,29 +61,29 @@ class Held:
 class Session:
     """A bench under the prompt; `held` has its timeline."""
 
-    def __init__(self, held, run, symbols, printer):
+    def __init__(self, held: Keeper, run: Run, symbols: Symbols, printer: Printer) -> None:
         self.held, self.setup, self.symbols, self.printer, self.finder = held, run.setup, symbols, printer, Finder(run)
 
     @property
-    def timeline(self):
+    def timeline(self) -> Timeline:
         return self.held.timeline
 
     @property
-    def hart(self):
+    def hart(self) -> int:
         return self.timeline.hart
 
     @property
-    def pc(self):
+    def pc(self) -> str:
         return self.timeline.ask("regs")[0][32][3:]
 
-    def prompt(self):
+    def prompt(self) -> str:
         """What stands before a line: the world, the mode, where it is."""
         hart = "hart %d " % self.hart if self.setup.harts > 1 else ""
         pc = self.pc
         name = self.symbols.name(int(pc, 16))
         return "%s%s %s %s> " % (hart, self.timeline.worlds[self.hart], self.timeline.modes[self.hart], name or pc)
 
-    def line(self, text):
+    def line(self, text: str) -> bool:
         """Does a line; False where the session ends."""
         try:
             return self.done(text)
@@ -74,7 +91,7 @@ class Session:
             self.tell(str(fault), Style.bad)
             return True
 
-    def done(self, text):
+    def done(self, text: str) -> bool:
         """The same; a name that stands for no one address is a fault."""
         words = words_of(text)
         if not has_reply(text):
@@ -87,7 +104,7 @@ class Session:
             self.command(resolved(text, self.symbols))
         return True
 
-    def own(self, name, operands):
+    def own(self, name: str, operands: Sequence[str]) -> None:
         """A command of the prompt; where the operands are not its own, it is told how it is written."""
         act = getattr(self, name)
         try:
@@ -97,11 +114,11 @@ class Session:
             return
         act(*operands)
 
-    def tell(self, text, style=None):
+    def tell(self, text: str, style: Style | None = None) -> None:
         text = visible(text)
         self.printer.line(self.printer.styled(text, style) if style else text)
 
-    def command(self, line):
+    def command(self, line: str) -> None:
         """A command of the bench, as it is."""
         replies = self.timeline.do(line)
         for reply in replies:
@@ -111,9 +128,9 @@ class Session:
         if replies and ran_of(replies[0]):
             self.where()
 
-    def refused(self, reply, words):
+    def refused(self, reply: str, words: Sequence[str]) -> None:
         """What is meant by a fault, and what to write."""
-        meant, write = line_fault(reply, words)
+        meant, write = line_error(reply, words)
         unknown = self.unknown_symbol(words) if reply == "error operand" else None
         if unknown:
             near = nearest(unknown, self.symbols.by_name)
@@ -124,14 +141,14 @@ class Session:
         if write:
             self.tell("  write: " + write)
 
-    def unknown_symbol(self, words):
+    def unknown_symbol(self, words: Sequence[str]) -> str | None:
         """The operand that stands for an address and is none, or None."""
         command = COMMANDS.get(words[0])
         pairs = zip(words[1:], command.forms) if command and len(words) - 1 == len(command.forms) else ()
         return next((word for word, form in pairs if form in PLACES and not is_form(word, form)
                      and self.symbols.address(word) is None), None)
 
-    def help(self):
+    def help(self) -> None:
         """The commands."""
         self.tell("of the bench, in which symbols and the names of registers may stand:")
         self.tell("  " + "  ".join(("%s %s" % (name, it.letters)).strip() for name, it in list(COMMANDS.items())[:10]))
@@ -140,21 +157,21 @@ class Session:
         for text in OWN.values():
             self.tell("  " + text)
 
-    def where(self):
+    def where(self) -> None:
         """The next instruction."""
         pc = self.pc
         text = self.timeline.ask("dis " + pc)[0][0].split(": ")[-1]
         word, _, text = text.partition(" ")
         self.tell("next  %s  %s" % (names.with_abi_names(text) if word != "error" else "(outside)", place_text(pc, self.symbols)))
 
-    def map(self):
+    def map(self) -> None:
         """Who may touch what now."""
         pc, now = self.pc, self.timeline
         self.finder.state = self.finder.state_of(now, now.worlds)
-        moment = self.finder.moment(now.position, now.hart, Event("now"), pc, now.modes[now.hart], now.worlds[now.hart])
+        moment = self.finder.moment(now.position, now.hart, Event("now"), Place(pc, now.modes[now.hart], now.worlds[now.hart]))
         moment_text(self.printer, moment, self.symbols)
 
-    def back(self, count="1"):
+    def back(self, count: str = "1") -> None:
         """Steps back, by playing what was done up to there."""
         if not (count.isascii() and count.isdigit() and len(count) <= LONGEST_COUNT):
             self.tell(OWN["back"])
@@ -162,7 +179,7 @@ class Session:
         self.held.go(max(0, self.timeline.position - int(count)))
         self.where()
 
-    def until(self, what):
+    def until(self, what: str) -> None:
         """Goes on up to a switch of world or a trap. A second bench, at the same step, goes ahead to find how far it is; where it does not
         come, nothing is done."""
         if what not in ("switch", "trap"):
@@ -183,7 +200,7 @@ class Session:
             self.command("step %d" % count)
 
 
-def steps_to(ahead, usual):
+def steps_to(ahead: Timeline, usual: str) -> int | None:
     """How many steps it is to one whose reply has not this part; None where none comes, or the hart stays where it is."""
     for done in range(0, MOST_STEPS, CHUNK):
         lines = ahead.bench.block(b"step 1\n" * CHUNK, CHUNK).decode().splitlines()
@@ -195,12 +212,12 @@ def steps_to(ahead, usual):
     return None
 
 
-def operands_of(name):
+def operands_of(name: str) -> tuple[Form, ...]:
     """The forms of a command's operands."""
     return COMMANDS[name].forms if name in COMMANDS else ()
 
 
-def completions(session, words):
+def completions(session: Session, words: Sequence[str]) -> Sequence[str]:
     """What the last word may become."""
     if len(words) <= 1:
         return sorted([*COMMANDS, *OWN])

@@ -3,6 +3,8 @@
 Lines are written while replies are read, so that neither pipe fills up and stops the other; a long list of commands costs one round
 trip, not one for each.
 """
+from __future__ import annotations
+
 import fcntl
 import os
 import select
@@ -12,6 +14,7 @@ import subprocess
 import sys
 import time
 from functools import lru_cache
+from typing import IO, Sequence
 
 from rvlook.protocol.bench_line import ended, has_reply, is_malformed, words_of
 from rvlook.errors import BenchEnded, Fault, Unfinished
@@ -28,7 +31,7 @@ MARKED = b"x0=00000000"
 
 
 @lru_cache(maxsize=None)
-def program_path():
+def program_path() -> str:
     """The program: the one that RVBENCH names, or the one that ./rvbench runs, which is found once."""
     path = os.environ.get("RVBENCH") or installed_program()
     if path and not os.path.exists(path):
@@ -36,12 +39,12 @@ def program_path():
     return path or built_program()
 
 
-def installed_program():
+def installed_program() -> str | None:
     """The program `rvbench` on the PATH, if this package is not in a clone of the repository."""
     return None if os.path.exists(FINDER) else shutil.which("rvbench")
 
 
-def built_program():
+def built_program() -> str:
     """The program that ./prove has built, or an unproved one, which is built now if there is none. Ends the build on SIGTERM and Ctrl-C."""
     if not os.path.exists(FINDER):
         raise Unfinished("there is no program; RVBENCH names one, or it is rvbench on the PATH")
@@ -59,12 +62,12 @@ def built_program():
     return path.rstrip("\n")
 
 
-def is_enclaves(command):
+def is_enclaves(command: str) -> bool:
     """Whether a command is one whose reply may have any number of lines."""
     return "enclaves" in command and words_of(command)[0] == "enclaves" and not is_malformed(command)
 
 
-def widen(*pipes):
+def widen(*pipes: IO[bytes]) -> None:
     """Makes pipes longer, where the system can: fewer exchanges then."""
     for pipe in pipes:
         try:
@@ -76,30 +79,32 @@ def widen(*pipes):
 class Bench:
     """One run of the program; `words` are those of its command line, `image` is the text of the image."""
 
-    def __init__(self, words, image, harts=1):
+    def __init__(self, words: Sequence[str], image: bytes, harts: int = 1) -> None:
         path = program_path()
         try:
             self.process = subprocess.Popen([path, *words], stdin=subprocess.PIPE, stdout=subprocess.PIPE, bufsize=0,
                                             start_new_session=True)
         except OSError as error:
             raise Unfinished("%s: %s" % (path, error.strerror)) from None
-        os.set_blocking(self.process.stdin.fileno(), False)
-        widen(self.process.stdin, self.process.stdout)
+        assert self.process.stdin and self.process.stdout
+        self.stdin, self.stdout = self.process.stdin, self.process.stdout
+        os.set_blocking(self.stdin.fileno(), False)
+        widen(self.stdin, self.stdout)
         self.harts = harts
         self.pending = memoryview(b"")
-        self.parts = []  # what was read and not yet taken
-        self.lines = []  # complete lines that were read, the next one last
+        self.parts: list[bytes] = []  # what was read and not yet taken
+        self.lines: list[bytes] = []  # complete lines that were read, the next one last
         self.send(image + b"--\n")
 
-    def __enter__(self):
+    def __enter__(self) -> Bench:
         return self
 
-    def __exit__(self, *_):
+    def __exit__(self, *_: object) -> None:
         self.close()
 
-    def close(self):
+    def close(self) -> None:
         """Ends the program."""
-        for pipe in (self.process.stdin, self.process.stdout):
+        for pipe in (self.stdin, self.stdout):
             try:
                 pipe.close()
             except OSError:
@@ -108,13 +113,13 @@ class Bench:
             self.process.kill()
         self.process.wait()
 
-    def send(self, text):
+    def send(self, text: bytes) -> None:
         """Gives the program more to read; it is written as replies are read."""
         self.pending = memoryview(bytes(self.pending) + text)
 
-    def transfer(self):
+    def transfer(self) -> bytes:
         """Writes what can be written, and reads what can be read; waits for either."""
-        reading, writing = self.process.stdout.fileno(), self.process.stdin.fileno()
+        reading, writing = self.stdout.fileno(), self.stdin.fileno()
         readable, writable, _ = select.select([reading], [writing] if self.pending else [], [])
         if writable:
             try:
@@ -130,14 +135,14 @@ class Bench:
             raise BenchEnded(self.last_words())
         return part
 
-    def last_words(self):
+    def last_words(self) -> str:
         """What the program said where it ended."""
         said = b"".join(self.parts).decode("ascii", "replace").splitlines()
         self.process.wait()
         faults = [line for line in said if line.startswith("rvbench: ")]
         return faults[-1] if faults else "the bench ended with status %d" % self.process.returncode
 
-    def block(self, text, count):
+    def block(self, text: bytes, count: int) -> bytes:
         """The replies to the commands of `text`, which have `count` lines, as they are."""
         self.send(text)
         found = sum(part.count(b"\n") for part in self.parts)
@@ -150,7 +155,7 @@ class Bench:
         block, self.parts = b"".join(self.parts), []
         return block
 
-    def line(self):
+    def line(self) -> bytes:
         """The next line of the replies."""
         while not self.lines:
             self.parts.append(self.transfer())
@@ -162,7 +167,7 @@ class Bench:
             raise BenchEnded(line.decode("ascii", "replace"))
         return line
 
-    def reply(self, command):
+    def reply(self, command: str) -> list[bytes]:
         """The lines of one command's reply; a comment has none."""
         if not has_reply(command):
             return []
@@ -175,30 +180,30 @@ class Bench:
         count = self.harts if word == "sched" else COUNTS.get(word, 1)
         return [first] + [self.line() for _ in range(count - 1)]
 
-    def ask(self, *commands):
+    def ask(self, *commands: str) -> list[list[str]]:
         """The replies to commands that each have one: for each the list of its lines."""
         self.give(*commands)
         return self.told(*commands)
 
-    def give(self, *commands):
+    def give(self, *commands: str) -> None:
         """Gives commands whose replies `told` will read."""
         if any("\n" in it for it in commands):
             raise Fault("a command of the bench is one line, and has no line feed")
         text = "".join(ended(it) + (MARK + "\n" if is_enclaves(it) else "") for it in commands)
         self.send(text.encode("latin-1", "replace"))
 
-    def begin(self, *commands):
+    def begin(self, *commands: str) -> None:
         """Gives commands that it is to do now, whose replies `told` will read."""
         self.give(*commands)
         try:
-            self.pending = self.pending[os.write(self.process.stdin.fileno(), self.pending[:PIPE]):]
+            self.pending = self.pending[os.write(self.stdin.fileno(), self.pending[:PIPE]):]
         except (BlockingIOError, BrokenPipeError):
             pass
 
-    def told(self, *commands):
+    def told(self, *commands: str) -> list[list[str]]:
         """The replies to commands that were given."""
         return [[line.decode("latin-1") for line in self.reply(it)] for it in commands]
 
-    def one(self, command):
+    def one(self, command: str) -> str:
         """The one line that answers a command."""
         return self.ask(command)[0][0]

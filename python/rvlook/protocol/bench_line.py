@@ -1,5 +1,7 @@
 """How the bench reads a line (docs/COMMANDS.md, Lines and numbers). A line is a text of ISO 8859-1, a character for each byte, without the
 line feed that ends it and without a carriage return right before that."""
+from __future__ import annotations
+
 import re
 
 LONGEST_LINE = 120  # bytes
@@ -7,33 +9,33 @@ BLANKS = re.compile(r"[ \t]+")
 PLAIN = re.compile(r"[\t\x20-\x7e]{0,%d}\Z" % LONGEST_LINE)
 
 
-def is_malformed(line):
+def is_malformed(line: str) -> bool:
     """Whether the bench replies `error line`: the line is too long, or has a byte that is no tab and not one of 20 to 7E."""
     return not PLAIN.match(line)
 
 
-def words_of(line):
+def words_of(line: str) -> list[str]:
     """Returns the words between spaces and tabs. No other character separates words, as some do for `str.split`."""
     return [it for it in BLANKS.split(line) if it]
 
 
-def has_reply(line):
+def has_reply(line: str) -> bool:
     """Whether the bench replies at all: it does not reply to a well-formed comment or blank line."""
     words = words_of(line)
     return is_malformed(line) or bool(words) and not words[0].startswith("#")
 
 
-def is_separator(line):
+def is_separator(line: str) -> bool:
     """Whether the line ends an image or a script: its only word is `--`."""
     return words_of(line) == ["--"] and not is_malformed(line)
 
 
-def ended(line):
+def ended(line: str) -> str:
     """Returns the line as the bench is given it: a carriage return at its end is a part of it, and takes another one to be kept."""
     return line + ("\r\n" if line.endswith("\r") else "\n")
 
 
-def lines_of(text):
+def lines_of(text: str) -> list[str]:
     """Returns the lines of a text. What comes after the last line feed is a line if it is not empty, and keeps a carriage return."""
     *whole, last = text.split("\n")
     return [it[:-1] if it.endswith("\r") else it for it in whole] + ([last] if last else [])

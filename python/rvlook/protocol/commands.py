@@ -1,9 +1,15 @@
 """The commands of the bench and the forms of their operands (docs/COMMANDS.md), for what reads them beside it."""
+from __future__ import annotations
+
 import re
 from dataclasses import dataclass
 from enum import Enum
+from typing import Sequence, TYPE_CHECKING
 
 from rvlook.protocol import names
+
+if TYPE_CHECKING:
+    from rvlook.protocol.symbols import Symbols
 
 
 class Form(Enum):
@@ -27,7 +33,7 @@ class Form(Enum):
 class Command:
     """A command's operands, by the letters of docs/COMMANDS.md."""
     letters: str
-    forms: tuple
+    forms: tuple[Form, ...]
 
 
 COMMANDS = {
@@ -49,7 +55,8 @@ PATTERNS = {
     Form.width: re.compile(r"[124]\Z"), Form.line: re.compile(r"(on|off)\Z"), Form.hart: re.compile(r"[01]\Z"),
     Form.schedule: re.compile(r"[01]{1,64}\Z")}
 
-def is_form(word, form):
+
+def is_form(word: str, form: Form) -> bool:
     """Whether a word has the form of an operand, range and all."""
     if form in LIMITS:
         low, high = LIMITS[form]
@@ -57,23 +64,25 @@ def is_form(word, form):
     return bool(PATTERNS[form].match(word))
 
 
-def rewritten(word, form, symbols=None):
+def rewritten(word: str, form: Form, symbols: Symbols | None = None) -> str | None:
     """The word as the form has it, where what is meant is plain: an ABI name, the name of a control and status register, a symbol, a
     number in the other base. None where it is not."""
     if form is Form.address and symbols and word.split("+")[0].split("@")[0] in symbols.places:
-        return "%x" % symbols.address(word)
+        at = symbols.address(word)
+        return None if at is None else "%x" % at
     if is_form(word, form):
         return word
     if form is Form.register and word.lower() in names.NUMBER_OF:
         return str(names.NUMBER_OF[word.lower()])
     if form is Form.csr and (word.lower() in names.CSRS or re.match(r"0x[0-9a-fA-F]{1,3}\Z", word)):
         return "%x" % names.CSRS.get(word.lower(), int(word, 16) if word.startswith("0x") else 0)
-    if form is Form.value and symbols and symbols.address(word) is not None:
-        return "%x" % symbols.address(word)
+    at = symbols.address(word) if form is Form.value and symbols else None
+    if at is not None:
+        return "%x" % at
     return rewritten_number(word, form)
 
 
-def rewritten_number(word, form):
+def rewritten_number(word: str, form: Form) -> str | None:
     """The word in the base of the form, or in its case."""
     if form in LIMITS and re.match(r"0[xX][0-9a-fA-F]+\Z", word):
         number = str(int(word, 16))
@@ -84,8 +93,9 @@ def rewritten_number(word, form):
     return number if is_form(number, form) else None
 
 
-def written(name, operands, symbols=None):
+def written(name: str, operands: Sequence[str], symbols: Symbols | None = None) -> str | None:
     """The command as the bench takes it, or None where an operand cannot be told."""
     forms = COMMANDS[name].forms
     found = [rewritten(word, form, symbols) for word, form in zip(operands, forms)]
-    return None if len(operands) != len(forms) or None in found else " ".join([name, *found])
+    texts = [it for it in found if it is not None]
+    return " ".join([name, *texts]) if len(operands) == len(forms) == len(texts) else None

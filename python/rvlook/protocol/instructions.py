@@ -1,5 +1,7 @@
 """What the text of an instruction says: the register that it writes, the memory that it loads or stores, where it goes, and the short
 form that the manual has for it. All of it is derived of the text that the bench's `dis` replies."""
+from __future__ import annotations
+
 import re
 from dataclasses import dataclass
 from functools import lru_cache
@@ -37,23 +39,23 @@ class Instruction:
     csr: Optional[int]  # that it writes
 
     @property
-    def short(self):
+    def short(self) -> str:
         return short_form(self.abi)
 
 
 @lru_cache(maxsize=65536)
-def instruction_of(line):
+def instruction_of(line: bytes) -> Instruction | None:
     """The instruction of a reply of `dis`, or None where there is none."""
     if line.startswith(b"error"):
         return None
     word, text = line.decode().split(": ")[1].split(" ", 1)
     memory, branch, writes, csr = (it.match(text) for it in (MEMORY, BRANCH, WRITES, SET_CSR))
     is_csr = csr and (csr[1] == "w" or csr[3] != "0")
-    return Instruction(word, text, names.with_abi_names(text), int(writes[1]) if writes else 0, memory and memory_of(memory),
-                       int(branch[1]) if branch else None, text.startswith("jalr "), int(csr[2], 16) if is_csr else None)
+    return Instruction(word, text, names.with_abi_names(text), int(writes[1]) if writes else 0, memory_of(memory) if memory else None,
+                       int(branch[1]) if branch else None, text.startswith("jalr "), int(csr[2], 16) if csr and is_csr else None)
 
 
-def memory_of(match):
+def memory_of(match: re.Match[str]) -> Memory:
     """The operand of a load or a store."""
     kind = "r" if match[1][0] == "l" else "w"
     return Memory(kind, WIDTHS[match[1][1]], int(match[4]), int(match[3]), int(match[2]))
@@ -76,6 +78,6 @@ SHORT = [(re.compile(pattern + r"\Z"), form) for pattern, form in (
 
 
 @lru_cache(maxsize=65536)
-def short_form(text):
+def short_form(text: str) -> str:
     """The manual's short form of a text with ABI names, or the text itself."""
     return next((pattern.sub(form, text) for pattern, form in SHORT if pattern.match(text)), text)

@@ -1,17 +1,24 @@
 """A line of a script or of the prompt, as the bench takes it: symbols, and the names of registers, become numbers. What was made of a
 line is derived; what the bench replies to it is not."""
+from __future__ import annotations
+
+from typing import Iterable, Sequence, TYPE_CHECKING
+
 from rvlook.protocol.bench_line import is_malformed, words_of
 from rvlook.protocol.commands import COMMANDS, Form, is_form, written
-from rvlook.image.escapes import visible_line
-from rvlook.prompt.explain import line_fault
+from rvlook.output.escapes import visible_line
+from rvlook.protocol.messages import line_error
 from rvlook.errors import NameRefused
-from rvlook.image.files import ScriptLine
+from rvlook.protocol.inputs import ScriptLine
 from rvlook.protocol.nearest import nearest
+
+if TYPE_CHECKING:
+    from rvlook.protocol.symbols import Symbols
 
 LONGEST_SHOWN = 160  # characters of a line in a message
 
 
-def resolved(line, symbols):
+def resolved(line: str, symbols: Symbols) -> str:
     """The text for the bench. A name that stands for two addresses is refused; what cannot be told is left to the bench to refuse, and so
     is a malformed line."""
     words = words_of(line)
@@ -20,12 +27,12 @@ def resolved(line, symbols):
     return written(words[0], words[1:], symbols) or line
 
 
-def resolved_script(lines, symbols):
+def resolved_script(lines: Iterable[ScriptLine], symbols: Symbols) -> tuple[ScriptLine, ...]:
     """The lines of a script with their texts for the bench."""
     return tuple(resolved_line(it, symbols) for it in lines)
 
 
-def resolved_line(line, symbols):
+def resolved_line(line: ScriptLine, symbols: Symbols) -> ScriptLine:
     """A line of a script; a name that is refused leaves it as it stands, and the bench refuses it."""
     try:
         return ScriptLine(line.given, line.place, resolved(line.given, symbols))
@@ -33,19 +40,19 @@ def resolved_line(line, symbols):
         return ScriptLine(line.given, line.place, line.given, str(fault))
 
 
-def fault_text(line, reply, symbols):
+def fault_text(line: ScriptLine, reply: str, symbols: Symbols) -> str:
     """What is told of a line that the bench refuses."""
     meant = line.refused or meaning(reply, words_of(line.given), symbols)
     return visible_line("%s: %s: %s: %s" % (line.place, line.given[:LONGEST_SHOWN], reply, meant))
 
 
-def meaning(reply, words, symbols):
+def meaning(reply: str, words: Sequence[str], symbols: Symbols) -> str:
     """What is meant by a fault of a line."""
     unknown = reply == "error operand" and unknown_name(words, symbols)
-    return unknown or line_fault(reply, words)[0]
+    return unknown or line_error(reply, words)[0]
 
 
-def unknown_name(words, symbols):
+def unknown_name(words: Sequence[str], symbols: Symbols) -> str | None:
     """What is told of the first operand that should be an address or a value and looks like a name, or None."""
     for word, form in zip(words[1:], COMMANDS[words[0]].forms):
         if form in (Form.address, Form.value) and not is_form(word, form) and not word[:1].isdigit():
@@ -53,7 +60,7 @@ def unknown_name(words, symbols):
     return None
 
 
-def no_symbol(name, symbols):
+def no_symbol(name: str, symbols: Symbols) -> str:
     """What is told of a name that is none."""
     if not symbols:
         return "%s is no address, and there are no symbols: an ELF file has them, or --symbols FILE" % name

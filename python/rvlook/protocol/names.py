@@ -1,6 +1,9 @@
 """Names of the field for numbers: registers by the ABI, causes, calls and statuses of the monitor."""
+from __future__ import annotations
+
 import re
 from enum import IntEnum
+from typing import Sequence
 
 ABI = ("zero ra sp gp tp t0 t1 t2 s0 s1 a0 a1 a2 a3 a4 a5 a6 a7 s2 s3 s4 s5 s6 s7 s8 s9 s10 s11 t3 t4 t5 t6").split()
 NUMBER_OF = {name: number for number, name in enumerate(ABI)}
@@ -55,12 +58,12 @@ CSR_NAMES = {number: name for name, number in CSRS.items()}
 CSR_OPERAND = re.compile(r"(?<=, )0x([0-9a-f]+)(?=, )")  # in the text of an instruction on one of them
 
 
-def abi_name(number):
+def abi_name(number: int) -> str:
     """The ABI name of a register."""
     return ABI[number]
 
 
-def with_abi_names(text):
+def with_abi_names(text: str) -> str:
     """The text of an instruction with the ABI names of its registers, and the names of control and status registers."""
     text = REGISTER.sub(lambda match: ABI[int(match[1])], text)
     if text.startswith("csr"):
@@ -68,17 +71,17 @@ def with_abi_names(text):
     return text
 
 
-def cause_name(cause):
+def cause_name(cause: str) -> str:
     """A trap's name."""
     return CAUSES.get(cause, "cause " + cause)
 
 
-def call_of(registers):
+def call_of(registers: Sequence[int]) -> Call | None:
     """The call that an ecall with these registers asks the monitor for, or None."""
     return NUMBERED.get(registers[16]) if registers[17] == KEY else None
 
 
-def size_text(size):
+def size_text(size: int) -> str:
     """A number of bytes, in the largest unit that divides it."""
     for unit, name in ((1 << 20, "M"), (1 << 10, "K")):
         if size and size % unit == 0:

@@ -1,6 +1,9 @@
 """The name that is meant by an unknown one, in bounded time."""
+from __future__ import annotations
+
 from difflib import get_close_matches
 from heapq import nlargest
+from typing import Iterable
 
 LEAST = 0.6  # similarity by difflib, from 0 to 1
 MOST_COMPARED = 100  # names that difflib compares, which takes some 50 microseconds each
@@ -8,7 +11,7 @@ MOST_PAIRS = 12  # pairs of characters that are looked for in each of many names
 LONGEST_NAME = 120  # characters of an unknown name; a longer one has no suggestion
 
 
-def nearest(name, known):
+def nearest(name: str, known: Iterable[str]) -> str | None:
     """Returns the known name that is most similar to an unknown one, or None. Of many names only those that share the most pairs of
     characters with it are compared."""
     if not name or len(name) > LONGEST_NAME:

@@ -1,10 +1,21 @@
 """Replies of the bench as values (docs/COMMANDS.md)."""
+from __future__ import annotations
+
 import re
 from dataclasses import dataclass
-from typing import Optional
+from typing import NamedTuple, Optional
 
 RAN = re.compile(r"ran (\d+) pc=(\w+) mode=(\w) world=(\w+) why=(\S+) trap=(\S+)")
+RAN_FIELDS = re.compile(rb"ran 1 pc=(\w+) mode=(\w) world=(\w+) why=\S+ trap=(\S+)")  # of one step: pc, mode, world and trap
+NO_TRAP = b"-"  # the trap of a step that has none
 STOPS = ("watch", "break")
+
+
+class Place(NamedTuple):
+    """Where a hart is: pc in eight hexadecimal digits, mode and world."""
+    pc: str
+    mode: str
+    world: str
 
 
 @dataclass(frozen=True)
@@ -38,7 +49,7 @@ class Enclave:
     measurement: str
 
     @property
-    def world(self):
+    def world(self) -> str:
         return "e%d" % self.slot
 
 
@@ -49,35 +60,43 @@ class Entry:
     addr: int
 
 
-def trap_of(text):
+def trap_of(text: str) -> Trap | None:
     """The trap behind `trap=`, or None for a hyphen."""
     return None if text == "-" else Trap(*text.split(":"))
 
 
-def ran_of(line):
+def ran_of(line: str) -> Ran | None:
     """The reply of a step, or None where it is a fault."""
     match = RAN.fullmatch(line)
-    return match and Ran(int(match[1]), match[2], match[3], match[4], match[5], trap_of(match[6]))
+    return Ran(int(match[1]), match[2], match[3], match[4], match[5], trap_of(match[6])) if match else None
 
 
-def enclave_of(line):
+def step_of(line: str) -> Ran:
+    """Decodes the reply of `step` or `run`; raises ValueError if it is an error."""
+    ran = ran_of(line)
+    if ran is None:
+        raise ValueError(line)
+    return ran
+
+
+def enclave_of(line: str) -> Enclave:
     """A live enclave."""
     words = line.split()
-    numbers = [int(word, 16) for word in words[3:8]]
-    return Enclave(int(words[1]), words[2], *numbers, words[8])
+    base, size, window, window_size, entry = (int(word, 16) for word in words[3:8])
+    return Enclave(int(words[1]), words[2], base, size, window, window_size, entry, words[8])
 
 
-def entry_of(line):
+def entry_of(line: str) -> Entry:
     """An entry of physical memory protection."""
     cfg, addr = line.split()[2:]
     return Entry(int(cfg[4:], 16), int(addr[5:], 16))
 
 
-def register_values(lines):
+def register_values(lines: list[str]) -> list[int]:
     """The values of x0 to x31, and of pc, in the reply of `regs`."""
     return [int(line.split("=")[1], 16) for line in lines]
 
 
-def bytes_of(line):
+def bytes_of(line: str) -> bytes:
     """The bytes that `mem` shows."""
     return bytes.fromhex(line.split(":")[1])

@@ -3,17 +3,20 @@
 The script is played once as it stands, which tells how many steps each `run` of it did. From then on every step can be done alone: a
 `run` of so many steps is as many single steps, and `sched` is a step of the hart that each digit names.
 """
+from __future__ import annotations
+
 import copy
 import re
 from dataclasses import dataclass, field, replace
+from typing import AnyStr, Generator, Iterable, Iterator, Sequence
 
 from rvlook.protocol.bench import Bench
 from rvlook.protocol.bench_line import has_reply, words_of
-from rvlook.prompt.explain import WHOLE_FAULTS, whole_fault
+from rvlook.protocol.messages import INPUT_REPLIES, input_error
 from rvlook.errors import BenchEnded, Fault, Unfinished
-from rvlook.image.files import Image, ScriptLine
-from rvlook.protocol.replies import ran_of
-from rvlook.image.symbols import Symbols
+from rvlook.protocol.inputs import Image, ScriptLine
+from rvlook.protocol.replies import ran_of, step_of
+from rvlook.protocol.symbols import Symbols
 
 CHUNK = 16384  # single steps in one exchange
 MOST_STEPS = 1000000  # of one command
@@ -26,7 +29,7 @@ SINGLE = b"step 1\n"
 class Setup:
     """What is run: the image, the lines of the script, and the words of the command line."""
     image: Image
-    lines: tuple = ()  # of the script
+    lines: tuple[ScriptLine, ...] = ()  # of the script
     monitor: bool = False
     ram: int = 1 << 20
     kind: str = "auto"
@@ -35,27 +38,27 @@ class Setup:
     symbols: Symbols = field(default_factory=Symbols, compare=False)
 
     @property
-    def script(self):
+    def script(self) -> tuple[str, ...]:
         """The lines of the script as the bench takes them."""
         return tuple(it.text for it in self.lines)
 
-    def words(self):
+    def words(self) -> list[str]:
         """The words for the program."""
         words = ["run", "--ram", str(self.ram), "--kind", self.kind]
         if self.monitor:
             words.append("--monitor")
         return words + (["--harts", str(self.harts)] if self.harts > 1 else [])
 
-    def with_script(self, lines, limit):
+    def with_script(self, lines: Iterable[str], limit: int) -> Setup:
         """The same with other lines of the script, and so many steps behind it at most."""
         return replace(self, lines=tuple(ScriptLine(it, "line %d" % at, it) for at, it in enumerate(lines, 1)), limit=limit)
 
-    def bench(self):
+    def bench(self) -> Bench:
         """A bench at reset."""
         return Bench(self.words(), self.image.text, self.harts)
 
     @property
-    def modes(self):
+    def modes(self) -> str:
         """The modes that an access may be judged in."""
         return "SU" if self.monitor else "MSU"
 
@@ -64,26 +67,26 @@ class Setup:
 class Line:
     """A line of the script that does no step, as the bench takes it and as it stands; a hidden one stands for a part of another."""
     text: str
-    replies: tuple = ()
+    replies: tuple[str, ...] = ()
     hidden: bool = False
     given: str = ""
 
     @property
-    def is_refused(self):
+    def is_refused(self) -> bool:
         """Whether the bench has refused it."""
         return bool(self.replies) and self.replies[0].startswith("error ")
 
     @property
-    def word(self):
+    def word(self) -> str:
         """The command, or none if it was refused."""
         return "" if self.is_refused else words_of(self.text)[0]
 
     @property
-    def changes_state(self):
+    def changes_state(self) -> bool:
         return self.word in STATE_WORDS
 
     @property
-    def hart(self):
+    def hart(self) -> int | None:
         """The hart that it chooses, or None."""
         return int(words_of(self.text)[1]) if self.word == "hart" else None
 
@@ -117,15 +120,17 @@ class Run:
     """A setup, with the plan of its script. `hart` is the hart that the script has left chosen, `faults` the lines that the bench has
     refused, each with its reply."""
 
-    def __init__(self, setup):
-        self.setup, self.plan, self.hart, self.length, self.faults = setup, [], 0, 0, []
+    def __init__(self, setup: Setup) -> None:
+        self.setup, self.hart, self.length = setup, 0, 0
+        self.plan: list[Line | Steps] = []
+        self.faults: list[tuple[ScriptLine, str]] = []
         self.mode, self.world = ("S", "host") if setup.monitor else ("M", "bare")
         with setup.bench() as bench:
             self.pc = bench.ask("regs")[0][32][3:]
             for line in setup.lines:
                 self.play(bench, line.text, line)
 
-    def play(self, bench, line, script_line):
+    def play(self, bench: Bench, line: str, script_line: ScriptLine) -> None:
         """One line of the script, as a part of the plan."""
         if not has_reply(line):
             return
@@ -143,18 +148,18 @@ class Run:
             self.plan.append(done)
             self.hart = self.hart if done.hart is None else done.hart
 
-    def add_steps(self, count):
+    def add_steps(self, count: int) -> None:
         self.plan.append(Steps(count))
         self.length += count
 
-    def add_schedule(self, digits):
+    def add_schedule(self, digits: str) -> None:
         """Steps of the harts that the digits name, in their order."""
         for part in re.finditer(r"0+|1+", digits):
             self.plan.append(Line("hart " + part[0][0], hidden=True))
             self.add_steps(len(part[0]))
         self.plan.append(Line("hart %d" % self.hart, hidden=True))
 
-    def with_lines(self, step, lines):
+    def with_lines(self, step: int, lines: Sequence[str]) -> Run:
         """The same run with more lines behind a step: those of the script come at the same steps as before."""
         other = copy.copy(self)
         inserted = [Line(line, hidden=True) for line in lines]
@@ -162,17 +167,20 @@ class Run:
         for item in self.plan:
             if isinstance(item, Steps) and inserted and position < step <= position + item.count:
                 rest = position + item.count - step
-                other.plan += [Steps(step - position), *inserted, *([Steps(rest)] if rest else [])]
+                other.plan.append(Steps(step - position))
+                other.plan += inserted
+                other.plan += [Steps(rest)] if rest else []
                 inserted = []
             else:
                 other.plan.append(item)
             position += item.count if isinstance(item, Steps) else 0
         if inserted:
-            other.plan += ([Steps(step - position)] if step > position else []) + inserted
+            other.plan += [Steps(step - position)] if step > position else []
+            other.plan += inserted
             other.setup = replace(self.setup, limit=max(0, self.setup.limit - (step - position)))
         return other
 
-    def stretches(self):
+    def stretches(self) -> Iterator[Line | Stretch | End]:
         """The whole run in single steps: Line for a line of the script, Stretch for steps, and End."""
         with self.setup.bench() as bench:
             position, hart = 0, 0
@@ -187,13 +195,13 @@ class Run:
             yield from self.tail(bench, position, hart, last)
 
     @staticmethod
-    def told(bench, line, hart):
+    def told(bench: Bench, line: Line, hart: int) -> int:
         """Tells the bench a line that changes its state; the hart that is chosen from then on."""
         if line.changes_state:
             bench.ask(line.text)
         return hart if line.hart is None else line.hart
 
-    def tail(self, bench, position, hart, last):
+    def tail(self, bench: Bench, position: int, hart: int, last: bytes) -> Iterator[Stretch | End]:
         """The steps behind the script, up to where the hart stays or the limit is; then the end."""
         held, left = b"", self.setup.limit
         why = "limit"
@@ -210,15 +218,15 @@ class Run:
             last = data or last
             yield Stretch(position + 1, hart, data, kept)
             position += kept
-        ran = ran_of(last.splitlines()[-1].decode())
+        ran = step_of(last.splitlines()[-1].decode())
         yield End(position, why, ran.pc, ran.mode, ran.world)
 
-    def replay(self):
+    def replay(self) -> Replay:
         """The run again, from reset."""
         return Replay(self)
 
 
-def alike_at_end(lines):
+def alike_at_end(lines: Sequence[AnyStr]) -> int:
     """How many lines at the end are the same."""
     count = 1
     while count < len(lines) and lines[-1 - count] == lines[-1]:
@@ -226,7 +234,7 @@ def alike_at_end(lines):
     return count
 
 
-def single_steps(bench, position, hart, count):
+def single_steps(bench: Bench, position: int, hart: int, count: int) -> Generator[Stretch, None, bytes]:
     """So many steps, one at a time; the replies to the last of them are what it returns."""
     data = b""
     for done in range(0, count, CHUNK):
@@ -246,18 +254,18 @@ class Replay:
     place: int = 0  # in the plan
     inside: int = 0  # of the plan's part there
 
-    def __post_init__(self):
+    def __post_init__(self) -> None:
         self.bench = self.run.setup.bench()
 
-    def __enter__(self):
+    def __enter__(self) -> Replay:
         return self
 
-    def __exit__(self, *_):
+    def __exit__(self, *_: object) -> None:
         self.bench.close()
 
-    def lines_to(self, step):
+    def lines_to(self, step: int) -> list[str]:
         """The commands from where it is to right behind a step."""
-        commands = []
+        commands: list[str] = []
         while self.position < step:
             item = self.run.plan[self.place] if self.place < len(self.run.plan) else Steps(step - self.position)
             if isinstance(item, Line):
@@ -273,27 +281,30 @@ class Replay:
                 self.inside = 0
         return commands
 
-    def take(self, line, commands):
+    def take(self, line: Line, commands: list[str]) -> None:
         """A line of the script on the way."""
         if line.changes_state:
             commands.append(line.text)
         self.hart = self.hart if line.hart is None else line.hart
 
-    def lines_up_to_next(self):
+    def lines_up_to_next(self) -> list[str]:
         """The script's lines that stand between where it is and the next step."""
-        commands = []
-        while self.place < len(self.run.plan) and isinstance(self.run.plan[self.place], Line):
-            self.take(self.run.plan[self.place], commands)
+        commands: list[str] = []
+        while self.place < len(self.run.plan):
+            item = self.run.plan[self.place]
+            if not isinstance(item, Line):
+                break
+            self.take(item, commands)
             self.place += 1
         return commands
 
-    def go(self, step):
+    def go(self, step: int) -> str | None:
         """Goes right behind a step; the reply of the last command, or None."""
         commands = self.lines_to(step)
         return self.bench.ask(*commands)[-1][0] if commands else None
 
 
-def run_of(setup):
+def run_of(setup: Setup) -> Run:
     """The run of a setup."""
     try:
         return Run(setup)
@@ -301,9 +312,9 @@ def run_of(setup):
         raise told_fault(setup, error) from None
 
 
-def told_fault(setup, error):
+def told_fault(setup: Setup, error: BenchEnded) -> Fault:
     """The fault of a bench that ended: where it refuses the image, that is told, and what it means."""
     told = str(error)
-    if told not in WHOLE_FAULTS:
+    if told not in INPUT_REPLIES:
         return Unfinished("%s: %s" % (setup.image.name, told))
-    return Fault("%s: %s: %s" % (setup.image.name, told, whole_fault(told).meant))
+    return Fault("%s: %s: %s" % (setup.image.name, told, input_error(told)[0]))

@@ -1,13 +1,22 @@
 """The log of commits as the simulator Spike writes it with --log-commits, for tools that read it: a line for each instruction that did not
 trap, with the register that it wrote, the control and status register, and what it loaded or stored."""
+from __future__ import annotations
+
+from typing import TYPE_CHECKING
+
 from rvlook.protocol import names
 from rvlook.protocol.run import End
 from rvlook.trace.tracer import Step, Tracer
 
+if TYPE_CHECKING:
+    from rvlook.output.printer import Printer
+    from rvlook.protocol.run import Replay, Run
+    from rvlook.trace.text import Filter
+
 PRIVILEGE = {"M": 3, "S": 1, "U": 0}
 
 
-def show_spike(run, wanted, printer):
+def show_spike(run: Run, wanted: Filter, printer: Printer) -> None:
     """The commits among the steps that are wanted."""
     symbols = run.setup.symbols
     with run.replay() as follower:
@@ -18,9 +27,10 @@ def show_spike(run, wanted, printer):
                 return
 
 
-def commit_text(step, follower):
+def commit_text(step: Step, follower: Replay) -> str:
     """One commit. The value of a control and status register is asked for behind the step."""
     it = step.instruction
+    assert it is not None
     text = "core%4d: %d 0x%s (0x%s)" % (step.hart, PRIVILEGE[step.at.mode], step.at.pc, it.word)
     if it.writes:
         text += " x%-2d 0x%s" % (it.writes, step.written)
@@ -30,5 +40,5 @@ def commit_text(step, follower):
         text += " c%d_%s 0x%s" % (it.csr, names.CSR_NAMES.get(it.csr, "unknown"), reply.split("=")[-1])
     if step.touch:
         text += " mem 0x%08x" % step.touch.address
-        text += " 0x" + step.touch.value if step.touch.kind == "w" else ""
+        text += " 0x" + (step.touch.value or "") if step.touch.kind == "w" else ""
     return text

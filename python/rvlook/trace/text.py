@@ -1,13 +1,24 @@
 """The word trace: the steps of a run, for a person and as objects."""
+from __future__ import annotations
+
 from dataclasses import dataclass, field
-from typing import Optional
+from typing import Optional, TYPE_CHECKING
 
 from rvlook.protocol import names
-from rvlook.image.escapes import visible_line
+from rvlook.output.escapes import visible_line
 from rvlook.protocol.instructions import short_form
 from rvlook.protocol.run import End
 from rvlook.output.printer import Style, end_object, end_text, hex8, run_object
 from rvlook.trace.tracer import Step, Tracer
+
+if TYPE_CHECKING:
+    from rvlook.output.printer import Json, Printer, Writer
+    from rvlook.protocol.instructions import Instruction
+    from rvlook.protocol.replies import Trap
+    from rvlook.protocol.run import Run
+    from rvlook.protocol.symbols import Symbols
+    from rvlook.trace.tracer import CallMade, Touch
+    from rvlook.trace.tracer import Command
 
 SHOWN_REGISTERS = 2  # where more changed, as at a switch, a0 is shown and how many more
 SHOWN_REPLY = 60  # characters of a reply to a line of the script
@@ -25,22 +36,22 @@ class Filter:
     function: Optional[str] = None
     traps: bool = False
 
-    def takes(self, step, symbols):
+    def takes(self, step: Step, symbols: Symbols) -> bool:
         """Whether a step is one of them."""
         if self.world and step.at.world != self.world or self.traps and step.trap is None:
             return False
         return not self.function or symbols.function(int(step.at.pc, 16)) == self.function
 
     @property
-    def is_whole(self):
+    def is_whole(self) -> bool:
         return not (self.world or self.function or self.traps)
 
 
-def show_trace(run, symbols, printer, wanted, is_short=False):
+def show_trace(run: Run, symbols: Symbols, printer: Printer, wanted: Filter, is_short: bool = False) -> None:
     """The steps that are wanted, with the script's lines between them where all are."""
     if printer.as_json:
         run_object(printer, run, symbols)
-    writer = Objects(run, symbols, printer) if printer.as_json else Lines(run, symbols, printer, is_short)
+    writer: Objects | Lines = Objects(run, symbols, printer) if printer.as_json else Lines(run, symbols, printer, is_short)
     shown = 0
     for item in Tracer(run, wanted.first, wanted.last).events():
         if isinstance(item, Step):
@@ -58,12 +69,12 @@ def show_trace(run, symbols, printer, wanted, is_short=False):
 @dataclass
 class Objects:
     """Each as an object."""
-    run: object
-    symbols: object
-    printer: object
-    sites: dict = field(default_factory=dict)
+    run: Run
+    symbols: Symbols
+    printer: Writer
+    sites: dict[tuple[str, Optional[Instruction]], dict[str, Optional[str]]] = field(default_factory=dict)
 
-    def step(self, step):
+    def step(self, step: Step) -> None:
         target = step.target
         self.printer.object(
             "step", step=step.number, hart=step.hart, world=step.at.world, mode=step.at.mode, pc=step.at.pc, **self.site(step),
@@ -72,38 +83,41 @@ class Objects:
             call=self.call(step.call), trap=self.trap(step.trap),
             next={"pc": step.next.pc, "mode": step.next.mode, "world": step.next.world})
 
-    def site(self, step):
+    def site(self, step: Step) -> dict[str, str | None]:
         """What stands at a pc, which is the same at many steps."""
         key = step.at.pc, step.instruction
         if key not in self.sites:
             pc, it = int(step.at.pc, 16), step.instruction
             self.sites[key] = {
                 "symbol": self.symbols.name(pc), "function": self.symbols.function(pc), "source": self.symbols.source(pc),
-                "caller": self.symbols.caller(pc), "word": it and it.word, "text": it and it.text, "abi": it and it.abi,
-                "short": it and it.short}
+                "caller": self.symbols.caller(pc), "word": it.word if it else None, "text": it.text if it else None, "abi": it.abi if it else None,
+                "short": it.short if it else None}
         return self.sites[key]
 
-    def touch(self, touch):
-        return touch and {"kind": touch.kind, "address": hex8(touch.address), "width": touch.width, "value": touch.value,
-                          "symbol": self.symbols.name(touch.address), "done": touch.done}
+    def touch(self, touch: Touch | None) -> dict[str, Json] | None:
+        if touch is None:
+            return None
+        return {"kind": touch.kind, "address": hex8(touch.address), "width": touch.width, "value": touch.value,
+                "symbol": self.symbols.name(touch.address), "done": touch.done}
 
     @staticmethod
-    def call(call):
-        return call and {"name": call.call.name, "arguments": {name: hex8(value) for name, value in call.arguments.items()},
-                         "slot": call.slot}
+    def call(call: CallMade | None) -> dict[str, Json] | None:
+        if call is None:
+            return None
+        return {"name": call.call.name, "arguments": {name: hex8(value) for name, value in call.arguments.items()}, "slot": call.slot}
 
     @staticmethod
-    def trap(trap):
-        return trap and {"cause": trap.cause, "value": trap.value, "name": names.cause_name(trap.cause)}
+    def trap(trap: Trap | None) -> dict[str, Json] | None:
+        return None if trap is None else {"cause": trap.cause, "value": trap.value, "name": names.cause_name(trap.cause)}
 
-    def command(self, command):
+    def command(self, command: Command) -> None:
         self.printer.object("command", step=command.step, hart=command.hart, line=command.line, given=command.given,
                             replies=list(command.replies))
 
-    def none(self):
+    def none(self) -> None:
         """No step is one of those: so it is seen."""
 
-    def end(self, end):
+    def end(self, end: End) -> None:
         end_object(self.printer, end)
 
 
@@ -118,15 +132,15 @@ class Site:
 @dataclass
 class Lines:
     """Each as a line; a heading tells where the steps below it are, and a source line stands where it is another than above."""
-    run: object
-    symbols: object
-    printer: object
+    run: Run
+    symbols: Symbols
+    printer: Printer
     is_short: bool = False
-    heading: tuple = ()
+    heading: tuple[object, ...] = ()
     source: Optional[str] = None
-    sites: dict = field(default_factory=dict)
+    sites: dict[tuple[str, Optional[Instruction]], Site] = field(default_factory=dict)
 
-    def step(self, step):
+    def step(self, step: Step) -> None:
         key = step.at.pc, step.instruction
         site = self.sites.get(key)
         if site is None:
@@ -147,7 +161,7 @@ class Lines:
         if step.next.world != step.at.world:
             self.aside("%s goes on in %s" % (step.next.world, step.next.mode))
 
-    def site(self, step):
+    def site(self, step: Step) -> Site:
         """The text of an instruction, with what a branch or jump goes to in place of how far that is."""
         pc, it = int(step.at.pc, 16), step.instruction
         text = it.abi if it else "(not fetched)"
@@ -155,19 +169,19 @@ class Lines:
             text = text[:text.rindex(" ") + 1] + self.place(step.target if step.target is not None else pc + it.offset)
         return Site(short_form(text) if self.is_short else text, self.symbols.function(pc), self.symbols.line(pc))
 
-    def place(self, address):
+    def place(self, address: int) -> str:
         """An address as objdump writes it."""
         name = self.symbols.name(address)
         return "%08x <%s>" % (address, name) if name else "%08x" % address
 
-    def head(self, heading):
+    def head(self, heading: tuple[int, str, str, str | None]) -> None:
         """The world, mode and function, where they are others than above."""
         self.heading, self.source = heading, None
         number, world, mode, function = heading
         parts = ("hart %d" % number if self.run.setup.harts > 1 else None, world, mode, function)
         self.printer.line(self.printer.styled("  ".join(it for it in parts if it), Style.heading))
 
-    def effects(self, step):
+    def effects(self, step: Step) -> list[str]:
         """The registers that changed, what was touched, and where a jump to a register goes."""
         changed = ["%s=%s" % (names.ABI[number], value) for number, value in step.changed.items()]
         if len(changed) > SHOWN_REGISTERS:
@@ -179,10 +193,10 @@ class Lines:
             changed.append("to " + self.place(step.target))
         return changed
 
-    def aside(self, text, style=Style.aside):
+    def aside(self, text: str, style: Style = Style.aside) -> None:
         self.printer.line(" " * 8 + self.printer.styled(text, style))
 
-    def command(self, command):
+    def command(self, command: Command) -> None:
         """A line of the script, and the first line of its reply."""
         first = command.replies[0] if command.replies else "(nothing)"
         shown = first if len(first) <= SHOWN_REPLY else first[:SHOWN_REPLY] + " .."
@@ -191,23 +205,25 @@ class Lines:
         self.printer.line("%s%s  %s%s" % (self.printer.styled("> " + visible_line(command.given), Style.aside), made, shown,
                                           "  and %d more lines" % more if more > 0 else ""))
 
-    def none(self):
+    def none(self) -> None:
         """No step is one of those that are wanted."""
         self.printer.line("no step is one of these")
 
-    def end(self, end):
+    def end(self, end: End) -> None:
         end_text(self.printer, end, self.symbols)
 
 
-def call_text(step):
+def call_text(step: Step) -> str:
     """A call, its arguments, and why it is refused where it is."""
-    text = " ".join(ARGUMENT_FORMS.get(name, name + " %x") % value for name, value in step.call.arguments.items())
+    call = step.call
+    assert call is not None
+    text = " ".join(ARGUMENT_FORMS.get(name, name + " %x") % value for name, value in call.arguments.items())
     status = step.changed.get(A0)
     refused = names.STATUSES.get(int(status, 16)) if status and step.next.world == step.at.world else None
-    return "%s %s%s" % (step.call.call.name, text, ": " + refused if refused else "")
+    return "%s %s%s" % (call.call.name, text, ": " + refused if refused else "")
 
 
-def touch_text(touch, symbols):
+def touch_text(touch: Touch, symbols: Symbols) -> str:
     """A load or store: its kind, its address, the value that was loaded or stored, or how many bytes, and the symbol."""
     name = symbols.name(touch.address)
     value = "=" + touch.value if touch.value else " %d" % touch.width

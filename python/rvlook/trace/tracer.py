@@ -3,21 +3,27 @@
 Of an instruction that does not trap only the register that its text names is asked for, and all of them behind a trap and at the end of
 each part of the run, where those that were kept must be the same.
 """
-import re
-from typing import NamedTuple, Optional
+from __future__ import annotations
+
+from typing import Iterator, NamedTuple, Optional, Sequence, TYPE_CHECKING, Tuple
 
 from rvlook.protocol import names
 from rvlook.errors import Unfinished
 from rvlook.protocol.instructions import Instruction, instruction_of
-from rvlook.protocol.replies import Trap
+from rvlook.protocol.replies import NO_TRAP, RAN_FIELDS, Place, Trap
 from rvlook.protocol.run import End, Line
 
-RAN_FIELDS = re.compile(rb"ran 1 pc=(\w+) mode=(\w) world=(\w+) why=\S+ trap=(\S+)")
-NO_TRAP = b"-"
+if TYPE_CHECKING:
+    from rvlook.protocol.instructions import Memory
+    from rvlook.protocol.run import Replay, Run, Stretch
+
 REGISTERS = 33  # lines of `regs`
 STEP = b"step 1\n"
 STEP_AND = [b"step 1\nreg %d\n" % number for number in range(32)]
 STEP_AND_ALL = b"step 1\nregs\n"
+
+
+RanFields = Tuple[bytes, bytes, bytes, bytes]  # of RAN_FIELDS: pc, mode, world and trap
 
 
 class Touch(NamedTuple):
@@ -33,15 +39,8 @@ class Touch(NamedTuple):
 class CallMade(NamedTuple):
     """A call of the monitor, derived of the registers before the ecall."""
     call: names.Call
-    arguments: dict
+    arguments: dict[str, int]
     slot: Optional[int]
-
-
-class Place(NamedTuple):
-    """Where a hart is."""
-    pc: str
-    mode: str
-    world: str
 
 
 class Step(NamedTuple):
@@ -50,7 +49,7 @@ class Step(NamedTuple):
     hart: int
     at: Place
     instruction: Optional[Instruction]
-    changed: dict
+    changed: dict[int, str]
     touch: Optional[Touch]
     call: Optional[CallMade]
     trap: Optional[Trap]
@@ -58,20 +57,20 @@ class Step(NamedTuple):
     written: Optional[str] = None  # what the register that it writes is after it
 
     @property
-    def word(self):
-        return self.instruction and self.instruction.word
+    def word(self) -> str | None:
+        return self.instruction.word if self.instruction else None
 
     @property
-    def text(self):
-        return self.instruction and self.instruction.text
+    def text(self) -> str | None:
+        return self.instruction.text if self.instruction else None
 
     @property
-    def is_interrupt(self):
+    def is_interrupt(self) -> bool:
         """Whether an interrupt came in place of an instruction."""
         return self.trap is not None and self.trap.cause.startswith("8")
 
     @property
-    def is_executed(self):
+    def is_executed(self) -> bool:
         """Whether the word at pc was fetched: no interrupt came, and the fetch was not refused."""
         if self.trap is None:
             return True
@@ -79,7 +78,7 @@ class Step(NamedTuple):
         return not refused and not self.is_interrupt
 
     @property
-    def target(self):
+    def target(self) -> int | None:
         """Where a branch or a jump goes, or would go, or None."""
         if self.instruction is None or not self.is_executed:
             return None
@@ -93,28 +92,41 @@ class Command(NamedTuple):
     step: int
     hart: int
     line: str
-    replies: tuple
+    replies: tuple[str, ...]
     given: str  # as it stands in the script
+
+
+class Done(NamedTuple):
+    """A step as the first two benches show it: the fields of its reply, and the instruction at pc before it."""
+    ran: RanFields
+    instruction: Optional[Instruction]
 
 
 class Hart:
     """What is known of a hart before its next step: where it is, and the digits of its registers, None where they are to be asked for."""
 
-    def __init__(self, place):
-        self.place, self.registers = place, None
+    def __init__(self, place: Place) -> None:
+        self.place = place
+        self.registers: list[str] | None = None
+
+    def known(self) -> list[str]:
+        """Returns the digits of x0 to x31, which must be known."""
+        assert self.registers is not None
+        return self.registers
 
 
 class Tracer:
     """The steps from `first` to `last`, with what stands between them."""
 
-    def __init__(self, run, first=1, last=None):
+    def __init__(self, run: Run, first: int = 1, last: int | None = None) -> None:
         self.run, self.first, self.last = run, first, last
         start = Place(run.pc, run.mode, run.world)
         self.harts = [Hart(start) for _ in range(run.setup.harts)]
         self.position = self.hart = 0
-        self.places, self.traps = {}, {NO_TRAP: None}
+        self.places: dict[tuple[bytes, bytes, bytes], Place] = {}
+        self.traps: dict[bytes, Trap | None] = {NO_TRAP: None}
 
-    def events(self):
+    def events(self) -> Iterator[Command | Step | End]:
         """Command, Step and End, in the order of the run. Two benches follow the first one, which tells each pc: one is asked what the next
         instruction is, and the other what is in the register that this writes."""
         with self.run.replay() as reader, self.run.replay() as teller:
@@ -133,12 +145,12 @@ class Tracer:
                         yield self.cut()
                         return
 
-    def cut(self):
+    def cut(self) -> End:
         """The end where no more steps were asked for."""
         place = self.harts[self.hart].place
-        return End(self.last, "limit", place.pc, place.mode, place.world)
+        return End(self.position if self.last is None else self.last, "limit", place.pc, place.mode, place.world)
 
-    def steps(self, reader, teller, stretch):
+    def steps(self, reader: Replay, teller: Replay, stretch: Stretch) -> Iterator[Step]:
         """The steps of a stretch that are asked for."""
         rans = RAN_FIELDS.findall(stretch.data)
         end = stretch.first + stretch.count - 1
@@ -152,19 +164,19 @@ class Tracer:
         rans = rans[begin - stretch.first:stop - stretch.first + 1]
         instructions = self.instructions(reader, hart, begin, rans)
         replies = self.registers(teller, hart, begin, rans, instructions)
-        for offset, (ran, instruction) in enumerate(zip(rans, instructions)):
-            yield self.step(begin + offset, stretch.hart, hart, ran, instruction, replies)
+        for number, done in enumerate(map(Done, rans, instructions), begin):
+            yield self.step(number, stretch.hart, hart, done, replies)
         kept = [line.split(b"=")[1].decode() for line in (next(replies) for _ in range(REGISTERS - 1))]
         if kept != hart.registers:
             raise Unfinished("the registers behind step %d are not those that its steps gave" % stop)
         self.position = stop
 
     @staticmethod
-    def begin(replay, begin):
+    def begin(replay: Replay, begin: int) -> None:
         """Brings a bench to where the next step is the first of these."""
         replay.bench.ask(*(replay.lines_to(begin - 1) + replay.lines_up_to_next() or ["reg 0"]))
 
-    def instructions(self, reader, hart, begin, rans):
+    def instructions(self, reader: Replay, hart: Hart, begin: int, rans: Sequence[RanFields]) -> list[Instruction | None]:
         """What stands at pc before each of these steps."""
         self.begin(reader, begin)
         pcs = [hart.place.pc.encode()] + [ran[0] for ran in rans[:-1]]
@@ -172,7 +184,8 @@ class Tracer:
         reader.lines_to(begin - 1 + len(rans))
         return [instruction_of(line) for line in block.split(b"\n")[:-1:2]]
 
-    def registers(self, teller, hart, begin, rans, instructions):
+    def registers(self, teller: Replay, hart: Hart, begin: int, rans: Sequence[RanFields],
+                  instructions: Sequence[Instruction | None]) -> Iterator[bytes]:
         """The replies of each of these steps: its own, and then what it may have changed; behind the last all registers."""
         self.begin(teller, begin)
         if hart.registers is None:
@@ -192,61 +205,63 @@ class Tracer:
         teller.lines_to(begin - 1 + len(rans))
         return iter(block.split(b"\n"))
 
-    def step(self, number, hart_number, hart, ran, instruction, replies):
-        """A step, of its replies and of what was before it; `hart` goes on to what is after it."""
-        at = hart.place
+    def step(self, number: int, hart_number: int, hart: Hart, done: Done, replies: Iterator[bytes]) -> Step:
+        """Returns a step, from its replies and what was before it; `hart` becomes what is after it."""
+        at, (ran, instruction) = hart.place, done
         next_place = hart.place = self.places.get(ran[:3]) or self.place_of(ran)
         next(replies)
         if ran[3] == NO_TRAP:
             touch, changed, value = None, {}, None
             if instruction is not None:
-                memory = instruction.memory
-                address = memory and (int(hart.registers[memory.base], 16) + memory.offset) & 0xFFFFFFFF
+                registers, memory = hart.known(), instruction.memory
+                address = (int(registers[memory.base], 16) + memory.offset) & 0xFFFFFFFF if memory else 0
                 if instruction.writes:
                     value = next(replies).split(b"=")[1].decode()
-                    if value != hart.registers[instruction.writes]:
-                        hart.registers[instruction.writes] = value
+                    if value != registers[instruction.writes]:
+                        registers[instruction.writes] = value
                         changed = {instruction.writes: value}
                 if memory:
-                    touch = self.touched(memory, address, hart.registers[memory.register])
+                    touch = self.touched(memory, address, registers[memory.register])
             return Step(number, hart_number, at, instruction, changed, touch, None, None, next_place, value)
-        return self.trapped(number, hart_number, hart, at, instruction, self.trap_of(ran[3]), replies)
+        return self.trapped(Step(number, hart_number, at, instruction, {}, None, None, self.trap_of(ran[3]), next_place), hart, replies)
 
     @staticmethod
-    def touched(memory, address, value):
+    def touched(memory: Memory, address: int, value: str) -> Touch:
         """A load or store that was done; the value is that of its register after it."""
         has_value = memory.kind == "w" or memory.register
         return Touch(memory.kind, address, memory.width, True, value[8 - 2 * memory.width:] if has_value else None)
 
     @staticmethod
-    def trapped(number, hart_number, hart, at, instruction, trap, replies):
-        """A step that trapped: any register may be another after it, for another world may go on."""
-        before = hart.registers
+    def trapped(step: Step, hart: Hart, replies: Iterator[bytes]) -> Step:
+        """Returns a step that trapped, with what it changed: any register may have another value after it, as another world may continue."""
+        before, trap, instruction, at = hart.known(), step.trap, step.instruction, step.at
+        assert trap is not None
         after = [line.split(b"=")[1].decode() for line in (next(replies) for _ in range(REGISTERS))][:32]
         hart.registers = after
         changed = {n: after[n] for n in range(1, 32) if after[n] != before[n]}
-        memory = instruction and trap.cause in names.ACCESS_FAULTS and instruction.memory
-        touch = memory and Touch(memory.kind, (int(before[memory.base], 16) + memory.offset) & 0xFFFFFFFF, memory.width, False, None)
+        memory = instruction.memory if instruction and trap.cause in names.ACCESS_FAULTS else None
+        touch = Touch(memory.kind, (int(before[memory.base], 16) + memory.offset) & 0xFFFFFFFF, memory.width, False, None) if memory else None
         is_call = trap.cause == names.ECALL_FROM_S and at.world != "bare"
         call = call_of(at.world, [int(it, 16) for it in before], [int(it, 16) for it in after]) if is_call else None
-        return Step(number, hart_number, at, instruction, changed, touch or None, call, trap, hart.place)
+        return step._replace(changed=changed, touch=touch, call=call)
 
-    def place_of(self, ran):
+    def place_of(self, ran: RanFields) -> Place:
         """Where the hart is behind a step."""
         return self.places.setdefault(ran[:3], Place(*(it.decode() for it in ran[:3])))
 
-    def trap_of(self, text):
+    def trap_of(self, text: bytes) -> Trap | None:
         if text not in self.traps:
             self.traps[text] = Trap(*text.decode().split(":"))
         return self.traps[text]
 
 
-def call_of(world, registers, after):
+def call_of(world: str, registers: Sequence[int], after: Sequence[int]) -> CallMade | None:
     """The call that an ecall from S made of a world, or None where it is none that the table has."""
     call = names.call_of(registers)
     if call is None:
         return None
     words = dict(zip(names.ARGUMENTS[call], registers[10:15]))
+    slot: int | None
     if world != "host":
         slot = int(world[1:])
     elif call is names.Call.create:

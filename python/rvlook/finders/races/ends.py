@@ -1,42 +1,55 @@
 """The final states that a search has found. Each is a strongly connected part of the graph of orders in which each hart can go on for ever
 within the part. A hart has ended if it accesses no memory there. If a hart goes on, its part has a final state for each set of values that
 holds again and again. Orders are counted over the parts: the rounds of an endless loop are left out."""
+from __future__ import annotations
+
 from collections import defaultdict, deque
 from dataclasses import dataclass
+from typing import Any, Callable, Iterable, Iterator, Mapping, Optional, Sequence, Set, TYPE_CHECKING, Tuple
 
 from rvlook.errors import Fault
-from rvlook.finders.races.search import Graph, way_of
+from rvlook.finders.races.search import Graph, Vertex, way_of
 from rvlook.finders.races.loop import do_steps
-from rvlook.finders.races.machine import Work
+from rvlook.finders.races.machine import Piece, State, Work
 from rvlook.finders.races.time_limit import OutOfTime
+
+if TYPE_CHECKING:
+    from rvlook.finders.outcomes import Observed, Value
+    from rvlook.finders.races.loop import Loop
+    from rvlook.finders.races.machine import Machine
+    from rvlook.finders.races.search import Edge, Move, Node, Search
 
 OVER, STAYS, WAITS, GOES_ON, LONG, LEFT = "over", "stays", "waits", "goes on", "has not ended", "is left"
 GRACE, SLACK = 0.01, 0.3  # beyond the time limit for the analysis and the replays: a share of it, and seconds
+
+
+HartEnd = Tuple[str, Optional[int]]  # how a hart ended, and the address at which
+Found = Tuple[Vertex, State, Tuple[Piece, ...]]  # a vertex, a state after it, and the schedule from the vertex to the state
 
 
 @dataclass
 class End:
     """A final state: for each hart how and where it ended, the values, the node with the simplest way, the schedule of a round from there,
     how many orders end so, the state, and the schedule from the node to it if a hart goes on alone."""
-    harts: tuple
-    values: tuple
-    node: object
-    round: tuple
+    harts: tuple[HartEnd, ...]
+    values: tuple[Value, ...]
+    node: Node
+    round: tuple[Piece, ...]
     orders: int
-    state: object
-    tail: tuple = ()
+    state: State
+    tail: tuple[Piece, ...] = ()
     number: int = 0
 
     @property
-    def key(self):
+    def key(self) -> tuple[tuple[HartEnd, ...], tuple[Value, ...]]:
         return self.harts, self.values
 
     @property
-    def steps(self):
+    def steps(self) -> int:
         """The steps of its schedule."""
         return self.node.cost[3] + sum(steps for _, steps, _ in self.tail)
 
-    def way(self):
+    def way(self) -> list[Piece]:
         """The schedule that leads to it."""
         return self.node.way() + list(self.tail)
 
@@ -45,8 +58,9 @@ class Ends:
     """All final states of a search. `orders` is how many orders there are in all; `are_hidden` says that values may be missing, since harts
     go on that change the outcome by independent steps; `is_cut` that the time was over."""
 
-    def __init__(self, search, outcome):
-        self.search, self.machine, self.outcome, self.found, self.orders = search, search.machine, outcome, {}, 0
+    def __init__(self, search: Search, outcome: Sequence[Observed]) -> None:
+        self.search, self.machine, self.outcome, self.orders = search, search.machine, outcome, 0
+        self.found: dict[tuple[tuple[HartEnd, ...], tuple[Value, ...]], End] = {}
         self.are_hidden = self.is_cut = False
         try:
             with search.limit.until(1 + GRACE, SLACK):
@@ -59,18 +73,18 @@ class Ends:
         self.ends = sorted(self.found.values(), key=lambda it: (it.node.cost, it.steps))
         self.renumber()
 
-    def renumber(self):
+    def renumber(self) -> None:
         """Numbers the final states from 1 on."""
         for number, end in enumerate(self.ends, 1):
             end.number = number
 
-    def keep(self, wanted):
+    def keep(self, wanted: Sequence[End]) -> None:
         """Leaves out all but these, as the time was over before they were replayed."""
         self.is_cut = self.is_cut or len(wanted) < len(self.ends)
         self.ends = [it for it in self.ends if it in wanted]
         self.renumber()
 
-    def add(self, end):
+    def add(self, end: End) -> None:
         """Final states that are reported alike are one, with the simplest way."""
         old = self.found.setdefault(end.key, end)
         if old is not end:
@@ -78,7 +92,7 @@ class Ends:
             best.orders = old.orders + end.orders
             self.found[end.key] = best
 
-    def of_graph(self, graph):
+    def of_graph(self, graph: Graph) -> Iterator[End]:
         """The final states of one round of the search."""
         if self.search.bounds.preemptions is not None:
             graph = counted(graph, self.search.bounds.preemptions)
@@ -92,11 +106,11 @@ class Ends:
                 self.orders += ways[place]
                 yield from self.of_part(part, harts, ways[place])
 
-    def of_part(self, part, harts, orders):
+    def of_part(self, part: Part, harts: Sequence[str], orders: int) -> Iterator[End]:
         """The final states of a part: one for each set of values, or one if the values are not known."""
         over = tuple(part.over(hart) if how == OVER else (how, None) for hart, how in enumerate(harts))
         vertex = part.vertices[0]
-        found = {(): (vertex, part.graph.nodes[vertex].place.state, ())}
+        found: dict[tuple[Value, ...], Found] = {(): (vertex, part.graph.nodes[vertex].place.state, ())}
         if LEFT not in harts and (LONG not in harts or OVER in harts):
             found, is_hidden = part.values(self.outcome)
             self.are_hidden = self.are_hidden or is_hidden
@@ -108,18 +122,18 @@ class Ends:
 class Part:
     """A strongly connected part of the graph of orders, its vertices by cost."""
 
-    def __init__(self, search, graph, vertices, place_of):
+    def __init__(self, search: Search, graph: Graph, vertices: Iterable[Vertex], place_of: Mapping[Vertex, int]) -> None:
         self.search, self.machine, self.graph = search, search.machine, graph
         self.vertices = sorted((it for it in vertices if it in graph.nodes), key=lambda it: graph.nodes[it].cost)
         self.all = set(vertices)
         self.moves = moves_inside(graph, vertices, place_of) if self.vertices else {}
-        self.state = graph.nodes[self.vertices[0]].place.state if self.vertices else None
+        self.state = graph.nodes[self.vertices[0]].place.state if self.vertices else search.machine.start
 
-    def loop(self, hart):
+    def loop(self, hart: int) -> Loop | None:
         """The endless loop of a hart that nobody can affect, or None."""
         return self.graph.loops.get((self.state._replace(steps=()), hart))
 
-    def ended(self):
+    def ended(self) -> tuple[str, ...] | None:
         """How each hart ended here; None if a hart would go on to another part."""
         if not self.vertices:
             return None
@@ -128,9 +142,10 @@ class Part:
         is_still = is_still and not any(loop and loop.changes for loop in map(self.loop, count))
         is_given_up = any((self.state, hart) in self.graph.alone for hart in count)
         harts = [self.how(hart, is_still, is_given_up) for hart in count]
-        return None if None in harts else tuple(harts)
+        known = tuple(it for it in harts if it is not None)
+        return known if len(known) == len(harts) else None
 
-    def how(self, hart, is_still, is_given_up):
+    def how(self, hart: int, is_still: bool, is_given_up: bool) -> str | None:
         """How a hart ended here."""
         state, graph, going = self.state, self.graph, WAITS if is_still else GOES_ON
         if hart in self.moves:
@@ -140,10 +155,11 @@ class Part:
         if graph.moves.get((state, hart, False), self) is None:
             if (state, hart) in graph.unended:
                 return LONG
-            return going if self.loop(hart) and self.loop(hart).accesses else OVER
+            loop = self.loop(hart)
+            return going if loop and loop.accesses else OVER
         return LEFT if is_given_up else None
 
-    def over(self, hart):
+    def over(self, hart: int) -> HartEnd:
         """Where a hart has ended; one that was to come to an end and did not stays there."""
         machine, nodes = self.machine, self.graph.nodes
         pc = min(machine.pc(nodes[it].place.state, hart) for it in self.vertices)
@@ -151,7 +167,7 @@ class Part:
             pc = min(pc, *(work.pc for work in self.alone(hart)))
         return (STAYS if machine.ends and not machine.limit and pc not in machine.ends else OVER), pc
 
-    def alone(self, hart):
+    def alone(self, hart: int) -> Iterator[Work]:
         """A hart that goes on alone from the first state of the part until it comes back there; gives it after each step."""
         work, loop = Work(self.machine, self.state, hart), self.loop(hart)
         start = full_state(work)
@@ -162,10 +178,11 @@ class Part:
                 return
         raise Fault("hart %d does not come back to its state in an endless loop at %08x" % (hart, work.pc))
 
-    def values(self, outcome):
+    def values(self, outcome: Sequence[Observed]) -> tuple[dict[tuple[Value, ...], Found], bool]:
         """Returns the sets of values that hold again and again, each with a vertex, the state and the schedule from the vertex to it; and
         whether some may be missing."""
-        found, machine = {}, self.machine
+        machine = self.machine
+        found: dict[tuple[Value, ...], Found] = {}
         for vertex in self.vertices:
             state = self.graph.nodes[vertex].place.state
             found.setdefault(values_in(machine, outcome, state), (vertex, state, ()))
@@ -178,20 +195,21 @@ class Part:
                 found.setdefault(values, place)
         return found, len(going) > 1 and any(self.search.is_hidden(hart) for hart in going)
 
-    def values_alone(self, hart, outcome):
+    def values_alone(self, hart: int, outcome: Sequence[Observed]) -> dict[tuple[Value, ...], Found]:
         """The sets of values while a hart goes on alone, as in `values`."""
-        found, state, watched = {values_in(self.machine, outcome, self.state): (self.vertices[0], self.state, ())}, None, self.search.outcome
+        watched, first = self.search.outcome, self.vertices[0]
+        found: dict[tuple[Value, ...], Found] = {values_in(self.machine, outcome, self.state): (first, self.state, ())}
         if not watched.registers and not watched.addresses:
             return found  # all of it is met, and each value has a node
-        last = None
+        last: object = None
         for work in self.alone(hart):
             now = work.digest, work.table, [work.registers[number] for of, number in watched.registers if of == hart]
             if now != last:
                 state, last = work.kept(), now
-                found.setdefault(values_in(self.machine, outcome, state), (self.vertices[0], state, ((hart, work.done, ""),)))
+                found.setdefault(values_in(self.machine, outcome, state), (first, state, ((hart, work.done, ""),)))
         return found
 
-    def round(self, vertex, state, harts, tail):
+    def round(self, vertex: Vertex, state: State, harts: Sequence[int], tail: Sequence[Piece]) -> tuple[Piece, ...]:
         """The schedule of a round from a state and back, in which each of these harts moves."""
         moving = [it for it in harts if it in self.moves]
         if len(moving) == 1 and tail:
@@ -201,18 +219,18 @@ class Part:
         return tuple(way_of((hart, move, False) for hart, move in round_of(self.graph, vertex, moving, self.all)))
 
 
-def values_in(machine, outcome, state):
+def values_in(machine: Machine, outcome: Sequence[Observed], state: State) -> tuple[Value, ...]:
     """The values of an outcome in a state."""
     memory = machine.memories[state.memory]
     return tuple(it.value_in(machine, state, memory) for it in outcome)
 
 
-def full_state(work):
+def full_state(work: Work) -> tuple[Any, ...]:
     """All that may change in the steps of one hart."""
     return work.pc, work.context, work.digest, work.table, work.host, tuple(work.registers)
 
 
-def search_ends(search, outcome_of):
+def search_ends(search: Search, outcome_of: Callable[[Search], Sequence[Observed]]) -> Ends:
     """Searches, and returns the final states; `outcome_of` gives the outcome after a search. If two harts go on, and change the outcome by
     independent steps, these steps become dependent ones, and it is searched again."""
     search.run()
@@ -225,7 +243,7 @@ def search_ends(search, outcome_of):
     return found
 
 
-def moves_inside(graph, part, place_of):
+def moves_inside(graph: Graph, part: Iterable[Vertex], place_of: Mapping[Vertex, int]) -> dict[int, list[Move]]:
     """The moves of each hart that stay in a part."""
     found = defaultdict(list)
     for vertex in part:
@@ -235,11 +253,11 @@ def moves_inside(graph, part, place_of):
     return found
 
 
-def counted(graph, bound):
+def counted(graph: Graph, bound: int) -> Graph:
     """A graph whose vertices have the number of preemptions that came, up to the bound."""
     new, start = Graph(), (next(iter(graph.nodes)), 0)
     new.moves, new.loops, new.unended, new.alone = graph.moves, graph.loops, graph.unended, graph.alone
-    waiting = [start]
+    waiting: list[Vertex] = [start]
     while waiting:
         vertex = waiting.pop()
         place, came = vertex
@@ -251,10 +269,10 @@ def counted(graph, bound):
     return new
 
 
-def round_of(graph, vertex, moving, part):
+def round_of(graph: Graph, vertex: Vertex, moving: Sequence[int], part: Set[Vertex]) -> tuple[tuple[int, Move], ...]:
     """Moves from a vertex through its part and back, in which each of these harts moves."""
     here = start = vertex
-    found = []
+    found: list[tuple[int, Move]] = []
     for hart in moving:
         here, path = path_to(graph, here, part, lambda edge: edge[1] == hart)
         found += path
@@ -263,9 +281,10 @@ def round_of(graph, vertex, moving, part):
     return tuple(found)
 
 
-def path_to(graph, here, part, is_wanted):
+def path_to(graph: Graph, here: Vertex, part: Set[Vertex], is_wanted: Callable[[Edge], bool]) -> tuple[Vertex, tuple[tuple[int, Move], ...]]:
     """The shortest path within a part whose last edge is a wanted one; where it leads, and its moves."""
-    waiting, seen = deque([(here, ())]), {here}
+    waiting: deque[tuple[Vertex, tuple[tuple[int, Move], ...]]] = deque([(here, ())])
+    seen = {here}
     while True:
         vertex, path = waiting.popleft()
         for edge in graph.edges.get(vertex, ()):
@@ -281,21 +300,27 @@ def path_to(graph, here, part, is_wanted):
 class Components:
     """The strongly connected parts of the graph, each behind those that it leads to (Tarjan), and for each vertex the place of its part."""
 
-    def __init__(self, graph):
-        self.graph, self.number, self.low, self.stack, self.on_stack, self.parts, self.place_of = graph, {}, {}, [], set(), [], {}
+    def __init__(self, graph: Graph) -> None:
+        self.graph = graph
+        self.number: dict[Vertex, int] = {}
+        self.low: dict[Vertex, int] = {}
+        self.stack: list[Vertex] = []
+        self.on_stack: set[Vertex] = set()
+        self.parts: list[list[Vertex]] = []
+        self.place_of: dict[Vertex, int] = {}
         for root in list(graph.nodes):
             if root not in self.number:
                 self.walk(root)
 
-    def enter(self, vertex, work):
+    def enter(self, vertex: Vertex, work: list[tuple[Vertex, Iterator[Edge]]]) -> None:
         self.number[vertex] = self.low[vertex] = len(self.number)
         self.stack.append(vertex)
         self.on_stack.add(vertex)
         work.append((vertex, iter(self.graph.edges.get(vertex, ()))))
 
-    def walk(self, root):
+    def walk(self, root: Vertex) -> None:
         """All that a vertex leads to."""
-        work = []
+        work: list[tuple[Vertex, Iterator[Edge]]] = []
         self.enter(root, work)
         while work:
             vertex, edges = work[-1]
@@ -309,7 +334,7 @@ class Components:
                 work.pop()
                 self.leave(vertex, work)
 
-    def leave(self, vertex, work):
+    def leave(self, vertex: Vertex, work: list[tuple[Vertex, Iterator[Edge]]]) -> None:
         """A vertex all of whose edges were followed: its part is whole where it leads no further back."""
         if work:
             above = work[-1][0]
@@ -323,7 +348,7 @@ class Components:
             self.parts.append(part)
 
 
-def ways_of(graph, parts, place_of):
+def ways_of(graph: Graph, parts: Sequence[Sequence[Vertex]], place_of: Mapping[Vertex, int]) -> dict[int, int]:
     """For each part in how many ways it is come to from the start."""
     if not graph.nodes:
         return {}

@@ -1,8 +1,13 @@
 """Endless loops in which no other hart can affect a hart: how they are detected, and which of their states represents them."""
-from typing import NamedTuple
+from __future__ import annotations
+
+from typing import Iterator, NamedTuple, TYPE_CHECKING
 
 from rvlook.errors import Fault
 from rvlook.finders.races.machine import Work, digest_of
+
+if TYPE_CHECKING:
+    from rvlook.finders.races.machine import Look, Machine, State, Way
 
 
 class Loop(NamedTuple):
@@ -15,10 +20,11 @@ class Loop(NamedTuple):
 class LoopDetector:
     """Detects that a hart returns to an earlier state; compares with single states at ever larger distances (Brent's algorithm)."""
 
-    def __init__(self):
-        self.mark, self.marked, self.count, self.next = None, 0, 0, 1
+    def __init__(self) -> None:
+        self.marked, self.count, self.next = 0, 0, 1
+        self.mark: tuple[int, int, int, tuple[int, ...]] | None = None
 
-    def length(self, work):
+    def length(self, work: Work) -> int:
         """Returns the steps of the loop, or 0 while none is detected; to be called before each step."""
         if self.mark and work.pc == self.mark[0] and state_of(work) == self.mark:
             return self.count + 1 - self.marked
@@ -28,12 +34,12 @@ class LoopDetector:
         return 0
 
 
-def state_of(work):
+def state_of(work: Work) -> tuple[int, int, int, tuple[int, ...]]:
     """Returns all that may change in a hart's independent steps."""
     return work.pc, work.context, work.digest, tuple(work.registers)
 
 
-def do_steps(machine, work, count, way):
+def do_steps(machine: Machine, work: Work, count: int, way: Way) -> Iterator[Look]:
     """Does so many steps of a hart; yields the access of each after it."""
     for _ in range(count):
         look = machine.look(work)
@@ -41,10 +47,11 @@ def do_steps(machine, work, count, way):
         yield look
 
 
-def loop_of(machine, work, length, way):
+def loop_of(machine: Machine, work: Work, length: int, way: Way) -> tuple[Loop, tuple[int, int, int, tuple[int, ...]]]:
     """Goes through a loop twice; returns what the hart does in it, and the state that represents the loop. This is the least by pc,
     registers and the bytes that the loop itself stores, so that it does not depend on what other harts store meanwhile."""
-    digest, accesses, changes, stored = work.digest, False, False, set()
+    digest, accesses, changes = work.digest, False, False
+    stored: set[int] = set()
     for look in do_steps(machine, work, length, way):
         accesses, changes = accesses or bool(look.kind), changes or work.digest != digest
         if look.kind == "w":
@@ -59,7 +66,7 @@ def loop_of(machine, work, length, way):
     return Loop(accesses, changes, length), (pc, context, own ^ rest, registers)
 
 
-def first_arrival(machine, state, work, wanted, first):
+def first_arrival(machine: Machine, state: State, work: Work, wanted: tuple[int, int, int, tuple[int, ...]], first: int) -> Work:
     """Returns the hart where it first comes to the state `wanted` of its loop, after `first` steps or more. `work` has been there."""
     again, most = Work(machine, state, work.hart), work.done
     while again.done < first or state_of(again) != wanted:

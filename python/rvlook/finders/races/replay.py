@@ -1,14 +1,23 @@
 """An end of races is told once its schedule was done again on the bench, and all that the bench shows is as it was worked out: registers,
 control registers, modes and worlds, entries, the table, and each byte of RAM. And the schedule as an input of the bench."""
+from __future__ import annotations
+
 import os
+from typing import Callable, Sequence, TYPE_CHECKING
 
 from rvlook.protocol.bench_line import ended
-from rvlook.image.escapes import visible
+from rvlook.output.escapes import visible
 from rvlook.errors import Fault
 from rvlook.finders.outcomes import Bytes, Register
 from rvlook.finders.races.machine import ROW, commands_of
-from rvlook.protocol.replies import ran_of
-from rvlook.image.symbols import RAM_BASE
+from rvlook.protocol.replies import step_of
+from rvlook.protocol.memory_map import RAM_BASE
+
+if TYPE_CHECKING:
+    from rvlook.finders.outcomes import Observed
+    from rvlook.finders.races.ends import End
+    from rvlook.finders.races.machine import Machine, Memory, State
+    from rvlook.protocol.bench import Bench
 
 LONGEST_COMMENT = 118  # characters behind `# `
 
@@ -16,17 +25,18 @@ LONGEST_COMMENT = 118  # characters behind `# `
 class Replays:
     """Does schedules again, and compares; `rows` are the replies of `mem` for all RAM behind the script."""
 
-    def __init__(self, machine):
-        self.machine, self.rows = machine, None
+    def __init__(self, machine: Machine) -> None:
+        self.machine = machine
+        self.rows: list[str] | None = None
         count = machine.setup.ram // ROW
         self.question = "".join("mem %x %d\n" % (RAM_BASE + ROW * row, ROW) for row in range(count)).encode()
         self.count = count
 
-    def ram(self, bench):
+    def ram(self, bench: Bench) -> list[str]:
         """All rows of RAM."""
         return bench.block(self.question, self.count).decode().splitlines()
 
-    def check(self, end):
+    def check(self, end: End) -> None:
         """A Fault where the bench comes otherwise; the round that stands behind the schedule is done twice."""
         machine, state = self.machine, end.state
         with machine.at_start() as bench:
@@ -36,13 +46,13 @@ class Replays:
             for _ in range(2 if end.round else 0):
                 self.done(bench, end, commands_of(end.round, machine.count), state)
 
-    def done(self, bench, end, commands, state):
+    def done(self, bench: Bench, end: End, commands: Sequence[str], state: State) -> None:
         """Does commands, and compares what they came to."""
         machine, chosen, told = self.machine, 0, {}
-        for command, replies in zip(commands, bench.ask(*commands)):
+        for command, lines in zip(commands, bench.ask(*commands)):
             chosen = int(command[5:]) if command.startswith("hart ") else chosen
             if command.startswith("step"):
-                ran = ran_of(replies[0])
+                ran = step_of(lines[0])
                 told[chosen] = ran.mode, ran.world
         for hart in range(machine.count):
             replies = bench.ask(*machine.choose(hart), "regs", *machine.rest)[1:]
@@ -54,21 +64,21 @@ class Replays:
         self.expect(end, tuple(bench.ask("enclaves")[0]), machine.tables[state.table][0])
         self.expect(end, self.ram(bench), self.wanted(machine.memories[state.memory]))
 
-    def wanted(self, memory):
+    def wanted(self, memory: Memory) -> list[str]:
         """The rows as they should be."""
-        rows = list(self.rows)
+        rows = list(self.rows or ())
         for row in {(at - RAM_BASE) // ROW for at in memory}:
             at = RAM_BASE + ROW * row
-            rows[row] = "%08x: %s" % (at, " ".join("%02x" % it for it in self.machine.bytes_at(memory, at, ROW)))
+            rows[row] = "%08x: %s" % (at, " ".join("%02x" % it for it in self.machine.bytes_at(memory, at, ROW) or ()))
         return rows
 
     @staticmethod
-    def expect(end, found, wanted):
+    def expect(end: End, found: object, wanted: object) -> None:
         if found != wanted:
             raise Fault("the order of end %d came otherwise on the bench: what a step depends on was not all seen" % end.number)
 
 
-def questions_of(outcome, count):
+def questions_of(outcome: Observed, count: int) -> list[str]:
     """The commands that show an outcome."""
     if isinstance(outcome, Bytes):
         return ["mem %x %d" % (outcome.at + n, min(ROW, outcome.count - n)) for n in range(0, outcome.count, ROW)]
@@ -77,12 +87,12 @@ def questions_of(outcome, count):
     return ["enclaves"]
 
 
-def comment(text):
+def comment(text: str) -> str:
     """Returns a comment that the bench takes: one line of at most 120 printable ASCII characters."""
     return "# " + visible(text).encode("ascii", "backslashreplace").decode("ascii")[:LONGEST_COMMENT]
 
 
-def script_of(machine, end, outcome, heading):
+def script_of(machine: Machine, end: End, outcome: Sequence[Observed], heading: str) -> bytes:
     """The input of the bench that does an end's schedule again, and shows what tells it from others."""
     setup = machine.setup
     lines = [comment(heading), comment("./rvbench %s < this file" % " ".join(setup.words()))]
@@ -94,7 +104,7 @@ def script_of(machine, end, outcome, heading):
     return setup.image.text + b"--\n" + "".join(map(ended, lines)).encode("latin-1", "replace")
 
 
-def write_scripts(folder, machine, ends, outcome, heading_of):
+def write_scripts(folder: str, machine: Machine, ends: Sequence[End], outcome: Sequence[Observed], heading_of: Callable[[End], str]) -> None:
     """A file for each end."""
     try:
         os.makedirs(folder, exist_ok=True)

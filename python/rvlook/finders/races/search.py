@@ -2,16 +2,22 @@
 be affected by: one that touches a byte which both touch and one writes, that calls the monitor, or that touches what is a region at one
 time or another. All other steps commute with those of the other, so no end is lost. What both touch is found by searching again as long as
 it grows. Places that are alike are one; the simplest way to each is found first, by preemptions, timers, switches and steps."""
+from __future__ import annotations
+
 import heapq
 import itertools
 from collections import defaultdict
-from typing import NamedTuple, Optional
+from typing import Any, Callable, Iterable, Iterator, NamedTuple, Optional, TYPE_CHECKING, Tuple, Union
 
 from rvlook.protocol import names
 from rvlook.finders.outcomes import Watched
 from rvlook.finders.races.loop import LoopDetector, first_arrival, loop_of
-from rvlook.finders.races.machine import State, Work
+from rvlook.finders.races.machine import Called, State, Work
 from rvlook.finders.races.time_limit import OutOfTime, TimeLimit
+
+if TYPE_CHECKING:
+    from rvlook.finders.races.machine import Context, Look, Machine, Outcome, Piece, Way
+    from rvlook.finders.races.loop import Loop
 
 MOST_ALONE = 10000  # moves of one hart in succession; then it is reported as not ended, and the search is not whole
 SEARCH_SHARE = 0.85  # of the time limit; the rest is for the analysis of the graph and for the replays
@@ -22,7 +28,7 @@ class Met(NamedTuple):
     whether it took the timer."""
     before: int
     pc: Optional[int]
-    look: object
+    look: Optional[Look]
     world: str
     timed: bool
 
@@ -44,14 +50,41 @@ class Place(NamedTuple):
     begun: bool
 
 
+class Origin(NamedTuple):
+    """How a node was reached: from which node, by which move, and whether the timer came before it. The start has none."""
+    parent: Optional[Node] = None
+    move: Optional[Move] = None
+    is_timer: bool = False
+
+
+Vertex = Tuple[Any, ...]  # a place, or a part of one
+Edge = Tuple[Vertex, int, Move, int]  # where it leads, the hart, its move, and 1 for a preemption
+Agent = Union[int, Tuple[int, str]]  # a hart, or a hart in a world
+Cost = Tuple[int, int, int, int]  # preemptions, timers, switches and steps
+
+
 class Node:
-    """A place with the way to it."""
+    """A place with the way to it. `cost` is of the whole way: preemptions, timers, switches and steps. `alone` counts the moves of its hart
+    in succession; `low` is the first step that the next switch may be attributed to."""
     __slots__ = ("place", "parent", "move", "is_timer", "alone", "cost", "low")
 
-    def __init__(self, place, cost=(0, 0, 0, 0), parent=None, move=None, is_timer=False, alone=0, low=0):
-        self.place, self.cost, self.parent, self.move, self.is_timer, self.alone, self.low = place, cost, parent, move, is_timer, alone, low
+    def __init__(self, place: Place, cost: Cost = (0, 0, 0, 0), origin: Origin = Origin(), alone: int = 0, low: int = 0) -> None:
+        self.place, self.cost, self.alone, self.low = place, cost, alone, low
+        self.parent, self.move, self.is_timer = origin
 
-    def pieces(self):
+    @property
+    def hart(self) -> int:
+        """The hart of the last move; the start has none."""
+        assert self.place.last is not None
+        return self.place.last
+
+    @property
+    def last_move(self) -> Move:
+        """The last move; the start has none."""
+        assert self.move is not None
+        return self.move
+
+    def pieces(self) -> list[Node]:
         """The nodes of the way, the first move's first."""
         found, node = [], self
         while node.parent:
@@ -59,34 +92,37 @@ class Node:
             node = node.parent
         return found[::-1]
 
-    def way(self):
+    def way(self) -> list[Piece]:
         """The schedule that leads here: of each piece the hart, its steps, and what is done with the timer's line before them."""
-        return way_of((it.place.last, it.move, it.is_timer) for it in self.pieces())
+        return way_of((it.hart, it.last_move, it.is_timer) for it in self.pieces())
 
 
-def way_of(moves):
+def way_of(moves: Iterable[tuple[int, Move, bool]]) -> list[Piece]:
     """Moves as a schedule. On the bare bench the line that was taken is lowered."""
-    joined, lowers = [], False
+    joined: list[Piece] = []
+    lowers = False
     for hart, move, is_timer in moves:
         if lowers:
-            joined.append([hart, 0, "off"])
+            joined.append((hart, 0, "off"))
         if is_timer:
-            joined.append([hart, 0, "on"])
+            joined.append((hart, 0, "on"))
         if joined and joined[-1][0] == hart:
-            joined[-1][1] += move.steps
+            joined[-1] = (hart, joined[-1][1] + move.steps, joined[-1][2])
         else:
-            joined.append([hart, move.steps, ""])
+            joined.append((hart, move.steps, ""))
         lowers = move.met.timed and move.met.world == "bare"
-    return [tuple(it) for it in joined] + ([(joined[-1][0], 0, "off")] if lowers else [])
+    return joined + ([(joined[-1][0], 0, "off")] if lowers else [])
 
 
 class Touches:
     """Bytes that each agent read, wrote and executed."""
 
-    def __init__(self):
-        self.read, self.written, self.executed = defaultdict(set), defaultdict(set), defaultdict(set)
+    def __init__(self) -> None:
+        self.read: dict[Agent, set[int]] = defaultdict(set)
+        self.written: dict[Agent, set[int]] = defaultdict(set)
+        self.executed: dict[Agent, set[int]] = defaultdict(set)
 
-    def met(self):
+    def met(self) -> set[int]:
         """The bytes that two agents touched, one of them by a store."""
         met = set()
         for one, other in itertools.permutations(set(self.read) | set(self.written) | set(self.executed), 2):
@@ -99,8 +135,13 @@ class Graph:
     """The orders of a round: the first node of each vertex, and the edges from it; the moves of each state; the endless loops in which no
     other hart can affect a hart, by state and hart; and the states in which a hart was given up, within a move or after many moves alone."""
 
-    def __init__(self):
-        self.nodes, self.edges, self.moves, self.loops, self.unended, self.alone = {}, {}, {}, {}, set(), set()
+    def __init__(self) -> None:
+        self.nodes: dict[Vertex, Node] = {}
+        self.edges: dict[Vertex, list[Edge]] = {}
+        self.moves: dict[tuple[State, int, bool], Move | None] = {}
+        self.loops: dict[tuple[State, int], Loop] = {}
+        self.unended: set[tuple[State, int]] = set()
+        self.alone: set[tuple[State, int]] = set()
 
 
 class Bounds(NamedTuple):
@@ -113,28 +154,37 @@ class Bounds(NamedTuple):
     last: Optional[int] = None
 
     @property
-    def is_part(self):
+    def is_part(self) -> bool:
         return self.first > 0 or self.last is not None
 
 
 class Search:
-    """All orders within bounds. `plain` switches harts before each step; `outcome` is what distinguishes final states."""
+    """All orders within bounds. `plain` switches harts before each step; `outcome` is what distinguishes final states; `progress`, which may
+    be set, is called with the search at each place."""
 
-    def __init__(self, machine, bounds=Bounds(), plain=False, outcome=Watched(), limit=TimeLimit(), tell=lambda _: None):
-        self.machine, self.bounds, self.tell, self.outcome, self.limit = machine, bounds, tell, outcome, limit
+    def __init__(self, machine: Machine, bounds: Bounds = Bounds(), plain: bool = False, outcome: Watched = Watched(),
+                 limit: TimeLimit = TimeLimit()) -> None:
+        self.machine, self.bounds, self.outcome, self.limit = machine, bounds, outcome, limit
+        self.progress: Callable[[Search], None] | None = None
         self.watched = frozenset((*outcome.addresses, -1)) if bounds.timers else frozenset()
         self.plain = plain or not machine.monitor  # a handler of the bare bench shares its registers with what it stops
         self.is_outcome_visible = self.plain
-        self.met, self.touches, self.rounds = frozenset(), Touches(), 0
-        self.why_cut, self.whole = None, None  # the last level, of preemptions and timers, of which all was searched
-        self.graph, self.earlier, self.reduced = None, None, None  # of this round; of the one that came to that level; before `show_outcome`
+        self.met: frozenset[int] = frozenset()
+        self.touches, self.rounds, self.regions = Touches(), 0, 0
+        self.why_cut: str | None = None
+        self.whole: tuple[int, int] | None = None  # the last level, of preemptions and timers, of which all was searched
+        self.graph = Graph()  # of this round
+        self.earlier: Graph | None = None  # of the round that came to that level
+        self.reduced: Graph | None = None  # of the round before `show_outcome`
         self.reset()
 
-    def reset(self):
-        self.cycles, self.done, self.graph = {}, set(), Graph()
+    def reset(self) -> None:
+        self.cycles: dict[tuple[State, int], int] = {}
+        self.done: set[Place] = set()
+        self.graph = Graph()
         self.count, self.level, self.waiting = 0, (0, 0), 0
 
-    def run(self):
+    def run(self) -> Search:
         """Searches again as long as more bytes turn out to be met; what the bench has replied is known then."""
         try:
             with self.limit.until(SEARCH_SHARE):
@@ -145,7 +195,7 @@ class Search:
             self.why_cut = "--seconds"
         return self
 
-    def run_rounds(self):
+    def run_rounds(self) -> None:
         """Does rounds of the search, up to one in which nothing more is met."""
         is_done = False
         while not is_done:
@@ -153,15 +203,15 @@ class Search:
             self.reset()
             is_done = self.search()
 
-    def show_outcome(self):
+    def show_outcome(self) -> None:
         """Makes each step that may change the outcome a dependent one in the rounds that follow, so that each value of it has a node."""
         self.is_outcome_visible, self.reduced, self.whole, self.earlier = True, self.graph, None, None
 
-    def graphs(self):
+    def graphs(self) -> list[Graph]:
         """Returns the graphs whose final states are reported."""
         return [it for it in (self.reduced, self.earlier, self.graph) if it]
 
-    def is_hidden(self, hart):
+    def is_hidden(self, hart: int) -> bool:
         """Returns whether independent steps of a hart may change the outcome."""
         if any(of == hart for of, _ in self.outcome.registers):
             return True
@@ -169,11 +219,11 @@ class Search:
         stored = set().union(*(self.touches.written[it] for it in agents))
         return any(it in stored or self.machine.meets(it, 1) for it in self.outcome.addresses - self.met)
 
-    def is_whole(self):
+    def is_whole(self) -> bool:
         """Returns whether all orders within the bounds were searched, and no hart was given up."""
         return not self.why_cut and not any(it.alone or it.unended for it in self.graphs())
 
-    def grows(self):
+    def grows(self) -> bool:
         """Whether more bytes are met, or more is a region, than this round was searched with."""
         regions, met = len(self.machine.regions), self.touches.met()
         if self.plain or met <= self.met and regions == self.regions:
@@ -181,7 +231,7 @@ class Search:
         self.met |= met
         return True
 
-    def search(self):
+    def search(self) -> bool:
         """One round: True where it came to its end, False where more turned out to be met."""
         order, self.regions = itertools.count(), len(self.machine.regions)
         start = Node(Place(self.machine.start, None, 0, not self.bounds.is_part))
@@ -199,27 +249,28 @@ class Search:
             self.done.add(node.place)
             self.graph.nodes.setdefault(self.vertex(node), node)
             self.waiting = len(heap)
-            self.tell(self)
+            if self.progress:
+                self.progress(self)
             for following in self.next_nodes(node):
                 heapq.heappush(heap, (following.cost, next(order), following))
         self.earlier = None
         return not self.grows()
 
-    def vertex(self, node):
+    def vertex(self, node: Node) -> Vertex:
         """The vertex of a node in the graph of orders; who was last does not matter where any number of preemptions is allowed."""
         place = node.place
         return place if self.bounds.preemptions is not None else (place.state, place.timers, place.begun)
 
-    def edges_of(self, node):
+    def edges_of(self, node: Node) -> list[Edge]:
         """Where the edges from a node are kept; those of a vertex that has them go nowhere."""
         vertex, edges = self.vertex(node), self.graph.edges
         return edges.setdefault(vertex, []) if vertex not in edges else []
 
-    def next_nodes(self, node):
+    def next_nodes(self, node: Node) -> Iterator[Node]:
         """Where it may go on, with the cost: preemptions, timers, switches, steps."""
         state, last, timers, begun = node.place
         if node.alone > MOST_ALONE:
-            self.graph.alone.add((state, last))
+            self.graph.alone.add((state, node.hart))
             for hart in range(self.machine.count):
                 self.move(state, hart, node.way)  # so that it is known which harts have ended
             return
@@ -238,12 +289,12 @@ class Search:
                 self.count += 1
                 comes = is_switch or is_timer
                 new = Node(Place(move.state, hart, timers + is_timer, begun or comes),
-                           (preemptions, cost[1] + is_timer, cost[2] + is_switch, cost[3] + move.steps), node, move, is_timer,
+                           (preemptions, cost[1] + is_timer, cost[2] + is_switch, cost[3] + move.steps), Origin(node, move, is_timer),
                            1 if comes else node.alone + 1, cost[3] + move.met.before + 1)
                 edges.append((self.vertex(new), hart, move, preemptions - cost[0]))
                 yield new
 
-    def is_in_part(self, node, hart):
+    def is_in_part(self, node: Node, hart: int) -> bool:
         """Returns whether the first switch or timer, which comes here, represents one within `first` and `last`. It may come as well before
         any of the independent steps up to here, or up to the step of the hart's first move; and in an endless loop each time round."""
         state, last = node.place.state, node.place.last
@@ -258,7 +309,7 @@ class Search:
 
     # ---- moves
 
-    def move(self, state, hart, way, is_timer=False):
+    def move(self, state: State, hart: int, way: Way, is_timer: bool = False) -> Move | None:
         """A hart's move, or None where it does no more; `way` gives the schedule that leads here."""
         key = (state, hart, is_timer)
         moves = self.graph.moves
@@ -266,7 +317,7 @@ class Search:
             moves[key] = self.timer_move(state, hart, way) if is_timer else self.made(state, hart, way)
         return moves[key]
 
-    def timer_move(self, state, hart, way):
+    def timer_move(self, state: State, hart: int, way: Way) -> Move | None:
         """The timer's line rises. Under the monitor it matters to enclaves alone, and stops one before its next instruction."""
         work = Work(self.machine, state, hart)
         world = work.own.world
@@ -281,16 +332,20 @@ class Search:
         return Move(self.kept(work, done), 1, met, (work.digest, work.table) != before)
 
     @staticmethod
-    def kept(work, done):
+    def kept(work: Work, done: Outcome | None) -> State:
         """The state behind a step; on the bare bench the line that was taken is lowered."""
         if is_taken(done) and work.own.world == "bare":
             work.raise_line(False)
         return work.kept()
 
-    def made(self, state, hart, way):
+    def made(self, state: State, hart: int, way: Way) -> Move | None:
         """Steps up to one that others could be affected by, this one, and those behind it up to the next such."""
-        machine, work, detector, met = self.machine, Work(self.machine, state, hart), LoopDetector(), None
-        behind = lambda: way() + ([(hart, work.done, "")] if work.done else [])
+        machine, work, detector = self.machine, Work(self.machine, state, hart), LoopDetector()
+        met: Met | None = None
+
+        def behind() -> list[Piece]:
+            return way() + ([(hart, work.done, "")] if work.done else [])
+
         done, changes, before, skipped = None, False, (work.digest, work.table), 0
         while not machine.is_over(work):
             look = machine.look(work)
@@ -321,7 +376,7 @@ class Search:
             return None
         return Move(found, work.done, met or Met(work.done, None, None, work.own.world, False), changes)
 
-    def looped(self, state, work, length, first, way):
+    def looped(self, state: State, work: Work, length: int, first: int, way: Way) -> Work:
         """Returns a hart that is in an endless loop where it first comes to the state that represents the loop, and keeps what it does in
         the loop. So all its states in the loop are one for the search."""
         loop, wanted = loop_of(self.machine, work, length, way)
@@ -329,7 +384,7 @@ class Search:
         self.graph.loops[found.kept()._replace(steps=()), work.hart] = loop
         return found
 
-    def is_met(self, work, look):
+    def is_met(self, work: Work, look: Look) -> bool:
         """Whether others could be affected by a hart's next step, or it by theirs."""
         if self.plain or look.asks_table:
             return True
@@ -344,33 +399,34 @@ class Search:
             return False
         return not met.isdisjoint(range(look.at, look.at + look.width)) or self.machine.meets(look.at, look.width)
 
-    def is_watched(self, own, look):
+    def is_watched(self, own: Context, look: Look) -> bool:
         """Whether an enclave's step is one of which an order may leave out those behind it, as the timer may come and the host not resume: it
         stores what tells ends apart, or the steps of a hart are limited."""
         if own.world == "host":
             return False
         return bool(self.machine.limit) or look.kind == "w" and not self.watched.isdisjoint(range(look.at, look.at + look.width))
 
-    def log(self, hart, world, pc, look, done):
+    def log(self, hart: int, world: str, pc: int, look: Look, done: Outcome) -> None:
         """Keeps what a step touched."""
-        agent = (hart, world) if self.bounds.timers else hart
+        agent: Agent = (hart, world) if self.bounds.timers else hart
         self.touches.executed[agent].add(pc)
         if look.kind in ("r", "w"):
             own = self.machine.contexts[look.key[0]]
             if not is_inside(own, look):
                 (self.touches.read if look.kind == "r" else self.touches.written)[agent].update(range(look.at, look.at + look.width))
-        elif look.kind == "call" and done.writes:
+        elif isinstance(done, Called) and look.kind == "call" and done.writes:
             self.touches.written[agent].update(at for at, _ in done.writes)
 
     # ---- harts that do no more
 
-    def is_free(self, state, hart, way):
+    def is_free(self, state: State, hart: int, way: Way) -> bool:
         """Whether leaving a hart is no preemption: it does no more, or by itself comes back to where it is."""
         return self.move(state, hart, way) is None or self.goes_round(state, hart, way)
 
-    def goes_round(self, state, hart, way):
+    def goes_round(self, state: State, hart: int, way: Way) -> bool:
         """Whether a hart by itself comes back to this state; `cycles` has in how many steps, or 0."""
-        chain, passed, asked, move = {}, [0], state, None
+        chain: dict[State, int] = {}
+        passed, asked, move = [0], state, None
         while (state, hart) not in self.cycles and state not in chain and len(chain) <= MOST_ALONE:
             chain[state] = len(chain)
             move = self.move(state, hart, lambda: way() + ([(hart, passed[-1], "")] if passed[-1] else []))
@@ -383,14 +439,14 @@ class Search:
         return bool(self.cycles[asked, hart])
 
 
-def is_taken(done):
+def is_taken(done: Outcome | None) -> bool:
     """Whether a step was an interrupt of the timer."""
     if done is None:
         return False
-    return done.trap.startswith(names.TIMER) if hasattr(done, "trap") else done.trapped == names.TIMER
+    return done.trap.startswith(names.TIMER) if isinstance(done, Called) else done.trapped == names.TIMER
 
 
-def is_inside(own, look):
+def is_inside(own: Context, look: Look) -> bool:
     """Whether an enclave touches its own region, where nobody else is while it runs."""
     blocks = own.blocks
     return bool(blocks) and blocks[0] <= look.at and look.at + look.width <= blocks[0] + blocks[1]

@@ -1,29 +1,43 @@
 """What the word races tells: the ends, each with the simplest order that leads to it, for a person and as objects; and what was covered."""
-from rvlook.finders.outcomes import Table, condition_of, number_of, outcomes_of, ranges_of, value_text, watched_of
+from __future__ import annotations
+
+from dataclasses import dataclass, field
+from typing import Callable, Iterator, List, Sequence, Set, TYPE_CHECKING, Tuple
+
+from rvlook.finders.outcomes import Condition, Table, condition_of, number_of, outcomes_of, ranges_of, value_text, watched_of
 from rvlook.errors import Fault, Unfinished, tell
 from rvlook.output.progress import Progress
 from rvlook.finders.races.search import MOST_ALONE, Bounds, Search
-from rvlook.finders.races.ends import GOES_ON, GRACE, LEFT, LONG, OVER, SLACK, STAYS, WAITS, search_ends
+from rvlook.finders.races.ends import GOES_ON, GRACE, LEFT, LONG, OVER, SLACK, STAYS, WAITS, End, Ends, search_ends
 from rvlook.finders.races.machine import Machine, commands_of
 from rvlook.finders.races.replay import Replays, write_scripts
 from rvlook.output.printer import Style, hex8, place_text, run_object
+from rvlook.protocol.run import Run
+from rvlook.protocol.symbols import Symbols
 from rvlook.finders.races.time_limit import OutOfTime, TimeLimit
+
+if TYPE_CHECKING:
+    from argparse import Namespace
+    from rvlook.finders.outcomes import Observed, Value
+    from rvlook.finders.races.search import Met, Node
+    from rvlook.output.findings import Findings
+    from rvlook.output.printer import Json, Printer
 
 SHOWN = 3  # accesses at the beginning and at the end of a hart's turn
 HOW_TEXT = {WAITS: "waits for ever", GOES_ON: "goes on for ever", LEFT: "is left"}
 
 
-def counted(count, name):
+def counted(count: int, name: str) -> str:
     return "%d %s%s" % (count, name, "" if count == 1 else "s")
 
 
 class Story:
     """An end with the words for it."""
 
-    def __init__(self, end, outcome, search, symbols, places):
+    def __init__(self, end: End, outcome: Sequence[Observed], search: Search, symbols: Symbols, places: Sequence[Set[int | None]]) -> None:
         self.end, self.outcome, self.search, self.symbols, self.places = end, outcome, search, symbols, places
 
-    def heading(self):
+    def heading(self) -> str:
         """An end in a line: the values that tell it, and how the harts ended where that is not told by them."""
         parts = ["%s=%s" % (it.name, value_text(value)) for it, value in zip(self.outcome, self.end.values) if value != ()]
         for hart, (how, pc) in enumerate(self.end.harts):
@@ -37,18 +51,20 @@ class Story:
                 parts.append("hart %d at %s" % (hart, self.place(pc)))
         return "  ".join(parts) or "all is over"
 
-    def limit(self, hart):
+    def limit(self, hart: int) -> str:
         """How long a hart was let go on."""
         search, state = self.search, self.end.node.place.state
         is_alone = any((state, hart) in it.alone for it in search.graphs())
         return "%d moves alone" % MOST_ALONE if is_alone else counted(search.bounds.steps, "step")
 
-    def place(self, pc):
+    def place(self, pc: int | None) -> str:
+        """Returns the source line of a pc, its symbol or its address; the pc must be known."""
+        assert pc is not None
         return self.symbols.source(pc) or self.symbols.name(pc) or hex8(pc)
 
-    def turns(self):
+    def turns(self) -> list[list[Node]]:
         """The moves that lead to it, in turns of one hart; the timer begins a turn."""
-        turns = []
+        turns: list[list[Node]] = []
         for it in self.end.node.pieces():
             if turns and turns[-1][0].place.last == it.place.last and not it.is_timer:
                 turns[-1].append(it)
@@ -56,35 +72,36 @@ class Story:
                 turns.append([it])
         return turns
 
-    def sentences(self):
+    def sentences(self) -> Iterator[str]:
         """What a turn did that came into another one, and where the timer came."""
         turns = self.turns()
         for number, turn in enumerate(turns):
             if turn[0].is_timer:
-                yield "%s before %s" % (timer_text(turn[0].move.met), self.place(turn[0].move.met.pc))
+                yield "%s before %s" % (timer_text(turn[0].last_move.met), self.place(turn[0].last_move.met.pc))
             elif 0 < number < len(turns) - 1:
                 before, behind = turns[number - 1], turns[number + 1]
-                met = [[it.move.met.pc for it in part if it.move.met.pc is not None] for part in (before, turn, behind)]
-                if all(met) and before[0].place.last == behind[0].place.last != turn[0].place.last and not behind[0].is_timer:
+                met = [[it.last_move.met.pc for it in part if it.last_move.met.pc is not None] for part in (before, turn, behind)]
+                if all(met) and before[0].hart == behind[0].hart != turn[0].hart and not behind[0].is_timer:
                     yield "hart %d does %s between %s and %s of hart %d" % (
-                        turn[0].place.last, self.span(met[1]), self.place(met[0][-1]), self.place(met[2][0]), before[0].place.last)
+                        turn[0].hart, self.span(met[1]), self.place(met[0][-1]), self.place(met[2][0]), before[0].hart)
 
-    def span(self, pcs):
+    def span(self, pcs: Sequence[int]) -> str:
         first, last = self.place(pcs[0]), self.place(pcs[-1])
         return first if first == last else "%s to %s" % (first, last)
 
-    def access(self, node):
+    def access(self, node: Node) -> str:
         """One move by what it touched, and where."""
-        move = node.move.met
+        _, pc, look, _, _ = met = node.last_move.met
+        assert pc is not None and look is not None
         if node.is_timer:
-            what = timer_text(move)
-        elif move.look.kind in ("r", "w"):
-            what = "%s %08x %d  %s" % (move.look.kind, move.look.at, move.look.width, self.symbols.name(move.look.at) or "")
+            what = timer_text(met)
+        elif look.kind in ("r", "w"):
+            what = "%s %08x %d  %s" % (look.kind, look.at, look.width, self.symbols.name(look.at) or "")
         else:
-            what = "calls the monitor" if move.look.kind == "call" else "x"
-        return "      %-34s %s" % (what.rstrip(), place_text(hex8(move.pc), self.symbols))
+            what = "calls the monitor" if look.kind == "call" else "x"
+        return "      %-34s %s" % (what.rstrip(), place_text(hex8(pc), self.symbols))
 
-    def lines(self, total):
+    def lines(self, total: int) -> Iterator[str]:
         """The end, line by line, behind its heading."""
         preemptions, timers, switches, _ = self.end.node.cost
         parts = [counted(preemptions, "preemption")] + ([counted(timers, "timer")] if self.search.bounds.timers else [])
@@ -92,8 +109,8 @@ class Story:
                                                     counted(switches, "switch").replace("switchs", "switches"), counted(self.end.steps, "step"))
         yield from ("  " + it for it in self.sentences())
         for turn in self.turns():
-            yield "    hart %d, %s" % (turn[0].place.last, counted(sum(it.move.steps for it in turn), "step"))
-            lines = [self.access(it) for it in turn if it.move.met.pc is not None]
+            yield "    hart %d, %s" % (turn[0].hart, counted(sum(it.last_move.steps for it in turn), "step"))
+            lines = [self.access(it) for it in turn if it.last_move.met.pc is not None]
             yield from lines if len(lines) <= 2 * SHOWN + 1 else \
                 [*lines[:SHOWN], "      ... %d more" % (len(lines) - 2 * SHOWN), *lines[-SHOWN:]]
         for hart, steps, _ in self.end.tail:
@@ -102,36 +119,37 @@ class Story:
             pieces = self.end.round
             yield "    and from there, again and again: " + ", ".join("%s of hart %d" % (counted(steps, "step"), hart) for hart, steps, _ in pieces)
 
-    def object(self, printer):
+    def object(self, printer: Printer) -> None:
         end, count = self.end, self.search.machine.count
         preemptions, timers, switches, _ = end.node.cost
-        turns = [dict(hart=turn[0].place.last, steps=sum(it.move.steps for it in turn),
-                      touched=[self.touched(it) for it in turn if it.move.met.pc is not None]) for turn in self.turns()]
+        turns = [dict(hart=turn[0].hart, steps=sum(it.last_move.steps for it in turn),
+                      touched=[self.touched(it) for it in turn if it.last_move.met.pc is not None]) for turn in self.turns()]
         printer.object("race", end=end.number, values={it.name: shown(value) for it, value in zip(self.outcome, end.values)},
                        over=[dict(hart=hart, how=how, pc=hex8(pc)) for hart, (how, pc) in enumerate(end.harts)], orders=end.orders,
                        preemptions=preemptions, timers=timers, switches=switches, steps=end.steps, told=list(self.sentences()),
                        schedule=commands_of(end.way(), count), round=commands_of(end.round, count) if end.round else [],
                        turns=turns)
 
-    def touched(self, node):
-        look, pc = node.move.met.look, node.move.met.pc
+    def touched(self, node: Node) -> dict[str, Json]:
+        look, pc = node.last_move.met.look, node.last_move.met.pc
+        assert look is not None and pc is not None
         return dict(kind="timer" if node.is_timer else look.kind or "x", address=hex8(look.at) if look.kind in ("r", "w") else None,
                     symbol=self.symbols.name(look.at) if look.kind in ("r", "w") else None, pc=hex8(pc), source=self.symbols.source(pc))
 
 
-def timer_text(met):
+def timer_text(met: Met) -> str:
     """What the timer does where its line rises: on the bare bench it may be masked."""
     return "the timer rises" if met.world == "bare" else "the timer stops " + met.world
 
 
-def shown(value):
+def shown(value: Value) -> Json:
     """A value in an object: words as numbers, longer bytes as digits."""
     if isinstance(value, bytes):
         return number_of(value) if len(value) in (1, 2, 4) else value.hex()
     return dict(("e%d" % slot, state) for slot, state in value) if isinstance(value, tuple) else value
 
 
-def bound_text(bounds):
+def bound_text(bounds: Bounds) -> str:
     """The bounds of a search, in words."""
     bound = []
     if bounds.preemptions is not None:
@@ -144,7 +162,7 @@ def bound_text(bounds):
     return what
 
 
-def covered_text(search, found):
+def covered_text(search: Search, found: Ends) -> str:
     """What was searched. `all` is written only if no order is missing."""
     what, graph = bound_text(search.bounds), search.graph
     given_up = len(graph.alone) + len(graph.unended)
@@ -159,7 +177,7 @@ def covered_text(search, found):
     return text + ("; not what comes behind one hart that has not ended alone, %s" % counted(given_up, "place") if given_up else "")
 
 
-def level_text(search):
+def level_text(search: Search) -> str:
     """Of which orders all were searched before it was cut."""
     if search.whole is None:
         return "none"
@@ -169,7 +187,7 @@ def level_text(search):
     return "those with " + " and ".join(parts)
 
 
-def show_races(run, symbols, printer, options):
+def show_races(run: Run, symbols: Symbols, printer: Printer, options: Namespace) -> None:
     """The search, and what it found."""
     conditions = [condition_of(it, symbols) for it in options.forbid or ()]
     outcome = outcomes_of(options.outcome, conditions, symbols, run.setup.harts)
@@ -179,9 +197,10 @@ def show_races(run, symbols, printer, options):
     machine = Machine(run, ends, options.limit)
     try:
         with Progress() as progress:
-            search = Search(machine, bounds, options.plain, watched_of(outcome), limit, teller(progress))
+            search = Search(machine, bounds, options.plain, watched_of(outcome), limit)
+            search.progress = teller(progress)
             found = search_ends(search, lambda it: outcome or [*ranges_of(it.met, symbols), Table()])
-        told(search, found, conditions, symbols, printer, options, run)
+        told(Report(run, symbols, search, found, conditions), printer, options)
     except Fault as fault:  # the arguments are right, but the program cannot be searched
         raise Unfinished(str(fault)) from None
     finally:
@@ -190,39 +209,53 @@ def show_races(run, symbols, printer, options):
         raise KeyboardInterrupt
 
 
-def place_of(text, symbols):
+def place_of(text: str, symbols: Symbols) -> int:
     at = symbols.address(text)
     if at is None:
         raise Fault("%s is no hexadecimal number and no symbol" % text)
     return at
 
 
-def teller(progress):
+def teller(progress: Progress) -> Callable[[Search], None]:
     """How far the search is."""
-    def tell(search):
+    def tell(search: Search) -> None:
         if progress.is_shown:
             progress.tell("round %d: %d places, %d more wait, %d preemptions, %d timers, %d runs of the bench", search.rounds,
                           len(search.done), search.waiting, *search.level, search.machine.asked)
     return tell
 
 
-def told(search, found, conditions, symbols, printer, options, run):
+@dataclass
+class Report:
+    """A search and its final states; `stories` and `bad`, the final states that are forbidden with their conditions, are known after the
+    replay."""
+    run: Run
+    symbols: Symbols
+    search: Search
+    found: Ends
+    conditions: List[Condition]
+    stories: List[Story] = field(default_factory=list)
+    bad: List[Tuple[Condition, End]] = field(default_factory=list)
+
+
+def told(report: Report, printer: Printer, options: Namespace) -> None:
     """Reports all final states, each replayed on the bench first."""
+    search, found, conditions = report.search, report.found, report.conditions
     machine, named = search.machine, found.outcome
     replay(search, found, conditions)
     places = [{pc for it in found.ends for how, pc in it.harts[hart:hart + 1]} for hart in range(machine.count)]
-    stories = [Story(it, named, search, symbols, places) for it in found.ends]
+    stories = report.stories = [Story(it, named, search, report.symbols, places) for it in found.ends]
     if options.scripts:
         write_scripts(options.scripts, machine, found.ends, named, lambda end: "end %d: %s" % (
             end.number, stories[end.number - 1].heading()))
-    bad = forbidden(conditions, found)
-    (objects if printer.as_json else texts)(search, found, stories, bad, symbols, printer, run)
+    bad = report.bad = forbidden(conditions, found)
+    (objects if printer.as_json else texts)(report, printer)
     note(options.findings, stories, bad, conditions)
     if not bad:
         note_cut(options.findings, stories, search, found, conditions)
 
 
-def note(findings, stories, bad, conditions):
+def note(findings: Findings, stories: Sequence[Story], bad: Sequence[tuple[Condition, End]], conditions: Sequence[Condition]) -> None:
     """Notes what counts as found: with --forbid the ends that are forbidden, else each end but the first, and each in which a hart does
     not come to its end."""
     if conditions:
@@ -233,7 +266,7 @@ def note(findings, stories, bad, conditions):
         findings.add("end %d" % story.end.number, story.heading() if is_finding else "")
 
 
-def note_cut(findings, stories, search, found, conditions):
+def note_cut(findings: Findings, stories: Sequence[Story], search: Search, found: Ends, conditions: Sequence[Condition]) -> None:
     """Notes whether a part of the orders was not searched: by --seconds, or because a hart was given up."""
     if is_whole(search, found) or search.why_cut == "Ctrl-C":
         return
@@ -246,7 +279,7 @@ def note_cut(findings, stories, search, found, conditions):
         findings.cut_short("--seconds ends races: not all was searched")
 
 
-def note_forbidden(findings, stories, bad, conditions):
+def note_forbidden(findings: Findings, stories: Sequence[Story], bad: Sequence[tuple[Condition, End]], conditions: Sequence[Condition]) -> None:
     """Notes the ends that --forbid names; no other counts as found."""
     for condition, end in bad:
         tell("--forbid %s: end %d is so" % (condition.text, end.number))
@@ -255,7 +288,7 @@ def note_forbidden(findings, stories, bad, conditions):
         findings.add("--forbid " + condition.text, "\n".join(ends))
 
 
-def replay(search, found, conditions):
+def replay(search: Search, found: Ends, conditions: Sequence[Condition]) -> None:
     """Replays the final states on the bench, those first that are forbidden; leaves out those for which no time is left."""
     replayed, is_forbidden = [], {id(end) for _, end in forbidden(conditions, found)}
     try:
@@ -270,19 +303,21 @@ def replay(search, found, conditions):
         found.keep(replayed)
 
 
-def forbidden(conditions, found):
+def forbidden(conditions: Sequence[Condition], found: Ends) -> list[tuple[Condition, End]]:
     """The conditions that hold, each with the final state."""
     named = [it.name for it in found.outcome]
     return [(condition, end) for condition in conditions for end in found.ends if condition.holds(end, named)]
 
 
-def is_whole(search, found):
+def is_whole(search: Search, found: Ends) -> bool:
     """Whether all orders within the bounds were searched, and all final states reported."""
     return search.is_whole() and not found.is_cut
 
 
-def objects(search, found, stories, bad, symbols, printer, run):
-    run_object(printer, run, symbols)
+def objects(report: Report, printer: Printer) -> None:
+    """Writes a report as objects."""
+    search, found, stories, bad, symbols = report.search, report.found, report.stories, report.bad, report.symbols
+    run_object(printer, report.run, symbols)
     for story in stories:
         story.object(printer)
     machine, bounds = search.machine, search.bounds
@@ -292,8 +327,10 @@ def objects(search, found, stories, bad, symbols, printer, run):
                    places=len(search.done), moves=search.count, rounds=search.rounds, runs=machine.asked, asked=machine.learned)
 
 
-def texts(search, found, stories, bad, symbols, printer, _run):
-    for it in ranges_of(search.met, symbols):
+def texts(report: Report, printer: Printer) -> None:
+    """Writes a report as lines."""
+    search, found, stories, bad = report.search, report.found, report.stories, report.bad
+    for it in ranges_of(search.met, report.symbols):
         printer.line("both touch  %08x %d  %s" % (it.at, it.count, it.name))
     forbidden = {end.number for _, end in bad}
     for story in stories:

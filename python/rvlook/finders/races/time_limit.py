@@ -1,7 +1,10 @@
 """The time limit of a command. An alarm of the system interrupts whatever runs, so the limit also holds within one long computation and
 while a reply of the bench is awaited."""
+from __future__ import annotations
+
 import signal
 import time
+from typing import Any, NoReturn
 
 AGAIN = 0.2  # seconds between two alarms; an exception that is raised in a destructor is dropped
 
@@ -14,10 +17,10 @@ class TimeLimit:
     """A limit of so many seconds from now on; None is no limit. `with limit.until(share):` raises OutOfTime in its body when this share of
     the time, and so many seconds more, have passed."""
 
-    def __init__(self, seconds=None):
+    def __init__(self, seconds: float | None = None) -> None:
         self.start, self.seconds = time.monotonic(), seconds
 
-    def until(self, share, more=0.0):
+    def until(self, share: float, more: float = 0.0) -> Alarm:
         """Returns the context in which the alarm is set."""
         return Alarm(None if self.seconds is None else self.start + share * self.seconds + more)
 
@@ -25,20 +28,21 @@ class TimeLimit:
 class Alarm:
     """A context in which OutOfTime is raised at a time of the monotonic clock; None never comes."""
 
-    def __init__(self, end):
-        self.end, self.old = end, None
+    def __init__(self, end: float | None) -> None:
+        self.end = end
+        self.old: Any = None  # the handler that is set again
 
-    def __enter__(self):
+    def __enter__(self) -> Alarm:
         if self.end is not None:
             self.old = signal.signal(signal.SIGALRM, self.stop)
             signal.setitimer(signal.ITIMER_REAL, max(self.end - time.monotonic(), 0.001), AGAIN)
         return self
 
-    def __exit__(self, *_):
+    def __exit__(self, *_: object) -> None:
         if self.end is not None:
             signal.setitimer(signal.ITIMER_REAL, 0)
             signal.signal(signal.SIGALRM, self.old)
 
     @staticmethod
-    def stop(*_):
+    def stop(*_: object) -> NoReturn:
         raise OutOfTime

@@ -1,11 +1,13 @@
 """Names and texts from input files, made visible: no control character of a file reaches a terminal, a script or a format of lines."""
+from __future__ import annotations
+
 import re
 
 CONTROL = re.compile(r"[\x00-\x1f\x7f]")
 FLIP = 0x40  # from a control character to its letter
 
 
-def visible(text):
+def visible(text: str) -> str:
     """Returns a text without control characters: ^X for those of ASCII, as readelf and objdump show them, and <U+XXXX> for all other
     characters that cannot be printed, such as the controls of ISO 8859-1, bidirectional controls and lone surrogates."""
     if text.isprintable():
@@ -14,12 +16,12 @@ def visible(text):
     return text if text.isprintable() else "".join(it if it.isprintable() else "<U+%04X>" % ord(it) for it in text)
 
 
-def visible_line(line):
+def visible_line(line: str) -> str:
     """Returns a line of a script as it is shown: a tab, which the bench takes, is a space."""
     return visible(line.replace("\t", " "))
 
 
-def name_of(data):
+def name_of(data: bytes) -> str:
     """Returns the name that these bytes of a file are: UTF-8 if they are that, else ISO 8859-1; made visible."""
     try:
         return visible(data.decode("utf-8"))

@@ -1,0 +1,128 @@
+"""The symbols of an image: a name, a source line and a call site for an address, and the address of a name."""
+from __future__ import annotations
+
+from bisect import bisect_right
+from collections import defaultdict
+from dataclasses import dataclass
+from typing import Callable, Iterable, Iterator, Sequence, Tuple
+
+from rvlook.errors import NameRefused
+from rvlook.protocol.memory_map import RAM_BASE
+
+UNSIZED = 4096  # bytes that a symbol without a size has at most
+
+
+@dataclass(frozen=True)
+class Symbol:
+    """A name at an address; size 0 where none is told."""
+    address: int
+    size: int
+    name: str
+    is_function: bool
+    rank: int = 0  # the lower one names the address where there are more
+
+
+Inlined = Tuple[int, int, str]  # the first and the last address of what a call was replaced by, and the source line of the call
+
+
+class Symbols:
+    """`symbols` in any order; `lines` are pairs of an address and the source line from there on, None where one ends; `inlined` gives, as
+    it is asked for, the first and the last address of what stands for a call, and the line of the call."""
+
+    def __init__(self, symbols: Sequence[Symbol] = (), lines: Iterable[tuple[int, str | None]] = (),
+                 inlined: Callable[[], Iterable[Inlined]] = tuple) -> None:
+        best = {it.address: it for it in sorted(symbols, key=lambda it: (it.rank, it.name), reverse=True)}
+        self.ordered = [best[address] for address in sorted(best) if address >= RAM_BASE]
+        self.addresses = [symbol.address for symbol in self.ordered]
+        self.by_name = {it.name: it for it in reversed(symbols)}
+        self.places = defaultdict(set)  # of each name
+        for it in symbols:
+            self.places[it.name].add(it.address)
+        # What the linker has dropped has lines too, at addresses where there is no memory.
+        self.lines = sorted((it for it in lines if it[0] >= RAM_BASE), key=lambda it: (it[0], it[1] is not None))
+        self.line_starts = [address for address, _ in self.lines]
+        self.read_inlined = inlined
+        self.inlined: list[Inlined] | None = None
+
+    def __bool__(self) -> bool:
+        return bool(self.ordered)
+
+    def at(self, address: int) -> Symbol | None:
+        """The symbol that an address belongs to, or None: that with the nearest address at or below it, as far as its size goes."""
+        place = bisect_right(self.addresses, address) - 1
+        symbol = self.ordered[place] if place >= 0 else None
+        return symbol if symbol and address < symbol.address + (symbol.size or UNSIZED) else None
+
+    def size_of(self, symbol: Symbol) -> int:
+        """The bytes of a symbol: those that are told, or else those up to the next one."""
+        place = bisect_right(self.addresses, symbol.address)
+        following = self.addresses[place] - symbol.address if place < len(self.addresses) else UNSIZED
+        return symbol.size or min(following, UNSIZED)
+
+    def name(self, address: int) -> str | None:
+        """The address as a symbol, and how far behind it, or None."""
+        symbol = self.at(address)
+        if symbol is None:
+            return None
+        offset = address - symbol.address
+        return "%s+%x" % (symbol.name, offset) if offset else symbol.name
+
+    def function(self, address: int) -> str | None:
+        """The symbol without how far behind it, or None."""
+        symbol = self.at(address)
+        return symbol.name if symbol else None
+
+    def source(self, address: int) -> str | None:
+        """The file and line of an instruction, or None."""
+        place = bisect_right(self.line_starts, address) - 1
+        return self.lines[place][1] if place >= 0 else None
+
+    def sources_in(self, first: int, end: int) -> Iterator[str | None]:
+        """The file and line of each instruction of four bytes from one address on up to another, each row of the line table once; None
+        where there is no line. A size that a file tells may be that of all memory, and the rows are not more for it."""
+        place = max(0, bisect_right(self.line_starts, first) - 1)
+        for at in range(place, len(self.lines)):
+            start = max(self.line_starts[at], first)
+            start += (first - start) % 4
+            following = self.line_starts[at + 1] if at + 1 < len(self.lines) else end
+            if self.line_starts[at] >= end:
+                return
+            if start < min(following, end):
+                yield self.lines[at][1]
+
+    def caller(self, address: int) -> str | None:
+        """The file and line of the call that an instruction was inlined for, or None."""
+        if self.inlined is None:
+            self.inlined = sorted(self.read_inlined())
+        place = bisect_right(self.inlined, (address, 1 << 32)) - 1
+        _, last, source = self.inlined[place] if place >= 0 else (0, -1, None)
+        return source if address <= last else None
+
+    def line(self, address: int) -> str | None:
+        """The source line of an instruction, behind that of the call that it was inlined for, or None."""
+        source, caller = self.source(address), self.caller(address)
+        return "%s, in %s" % (caller, source) if caller and source else source
+
+    def address(self, text: str) -> int | None:
+        """The address that a name, a name+offset or hexadecimal digits say, or None. Of a name at more places, name@place is the first from
+        that place on."""
+        named, plus, offset = text.partition("+")
+        name, at, place = named.partition("@")
+        try:
+            if name in self.places:
+                return self.place_of(name, self.address(place) if at else None) + (int(offset, 16) if plus else 0)
+            return int(text, 16) & 0xFFFFFFFF
+        except ValueError:
+            return None
+
+    def place_of(self, name: str, first: int | None) -> int:
+        """Where a name is: the only place, or the first from an address on."""
+        places = sorted(self.places[name])
+        if first is not None:
+            places = [it for it in places if it >= first][:1]
+            if not places:
+                raise NameRefused("there is no %s from %08x on" % (name, first))
+        if len(places) == 1:
+            return places[0]
+        shown = " and ".join("%08x" % it for it in places)
+        raise NameRefused("%s is at %s; %s@PLACE is the first from a place on" % (name, shown, name))
