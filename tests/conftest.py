@@ -92,6 +92,14 @@ def replies(bench):
 
 
 @pytest.fixture(scope="session")
+def debugger(bench):
+    """Starts `rvlook gdb` on an image with these words; gives a client of it, to be used with `with`."""
+    from support.gdb_client import Client
+    environment = {**os.environ, "RVBENCH": bench, "TERM": "dumb"}
+    return lambda image, words=(), **options: Client([RVLOOK, "gdb", *words, image], ROOT, environment, **options)
+
+
+@pytest.fixture(scope="session")
 def program():
     """The kept image of a test program, with its symbols: arguments for a subcommand."""
     def arguments(name):
