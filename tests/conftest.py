@@ -13,6 +13,8 @@ from pathlib import Path
 
 import pytest
 
+pytest.register_assert_rewrite("support")
+
 ROOT = Path(__file__).resolve().parents[1]
 RVLOOK = Path(os.environ.get("RVLOOK") or ROOT / "rvlook")
 PROGRAMS = ROOT / "tests" / "rvlook" / "programs"
@@ -24,6 +26,7 @@ SECONDS = 120
 def pytest_addoption(parser):
     """Adds the options of this suite."""
     parser.addoption("--update-golden", action="store_true", help="write the golden files of rvlook anew")
+    parser.addoption("--all-orders", action="store_true", help="compare races with all orders of more programs, which takes minutes")
     parser.addoption("--fuzz-seconds", type=float, default=0, help="how long each fuzzer of tests/rvlook/fuzz runs (a few examples)")
 
 
@@ -66,6 +69,34 @@ def objects(rvlook):
         done = rvlook(*arguments, "--json", **options)
         return done.returncode, [json.loads(line) for line in done.stdout.splitlines()]
     return run
+
+
+@pytest.fixture(scope="session")
+def results(objects):
+    """The same, of a subcommand that must end with a status; gives its objects."""
+    def run(*arguments, status=0, **options):
+        ended, found = objects(*arguments, **options)
+        assert ended == status, "rvlook %s ends with status %d" % (" ".join(map(str, arguments)), ended)
+        return found
+    return run
+
+
+@pytest.fixture(scope="session")
+def replies(bench):
+    """Runs the lines of a script on the bench alone, after the image of an input; gives the lines of reply."""
+    def run(image, words, script):
+        text = Path(ROOT, image).read_text(encoding="ascii").split("--\n")[0] + "--\n" + "\n".join(script) + "\n"
+        done = subprocess.run([bench, "run", *words], input=text, capture_output=True, text=True, check=True, timeout=SECONDS)
+        return done.stdout.splitlines()
+    return run
+
+
+@pytest.fixture(scope="session")
+def debugger(bench):
+    """Starts `rvlook gdb` on an image with these words; gives a client of it, to be used with `with`."""
+    from support.gdb_client import Client
+    environment = {**os.environ, "RVBENCH": bench, "TERM": "dumb"}
+    return lambda image, words=(), **options: Client([RVLOOK, "gdb", *words, image], ROOT, environment, **options)
 
 
 @pytest.fixture(scope="session")

@@ -1,27 +1,6 @@
-"""Mutants of rvlook: each is one edit that puts a wrong behaviour into it, and the test that must fail on it."""
-import os
-import shutil
-import subprocess
-import sys
-from dataclasses import dataclass
-
+"""Mutants of the finders and of the reports: each is noticed by a test."""
 import pytest
-
-from conftest import ROOT
-
-SECONDS = 240  # for the test of one mutant
-LINKED = ("examples", "docs", "tools", "tests/models", "tests/rvlook/programs", "tests/rvlook/golden")
-
-
-@dataclass(frozen=True)
-class Mutant:
-    """In `file` the text `old`, which is there once, becomes `new`; `test`, a module and the name of a test in it, must fail."""
-    name: str
-    file: str
-    old: str
-    new: str
-    test: str
-
+from support.mutants import Mutant, check_noticed, id_of
 
 MUTANTS = (
     Mutant("values are dropped if a hart goes on", "finders/races/ends.py", "if LEFT not in harts and (LONG not in harts or OVER in harts):",
@@ -81,31 +60,32 @@ MUTANTS = (
     Mutant("exit_zero_hides_refused_lines", "output/findings.py", "        if self.refused:\n", "        if self.refused and not is_report:\n",
            "test_exit_status.py::test_refused_line_counts_more_than_a_finding"),
     Mutant("cut_work_ends_with_zero", "output/findings.py", "return UNFINISHED if self.cut else 0", "return 0", "test_exit_status.py::test_leak_that_seconds_cut"),
+    Mutant("reduction_ignores_calls_of_the_monitor", "finders/races/search.py", "if self.plain or look.asks_table:",
+           "if self.plain or look.asks_table and look.kind != 'call':", "test_races_orders.py::test_final_states_are_those_of_all_orders[37]"),
+    Mutant("reduction_ignores_shared_bytes", "finders/races/search.py", "        self.met |= met\n        return True", "        return False",
+           "test_races.py::test_counter_has_each_value_from_two_to_six"),
+    Mutant("merged_states_have_another_table", "finders/races/machine.py", "return State(harts, hosts, self.digest, self.table, steps)",
+           "return State(harts, hosts, self.digest, state.table, steps)",
+           "test_races.py::test_one_of_two_overlapping_creates_is_refused_while_the_other_is_there"),
+    Mutant("merged_states_have_no_contexts", "finders/races/machine.py",
+           "table = self.tables.number((lines, tuple(sorted(kept.items(), key=lambda it: it[0]))))", "table = self.tables.number((lines, ()))",
+           "test_races.py::test_enclave_keeps_its_registers_while_it_is_stopped"),
+    Mutant("merged_states_have_another_memory", "finders/races/machine.py", "return State(harts, hosts, self.digest, self.table, steps)",
+           "return State(harts, hosts, state.memory, self.table, steps)", "test_races.py::test_counter_has_each_value_from_two_to_six"),
+    Mutant("search_ends_at_the_first_step_of_the_timer", "finders/races/search.py",
+           "for is_timer in (False, True)[:1 + (timers < self.bounds.timers)]:",
+           "for is_timer in (False, True)[:1 + (timers < self.bounds.timers and last is None)]:",
+           "test_races_orders.py::test_final_states_are_those_of_all_orders[4]"),
+    Mutant("window_counts_a_read_after_the_enclave's_own_write", "finders/window.py", "    if byte.stored_at is None:\n        if byte.input_at",
+           "    if True:\n        if byte.input_at", "test_golden.py::test_golden[window]"),
+    Mutant("window_forgets_bytes_that_were_wiped", "finders/window.py", "theirs.get(at, Byte()).values != byte.values",
+           "theirs.get(at, Byte()).values[-1:] != byte.values[-1:]", "test_golden.py::test_golden[window_secret]"),
+    Mutant("leak_ignores_stores", "access/activations.py", "    if it.memory:\n", "    if it.memory and it.memory.kind == 'r':\n",
+           "test_golden.py::test_golden[leak_address]"),
+    Mutant("leak_ignores_divisions", "access/activations.py", "if is_strict else None", "if False else None", "test_golden.py::test_golden[leak_address]"),
 )
 
 
-@pytest.fixture
-def copied(tmp_path):
-    """Makes a copy of rvlook and of its tests with a mutant; gives its folder."""
-    def made(mutant):
-        skipped = shutil.ignore_patterns("__pycache__", "programs", "golden", "fuzz")
-        shutil.copytree(ROOT / "python", tmp_path / "python", ignore=skipped)
-        shutil.copytree(ROOT / "tests" / "rvlook", tmp_path / "tests" / "rvlook", ignore=skipped)
-        for name in ("rvlook", "pyproject.toml", "tests/conftest.py"):
-            shutil.copy(ROOT / name, tmp_path / name)
-        for name in LINKED:
-            (tmp_path / name).symlink_to(ROOT / name)
-        path = tmp_path / "python" / "rvlook" / mutant.file
-        text = path.read_text(encoding="utf-8")
-        assert text.count(mutant.old) == 1, "the text that the mutant replaces is not there once"
-        path.write_text(text.replace(mutant.old, mutant.new), encoding="utf-8")
-        return tmp_path
-    return made
-
-
-@pytest.mark.parametrize("mutant", MUTANTS, ids=lambda it: it.name.replace(" ", "_"))
-def test_mutant_is_noticed(mutant, copied, bench):
-    environment = {**os.environ, "RVBENCH": bench, "PYTHONDONTWRITEBYTECODE": "1"}
-    words = [sys.executable, "-m", "pytest", "-q", "-x", "-p", "no:xdist", "tests/rvlook/" + mutant.test]
-    done = subprocess.run(words, cwd=copied(mutant), env=environment, capture_output=True, text=True, timeout=SECONDS, check=False)
-    assert done.returncode == 1, "the test passes, or there is none: %s" % done.stdout[-800:]
+@pytest.mark.parametrize("mutant", MUTANTS, ids=id_of)
+def test_mutant_is_noticed(mutant, tmp_path, bench):
+    check_noticed(mutant, tmp_path, bench)

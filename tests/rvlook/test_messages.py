@@ -1,4 +1,4 @@
-"""Each message that rvlook prints in one line has a row in the table of docs/LOOK.md, and each row a case in tests/scripts/look_ends.py."""
+"""Each message that rvlook prints in one line has a row in the table of docs/LOOK.md. Each row has a case in test_message_cases.py."""
 import ast
 import re
 

@@ -1,0 +1,85 @@
+"""Long work in parts, by GNU parallel as docs/ASK.md has it. Work that is killed and resumed loses nothing, does nothing twice, and has
+together what one run has."""
+import json
+import os
+import shutil
+import signal
+import subprocess
+import time
+
+import pytest
+
+from conftest import EXAMPLES, PROGRAMS, RVLOOK
+
+pytestmark = pytest.mark.skipif(not shutil.which("parallel"), reason="GNU parallel is not installed")
+WINDOW, ADDS = PROGRAMS.parent / "golden" / "window" / "image", EXAMPLES / "enclave_adds" / "image"
+TRIES, PART = 30, 3
+LEAK = ("leak", "--monitor", WINDOW, "--at", "80020800:4", "--seed", "5")
+RACES = ("races", "--monitor", "--timer", "2", "--outcome", "80030000:12", ADDS)
+
+
+class Campaign:
+    """A job of GNU parallel over many values: with a log of the jobs that have ended, and a file for the output of each."""
+
+    def __init__(self, folder, bench, job, values):
+        self.folder, self.environment = folder, {**os.environ, "RVBENCH": bench, "TERM": "dumb"}
+        self.log = folder / "log"
+        self.command = ["parallel", "--will-cite", "--jobs", "2", "--joblog", self.log, "--resume-failed", "--results", "%s/out/" % folder, job,
+                        ":::", *map(str, values)]
+
+    def run(self):
+        done = subprocess.run(self.command, stdout=subprocess.DEVNULL, stderr=subprocess.PIPE, text=True, check=False, env=self.environment)
+        assert (done.returncode, done.stderr) == (0, "")
+
+    def kill_after(self, count):
+        """Starts it, and kills it with its jobs after so many have ended."""
+        process = subprocess.Popen(self.command, stdout=subprocess.DEVNULL, stderr=subprocess.DEVNULL, env=self.environment, start_new_session=True)
+        end = time.monotonic() + 60
+        while time.monotonic() < end and len(self.ended()) < count:
+            time.sleep(0.05)
+        os.killpg(process.pid, signal.SIGKILL)
+        process.wait()
+
+    def ended(self):
+        """Returns the numbers of the jobs in the log."""
+        if not self.log.exists():
+            return []
+        return [int(line.split("\t")[0]) for line in self.log.read_text().splitlines() if line[0].isdigit()]
+
+    def objects(self, name):
+        """Returns the objects that all jobs wrote, of one kind."""
+        found = [json.loads(line) for path in (self.folder / "out").glob("**/stdout") for line in path.read_text().splitlines()]
+        return [it for it in found if it["object"] == name]
+
+
+def job_of(words, rest):
+    return " ".join([*map(str, (RVLOOK, *words)), rest, "--json", "--exit-zero"])
+
+
+def test_killed_campaign_is_resumed_without_loss(results, bench, tmp_path):
+    job = job_of(LEAK, "--tries %d --from {} --to $(({} + %d))" % (TRIES, PART - 1))
+    campaign = Campaign(tmp_path, bench, job, range(1, TRIES, PART))
+    campaign.kill_after(2)
+    assert 0 < len(campaign.ended()) < TRIES // PART, "it was not killed between two jobs"
+    campaign.run()
+    assert sorted(campaign.ended()) == list(range(1, TRIES // PART + 1)), "a job is missing, or was done twice"
+    key = lambda it: (it["number"], it["bytes"], it["parts"])
+    whole = [key(it) for it in results(*LEAK, "--tries", str(TRIES), "--exit-zero") if it["object"] == "try"]
+    assert sorted(map(key, campaign.objects("try"))) == whole
+
+
+def test_parts_by_the_first_step_of_the_timer_have_all_final_states(results, bench, tmp_path):
+    campaign = Campaign(tmp_path, bench, job_of(RACES, "--from {} --to $(({} + 39))"), range(0, 120, 40))
+    campaign.run()
+    key = lambda it: (it["values"]["80030000:12"], it["over"][0]["pc"])
+    assert {key(it) for it in results(*RACES, "--exit-zero") if it["object"] == "race"} == set(map(key, campaign.objects("race")))
+    assert [it["whole"] for it in campaign.objects("races")] == [True] * 3
+
+
+def test_folder_of_programs_is_searched(bench, tmp_path):
+    for name in ("two_harts", "race"):
+        shutil.copy(EXAMPLES / name / "image", tmp_path / name)
+    words = ("races", "--monitor", "--harts", "2", "--limit", "60")
+    campaign = Campaign(tmp_path, bench, job_of(words, "{}"), [tmp_path / "two_harts", tmp_path / "race"])
+    campaign.run()
+    assert [it["whole"] for it in campaign.objects("races")] == [True, True]

@@ -1,0 +1,208 @@
+"""The page in a headless Chromium: no script error, its counts, the registers that the bench replies, its keys, its search, the pointer and
+the filters; and a page of a million steps. Needs chromium, chromedriver and python3-selenium."""
+import re
+import shutil
+import time
+from statistics import median
+
+import pytest
+from support.page_data import data_of
+
+from conftest import EXAMPLES
+
+selenium = pytest.importorskip("selenium", reason="python3-selenium is not installed")
+pytest.importorskip("jinja2", reason="python3-jinja2 is not installed")
+pytestmark = pytest.mark.skipif(not (shutil.which("chromium") and shutil.which("chromedriver")), reason="chromium or chromedriver is not installed")
+TIMER = EXAMPLES / "enclave_timer"
+STEPS = (0, 1, 21, 30, 60, 100, 390, 420)  # at which the registers are compared
+WIDTHS = (1600, 390)
+CHANGING = ("timer", "setreg", "poke")  # commands of the script of TIMER that change the state
+MOST_BYTES, MOST_SECONDS, MOST_MILLISECONDS = 10_000_000, 10, 30  # of a page of a million steps: to open, and to another step
+SECONDS = 300  # to write a page
+MILLION = "37110080\n23201100\n93801000\n83210100\n13f2f00f\nb3024100\n23801210\ne39400fe\n"  # a loop that stores and loads
+SMALL = {"two_harts": (EXAMPLES / "two_harts" / "stdin", "--monitor", "--harts", "2"), "pmp": (EXAMPLES / "pmp" / "stdin",),
+         "outside": ("--\nstep 3\n",), "none": ("1300\n", "--kind", "raw", "--steps", "0")}
+REGISTERS = "return [...document.querySelectorAll('#registers .grid > span')].map(it => it.lastChild.textContent)"
+HOVER = """
+    const chart = document.getElementById('chart'), place = chart.getBoundingClientRect(), told = [];
+    for (let y = 0; y < place.height; y += 3)
+        for (let x = place.width * 0.4; x < place.width * 0.6; x += 3) {
+            chart.dispatchEvent(new PointerEvent('pointermove', {clientX: place.left + x, clientY: place.top + y}));
+            told.push(document.getElementById('hover').textContent);
+        }
+    return told"""
+TAKEN = """return [10, run.steps / 2 | 0, run.steps - 20].flatMap(first =>
+    Array.from({length: 10}, (_, at) => { const was = performance.now(); show(first + at); return performance.now() - was; }))"""
+
+
+class Page:
+    """A page in a browser."""
+
+    def __init__(self, driver, path):
+        self.driver, self.data = driver, data_of(path.read_text(encoding="utf-8"))
+        driver.get(path.as_uri())
+        self.wait()
+
+    def wait(self):
+        """Waits until the page shows a step: its data are unpacked meanwhile."""
+        end = time.monotonic() + 20
+        while not self.text("where") and time.monotonic() < end:
+            time.sleep(0.02)
+
+    def text(self, name):
+        return self.driver.find_element("id", name).text
+
+    def run(self, script, *arguments):
+        return self.driver.execute_script(script, *arguments)
+
+    def type(self, keys):
+        self.driver.find_element("tag name", "body").send_keys(keys)
+
+    def check_counts(self):
+        start = "%d moments, %d rows, %d steps, %d points" % (len(self.data["moments"]), *map(self.data.get, ("rows", "steps", "points")))
+        assert self.text("counts").replace(",", "").startswith(start.replace(",", ""))
+
+    def check_errors(self):
+        assert [it["message"] for it in self.driver.get_log("browser") if it["level"] == "SEVERE"] == []
+
+
+@pytest.fixture(scope="module")
+def driver():
+    from selenium import webdriver
+    options = webdriver.ChromeOptions()
+    for word in ("--headless=new", "--no-sandbox", "--disable-gpu", "--hide-scrollbars", "--window-size=1600,1000"):
+        options.add_argument(word)
+    options.set_capability("goog:loggingPrefs", {"browser": "ALL"})
+    it = webdriver.Chrome(options=options)
+    yield it
+    it.quit()
+
+
+def written(rvlook, folder, *words):
+    """Writes the page of an image."""
+    done = rvlook("page", *words, timeout=SECONDS)
+    assert (done.returncode, done.stderr) == (0, "")
+    path = folder / "page.html"
+    path.write_text(done.stdout, encoding="utf-8")
+    return path
+
+
+@pytest.fixture(scope="module")
+def timer(rvlook, tmp_path_factory):
+    return written(rvlook, tmp_path_factory.mktemp("page"), TIMER / "stdin", "--monitor", "--symbols", TIMER / "listing")
+
+
+@pytest.fixture(params=WIDTHS)
+def page(request, driver, timer):
+    """The page of an example with a timer, in windows of two widths."""
+    metrics = {"width": request.param, "height": 1000, "deviceScaleFactor": 1, "mobile": request.param < 600}
+    driver.execute_cdp_cmd("Emulation.setDeviceMetricsOverride", metrics)
+    it = Page(driver, timer)
+    yield it
+    it.check_errors()
+    driver.execute_cdp_cmd("Emulation.clearDeviceMetricsOverride", {})
+
+
+def registers_at(replies, commands):
+    """The values of the registers at STEPS, as the bench replies them."""
+    lines, script = {step: [it["line"] for it in commands if it["step"] == step] for step in range(STEPS[-1])}, ["regs"]
+    for step in range(1, STEPS[-1] + 1):
+        changing = [it for it in lines[step - 1] if it.split()[0] in CHANGING]
+        script += changing + ["step 1"] + (["regs"] if step in STEPS else [])
+    found = [it.split("=")[1] for it in replies(TIMER / "stdin", ("--monitor",), script) if re.match(r"x\d+=", it)]
+    return {step: found[at * 32:at * 32 + 32] for at, step in enumerate(STEPS)}
+
+
+def test_counts_are_shown_and_the_window_is_wide_enough(page):
+    page.check_counts()
+    assert not page.run("return document.documentElement.scrollWidth > window.innerWidth")
+
+
+def test_registers_are_those_of_the_bench(page, replies):
+    wanted = registers_at(replies, page.data["commands"])
+    for step in STEPS:
+        page.run("show(arguments[0])", step)
+        assert page.run(REGISTERS) == wanted[step], "step %d" % step
+
+
+def test_step_is_kept_in_the_address(page):
+    page.run("location.hash = '60'")
+    page.driver.refresh()
+    page.wait()
+    assert page.text("where").startswith("Step 60:")
+    page.run("show(61)")
+    time.sleep(0.4)
+    assert page.driver.current_url.endswith("#61")
+
+
+def test_keys_and_clicks_go_to_steps(page):
+    moment = page.data["moments"][1]["step"]
+    page.run("show(0)")
+    page.type("n")
+    assert page.text("where").startswith("Step %d:" % moment)
+    page.type("\ue014")  # the right arrow
+    assert page.text("where").startswith("Step %d:" % (moment + 1))
+    chart = page.driver.find_element("id", "chart")
+    page.run("arguments[0].scrollIntoView({block: 'center'})", chart)
+    chart.click()
+    assert 0.2 < int(page.driver.find_element("id", "number").get_property("value")) / page.data["steps"] < 0.8
+
+
+@pytest.mark.parametrize("text", ["window_base", "80030000"])
+def test_search_goes_to_an_access(page, text):
+    page.run("document.getElementById('find').value = arguments[0]; show(0)", text)
+    page.run("document.getElementById('find').dispatchEvent(new KeyboardEvent('keydown', {key: 'Enter'}))")
+    assert "80030000" in page.text("did")
+
+
+def test_memory_is_zoomed_and_dragged(page):
+    from selenium.webdriver.common.action_chains import ActionChains
+    chart = page.driver.find_element("id", "chart")
+    page.run("document.getElementById('find').value = '80030000'; show(0)")
+    page.run("document.getElementById('find').dispatchEvent(new KeyboardEvent('keydown', {key: 'Enter'}))")
+    page.run("arguments[0].scrollIntoView({block: 'center'})", chart)
+    page.type("v")
+    assert 0.4 < page.run("return view.bottom - view.top") < 0.6
+    page.type("+")
+    before = page.run("return view.from")
+    ActionChains(page.driver).click_and_hold(chart).move_by_offset(-40, 0).release().perform()
+    time.sleep(0.2)
+    assert page.run("return view.from") > before
+
+
+def test_pointer_names_a_store(page):
+    page.run("arguments[0].scrollIntoView({block: 'center'})", page.driver.find_element("id", "chart"))
+    found = page.run(HOVER)
+    assert any(re.search(r"writes 4 bytes at 80030000 window_base: [0-9a-f]{8}", it) for it in found), sorted(set(found))[:3]
+
+
+def test_filter_takes_marks_away(page):
+    before = page.text("counts")
+    page.driver.find_element("css selector", "#filters input").click()
+    assert page.text("counts") != before
+
+
+@pytest.mark.parametrize("name", SMALL)
+def test_page_shows_each_step_without_an_error(rvlook, driver, tmp_path, name):
+    image, *words = SMALL[name]
+    if isinstance(image, str):
+        (tmp_path / "image").write_text(image)
+        image = tmp_path / "image"
+    page = Page(driver, written(rvlook, tmp_path, image, *words))
+    page.check_counts()
+    page.run("for (let step = 0; step <= run.steps; step++) show(step)")
+    page.check_errors()
+
+
+def test_page_of_a_million_steps_is_fast(rvlook, driver, tmp_path):
+    (tmp_path / "loop").write_text(MILLION)
+    path = written(rvlook, tmp_path, tmp_path / "loop", "--kind", "raw")
+    assert path.stat().st_size < MOST_BYTES
+    began = time.monotonic()
+    driver.get(path.as_uri())
+    while not driver.find_element("id", "where").text and time.monotonic() < began + 2 * MOST_SECONDS:
+        time.sleep(0.02)
+    seconds = time.monotonic() - began
+    assert driver.execute_script("return run.steps") >= 1000000
+    assert seconds < MOST_SECONDS
+    assert median(driver.execute_script(TAKEN)) < MOST_MILLISECONDS

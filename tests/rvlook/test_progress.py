@@ -1,0 +1,65 @@
+"""Long work on a terminal: its progress is shown there and nowhere else. Work that Ctrl-C or --seconds stops reports what it has."""
+import json
+import os
+import pty
+import re
+import select
+import signal
+import subprocess
+import tempfile
+import time
+
+import pytest
+from support.race_programs import assembled
+
+from conftest import EXAMPLES, ROOT, RVLOOK
+
+COUNTER = ("lui x5, 0x80011", "addi x6, x0, 200", "loop: lw x7, 0(x5)", "addi x7, x7, 1", "sw x7, 0(x5)", "addi x6, x6, -1", "bne x6, x0, loop",
+           "done: jal x0, done")
+STORE = EXAMPLES / "enclave_store_leaking"
+LEAK = ("leak", "--monitor", STORE / "image", "--symbols", STORE / "listing", "--at", "key:32", "--tries", "1000", "--json")
+TIMES, LIMIT = 3, 60  # how often the progress is shown before Ctrl-C, and the seconds to wait for it
+
+
+@pytest.fixture
+def stopped(bench):
+    """Runs rvlook with a terminal as standard error, and sends SIGINT after its progress was shown a few times. Returns the status, how often
+    it was shown, and the objects."""
+    def run(words, pattern):
+        ours, theirs = pty.openpty()
+        with tempfile.TemporaryFile("w+") as output:
+            process = subprocess.Popen([RVLOOK, *words], cwd=ROOT, stdin=subprocess.DEVNULL, stdout=output, stderr=theirs,
+                                       env={**os.environ, "RVBENCH": bench, "TERM": "xterm"},
+                                       preexec_fn=lambda: signal.signal(signal.SIGINT, signal.default_int_handler))
+            os.close(theirs)
+            shown, until = "", time.monotonic() + LIMIT
+            while len(re.findall(pattern, shown)) < TIMES and time.monotonic() < until and process.poll() is None:
+                shown += os.read(ours, 65536).decode() if select.select([ours], [], [], 1)[0] else ""
+            process.send_signal(signal.SIGINT)
+            process.wait(timeout=LIMIT)
+            os.close(ours)
+            output.seek(0)
+            return process.returncode, len(re.findall(pattern, shown)), [json.loads(it) for it in output]
+    return run
+
+
+def test_races_shows_its_progress_and_reports_what_it_has(stopped, bench, tmp_path):
+    (tmp_path / "long").write_text(assembled(bench, COUNTER).hex() + "\n")
+    words = ("races", "--monitor", "--harts", "2", "--ram", "131072", "--outcome", "80011000", "--json", tmp_path / "long")
+    status, shown, found = stopped(words, r"\rround \d+: \d+ places")
+    assert (status, shown >= TIMES) == (130, True)
+    assert (found[-1]["object"], found[-1]["whole"]) == ("races", False)
+    assert found[-1]["covered"].startswith("cut by Ctrl-C behind ")
+
+
+def test_leak_shows_a_bar_and_reports_what_it_has(stopped):
+    status, shown, found = stopped(LEAK, r"\r\[#*\.+\] \d+ of 1000  \d+ told")
+    assert (status, shown >= TIMES) == (130, True)
+    assert (found[-1]["object"], found[-1]["pairs"]) == ("leak", sum(it["object"] == "try" for it in found))
+
+
+def test_progress_is_shown_on_a_terminal_alone(rvlook):
+    done = rvlook(*LEAK, "--seconds", "1")
+    pairs = json.loads(done.stdout.splitlines()[-1])["pairs"]
+    assert 0 < pairs < 1000
+    assert (done.returncode, done.stderr) == (1, "rvlook: --seconds ends leak after %s of 1000\n" % ("1 pair" if pairs == 1 else "%d pairs" % pairs))

@@ -1,0 +1,70 @@
+"""The objects of --json are as `objects.schema.json` has them, and each member that the schema names is written."""
+import json
+
+import pytest
+
+from conftest import EXAMPLES, PROGRAMS, ROOT
+
+SHAPES = json.loads((ROOT / "python" / "rvlook" / "output" / "objects.schema.json").read_text(encoding="utf-8"))["$defs"]
+GOLDEN, COPIES = PROGRAMS.parent / "golden", PROGRAMS / "window_copies"
+LEAK, STORE = ("leak", "--monitor", GOLDEN / "leak" / "image", "--at"), EXAMPLES / "enclave_store_leaking"
+EXIT_ZERO = ("timer", "leak", "window", "races", "explain")  # subcommands that end with 1 if they find something
+UNFINISHED = ("timer_not_resumed",)
+COMMANDS = {
+    "map": ("map", "--monitor", EXAMPLES / "enclave_adds" / "image"), "map_pmp": ("map", EXAMPLES / "pmp" / "stdin"),
+    "touch": ("touch", "--monitor", EXAMPLES / "enclave_refused" / "stdin", "--symbols", EXAMPLES / "enclave_refused" / "listing"),
+    "trace": ("trace", "--monitor", EXAMPLES / "enclave_timer" / "stdin"),
+    "timer_not_resumed": ("timer", "--monitor", EXAMPLES / "enclave_adds" / "image"),
+    "timer": ("timer", "--monitor", EXAMPLES / "enclave_timer" / "image"), "leak": (*LEAK, "80020800", "00", "05"),
+    "leak_tries": (*LEAK, "80020800:4", "--tries", "3"), "window": ("window", "--monitor", GOLDEN / "window" / "image", "--at", "80020800:4"),
+    "window_copies": ("window", "--monitor", COPIES / "image", "--symbols", COPIES / "listing", "--script", COPIES / "script", "--at", "key:20"),
+    "window_harts": ("window", "--harts", "2", "--monitor", STORE / "image", "--symbols", STORE / "listing", "--at", "key:32"),
+    "races": ("races", "--monitor", "--timer", "1", EXAMPLES / "enclave_adds" / "image"), "explain": ("explain", GOLDEN / "explain" / "input"),
+    "measure": ("measure", GOLDEN / "measure" / "region", "80020000", "1000", "0", "0", "80020000")}
+
+
+@pytest.fixture(scope="module")
+def written(results):
+    """Runs a command once; gives its objects."""
+    kept = {}
+
+    def of(name):
+        if name not in kept:
+            words = COMMANDS[name]
+            more = ("--exit-zero",) if words[0] in EXIT_ZERO else ()
+            kept[name] = results(*words, *more, status=3 if name in UNFINISHED else 0)
+        return kept[name]
+    return of
+
+
+@pytest.mark.parametrize("name", COMMANDS)
+def test_objects_are_as_the_schema_has_them(written, name):
+    Validator = pytest.importorskip("jsonschema").Draft202012Validator
+    faults = [(it["object"], fault.message) for it in written(name) for fault in Validator({**SHAPES[it["object"]], "$defs": SHAPES}).iter_errors(it)]
+    assert written(name) and faults == []
+
+
+def members_of(value, schema, path):
+    """The members of an object and of those in it, as `step.touch.kind`; one that the schema does not name, as `step.touch.?name`."""
+    if isinstance(value, list):
+        return set().union(*(members_of(it, schema.get("items", {}), path) for it in value))
+    if not isinstance(value, dict) or "properties" not in schema:
+        return set()
+    known = schema["properties"]
+    names = {"%s.%s" % (path, name if name in known else "?" + name) for name in value}
+    return names | set().union(*(members_of(it, known.get(name, {}), path + "." + name) for name, it in value.items()))
+
+
+def named_by(schema, path):
+    """All members that a schema names, by the same paths."""
+    inner = schema.get("properties", {}).items()
+    names = {path + "." + name for name, _ in inner} | set().union(*(named_by(it, path + "." + name) for name, it in inner))
+    return names | (named_by(schema["items"], path) if "items" in schema else set())
+
+
+def test_members_that_are_written_are_those_of_the_schema(written):
+    """But for those of `line`, which need source lines."""
+    found = {member for name in COMMANDS for it in written(name) for member in members_of(it, SHAPES[it["object"]], it["object"])}
+    named = set().union(*(named_by(it, name) for name, it in SHAPES.items()))
+    assert sorted(found - named) == [], "not named by the schema"
+    assert sorted(it for it in named - found if not it.startswith("line.")) == [], "not written"

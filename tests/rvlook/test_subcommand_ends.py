@@ -1,0 +1,68 @@
+"""Each subcommand with an output that fails, one that nobody reads, Ctrl-C, a file that is missing, and one that is no ELF file."""
+from pathlib import Path
+
+import pytest
+from support.message_files import GOLDEN, REGION, Files
+from support.message_runs import FULL, Runs
+
+from conftest import EXAMPLES, ROOT, RVLOOK
+
+ADDS, SUM, LEAKS = str(EXAMPLES / "enclave_adds" / "image"), str(EXAMPLES / "sum" / "stdin"), GOLDEN + "/leak/image"
+LONG_RACE = ("races", "--monitor", "--harts", "2", "--ram", "131072", "MANY")
+SHORT = {
+    "map": ("map", SUM), "trace": ("trace", SUM), "touch": ("touch", SUM), "page": ("page", SUM), "map --json": ("map", SUM, "--json"),
+    "trace --format spike": ("trace", SUM, "--format", "spike"), "leak": ("leak", "--monitor", LEAKS, "--at", "80020800", "00", "01"),
+    "window": ("window", "--monitor", ADDS), "leak --tries": ("leak", "--monitor", LEAKS, "--at", "80020800:4", "--tries", "1"),
+    "races": ("races", "--monitor", ADDS), "timer": ("timer", "--monitor", ADDS),
+    "measure": ("measure", REGION, "80020000", "1000", "0", "0", "80020000"), "explain": ("explain", SUM), "the prompt": (SUM,)}
+LONG = {  # runs that take a while; LOOP and MANY are files of support.message_files
+    "map": ("map", "LOOP"), "trace": ("trace", "LOOP"), "touch": ("touch", "LOOP"), "page": ("page", "LOOP"), "map --json": ("map", "LOOP", "--json"),
+    "trace --format spike": ("trace", "LOOP", "--format", "spike"),
+    "leak --tries": ("leak", "--monitor", LEAKS, "--at", "80020800:4", "--tries", "1000"), "races": LONG_RACE,
+    "timer": ("timer", "--monitor", EXAMPLES / "enclave_hmac" / "image")}
+IMAGES = (SUM, ADDS, REGION, LEAKS)
+
+
+@pytest.fixture(scope="module")
+def runs(bench):
+    return Runs(RVLOOK, ROOT, bench)
+
+
+def with_file(words, path):
+    """The command line with another file in place of its image."""
+    return [path if it in IMAGES else it for it in words]
+
+
+@pytest.mark.parametrize("name", SHORT)
+def test_full_output_is_reported(runs, name):
+    assert runs.run(SHORT[name], FULL) == (3, ["rvlook: the output fails: No space left on device"])
+
+
+@pytest.mark.parametrize("name", SHORT)
+def test_closed_pipe_is_reported(runs, name):
+    assert runs.unread(SHORT[name]) == (141, ["rvlook: who reads the output has gone"])
+
+
+@pytest.mark.parametrize("name", LONG)
+def test_interrupt_stops_the_work(runs, name, tmp_path):
+    files = {"LOOP": tmp_path / "loop", "MANY": tmp_path / "many"}
+    files["LOOP"].write_text(Files.LOOP)
+    files["MANY"].write_text(Files.MANY)
+    assert runs.stopped([files.get(it, it) for it in LONG[name]]) == (130, ["rvlook: stopped"])
+
+
+@pytest.mark.parametrize("name", SHORT)
+def test_missing_file_is_refused(runs, name):
+    wanted = "/none is no word of rvlook, and no file; rvlook --help tells the words" if name == "the prompt" else "/none: No such file or directory"
+    assert runs.run(with_file(SHORT[name], "/none")) == (2, ["rvlook: " + wanted])
+
+
+@pytest.mark.parametrize("name", SHORT)
+def test_file_that_is_cut_is_refused(runs, name, tmp_path):
+    cut = Path(tmp_path, "cut.elf")
+    cut.write_bytes(b"\x7fELF")
+    status, told = runs.run(with_file(SHORT[name], cut))
+    if name == "explain":  # a text is explained, whatever it is
+        assert (status, told) == (1, [])
+    else:
+        assert status == 2 and told and all(it.startswith("rvlook: ") for it in told), told

@@ -1,0 +1,128 @@
+"""Ways to run rvlook for the cases of messages. Each returns the status and the lines on standard error."""
+import os
+import pty
+import shutil
+import signal
+import subprocess
+import sys
+import time
+from pathlib import Path
+
+FULL = 'exec "$0" "$@" > /dev/full'
+PATCHED = """import sys
+sys.path[0] = %r
+import rvlook.finders.races.machine as machine, rvlook.finders.races.replay as replay, rvlook.trace.tracer as trace
+%s
+from rvlook.__main__ import main
+sys.exit(main(sys.argv[1:]))
+"""
+# Edits that break an assumption which rvlook checks as it goes on. No input does.
+OTHERWISE = """
+class Forgetful(dict):
+    def setdefault(self, key, value):
+        return None
+learn = machine.Machine.learn
+def forgetful(self, *more):
+    self.known = Forgetful(self.known)
+    return learn(self, *more)
+machine.Machine.learn = forgetful
+"""
+MORE = "operands = machine.operands; machine.operands = lambda word: (0, *operands(word)[1:])"
+NEVER_BACK = """
+from rvlook.finders.races import search as races_search
+loop_of = races_search.loop_of
+races_search.loop_of = lambda *more: (loop_of(*more)[0], None)
+"""
+ORDER = """
+import itertools
+ram, numbers = replay.Replays.ram, itertools.count()
+replay.Replays.ram = lambda self, bench: [*ram(self, bench)[:-1], str(next(numbers))]
+"""
+REGISTERS = """
+step = trace.Tracer.step
+def changing(self, number, hart_number, hart, *more):
+    done = step(self, number, hart_number, hart, *more)
+    hart.registers = [*hart.registers[:31], "changed"]
+    return done
+trace.Tracer.step = changing
+"""
+
+
+class Runs:
+    """Runs the rvlook of a folder, with the built program."""
+
+    def __init__(self, look, root, bench):
+        self.look, self.root, self.bench = look, root, bench
+        self.environment = {**os.environ, "RVBENCH": bench, "TERM": "dumb", "PYTHONDONTWRITEBYTECODE": "1"}
+        self.unset = {name: value for name, value in self.environment.items() if name != "RVBENCH"}
+
+    def ended(self, command, env=None, stdin=subprocess.DEVNULL, stdout=subprocess.DEVNULL, **more):
+        done = subprocess.run([str(it) for it in command], stdin=stdin, stdout=stdout, stderr=subprocess.PIPE, text=True, errors="replace",
+                              env=env or self.environment, check=False, **{"cwd": self.root, **more})
+        return done.returncode, done.stderr.splitlines()
+
+    def run(self, words, shell=None, **environment):
+        """Runs a command line, or a line of a shell that has it as `"$0" "$@"`."""
+        before = [] if shell is None else ["bash", "-o", "pipefail", "-c", shell]
+        return self.ended([*before, self.look, *words], env={**self.environment, **environment})
+
+    def patched(self, code, words):
+        """Runs rvlook with an edit."""
+        return self.ended([sys.executable, "-B", "-c", PATCHED % (str(Path(self.root, "python")), code), *words])
+
+    def typed(self, words):
+        """Runs it with a terminal as standard input."""
+        ours, theirs = pty.openpty()
+        found = self.ended([self.look, *words], stdin=theirs)
+        os.close(ours)
+        os.close(theirs)
+        return found
+
+    def unread(self, words):
+        """Runs it with an output that nobody reads: the reading end of the pipe is closed before."""
+        reading, writing = os.pipe()
+        os.close(reading)
+        found = self.ended([self.look, *words], stdout=writing)
+        os.close(writing)
+        return found
+
+    def stopped(self, words):
+        """Runs it, and sends SIGINT after a second; later if it had not yet begun."""
+        for pause in (1, 2, 4):
+            with subprocess.Popen([self.look, *map(str, words)], cwd=self.root, stdin=subprocess.PIPE, stdout=subprocess.DEVNULL,
+                                  stderr=subprocess.PIPE, text=True, env=self.environment,
+                                  preexec_fn=lambda: signal.signal(signal.SIGINT, signal.default_int_handler)) as process:
+                time.sleep(pause)
+                process.send_signal(signal.SIGINT)
+                _, told = process.communicate(timeout=60)
+            if process.returncode != -signal.SIGINT:
+                break
+        return process.returncode, told.splitlines()
+
+    def in_clone(self, folder, names, image):
+        """Runs `map` in a clone that has these files alone, without RVBENCH."""
+        for name in names:
+            source = Path(self.root, name)
+            (shutil.copytree if source.is_dir() else shutil.copy)(source, folder / name)
+        return lambda: self.ended([folder / "rvlook", "map", image], env=self.unset, cwd=folder)
+
+    def unbuilt(self, folder, image):
+        """Runs it in a clone in which no program can be built: the status of tools/program says so."""
+        run = self.in_clone(folder, ("python", "rvlook"), image)
+        (folder / "tools").mkdir()
+        (folder / "tools" / "program").symlink_to("/bin/false")
+        return run()
+
+    def installed(self, folder, image):
+        """Runs the package outside a clone, with no program on the PATH."""
+        shutil.copytree(Path(self.root, "python"), folder / "a" / "b" / "python")
+        code = "import sys; sys.path[0] = %r; from rvlook.__main__ import main; sys.exit(main(sys.argv[1:]))" % str(folder / "a" / "b" / "python")
+        return self.ended([sys.executable, "-B", "-c", code, "map", image], env={**self.unset, "PATH": "/usr/bin:/bin"}, cwd=folder)
+
+    def unproved(self, folder, image):
+        """Runs it in a clone whose program is an unproved one, for which the built program stands."""
+        run = self.in_clone(folder, ("python", "tools", "rvlook"), image)
+        (folder / "crates" / "rvbench" / "out").mkdir(parents=True)
+        (folder / "crates.txt").touch()
+        shutil.copy(self.bench, folder / "crates" / "rvbench" / "out" / "unproved")
+        return run()
