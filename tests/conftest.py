@@ -1,14 +1,17 @@
 """Fixtures that the tests share: how rvlook is run, and the programs that it is run on.
 
-`RVBENCH` names the built program. `RVLOOK` names another copy of the script `rvlook`, such as a mutant. A test program is a folder of `tests/rvlook/programs`: its C sources, and the image and the symbols that
+`RVBENCH` names the built program. `RVLOOK` names another copy of the script `rvlook`, such as a mutant. A test program is
+a folder of `tests/rvlook/programs`: its C sources, and the image and the symbols that
 `examples/build` made of them, so that the tests need no compiler.
 """
+import atexit
 import json
 import os
 import shutil
 import subprocess
 import tempfile
 import types
+from functools import lru_cache
 from pathlib import Path
 
 import pytest
@@ -21,6 +24,18 @@ PROGRAMS = ROOT / "tests" / "rvlook" / "programs"
 EXAMPLES = ROOT / "examples"
 BUILD = EXAMPLES / "build"
 SECONDS = 120
+JOINED = Path(tempfile.mkdtemp(prefix="rvlook-inputs-"))
+atexit.register(shutil.rmtree, JOINED, ignore_errors=True)
+
+
+@lru_cache(maxsize=None)
+def input_of(folder):
+    """The input of an example in one file: `stdin`, or a joined file of the image and the script."""
+    if (folder / "stdin").exists():
+        return folder / "stdin"
+    path = JOINED / ("%s_%s" % (folder.parent.name, folder.name))
+    path.write_bytes((folder / "image").read_bytes() + (folder / "script").read_bytes())
+    return path
 
 
 def pytest_addoption(parser):

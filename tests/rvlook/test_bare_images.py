@@ -4,7 +4,7 @@ import pytest
 from conftest import PROGRAMS, ROOT
 
 IMAGE = str(PROGRAMS / "bare_user" / "image")
-PMP, SUM = str(ROOT / "examples" / "pmp" / "stdin"), str(ROOT / "examples" / "sum" / "stdin")
+PMP, SUM = str(ROOT / "examples" / "programs" / "pmp" / "stdin"), str(ROOT / "examples" / "programs" / "sum" / "stdin")
 
 
 @pytest.mark.parametrize("word, more", [("leak", ("--at", "80000000", "00", "01")), ("window", ()), ("timer", ())])

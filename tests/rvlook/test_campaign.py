@@ -12,7 +12,7 @@ import pytest
 from conftest import EXAMPLES, PROGRAMS, RVLOOK
 
 pytestmark = pytest.mark.skipif(not shutil.which("parallel"), reason="GNU parallel is not installed")
-WINDOW, ADDS = PROGRAMS.parent / "golden" / "window" / "image", EXAMPLES / "enclave_adds" / "image"
+WINDOW, ADDS = PROGRAMS.parent / "golden" / "window" / "image", EXAMPLES / "enclaves" / "adds" / "image"
 TRIES, PART = 30, 3
 LEAK = ("leak", "--monitor", WINDOW, "--at", "80020800:4", "--seed", "5")
 RACES = ("races", "--monitor", "--timer", "2", "--outcome", "80030000:12", ADDS)
@@ -77,8 +77,8 @@ def test_parts_by_the_first_step_of_the_timer_have_all_final_states(results, ben
 
 
 def test_folder_of_programs_is_searched(bench, tmp_path):
-    for name in ("two_harts", "race"):
-        shutil.copy(EXAMPLES / name / "image", tmp_path / name)
+    for name in ("enclaves/two_harts", "programs/race"):
+        shutil.copy(EXAMPLES / name / "image", tmp_path / name.split("/")[1])
     words = ("races", "--monitor", "--harts", "2", "--limit", "60")
     campaign = Campaign(tmp_path, bench, job_of(words, "{}"), [tmp_path / "two_harts", tmp_path / "race"])
     campaign.run()

@@ -7,8 +7,8 @@ import pytest
 
 from conftest import EXAMPLES, ROOT, RVLOOK
 
-TIMER = EXAMPLES / "enclave_timer" / "image"
-RAW = EXAMPLES / "primes" / "stdin"  # no ELF file: no package is needed
+TIMER = EXAMPLES / "enclaves" / "timer" / "image"
+RAW = EXAMPLES / "programs" / "primes" / "stdin"  # no ELF file: no package is needed
 NUMBERS = ("80020000", "1000", "0", "0", "80020000")
 
 
@@ -45,7 +45,7 @@ def test_measure_of_an_elf_file_needs_pyelftools(rvlook, without_elftools, tmp_p
 
 
 def test_map_without_pyelftools_has_no_symbols(rvlook, without_elftools):
-    done = rvlook("map", "--monitor", EXAMPLES / "enclave_adds" / "image", env=without_elftools)
+    done = rvlook("map", "--monitor", EXAMPLES / "enclaves" / "adds" / "image", env=without_elftools)
     assert (done.returncode, done.stderr) == (0, "rvlook: pyelftools is not there, so there are addresses in place of symbols; apt-get install "
                                               "python3-pyelftools brings it\n")
 

@@ -4,7 +4,7 @@ import re
 
 from conftest import EXAMPLES
 
-BUG, TWO = EXAMPLES / "enclave_bug" / "image", EXAMPLES / "two_harts" / "image"
+BUG, TWO = EXAMPLES / "enclaves" / "bug" / "image", EXAMPLES / "enclaves" / "two_harts" / "image"
 MONITOR, HARTS = ("--monitor",), ("--monitor", "--harts", "2")
 INSIDE = "800200f8"  # the loop of the application of BUG
 MOVES, MOST = 120, 200  # moves at random; steps until a breakpoint

@@ -13,7 +13,7 @@ from support.packets import packet
 
 from conftest import EXAMPLES, ROOT, RVLOOK
 
-IMAGE, MONITOR = EXAMPLES / "enclave_timer" / "image", ("--monitor",)
+IMAGE, MONITOR = EXAMPLES / "enclaves" / "timer" / "image", ("--monitor",)
 ENDLESS = "1303130013031300\n6ff09fff\n"  # a loop that never stays
 SOON = 0.05  # seconds within which Ctrl-C halts
 GONE = "rvlook: the debugger has gone\n"

@@ -3,7 +3,7 @@ import pytest
 
 from conftest import EXAMPLES
 
-IMAGE, WORDS = EXAMPLES / "two_harts" / "image", ("--monitor", "--harts", "2")
+IMAGE, WORDS = EXAMPLES / "enclaves" / "two_harts" / "image", ("--monitor", "--harts", "2")
 TURNS = "0" * 32 + "1" * 32  # the default schedule
 PLACES = ("80020000", "80010028")  # the first instruction of the enclave, and where the host of hart 1 traps
 KINDS = {"2": "w", "4": "rw"}

@@ -9,7 +9,7 @@ from support.packets import packet
 from conftest import EXAMPLES
 
 MONITOR, HARTS = ("--monitor",), ("--monitor", "--harts", "2")
-TIMER, ADDS, BUG, TWO = (EXAMPLES / name / "image" for name in ("enclave_timer", "enclave_adds", "enclave_bug", "two_harts"))
+TIMER, ADDS, BUG, TWO = (EXAMPLES / name / "image" for name in ("enclaves/timer", "enclaves/adds", "enclaves/bug", "enclaves/two_harts"))
 REFUSED = ("P20=00000180", "P0=01000000", "P59=03000000", "m7ffffffc,4", "M80100000,1:00", "X800fffff,2:ab", "M80010000,2:ab", "Hg3", "p99", "T3",
            "Z2,80010000,33")
 CSRS = {"misa": "301", "pmpcfg0": "3a0", "pmpaddr0": "3b0"}

@@ -14,7 +14,7 @@ PAGE = (ROOT / "docs" / "DEBUGGER.md").read_text(encoding="utf-8")
 GDB, LLDB, ADAPTER = "gdb-multiarch", "lldb-14", "lldb-vscode-14"
 PLAIN = [it for words in ("style enabled off", "width 0", "height 0", "confirm off", "filename-display basename")
          for it in ("-iex", "set " + words)]
-BUILT = {"hmac.elf": "enclave_hmac", "two_harts.elf": "two_harts"}
+BUILT = {"hmac.elf": "enclaves/hmac", "two_harts.elf": "enclaves/two_harts"}
 HEAD = re.compile(r"^    (?!\().*\./rvlook gdb (?:--port \d+ )?((?:--\S+ (?:\d+ )?)*)(\S+\.elf).*\n", re.M)
 STEP = re.compile(r"    \((gdb|lldb)\) (.*)\n((?:    (?!\((?:gdb|lldb)\) ).*\n|\n(?=    (?!\((?:gdb|lldb)\) )))*)")
 LIMIT = 60  # seconds of a session
@@ -177,7 +177,7 @@ def test_editor_debugs_by_the_debug_adapter_protocol(folder, server):
     adapter.ask("initialize", adapterID="lldb", linesStartAt1=True, columnsStartAt1=True, pathFormat="path")
     adapter.send("attach", program="hmac.elf", attachCommands=["gdb-remote localhost:" + port], stopOnEntry=True)
     adapter.until(lambda it: it.get("event") == "initialized")
-    source = str(folder / "examples" / "enclave_hmac" / "application.c")
+    source = str(folder / "examples" / "enclaves" / "hmac" / "application.c")
     found = adapter.ask("setBreakpoints", source={"path": source}, breakpoints=[{"line": 24}])
     assert found["breakpoints"][0]["verified"]
     adapter.ask("configurationDone")

@@ -5,7 +5,7 @@ from support.gdb_client import states_of
 from conftest import EXAMPLES
 
 MONITOR = ("--monitor",)
-TIMER, BUG, PRIMES = EXAMPLES / "enclave_timer" / "image", EXAMPLES / "enclave_bug" / "image", EXAMPLES / "primes" / "stdin"
+TIMER, BUG, PRIMES = EXAMPLES / "enclaves" / "timer" / "image", EXAMPLES / "enclaves" / "bug" / "image", EXAMPLES / "programs" / "primes" / "stdin"
 KINDS = {"2": "w", "3": "r", "4": "rw"}
 SHOP, COUNT = 0x800201A0, 0x800201B0  # of BUG: a table in the enclave, and the number after it
 INSIDE = "800200f8"  # the loop of its application

@@ -40,7 +40,7 @@ def run(installed, bench, folder, *words):
 
 
 def test_installed_map_is_the_same(installed, bench, tmp_path, rvlook):
-    words = ["map", "--kind", "elf", str(ROOT / "examples" / "elf" / "image"), "--steps", "300"]
+    words = ["map", "--kind", "elf", str(ROOT / "examples" / "programs" / "elf" / "image"), "--steps", "300"]
     done = run(installed, bench, tmp_path, *words)
     assert done.returncode == 0, done.stderr
     assert done.stdout == rvlook(*words).stdout
@@ -48,7 +48,7 @@ def test_installed_map_is_the_same(installed, bench, tmp_path, rvlook):
 
 def test_installed_package_has_the_parts_of_the_page(installed, bench, tmp_path):
     pytest.importorskip("jinja2")
-    done = run(installed, bench, tmp_path, "page", "--kind", "elf", str(ROOT / "examples" / "elf" / "image"), "--steps", "20")
+    done = run(installed, bench, tmp_path, "page", "--kind", "elf", str(ROOT / "examples" / "programs" / "elf" / "image"), "--steps", "20")
     assert done.returncode == 0, done.stderr
     assert done.stdout.startswith("<!DOCTYPE html>")
 

@@ -3,12 +3,12 @@ import re
 
 import pytest
 
-from conftest import EXAMPLES
+from conftest import EXAMPLES, input_of
 
 BASE = 0x80000000
 MONITOR = ("--monitor",)
 SWITCHES = ("run", "resume", "timer", "stop", "exit")  # events that change nothing of the table but the states
-TIMER, PMP = EXAMPLES / "enclave_timer" / "image", EXAMPLES / "pmp" / "stdin"
+TIMER, PMP = EXAMPLES / "enclaves" / "timer" / "image", EXAMPLES / "programs" / "pmp" / "stdin"
 
 
 def moments_of(results, image, words):
@@ -43,8 +43,8 @@ def states_after(replies, image, words, count):
     return [(re.findall(r"^ran.* world=(\w+)", it[0]), it[1:]) for it in found]
 
 
-@pytest.mark.parametrize("image, words", [(PMP, ()), (TIMER, MONITOR), (EXAMPLES / "monitor_at_rest" / "image", MONITOR)],
-                         ids=["pmp", "enclave_timer", "monitor_at_rest"])
+@pytest.mark.parametrize("image, words", [(PMP, ()), (TIMER, MONITOR), (EXAMPLES / "enclaves" / "at_rest" / "image", MONITOR)],
+                         ids=["pmp", "timer", "at_rest"])
 def test_moments_are_the_steps_after_which_entries_world_or_table_differ(results, replies, image, words):
     shown = results("map", image, *words)
     states = states_after(replies, image, words, shown[-1]["steps"])
@@ -54,9 +54,9 @@ def test_moments_are_the_steps_after_which_entries_world_or_table_differ(results
     assert states_after(replies, image, words, 1) == states[:1]
 
 
-@pytest.mark.parametrize("name", ["enclave_timer", "enclave_refused", "attacks/window"])
+@pytest.mark.parametrize("name", ["enclaves/timer", "enclaves/refused", "attacks/window"])
 def test_world_that_does_not_run_has_the_rights_of_its_own_entries(results, name):
-    moments, compared = moments_of(results, EXAMPLES / name / "stdin", MONITOR), 0
+    moments, compared = moments_of(results, input_of(EXAMPLES / name), MONITOR), 0
     for before, after in zip(moments, moments[1:]):
         if after["event"] in SWITCHES:
             for name in {it["name"] for it in before["columns"]} & {it["name"] for it in after["columns"]}:

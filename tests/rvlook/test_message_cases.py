@@ -13,7 +13,7 @@ ROW = re.compile(r"^\| (\d+) \| `(.*)` \| .*\|$", re.M)
 ROWS = [(int(status), line.replace("\\|", "|")) for status, line in
         ROW.findall((ROOT / "docs" / "LOOK.md").read_text(encoding="utf-8").split("## How it ends")[1])]
 KEPT = ("RVBENCH",)  # in capitals, but no placeholder
-ADDS, LISTING, SUM = EXAMPLES / "enclave_adds" / "image", EXAMPLES / "enclave_adds" / "listing", EXAMPLES / "sum" / "stdin"
+ADDS, LISTING, SUM = EXAMPLES / "enclaves" / "adds" / "image", EXAMPLES / "enclaves" / "adds" / "symbols", EXAMPLES / "programs" / "sum" / "stdin"
 LEAKS, OVERFLOW = GOLDEN + "/leak/image", PROGRAMS / "stack_overflow"
 NUMBERS = ("80020000", "1000", "0", "0", "80020000")
 
@@ -66,7 +66,7 @@ class Cases:
 
     def of_finders(self):
         """Messages of the finders about enclaves and their runs."""
-        hmac = EXAMPLES / "enclave_timer" / "image"
+        hmac = EXAMPLES / "enclaves" / "timer" / "image"
         return {
             "PLACE is no": self.leak("nowhere", "00", "01"), "BYTES are": self.leak("80020800", "0", "01"),
             "no enclave is created": self.leak("80020800", "00", "01", "--slot", "4"), "the bytes from": self.leak("80010000", "00", "01"),
@@ -78,11 +78,11 @@ class Cases:
             "stack overflow in WORLD at step NUMBER, PLACE: it moves": self.overflow(None),
             "stack overflow in WORLD at step NUMBER, PLACE: it stores": self.overflow("80020fc0"),
             "there is no enclave": ("timer", SUM, "--monitor", "--steps", "9"),
-            "the enclave of slot NUMBER does nothing": ("timer", "--monitor", EXAMPLES / "monitor_at_rest" / "image"),
+            "the enclave of slot NUMBER does nothing": ("timer", "--monitor", EXAMPLES / "enclaves" / "at_rest" / "image"),
             "REPORT: WHY": self.leak("80020800", "00", "00", "--junit", "/none/report"),
             "--public needs": ("window", "--monitor", ADDS, "--public", "80030000"), "SUBCOMMAND needs": ("leak", SUM, "--at", "80000000", "00", "01"),
             "touch merges all modes of a bare image, and FILE enters": ("touch", PROGRAMS / "bare_user" / "image"),
-            "touch merges all modes of a bare image, and FILE writes": ("touch", EXAMPLES / "pmp" / "stdin")}
+            "touch merges all modes of a bare image, and FILE writes": ("touch", EXAMPLES / "programs" / "pmp" / "stdin")}
 
     def of_races(self):
         """Messages of `races`."""

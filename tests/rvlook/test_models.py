@@ -11,7 +11,7 @@ from models.monitor_bench import Bench, cut_at, image_of, lines_of
 
 RAM, MOST = 0x80000000, 20000  # the first byte of RAM; steps of the model
 GOLDEN = PROGRAMS.parent / "golden"
-TIMER, LEAK, REGION = EXAMPLES / "enclave_timer" / "image", GOLDEN / "leak" / "image", GOLDEN / "measure" / "region"
+TIMER, LEAK, REGION = EXAMPLES / "enclaves" / "timer" / "image", GOLDEN / "leak" / "image", GOLDEN / "measure" / "region"
 
 
 class Model:

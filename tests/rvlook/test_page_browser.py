@@ -8,19 +8,19 @@ from statistics import median
 import pytest
 from support.page_data import data_of
 
-from conftest import EXAMPLES
+from conftest import EXAMPLES, input_of
 
 selenium = pytest.importorskip("selenium", reason="python3-selenium is not installed")
 pytest.importorskip("jinja2", reason="python3-jinja2 is not installed")
 pytestmark = pytest.mark.skipif(not (shutil.which("chromium") and shutil.which("chromedriver")), reason="chromium or chromedriver is not installed")
-TIMER = EXAMPLES / "enclave_timer"
+TIMER = EXAMPLES / "enclaves" / "timer"
 STEPS = (0, 1, 21, 30, 60, 100, 390, 420)  # at which the registers are compared
 WIDTHS = (1600, 390)
 CHANGING = ("timer", "setreg", "poke")  # commands of the script of TIMER that change the state
 MOST_BYTES, MOST_SECONDS, MOST_MILLISECONDS = 10_000_000, 10, 30  # of a page of a million steps: to open, and to another step
 SECONDS = 300  # to write a page
 MILLION = "37110080\n23201100\n93801000\n83210100\n13f2f00f\nb3024100\n23801210\ne39400fe\n"  # a loop that stores and loads
-SMALL = {"two_harts": (EXAMPLES / "two_harts" / "stdin", "--monitor", "--harts", "2"), "pmp": (EXAMPLES / "pmp" / "stdin",),
+SMALL = {"two_harts": (input_of(EXAMPLES / "enclaves" / "two_harts"), "--monitor", "--harts", "2"), "pmp": (EXAMPLES / "programs" / "pmp" / "stdin",),
          "outside": ("--\nstep 3\n",), "none": ("1300\n", "--kind", "raw", "--steps", "0")}
 REGISTERS = "return [...document.querySelectorAll('#registers .grid > span')].map(it => it.lastChild.textContent)"
 HOVER = """
@@ -89,7 +89,7 @@ def written(rvlook, folder, *words):
 
 @pytest.fixture(scope="module")
 def timer(rvlook, tmp_path_factory):
-    return written(rvlook, tmp_path_factory.mktemp("page"), TIMER / "stdin", "--monitor", "--symbols", TIMER / "listing")
+    return written(rvlook, tmp_path_factory.mktemp("page"), input_of(TIMER), "--monitor", "--symbols", TIMER / "symbols")
 
 
 @pytest.fixture(params=WIDTHS)
@@ -109,7 +109,7 @@ def registers_at(replies, commands):
     for step in range(1, STEPS[-1] + 1):
         changing = [it for it in lines[step - 1] if it.split()[0] in CHANGING]
         script += changing + ["step 1"] + (["regs"] if step in STEPS else [])
-    found = [it.split("=")[1] for it in replies(TIMER / "stdin", ("--monitor",), script) if re.match(r"x\d+=", it)]
+    found = [it.split("=")[1] for it in replies(input_of(TIMER), ("--monitor",), script) if re.match(r"x\d+=", it)]
     return {step: found[at * 32:at * 32 + 32] for at, step in enumerate(STEPS)}
 
 

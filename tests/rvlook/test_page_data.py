@@ -2,10 +2,10 @@
 import pytest
 from support.page_data import Steps, data_of, points_of
 
-from conftest import EXAMPLES
+from conftest import EXAMPLES, input_of
 
-TIMER = EXAMPLES / "enclave_timer"
-IMAGES = {"enclave_timer": ("--monitor", "--symbols", TIMER / "listing"), "two_harts": ("--monitor", "--harts", "2"), "pmp": ()}
+TIMER = EXAMPLES / "enclaves" / "timer"
+IMAGES = {"enclaves/timer": ("--monitor", "--symbols", TIMER / "symbols"), "enclaves/two_harts": ("--monitor", "--harts", "2"), "programs/pmp": ()}
 NO_JSON = "rvlook: page has no --json: it shows what map --json and trace --json write\n"
 NO_JINJA = "rvlook: jinja2 is not there, so the page cannot be made; apt-get install python3-jinja2 brings it\n"
 
@@ -14,7 +14,7 @@ NO_JINJA = "rvlook: jinja2 is not there, so the page cannot be made; apt-get ins
 def page(request, rvlook, results):
     """The data of the page of an example, and the objects of `trace` and `map`."""
     pytest.importorskip("jinja2")
-    words = (EXAMPLES / request.param / "stdin", *IMAGES[request.param])
+    words = (input_of(EXAMPLES / request.param), *IMAGES[request.param])
     done = rvlook("page", *words)
     assert (done.returncode, done.stderr) == (0, "")
     return data_of(done.stdout), results("trace", *words), results("map", *words)
@@ -51,7 +51,7 @@ def test_points_rows_and_lines_of_the_script_are_counted(page):
 
 
 def test_json_is_refused(rvlook):
-    done = rvlook("page", EXAMPLES / "pmp" / "stdin", "--json")
+    done = rvlook("page", EXAMPLES / "programs" / "pmp" / "stdin", "--json")
     assert (done.returncode, done.stdout, done.stderr) == (2, "", NO_JSON)
 
 
@@ -66,5 +66,5 @@ def test_page_of_a_small_run_is_written(rvlook, tmp_path, text, words):
 
 def test_page_needs_jinja2(rvlook, tmp_path):
     (tmp_path / "jinja2.py").write_text("raise ImportError\n")
-    done = rvlook("page", EXAMPLES / "pmp" / "stdin", env={"PYTHONPATH": str(tmp_path)})
+    done = rvlook("page", EXAMPLES / "programs" / "pmp" / "stdin", env={"PYTHONPATH": str(tmp_path)})
     assert (done.returncode, done.stdout, done.stderr) == (3, "", NO_JINJA)

@@ -6,7 +6,7 @@ from support.terminal import Terminal
 
 from conftest import EXAMPLES, ROOT, RVLOOK
 
-FOLDER = EXAMPLES / "enclave_timer"
+FOLDER = EXAMPLES / "enclaves" / "timer"
 TIMER = ("--monitor", FOLDER / "image", "--symbols", FOLDER / "listing")
 SESSION = (  # what is typed, and what is shown then
     (None, "host S _start>"), ("break main\r", "ok"), ("run 100\r", "why=break"), ("reg sp\r", "x2=80020000"), ("until switch\r", "world=e0"),

@@ -108,7 +108,7 @@ def test_enclave_keeps_its_registers_while_it_is_stopped(races, image):
 
 
 def test_one_of_two_creates_of_the_example_is_refused(races):
-    found = races(EXAMPLES / "race" / "image", "--limit", "17", "--outcome", "0.a0", "--outcome", "1.a0")[0]
+    found = races(EXAMPLES / "programs" / "race" / "image", "--limit", "17", "--outcome", "0.a0", "--outcome", "1.a0")[0]
     assert sorted((it["values"]["0.a0"], it["values"]["1.a0"]) for it in found) == [(0x80020000, 0), (0xFFFFFFF9, 0)]
 
 

@@ -3,23 +3,23 @@ import json
 
 import pytest
 
-from conftest import EXAMPLES, PROGRAMS, ROOT
+from conftest import EXAMPLES, PROGRAMS, ROOT, input_of
 
 SHAPES = json.loads((ROOT / "python" / "rvlook" / "output" / "objects.schema.json").read_text(encoding="utf-8"))["$defs"]
 GOLDEN, COPIES = PROGRAMS.parent / "golden", PROGRAMS / "window_copies"
-LEAK, STORE = ("leak", "--monitor", GOLDEN / "leak" / "image", "--at"), EXAMPLES / "enclave_store_leaking"
+LEAK, STORE = ("leak", "--monitor", GOLDEN / "leak" / "image", "--at"), EXAMPLES / "enclaves" / "store_leaking"
 EXIT_ZERO = ("timer", "leak", "window", "races", "explain")  # subcommands that end with 1 if they find something
 UNFINISHED = ("timer_not_resumed",)
 COMMANDS = {
-    "map": ("map", "--monitor", EXAMPLES / "enclave_adds" / "image"), "map_pmp": ("map", EXAMPLES / "pmp" / "stdin"),
-    "touch": ("touch", "--monitor", EXAMPLES / "enclave_refused" / "stdin", "--symbols", EXAMPLES / "enclave_refused" / "listing"),
-    "trace": ("trace", "--monitor", EXAMPLES / "enclave_timer" / "stdin"),
-    "timer_not_resumed": ("timer", "--monitor", EXAMPLES / "enclave_adds" / "image"),
-    "timer": ("timer", "--monitor", EXAMPLES / "enclave_timer" / "image"), "leak": (*LEAK, "80020800", "00", "05"),
+    "map": ("map", "--monitor", EXAMPLES / "enclaves" / "adds" / "image"), "map_pmp": ("map", EXAMPLES / "programs" / "pmp" / "stdin"),
+    "touch": ("touch", "--monitor", input_of(EXAMPLES / "enclaves" / "refused"), "--symbols", EXAMPLES / "enclaves" / "refused" / "symbols"),
+    "trace": ("trace", "--monitor", input_of(EXAMPLES / "enclaves" / "timer")),
+    "timer_not_resumed": ("timer", "--monitor", EXAMPLES / "enclaves" / "adds" / "image"),
+    "timer": ("timer", "--monitor", EXAMPLES / "enclaves" / "timer" / "image"), "leak": (*LEAK, "80020800", "00", "05"),
     "leak_tries": (*LEAK, "80020800:4", "--tries", "3"), "window": ("window", "--monitor", GOLDEN / "window" / "image", "--at", "80020800:4"),
     "window_copies": ("window", "--monitor", COPIES / "image", "--symbols", COPIES / "listing", "--script", COPIES / "script", "--at", "key:20"),
     "window_harts": ("window", "--harts", "2", "--monitor", STORE / "image", "--symbols", STORE / "listing", "--at", "key:32"),
-    "races": ("races", "--monitor", "--timer", "1", EXAMPLES / "enclave_adds" / "image"), "explain": ("explain", GOLDEN / "explain" / "input"),
+    "races": ("races", "--monitor", "--timer", "1", EXAMPLES / "enclaves" / "adds" / "image"), "explain": ("explain", GOLDEN / "explain" / "input"),
     "measure": ("measure", GOLDEN / "measure" / "region", "80020000", "1000", "0", "0", "80020000")}
 
 

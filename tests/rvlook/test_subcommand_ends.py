@@ -7,7 +7,7 @@ from support.message_runs import FULL, Runs
 
 from conftest import EXAMPLES, ROOT, RVLOOK
 
-ADDS, SUM, LEAKS = str(EXAMPLES / "enclave_adds" / "image"), str(EXAMPLES / "sum" / "stdin"), GOLDEN + "/leak/image"
+ADDS, SUM, LEAKS = str(EXAMPLES / "enclaves" / "adds" / "image"), str(EXAMPLES / "programs" / "sum" / "stdin"), GOLDEN + "/leak/image"
 LONG_RACE = ("races", "--monitor", "--harts", "2", "--ram", "131072", "MANY")
 SHORT = {
     "map": ("map", SUM), "trace": ("trace", SUM), "touch": ("touch", SUM), "page": ("page", SUM), "map --json": ("map", SUM, "--json"),
@@ -19,7 +19,7 @@ LONG = {  # runs that take a while; LOOP and MANY are files of support.message_f
     "map": ("map", "LOOP"), "trace": ("trace", "LOOP"), "touch": ("touch", "LOOP"), "page": ("page", "LOOP"), "map --json": ("map", "LOOP", "--json"),
     "trace --format spike": ("trace", "LOOP", "--format", "spike"),
     "leak --tries": ("leak", "--monitor", LEAKS, "--at", "80020800:4", "--tries", "1000"), "races": LONG_RACE,
-    "timer": ("timer", "--monitor", EXAMPLES / "enclave_hmac" / "image")}
+    "timer": ("timer", "--monitor", EXAMPLES / "enclaves" / "hmac" / "image")}
 IMAGES = (SUM, ADDS, REGION, LEAKS)
 
 

@@ -1,17 +1,17 @@
 """`trace` against the bench, step by step; and `touch`, which counts the accesses that `trace` shows."""
 import pytest
 
-from conftest import EXAMPLES, PROGRAMS
+from conftest import EXAMPLES, PROGRAMS, input_of
 
 MONITOR = ("--monitor",)
 SLICES = 4
 LIMIT = ("--steps", "3000")  # some examples have no end
 SHORT, HARTS = ("--monitor", *LIMIT), ("--monitor", "--harts", "2", *LIMIT)
 COUNTED = {
-    **{name: SHORT for name in ("enclave_refused", "enclave_timer", "enclave_bug", "monitor_at_rest", "attacks/timer", "attacks/window")},
-    **{name: HARTS for name in ("two_harts", "race", "attacks/running_access", "attacks/running_race")},
-    **{name: LIMIT for name in ("timer", "primes", "elf", "debugger", "traps")}}
-REFUSED = ("traps",)  # a line of the script is refused: status 2
+    **{name: SHORT for name in ("enclaves/refused", "enclaves/timer", "enclaves/bug", "enclaves/at_rest", "attacks/timer", "attacks/window")},
+    **{name: HARTS for name in ("enclaves/two_harts", "programs/race", "attacks/running_access", "attacks/running_race")},
+    **{name: LIMIT for name in ("programs/timer", "programs/primes", "programs/elf", "programs/debugger", "programs/traps")}}
+REFUSED = ("programs/traps",)  # a line of the script is refused: status 2
 
 
 def steps_of(results, image, words, **options):
@@ -24,7 +24,7 @@ def reply_of(step):
     return "ran 1 pc=%s mode=%s world=%s why=done trap=%s" % (*map(step["next"].get, ("pc", "mode", "world")), trap)
 
 
-@pytest.mark.parametrize("name, words", [("enclave_timer", MONITOR), ("enclave_refused", MONITOR), ("elf", ())])
+@pytest.mark.parametrize("name, words", [("enclaves/timer", MONITOR), ("enclaves/refused", MONITOR), ("programs/elf", ())])
 def test_each_step_has_the_reply_and_registers_of_the_bench(results, replies, name, words):
     image = EXAMPLES / name / "image"
     steps, registers = steps_of(results, image, words), {"x%d" % number: "00000000" for number in range(32)}
@@ -40,7 +40,7 @@ def test_each_step_has_the_reply_and_registers_of_the_bench(results, replies, na
 def test_access_of_a_step_is_where_a_watch_stops_a_run(results, replies, part):
     """A watch on the first and the last byte stops a run at the step, and one on the bytes beside them does not. After the step the memory
     has the value."""
-    image = EXAMPLES / "enclave_refused" / "image"
+    image = EXAMPLES / "enclaves" / "refused" / "image"
     steps = [it for it in steps_of(results, image, MONITOR) if it["touch"] and it["touch"]["done"]][:40]
     assert len(steps) >= 20
     for step in steps[part::SLICES]:
@@ -85,7 +85,7 @@ def check_counts(results, image, words, status):
 
 @pytest.mark.parametrize("name", COUNTED)
 def test_touch_counts_the_accesses_of_the_steps(results, name):
-    check_counts(results, EXAMPLES / name / "stdin", COUNTED[name], 2 if name in REFUSED else 0)
+    check_counts(results, input_of(EXAMPLES / name), COUNTED[name], 2 if name in REFUSED else 0)
 
 
 def test_touch_counts_the_accesses_behind_a_script(results):
@@ -93,6 +93,6 @@ def test_touch_counts_the_accesses_behind_a_script(results):
     check_counts(results, folder / "image", ("--script", folder / "script", "--steps", "50"), 2)
 
 
-@pytest.mark.parametrize("name", ["handler", "pmp"])
+@pytest.mark.parametrize("name", ["programs/handler", "programs/pmp"])
 def test_touch_refuses_an_image_that_writes_a_pmp_register(results, name):
-    assert results("touch", EXAMPLES / name / "stdin", status=2) == []
+    assert results("touch", input_of(EXAMPLES / name), status=2) == []

@@ -7,7 +7,7 @@ import pytest
 
 from conftest import EXAMPLES
 
-FOLDER = EXAMPLES / "enclave_timer"
+FOLDER = EXAMPLES / "enclaves" / "timer"
 TIMER = ("--monitor", FOLDER / "image", "--symbols", FOLDER / "listing")
 DUMP = "riscv64-unknown-elf-objdump"
 LEVELS = {"M": 3, "S": 1, "U": 0}
