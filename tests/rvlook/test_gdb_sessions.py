@@ -39,7 +39,7 @@ def folder(tmp_path_factory):
     path = tmp_path_factory.mktemp("sessions")
     shutil.copytree(EXAMPLES, path / "examples")
     for file, example in BUILT.items():
-        subprocess.run([path / "examples" / "monitor" / "build", example, path / file], check=True, capture_output=True)
+        subprocess.run([path / "examples" / "build", example, path / file], check=True, capture_output=True)
     for name in ("rvlook", "python"):
         (path / name).symlink_to(ROOT / name)
     return path

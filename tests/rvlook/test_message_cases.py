@@ -38,7 +38,7 @@ class Cases:
 
     def overflow(self, top):
         """A program whose stack overflows, with another top of the stack in its symbols if one is given."""
-        text = (OVERFLOW / "listing").read_text(encoding="ascii")
+        text = (OVERFLOW / "symbols").read_text(encoding="ascii")
         listing = self.files.write("listing_%s" % top, text.replace("80021000  runtime_stack_top", "%s  runtime_stack_top" % top) if top else text)
         return "map", "--monitor", OVERFLOW / "image", "--symbols", listing
 
