@@ -29,10 +29,10 @@ class BenchEnded(Unfinished):
 
 
 def tell(line: str) -> None:
-    """A line on standard error."""
+    """Prints a line to standard error."""
     print("rvlook: " + line, file=sys.stderr, flush=True)
 
 
 def package_missing(module: str, package: str, what: str) -> str:
-    """The line for a package of the distribution that is not there."""
+    """Returns the message for a missing Python package: its module, its Debian package, and what does not work without it."""
     return "%s is not there, so %s; apt-get install %s brings it" % (module, what, package)

@@ -37,6 +37,7 @@ class Column:
 
     @property
     def derived(self) -> bool:
+        """Returns whether the world runs on no hart, so that its access is derived from the table."""
         return self.hart is None
 
 
@@ -83,7 +84,7 @@ class Event:
 
 
 def moments(run: Run) -> Iterator[Moment | End]:
-    """Moment for each change, the first for the state at reset, and last End."""
+    """Yields a Moment for the state at reset and for each change of access rights, and then the End."""
     finder = Finder(run)
     end = None
     with run.replay() as replay:
@@ -100,7 +101,7 @@ def moments(run: Run) -> Iterator[Moment | End]:
 
 
 def changed_steps(run: Run) -> Iterator[tuple[int, int] | End]:
-    """The number and hart of each step that called the monitor or was the timer's, and End."""
+    """Yields the number and the hart of each step that called the monitor or was stopped by the timer, and then the End."""
     for item in run.stretches():
         if isinstance(item, End):
             yield item
@@ -110,8 +111,8 @@ def changed_steps(run: Run) -> Iterator[tuple[int, int] | End]:
 
 
 def changed_entries(run: Run) -> Iterator[tuple[int, int] | End]:
-    """The number and hart of each step of the bare bench that may have written an entry, and End: a second bench follows the first, and
-    tells the instruction of each step before it is done."""
+    """Yields the number and the hart of each step of a bare run that may have written a PMP entry, and then the End. A second bench follows the
+    first, and decodes each instruction before its step."""
     pc = run.pc.encode()
     with run.replay() as replay:
         for item in run.stretches():
@@ -128,7 +129,7 @@ def changed_entries(run: Run) -> Iterator[tuple[int, int] | End]:
 
 
 def places_of(pattern: re.Pattern[bytes], block: bytes) -> Iterator[int]:
-    """The numbers of the lines in which a pattern stands, at most once in each."""
+    """Yields the numbers of the lines that match a pattern, each number at most once."""
     place = number = 0
     for match in pattern.finditer(block):
         number += block.count(b"\n", place, match.start())
@@ -145,11 +146,12 @@ class Finder:
         self.state = State((), (), ())  # nothing is known yet
 
     def at_reset(self, replay: Replay) -> Moment:
+        """Returns the moment at reset."""
         self.state = self.state_of(replay, [self.run.world] * self.setup.harts)
         return self.moment(0, 0, Event("reset"), Place(self.run.pc, self.run.mode, self.run.world))
 
     def at_step(self, replay: Replay, step: int, hart: int) -> Moment | None:
-        """The moment behind a step, or None where nothing has changed."""
+        """Returns the moment after a step, or None if nothing has changed."""
         bench = replay.bench
         before = bench.ask(*replay.lines_to(step - 1), *replay.lines_up_to_next(), "regs")[-1]
         pc = before[32][3:]
@@ -164,7 +166,7 @@ class Finder:
         return self.moment(step, hart, event, Place(pc, ran.mode, ran.world))
 
     def state_of(self, replay: Replay | Timeline, worlds: Sequence[str]) -> State:
-        """The entries of each hart, and the table; the verdicts are asked for where the entries are new."""
+        """Reads the PMP entries of each hart and the table of enclaves. Queries the access rights only for entries that are new."""
         bench, entries = replay.bench, []
         for hart in range(self.setup.harts):
             bench.ask(*(["hart %d" % hart] if self.setup.harts > 1 else ["reg 0"]))
@@ -183,7 +185,7 @@ class Finder:
                       tuple(self.rows(columns)))
 
     def columns(self) -> tuple[Column, ...]:
-        """Each hart's world, and those that run nowhere."""
+        """Returns a column for the world of each hart, and one for each world that runs on no hart."""
         worlds = self.state.worlds
         shown = [Column("hart %d: %s" % (hart, world) if len(worlds) > 1 else world, world, hart)
                  for hart, world in enumerate(worlds)]
@@ -191,7 +193,7 @@ class Finder:
         return tuple(shown + [Column(world, world, None) for world in live if world not in worlds])
 
     def rows(self, columns: Sequence[Column]) -> Iterator[Row]:
-        """The ranges between all borders: those of the replies, and those of the table."""
+        """Yields the ranges between all boundaries: those of the PMP entries, and those of the table of enclaves."""
         by_hart = [self.verdicts[lines] for lines in self.state.entries]
         cuts = table_borders(self.state.enclaves, self.setup.ram) if self.setup.monitor else set()
         for verdicts in by_hart:
@@ -212,7 +214,7 @@ class Finder:
 
 
 def event_of(ran: Ran, old: State, hart: int, before: Sequence[int], after: Sequence[int], text: str) -> Event:
-    """What a step did, by its name."""
+    """Returns the event that a step caused."""
     world = old.worlds[hart]
     if world == "bare":
         return Event("pmp", text=text)

@@ -51,17 +51,19 @@ class Public:
     ranges: tuple[tuple[int, int], ...] = ()
 
     def has(self, address: int) -> bool:
+        """Returns whether an address may differ."""
         return any(at <= address < at + count for at, count in self.ranges)
 
 
 def public_of(texts: Sequence[str] | None, symbols: Symbols) -> Public:
-    """What --public names."""
+    """Returns what --public names."""
     found = [it for it in texts or () if it != "answer"]
     return Public("answer" in (texts or ()), tuple((at, count or 4) for at, count in (place_and_size(it, symbols) for it in found)))
 
 
 def seen(run: Run, secret: Secret, is_strict: bool) -> Seen:
-    """What a host sees of the slot's enclave, until it exits."""
+    """Records what a host observes of the enclave in the slot of the secret, until the enclave exits. Raises Unfinished if it is never
+    entered."""
     found, stays = [], Stays(run, secret.step, is_strict)
     with closing(stays.all()) as every:
         for stay in every:
@@ -91,20 +93,22 @@ class Comparison:
             self.add("answer", (one.last, two.last), tuple("%d leaves" % len(it.stays) for it in (one, two)))
 
     def parts(self) -> list[str]:
+        """Returns the channels in which the runs differ, in the order of PARTS."""
         return [it for it in PARTS if any(found.what == it for found in self.found.values())]
 
     def all(self) -> list[Apart]:
+        """Returns all differences, by channel and step."""
         return sorted(self.found.values(), key=lambda it: (PARTS.index(it.what), it.steps))
 
     def add(self, what: str, steps: tuple[int, int], values: tuple[Any, ...], pc: int | None = None) -> None:
-        """A difference, or one more where there was such."""
+        """Adds a difference, or counts it if there is one at the same instruction."""
         if pc is not None and self.public.has(pc):
             return
         old = self.found.setdefault((what, pc), Apart(what, steps, values, pc, 0))
         old.count += 1
 
     def ways(self, one: Stay, two: Stay) -> None:
-        """Step by step, and from where two ways come together again."""
+        """Compares two activations step by step, and after a divergence from where they converge again."""
         theirs = dict(zip(two.did_at, two.did))
         x = y = 0
         while x < len(one.pcs) and y < len(two.pcs):
@@ -133,7 +137,7 @@ class Comparison:
         return together(one, x, two, y)
 
     def access(self, mine: Did, theirs: Did, enclave: Enclave) -> None:
-        """What two steps did that were at the same place."""
+        """Compares what two corresponding steps did."""
         steps = mine.step, theirs.step
         if mine.kind == "d":
             if mine.values != theirs.values:
@@ -144,12 +148,12 @@ class Comparison:
             self.add("window", steps, tuple((it.address, bytes(it.values)) for it in (mine, theirs)), mine.pc)
 
     def is_shown(self, it: Did, enclave: Enclave) -> bool:
-        """Whether a store is to a byte of the window that may not differ."""
+        """Returns whether a store is to a byte of the window that may not differ."""
         places = range(it.address, it.address + it.width)
         return any(enclave.window <= at < enclave.window + enclave.window_size and not self.public.has(at) for at in places)
 
     def leaves(self, one: Stay, two: Stay) -> None:
-        """The answer and the window when the enclave leaves."""
+        """Compares the results and the windows at the end of two activations."""
         if not self.public.answer and (one.left, one.answer) != (two.left, two.answer):
             self.add("answer", (one.last, two.last), tuple((it.left, *it.answer) for it in (one, two)), one.pc)
         self.writers.update(writers_of(one, two))
@@ -168,7 +172,7 @@ def did_at(stay: Stay, place: int) -> Did | None:
 
 
 def writers_of(one: Stay, two: Stay) -> dict[int, int]:
-    """The instruction that stored each byte last, in either run."""
+    """Returns the instruction that stored each byte last, in either run, by address."""
     found: dict[int, int] = {}
     for stay in (two, one):
         for it in stay.did:
@@ -178,7 +182,7 @@ def writers_of(one: Stay, two: Stay) -> dict[int, int]:
 
 
 def alike(one: Stay, x: int, two: Stay, y: int) -> int:
-    """How many steps from these on are at the same places, in the same modes, with the same traps."""
+    """Returns how many steps from x and y on have the same pcs, modes and traps."""
     count, most = 0, min(len(one.pcs) - x, len(two.pcs) - y)
     if one.pcs[x:x + most] == two.pcs[y:y + most]:
         count = most
@@ -195,7 +199,7 @@ def alike(one: Stay, x: int, two: Stay, y: int) -> int:
 
 
 def together(one: Stay, x: int, two: Stay, y: int) -> tuple[int, int]:
-    """Where two ways come together again: the fewest steps behind these, from which on some are alike; else the ends."""
+    """Returns where two activations converge: after the fewest steps from x and y; the ends if they do not."""
     places = defaultdict(list)
     for n in range(y, min(y + FAR, len(two.pcs))):
         places[two.pcs[n]].append(n)
@@ -212,5 +216,6 @@ def together(one: Stay, x: int, two: Stay, y: int) -> tuple[int, int]:
 
 
 def check_values(values: Sequence[bytes]) -> None:
+    """Raises Fault if two secrets have different lengths."""
     if len(values[0]) != len(values[1]):
         raise Fault("the two have not the same number of bytes")

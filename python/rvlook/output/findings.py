@@ -38,6 +38,7 @@ class Findings:
 
     @property
     def has_found(self) -> bool:
+        """Returns whether there is a finding."""
         return any(it.finding for it in self.cases)
 
     def status(self, is_report: bool) -> int:

@@ -22,7 +22,7 @@ class Progress:
         self.clear()
 
     def tell(self, text: str, *values: object) -> None:
-        """Shows a line, of a form and its values."""
+        """Shows a line, from a format and its values."""
         if not self.is_shown or time.monotonic() - self.last < EVERY:
             return
         self.last, told = time.monotonic(), text % values
@@ -37,6 +37,7 @@ class Progress:
             self.tell("[%s%s] %d of %d  %s", "#" * filled, "." * (30 - filled), done, of, found)
 
     def clear(self) -> None:
+        """Removes the line."""
         if self.width:
             self.stream.write("\r" + " " * self.width + "\r")
             self.stream.flush()

@@ -44,7 +44,7 @@ def show_page(run: Run, symbols: Symbols, printer: Printer, template: Any, paths
 
 
 def collected(run: Run, symbols: Symbols) -> Collector:
-    """All objects of a run's map and trace."""
+    """Returns all objects of the map and the trace of a run."""
     found = Collector()
     run_object(found, run, symbols)
     writer = Objects(run, symbols, found)

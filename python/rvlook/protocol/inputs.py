@@ -27,4 +27,5 @@ class Image:
 
     @property
     def is_elf(self) -> bool:
+        """Returns whether the bytes begin as an ELF file."""
         return self.data is not None and self.data.startswith(ELF_MAGIC)

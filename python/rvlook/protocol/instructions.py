@@ -40,12 +40,13 @@ class Instruction:
 
     @property
     def short(self) -> str:
+        """Returns the manual's short form."""
         return short_form(self.abi)
 
 
 @lru_cache(maxsize=65536)
 def instruction_of(line: bytes) -> Instruction | None:
-    """The instruction of a reply of `dis`, or None where there is none."""
+    """Decodes a reply of `dis`; returns None for an error."""
     if line.startswith(b"error"):
         return None
     word, text = line.decode().split(": ")[1].split(" ", 1)
@@ -56,7 +57,7 @@ def instruction_of(line: bytes) -> Instruction | None:
 
 
 def memory_of(match: re.Match[str]) -> Memory:
-    """The operand of a load or a store."""
+    """Returns the operand of a load or a store."""
     kind = "r" if match[1][0] == "l" else "w"
     return Memory(kind, WIDTHS[match[1][1]], int(match[4]), int(match[3]), int(match[2]))
 
@@ -79,5 +80,5 @@ SHORT = [(re.compile(pattern + r"\Z"), form) for pattern, form in (
 
 @lru_cache(maxsize=65536)
 def short_form(text: str) -> str:
-    """The manual's short form of a text with ABI names, or the text itself."""
+    """Returns the manual's short form of a text with ABI names, or the text itself."""
     return next((pattern.sub(form, text) for pattern, form in SHORT if pattern.match(text)), text)

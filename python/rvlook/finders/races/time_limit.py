@@ -45,4 +45,5 @@ class Alarm:
 
     @staticmethod
     def stop(*_: object) -> NoReturn:
+        """Raises OutOfTime."""
         raise OutOfTime
