@@ -1,4 +1,4 @@
-"""rvlook: what comes wrong is told in one line."""
+"""Runs rvlook, and prints each error in one line."""
 from __future__ import annotations
 
 import os

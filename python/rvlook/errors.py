@@ -1,4 +1,4 @@
-"""What can come wrong, told in one line."""
+"""The exceptions of rvlook, each with a message of one line and an exit status."""
 from __future__ import annotations
 
 import sys

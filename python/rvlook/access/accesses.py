@@ -1,5 +1,5 @@
-"""What a run fetched, loaded and stored, counted. Of a step that loads or stores the register that its address goes by is asked for before
-it; of the others none is, so that this takes less than a trace."""
+"""Counts what a run fetched, loaded and stored. Reads the base register before each load or store, and nothing else, which is faster than a
+trace."""
 from __future__ import annotations
 
 from collections import Counter

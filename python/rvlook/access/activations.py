@@ -1,6 +1,6 @@
-"""The stays of enclaves in a run, from each entry to the leave behind it, with what they did: each load and store, and the operands of
-divisions. Of a step that does such the registers are asked for that it names, before it. What an instruction is is asked once, for nobody
-but an enclave stores into its region; where it stores into its own code, it is asked at each step of that part of the run."""
+"""The activations of enclaves in a run, from each entry to the exit after it, with their loads, stores and operands of divisions. An
+instruction is decoded once, as only the enclave itself stores into its region. After it has stored into its own code, each instruction of
+that part of the run is decoded again."""
 from __future__ import annotations
 
 import itertools

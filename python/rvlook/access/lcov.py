@@ -1,4 +1,4 @@
-"""The lines and functions that each world executed, as the file of lcov that genhtml takes: a test for each world."""
+"""Prints the lines and functions that each world executed in the format of lcov, which genhtml reads: a test for each world."""
 from __future__ import annotations
 
 from typing import Sequence, TYPE_CHECKING

@@ -1,9 +1,6 @@
-"""The moments of a run at which what may be touched changes, and who may touch what from then on.
-
-Under the monitor the entries are laid out anew by a call or the timer's stop alone, which are traps, and no world can write them: so the
-moments are among the steps that trapped. On the bare bench only an instruction on such a register writes an entry: so they are among
-the steps of these instructions, by the word that stands at pc before each step.
-"""
+"""The changes of access rights in a run, and the rights after each. Under the monitor only a call or the timer's stop reprograms the PMP
+entries, and both trap, so only steps that trapped are examined. On the bare bench only an instruction on a PMP register writes an entry, so
+only the steps of these instructions are examined."""
 from __future__ import annotations
 
 import re

@@ -1,4 +1,4 @@
-"""The word map: the moments of a run, for a person and as objects."""
+"""The subcommand `map`: prints the changes of access rights as lines and as objects."""
 from __future__ import annotations
 
 from bisect import bisect_right

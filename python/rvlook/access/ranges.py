@@ -1,5 +1,5 @@
-"""Who may touch which range of RAM: what `access` replies between the borders that `pmp` shows, and what the law of reach says of the
-worlds that do not run."""
+"""Access rights to ranges of RAM: the replies of `access` between the boundaries that `pmp` shows, and the rights that the table of
+enclaves gives to worlds that run on no hart."""
 from __future__ import annotations
 
 from dataclasses import dataclass

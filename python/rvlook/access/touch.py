@@ -1,4 +1,4 @@
-"""The word touch: what each world read, wrote and executed, beside what it might have."""
+"""The subcommand `touch`: what each world read, wrote and executed, beside what it was permitted."""
 from __future__ import annotations
 
 import re

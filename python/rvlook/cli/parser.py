@@ -1,4 +1,4 @@
-"""The command line: its subcommands, and the arguments that it gives."""
+"""The command line: its subcommands and their arguments."""
 from __future__ import annotations
 
 import argparse

@@ -1,4 +1,4 @@
-"""What each subcommand does with its arguments."""
+"""Runs each subcommand with its arguments."""
 from __future__ import annotations
 
 from typing import TYPE_CHECKING

@@ -1,6 +1,6 @@
-"""The word leak: runs that differ in a secret of an enclave alone; where they part, in what a host can see or time while the enclave runs and
-when it leaves: where each step is, how many there are, the addresses of loads and stores, the operands of divisions where that is asked
-for, the answers, and the window. Where two runs go different ways they are compared from where they come together again."""
+"""The subcommand `leak`: compares runs that differ only in a secret of an enclave, by what a host can observe: pc and number of steps,
+addresses of loads and stores, operands of divisions if wanted, results, and the window. After a divergence two runs are compared from where
+they converge again."""
 from __future__ import annotations
 
 from array import array

@@ -1,4 +1,4 @@
-"""What the word leak tells: for a pair of secrets, or for each of many, in what the runs part, and where; for a person and as objects."""
+"""The report of `leak`, for a pair of secrets or for each of many: the channels in which the runs differ, and where."""
 from __future__ import annotations
 
 import time

@@ -1,4 +1,4 @@
-"""What tells the ends of races apart, and what is forbidden of them: bytes, registers, the states of enclaves."""
+"""What distinguishes the final states of `races`, and what is forbidden of them: bytes, registers and the states of enclaves."""
 from __future__ import annotations
 
 import operator

@@ -1,4 +1,4 @@
-"""Where bytes have a copy of a part of a secret: each maximal run of bytes that the secret has too, in the same order."""
+"""Finds copies of parts of a secret: maximal runs of bytes that the secret has in the same order."""
 from __future__ import annotations
 
 from typing import Iterable, NamedTuple

@@ -1,5 +1,5 @@
-"""Where a secret is: bytes of an enclave's region, which are poked right behind its create; bytes of the image, which are poked at reset; or
-a register, at the moment at which an enclave first comes to a place. And which values it is given."""
+"""The place of a secret: bytes of an enclave's region, poked right after its `create`; bytes of the image, poked at reset; or a register
+when an enclave first comes to a place. And the values that it is given."""
 from __future__ import annotations
 
 import random

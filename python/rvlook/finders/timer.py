@@ -1,5 +1,5 @@
-"""The word timer: the timer's line is raised before each step of an enclave, or before every Nth; whether it comes to the same end as
-without, and in how many stops. The script comes before, as it stands."""
+"""The subcommand `timer`: sets the timer interrupt pending before each step of an enclave, or before every Nth, and checks that the enclave
+comes to the same end as without. The script runs before, unchanged."""
 from __future__ import annotations
 
 import itertools

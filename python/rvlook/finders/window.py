@@ -1,6 +1,6 @@
-"""The word window: for each stay of an enclave what it did with each byte of its window: which it read before it wrote them, which it read
-again with nothing of its own between (a double fetch, if another writes between), which it wrote, which are left of an earlier stay, and
-whether what it wrote depends on a secret, by a second run in which the secret is another; and where the window has a copy of the secret."""
+"""The subcommand `window`: what each activation of an enclave did with the bytes of its window: read, read again (a double fetch), written,
+or left by an earlier activation. A second run shows whether what was written depends on a secret. Copies of the secret in the window are
+found too."""
 from __future__ import annotations
 
 from collections import defaultdict

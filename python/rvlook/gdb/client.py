@@ -1,6 +1,6 @@
-"""For gdb itself, which reads it by `-x python/rvlook/gdb/client.py`: what it cannot learn by the protocol. A backtrace goes on over a handler of
-traps to what it interrupted, and from an enclave to the host that entered it, so that `up`, `finish` and `next` over the call know the host
-as the caller; what it shows is read anew behind a `monitor`, which may step; and it waits as long as a run of the bench may take."""
+"""Loaded by gdb with `-x python/rvlook/gdb/client.py`, for what the protocol cannot express: a backtrace continues from a trap handler to
+the interrupted code, and from an enclave to the host that entered it; registers are read again after each `monitor`, which may step; and
+gdb waits as long as a run of the bench may take."""
 from __future__ import annotations
 
 import gdb

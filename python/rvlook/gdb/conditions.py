@@ -1,5 +1,5 @@
-"""Conditions of breakpoints: agent expressions of the GDB manual (appendix F), asked where the bench halts, so that a debugger is not
-told of halts at which they do not hold."""
+"""Evaluates the conditions of breakpoints, which are agent expressions (GDB manual, appendix F), so that a debugger does not see halts at
+which they do not hold."""
 from __future__ import annotations
 
 import operator

@@ -1,5 +1,5 @@
-"""Where the host entered the enclave in which a hart is: at the last step that brought the hart to another world. It is looked for in the
-past, from here back, and kept for as long as the hart cannot have left."""
+"""Finds where the host entered the enclave on a hart: the last step that brought the hart to another world. It is searched from the present
+step back, and cached for as long as the hart cannot have left the enclave."""
 from __future__ import annotations
 
 import contextlib

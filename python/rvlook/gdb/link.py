@@ -1,4 +1,4 @@
-"""Packets of the GDB remote serial protocol, over two file descriptors. Their bytes stand in texts, as latin-1."""
+"""Packets of the GDB remote serial protocol, over two file descriptors. Their bytes are kept in strings, as latin-1."""
 from __future__ import annotations
 
 import contextlib

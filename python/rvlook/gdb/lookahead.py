@@ -1,4 +1,4 @@
-"""Many steps of a timeline in one exchange, and where its harts do nothing any more."""
+"""Does many steps of a timeline in one exchange, and finds where its harts do nothing any more."""
 from __future__ import annotations
 
 import contextlib

@@ -1,5 +1,5 @@
-"""What `monitor` takes: the lines of the bench and of the prompt, the words of rvlook over what was done up to now, and what is asked of
-the bridge itself."""
+"""The commands of `monitor`: those of the bench and of the prompt, the subcommands of rvlook over what was done so far, and those of the
+server itself."""
 from __future__ import annotations
 
 import contextlib

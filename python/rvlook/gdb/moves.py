@@ -1,5 +1,5 @@
-"""How harts go on under a debugger. What a person may wait for is asked in few exchanges; where that brings the bench further than the
-stop, another one is brought to the stop itself, by the timeline."""
+"""Runs harts forward under a debugger. Steps are done in few exchanges; if the bench passes a stop, another bench is brought to the stop by
+the timeline."""
 from __future__ import annotations
 
 import time

@@ -1,5 +1,5 @@
-"""How harts go back under a debugger: to the step before, or to the last stop before, which is looked for on other benches that play parts
-of the past again."""
+"""Runs harts back under a debugger: to the step before, or to the last stop before, which is searched on other benches that repeat parts of
+the past."""
 from __future__ import annotations
 
 import contextlib

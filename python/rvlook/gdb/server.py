@@ -1,4 +1,4 @@
-"""The word gdb: the bench for a debugger that speaks the GDB remote serial protocol. Each hart is a thread."""
+"""The subcommand `gdb`: serves the bench to a debugger by the GDB remote serial protocol. Each hart is a thread."""
 from __future__ import annotations
 
 import re

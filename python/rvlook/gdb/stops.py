@@ -1,5 +1,5 @@
-"""Where harts halt under a debugger: breakpoints with their conditions, watchpoints by the kind of the access, and catchpoints. The bench
-asks its own breaks and watches; what it tells is judged here."""
+"""Where harts halt under a debugger: breakpoints with conditions, watchpoints by kind of access, and catchpoints. The bench checks its
+breaks and watches; whether they are halts is decided here."""
 from __future__ import annotations
 
 import contextlib

@@ -1,4 +1,4 @@
-"""What the debugger is told of the bench: its registers, by the features of RISC-V and one of its own; its memory; and its harts."""
+"""The descriptions that the debugger reads: the registers, by the features of RISC-V and one of rvbench; the memory map; and the harts."""
 from __future__ import annotations
 
 from xml.sax.saxutils import quoteattr

@@ -1,5 +1,5 @@
-"""What a debugger sees of a bench that halts, each thing asked once: registers, and memory by lines of 64 bytes. A debugger asks for two
-bytes at a time, and for those around pc and above sp at each step; these come with the step, in one exchange."""
+"""Caches what a debugger reads from a halted bench: registers, and memory in lines of 64 bytes. A debugger reads two bytes at a time, and
+those around pc and above sp after each step; the step brings them in the same exchange."""
 from __future__ import annotations
 
 from typing import Any, TYPE_CHECKING

@@ -1,4 +1,4 @@
-"""What an image says of itself: whether it is made for the monitor, and whether it has instructions that the bench has not."""
+"""Detects whether an image is made for the monitor, and whether it has instructions that the bench lacks."""
 from __future__ import annotations
 
 import re

@@ -1,4 +1,4 @@
-"""The image, in whatever form it stands in a file: an ELF file, raw bytes, or the text that the bench reads."""
+"""Reads an image in any form: an ELF file, raw bytes, or the text that the bench reads."""
 from __future__ import annotations
 
 import re

@@ -1,4 +1,4 @@
-"""The word measure: the digest that create records, worked out by hashlib; none of it is a reply."""
+"""The subcommand `measure`: computes the digest that `create` records."""
 from __future__ import annotations
 
 import hashlib

@@ -1,5 +1,4 @@
-"""Names and source lines of addresses, from an ELF file by pyelftools, or from lines of text as nm prints them. All of it is derived:
-the bench knows no symbols."""
+"""Reads symbols and source lines from an ELF file with pyelftools, or from the output of nm."""
 from __future__ import annotations
 
 import io

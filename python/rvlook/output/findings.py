@@ -1,4 +1,4 @@
-"""What a subcommand found, as its exit status and as a JUnit report: a test case for each question, with the finding if there is one."""
+"""The findings of a subcommand, as its exit status and as a JUnit report with a test case for each question."""
 from __future__ import annotations
 
 from dataclasses import dataclass

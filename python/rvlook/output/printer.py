@@ -1,4 +1,4 @@
-"""How things are written: lines for a person, objects for a program, and colours where a terminal has them."""
+"""Prints lines for a person and objects for a program, with colours on a terminal that has them."""
 from __future__ import annotations
 
 import json

@@ -1,4 +1,4 @@
-"""A line on a terminal that tells how far long work is; nothing is written where standard error is no terminal."""
+"""Shows the progress of a long task in a line on a terminal. Writes nothing if standard error is no terminal."""
 from __future__ import annotations
 
 import sys

@@ -1,5 +1,5 @@
-"""The page's axis of memory: RAM is cut where a row of the map ends, and where what is touched begins and ends. What nobody touched is
-shut."""
+"""The memory axis of the page. RAM is cut at the boundaries of the map, and where accessed memory begins and ends; memory without accesses
+is collapsed."""
 from __future__ import annotations
 
 from typing import Any, Iterator, Sequence, TYPE_CHECKING

@@ -1,6 +1,6 @@
-"""The objects of a run, packed for the page: what comes again and again is a number in a table, and numbers are columns of bytes. All
-of it is compressed by zlib, and stands as digits of base 64: the length of an object in JSON, in four bytes, the lowest first; the object;
-and the columns, at the places that it tells."""
+"""Packs the objects of a run for the page: repeated values are numbers in a table, and numbers are columns of bytes. The result is
+compressed by zlib, in base 64: the length of a JSON object in four bytes, little-endian; the object; and the columns, at the places that
+the object names."""
 from __future__ import annotations
 
 import base64

@@ -1,4 +1,4 @@
-"""The word page: a run as one page for a browser, which needs nothing else. It is made of the objects that --json writes."""
+"""The subcommand `page`: writes a run as one page for a browser, made from the objects of --json."""
 from __future__ import annotations
 
 import os

@@ -1,5 +1,4 @@
-"""The word explain: an input of the bench, read beside its faults. The bench is given the input as it stands; what its faults mean, and
-what to write in their place, is derived."""
+"""The subcommand `explain`: shows the errors of an input of the bench, what they mean, and what to write instead."""
 from __future__ import annotations
 
 import re

@@ -1,4 +1,4 @@
-"""The prompt: lines from a terminal, with the history and the completion of Python's readline, or as they come."""
+"""Reads the lines of the prompt: from a terminal, with history and completion by readline, or from standard input."""
 from __future__ import annotations
 
 import sys

@@ -1,5 +1,4 @@
-"""What the prompt does with a line: the bench's commands, in which symbols and ABI names may stand, and a few of its own, for what a
-debugger has not."""
+"""Runs the lines of the prompt: commands of the bench with symbols and ABI names, and a few commands of its own."""
 from __future__ import annotations
 
 import inspect

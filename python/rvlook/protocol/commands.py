@@ -1,4 +1,4 @@
-"""The commands of the bench and the forms of their operands (docs/COMMANDS.md), for what reads them beside it."""
+"""The commands of the bench and the forms of their operands (docs/COMMANDS.md)."""
 from __future__ import annotations
 
 import re

@@ -1,5 +1,5 @@
-"""What the text of an instruction says: the register that it writes, the memory that it loads or stores, where it goes, and the short
-form that the manual has for it. All of it is derived of the text that the bench's `dis` replies."""
+"""Decodes the text of an instruction in a reply of `dis`: the register that it writes, its load or store, its target, and the manual's
+short form."""
 from __future__ import annotations
 
 import re

@@ -1,5 +1,4 @@
-"""A line of a script or of the prompt, as the bench takes it: symbols, and the names of registers, become numbers. What was made of a
-line is derived; what the bench replies to it is not."""
+"""Converts a line of a script or of the prompt to the syntax of the bench: symbols and names of registers become numbers."""
 from __future__ import annotations
 
 from typing import Iterable, Sequence, TYPE_CHECKING

@@ -1,4 +1,4 @@
-"""Names of the field for numbers: registers by the ABI, causes, calls and statuses of the monitor."""
+"""Names for numbers: ABI registers, causes of traps, and calls and statuses of the monitor."""
 from __future__ import annotations
 
 import re

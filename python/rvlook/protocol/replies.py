@@ -1,4 +1,4 @@
-"""Replies of the bench as values (docs/COMMANDS.md)."""
+"""Decodes the replies of the bench (docs/COMMANDS.md)."""
 from __future__ import annotations
 
 import re

@@ -1,8 +1,6 @@
-"""A run: what its script does, step by step, and how to come to any step of it again.
-
-The script is played once as it stands, which tells how many steps each `run` of it did. From then on every step can be done alone: a
-`run` of so many steps is as many single steps, and `sched` is a step of the hart that each digit names.
-"""
+"""A run: what its script does, step by step, and how to return to any step. The script is run once unchanged, which shows the number of
+steps of each `run`. From then on every step can be done alone: a `run` is as many single steps, and `sched` is a step of the hart that each
+digit names."""
 from __future__ import annotations
 
 import copy

@@ -1,5 +1,5 @@
-"""A bench and its history: what was done on it since reset. The same commands give the same run each time, so any earlier step is come to
-again by giving them to another bench up to there. Steps are counted over all harts."""
+"""A bench and its history since reset. The same commands give the same run each time, so an earlier step is reached by repeating them on
+another bench. Steps are counted over all harts."""
 from __future__ import annotations
 
 from dataclasses import dataclass

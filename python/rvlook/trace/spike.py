@@ -1,5 +1,5 @@
-"""The log of commits as the simulator Spike writes it with --log-commits, for tools that read it: a line for each instruction that did not
-trap, with the register that it wrote, the control and status register, and what it loaded or stored."""
+"""Prints a trace in the format of Spike's --log-commits: a line for each instruction that did not trap, with the register and the control
+register that it wrote, and its load or store."""
 from __future__ import annotations
 
 from typing import TYPE_CHECKING

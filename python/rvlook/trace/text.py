@@ -1,4 +1,4 @@
-"""The word trace: the steps of a run, for a person and as objects."""
+"""The subcommand `trace`: prints the steps of a run as lines and as objects."""
 from __future__ import annotations
 
 from dataclasses import dataclass, field

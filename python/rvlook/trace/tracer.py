@@ -1,8 +1,5 @@
-"""Each step of a run, with all that it changed and touched.
-
-Of an instruction that does not trap only the register that its text names is asked for, and all of them behind a trap and at the end of
-each part of the run, where those that were kept must be the same.
-"""
+"""Each step of a run, with all that it changed and accessed. After an instruction that does not trap only the register that it writes is
+read. All registers are read after a trap and at the end of each part of the run, where the values so far must agree."""
 from __future__ import annotations
 
 from typing import Iterator, NamedTuple, Optional, Sequence, TYPE_CHECKING, Tuple

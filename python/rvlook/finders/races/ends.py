@@ -1,6 +1,6 @@
-"""The final states that a search has found. Each is a strongly connected part of the graph of orders in which each hart can go on for ever
-within the part. A hart has ended if it accesses no memory there. If a hart goes on, its part has a final state for each set of values that
-holds again and again. Orders are counted over the parts: the rounds of an endless loop are left out."""
+"""The final states that a search has found. Each is a strongly connected component of the graph of orders in which each hart can run for
+ever. A hart has ended if it accesses no memory there. If a hart runs on, its component has a final state for each set of values that
+recurs. Orders are counted over the components: rounds of an endless loop are left out."""
 from __future__ import annotations
 
 from collections import defaultdict, deque

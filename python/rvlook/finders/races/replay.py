@@ -1,5 +1,5 @@
-"""An end of races is told once its schedule was done again on the bench, and all that the bench shows is as it was worked out: registers,
-control registers, modes and worlds, entries, the table, and each byte of RAM. And the schedule as an input of the bench."""
+"""Replays a final state of `races` on the bench before it is reported, and compares all that the bench shows: registers, control registers,
+modes, worlds, PMP entries, the table of enclaves, and each byte of RAM. Also writes its schedule as an input of the bench."""
 from __future__ import annotations
 
 import os

@@ -1,7 +1,7 @@
-"""The search of the word races: all orders of two harts, and all moments of the timer. A hart is left only before a step that another could
-be affected by: one that touches a byte which both touch and one writes, that calls the monitor, or that touches what is a region at one
-time or another. All other steps commute with those of the other, so no end is lost. What both touch is found by searching again as long as
-it grows. Places that are alike are one; the simplest way to each is found first, by preemptions, timers, switches and steps."""
+"""The search of `races` over all orders of two harts and all timer interrupts, with partial-order reduction. It switches harts only before
+a dependent step: one that accesses a byte which both harts access and at least one writes, that calls the monitor, or that accesses memory
+which is ever part of a region. The search is repeated as long as more shared bytes are found. Equal places are joined; the simplest way to
+each is found first, by preemptions, timer interrupts, switches and steps."""
 from __future__ import annotations
 
 import heapq

@@ -1,4 +1,4 @@
-"""What the word races tells: the ends, each with the simplest order that leads to it, for a person and as objects; and what was covered."""
+"""The report of `races`: the final states, each with the simplest order that leads to it, and what was covered."""
 from __future__ import annotations
 
 from dataclasses import dataclass, field
