@@ -7,25 +7,25 @@ FOUND, REFUSED, UNFINISHED = 1, 2, 3  # statuses (docs/LOOK.md, How it ends); 2 
 
 
 class Fault(Exception):
-    """What rvlook cannot go on from: an argument or an input that it cannot use. Its text is the line that is told."""
+    """An argument or an input that rvlook cannot use. Its text is the message."""
     status = REFUSED
 
 
 class Unfinished(Fault):
-    """An error for which rvlook could not finish, though what it was given may be right."""
+    """An error for which rvlook could not finish, though its arguments and inputs may be valid."""
     status = UNFINISHED
 
 
 class WordsRefused(Fault):
-    """The words of the command line are not those of rvlook."""
+    """The command line is not valid."""
 
 
 class NameRefused(Fault):
-    """A name that stands for no address, or for more than one."""
+    """A name that has no address, or more than one."""
 
 
 class BenchEnded(Unfinished):
-    """The bench ended before it had answered."""
+    """The bench ended before it had replied."""
 
 
 def tell(line: str) -> None:

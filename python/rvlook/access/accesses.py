@@ -16,7 +16,7 @@ if TYPE_CHECKING:
 
 
 class Access(NamedTuple):
-    """Accesses of a world of one kind (`r`, `w` or `x`) at an address, of so many bytes, done or refused."""
+    """Accesses of a world of one kind (`r`, `w` or `x`) at an address, `width` bytes each, done or refused."""
     world: str
     kind: str
     address: int
@@ -38,7 +38,7 @@ def accesses(run: Run) -> tuple[Counter[Access], End]:
 
 
 class Counting:
-    """The counts of the steps by what the first bench replies to them, and of loads and stores."""
+    """Counts steps by their fields, and loads and stores by address and width."""
 
     def __init__(self, run: Run) -> None:
         self.steps: Counter[tuple[bytes, bytes, bytes]] = Counter()

@@ -50,7 +50,8 @@ class Fields(NamedTuple):
 
 @dataclass
 class Stay:
-    """An enclave on a hart, from the step that enters it to the one that leaves it; `number` counts those of its slot's life."""
+    """An activation: an enclave on a hart, from the step that enters it to the one that leaves it. `number` counts the activations of its
+    slot."""
     world: str
     hart: int
     first: int
@@ -92,7 +93,7 @@ def wants(line: bytes, is_strict: bool) -> Wanted | None:
 
 
 class Stays:
-    """The stays of a run behind a step, as far as it goes; `is_strict` asks for divisions too, and `last` ends it."""
+    """The activations of a run after a step. `is_strict` records the operands of divisions too."""
 
     def __init__(self, run: Run, start: int = 0, is_strict: bool = False) -> None:
         self.run, self.start, self.is_strict = run, start, is_strict

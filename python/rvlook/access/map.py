@@ -27,7 +27,7 @@ PC = re.compile(rb"pc=(\w+)")
 
 @dataclass(frozen=True)
 class Column:
-    """A world whose access is shown: a hart's own, or, derived, one that runs nowhere."""
+    """A world whose access rights are shown: that of a hart, or a derived one that runs on no hart."""
     name: str
     world: str
     hart: Optional[int]
@@ -40,7 +40,7 @@ class Column:
 
 @dataclass(frozen=True)
 class Row:
-    """A range of RAM, what it is, and for each column's name the modes and what they may do."""
+    """A range of RAM, its meaning, and for each column the access rights in each mode."""
     range: Range
     what: str
     may: dict[str, dict[str, str]]
@@ -48,7 +48,7 @@ class Row:
 
 @dataclass(frozen=True)
 class Moment:
-    """How things stand behind a step; `pc` is of the instruction that was done, `event` what it was."""
+    """The access rights after a step. `pc` is that of the instruction, `event` what changed them."""
     step: int
     hart: int
     event: str
@@ -65,7 +65,7 @@ class Moment:
 
 @dataclass(frozen=True)
 class State:
-    """What decides who may touch what: the entries and the world of each hart, and the table."""
+    """All that decides access rights: the PMP entries and the world of each hart, and the table of enclaves."""
     entries: tuple[tuple[str, ...], ...]
     worlds: tuple[str, ...]
     enclaves: tuple[Enclave, ...]
@@ -73,7 +73,7 @@ class State:
 
 @dataclass(frozen=True)
 class Event:
-    """What a step did, by its name."""
+    """What a step did: its name, with the slot, the status and the text of the instruction if they apply."""
     name: str
     slot: Optional[int] = None
     status: Optional[str] = None
@@ -135,7 +135,7 @@ def places_of(pattern: re.Pattern[bytes], block: bytes) -> Iterator[int]:
 
 
 class Finder:
-    """Makes moments of steps, and keeps what `access` replied for entries that it has met."""
+    """Makes moments of steps, and caches the replies of `access` for PMP entries."""
 
     def __init__(self, run: Run) -> None:
         self.run, self.setup = run, run.setup

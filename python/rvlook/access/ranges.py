@@ -26,8 +26,7 @@ class Range:
 
 @dataclass(frozen=True)
 class Verdicts:
-    """What `access` replied for each byte of a range: for each mode the kinds that are allowed, and the replies themselves, which tell
-    the entries that decide."""
+    """The access rights to a range in each mode, and the replies of `access`, which name the entry that decides."""
     range: Range
     may: dict[str, str]
     replies: tuple[str, ...]

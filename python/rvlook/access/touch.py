@@ -36,7 +36,7 @@ class Kind:
 
 @dataclass(frozen=True)
 class Touched:
-    """Bytes within one symbol, and how many accesses there were."""
+    """Bytes within one symbol, and the number of accesses."""
     range: Range
     symbol: Optional[str]
     count: int
@@ -44,7 +44,7 @@ class Touched:
 
 @dataclass(frozen=True)
 class Permitted:
-    """A range of the map, its kinds, how many bytes of it were touched by each kind, and the lowest and highest byte."""
+    """A range that a world may access, the kinds, the number of bytes accessed by each kind, and the lowest and highest of them."""
     what: str
     range: Range
     kinds: str
@@ -62,7 +62,7 @@ class Permitted:
 
 
 class Touches:
-    """What a run touched: counts of accesses by their first byte and width."""
+    """The accesses of a run, counted by first byte and width."""
 
     def __init__(self, run: Run) -> None:
         self.counts: dict[Kind, Counter[tuple[int, int]]] = defaultdict(Counter)

@@ -14,7 +14,7 @@ WORLD = re.compile(r"host\Z|bare\Z|e([0-9]|1[0-2])\Z")
 
 
 class Parser(argparse.ArgumentParser):
-    """A parser that tells what is refused in one line, and takes no option but as it is."""
+    """A parser that reports an error in one line, and accepts no abbreviated options."""
 
     def __init__(self, **words: Any) -> None:
         super().__init__(allow_abbrev=False, **words)

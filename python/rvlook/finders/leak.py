@@ -27,7 +27,7 @@ SAME, FAR = 4, 4096  # so many steps alike, and two runs are together again; loo
 
 @dataclass
 class Apart:
-    """Where two runs part: in what, at which step of each first, with what values, the instruction that made it, and how many times there."""
+    """A difference of two runs: the channel, the first step of each run, the values, the instruction, and how often it occurs there."""
     what: str
     steps: tuple[int, int]
     values: tuple[Any, ...]  # of a form for each `what`
@@ -37,7 +37,7 @@ class Apart:
 
 @dataclass
 class Seen:
-    """One run from where the secret is put: the enclave's stays, and the step that is its last."""
+    """What a host observes of one run: the activations of the enclave, and the last step."""
     run: Run
     stays: list[Stay]
     last: int
@@ -46,7 +46,7 @@ class Seen:
 
 @dataclass(frozen=True)
 class Public:
-    """What may differ: the answer, bytes of the window, and what instructions of a range make."""
+    """What may differ: the result, bytes of the window, and what instructions of a range store."""
     answer: bool = False
     ranges: tuple[tuple[int, int], ...] = ()
 
@@ -78,7 +78,7 @@ def seen(run: Run, secret: Secret, is_strict: bool) -> Seen:
 
 
 class Comparison:
-    """Two runs; `found` has where they part, by the part and the instruction."""
+    """A comparison of two runs. `found` has the differences by channel and instruction."""
 
     def __init__(self, one: Seen, two: Seen, secret: Secret, public: Public, is_strict: bool) -> None:
         self.one, self.two, self.secret, self.public, self.is_strict = one, two, secret, public, is_strict

@@ -24,7 +24,7 @@ WORD_BYTES = 4
 
 
 class Bytes(NamedTuple):
-    """So many bytes at an address."""
+    """`count` bytes at an address."""
     name: str
     at: int
     count: int  # type: ignore[assignment]  # a tuple has a method of that name
@@ -90,7 +90,7 @@ def watched_of(outcome: Iterable[Observed]) -> Watched:
 
 
 class Condition(NamedTuple):
-    """Comparisons that are forbidden together: of each the name, the operator and the value; or how a hart must not end."""
+    """Comparisons that are forbidden together: name, operator and value of each; or how a hart must not end."""
     text: str
     parts: tuple[tuple[str, str, Union[int, str]], ...]
     how: str = ""

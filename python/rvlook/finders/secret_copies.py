@@ -7,7 +7,7 @@ LEAST = 4  # bytes of a copy that is told; the whole secret if that is shorter
 
 
 class Copy(NamedTuple):
-    """So many bytes at a place, which are those of the secret from an offset on."""
+    """`size` bytes at a place that are those of the secret from an offset on."""
     at: int
     size: int
     offset: int

@@ -29,7 +29,7 @@ Bytes = bytes  # a member of Secret has that name
 
 @dataclass(frozen=True)
 class Secret:
-    """Bytes that are poked into memory behind a step, or put into a register."""
+    """Bytes that are poked into memory after a step, or written to a register."""
     slot: int
     at: int
     step: int

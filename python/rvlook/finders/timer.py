@@ -31,7 +31,7 @@ LEFT = ("Exited", "Stopped")  # states in which the enclave has left: what its h
 
 @dataclass(frozen=True)
 class Inside:
-    """A step of the enclave: where it was done, the reply, whether the host was on turn before it, and the host's a0 and a1 if it leaves."""
+    """A step of the enclave: pc, reply, whether the host ran before it, and a0 and a1 of the host if it leaves."""
     pc: str
     reply: str
     is_entered: bool
@@ -40,8 +40,8 @@ class Inside:
 
 @dataclass(frozen=True)
 class Last:
-    """The step with which the enclave has left for good, or the run's last if it has not left; its line of the table; and whether it
-    still runs where --steps ends the run."""
+    """The step with which the enclave leaves for good, or the last one of the run; its entry of the table; and whether it still runs when
+    --steps ends the run."""
     step: int
     enclave: Enclave
     is_cut: bool = False
@@ -49,7 +49,7 @@ class Last:
 
 @dataclass(frozen=True)
 class Differs:
-    """The first step of the enclave that came to something else, or its end."""
+    """The first step of the enclave with another result, or its end."""
     number: int
     pc: Optional[str]
     wanted: str
@@ -58,7 +58,7 @@ class Differs:
 
 @dataclass
 class Outcome:
-    """How the interrupted run went."""
+    """The result of the interrupted run."""
     steps: int = 0
     stops: int = 0
     differs: Optional[Differs] = None

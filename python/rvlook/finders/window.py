@@ -33,8 +33,8 @@ Kept = Tuple[int, int, int]  # a value, the instruction that stored it, and the 
 
 
 class Found(NamedTuple):
-    """Bytes of the window from an offset on, of which the same is told: what, and at which instructions; `is_secret` is None where no secret
-    was named, `is_public` is true where --public names the bytes or the instruction."""
+    """Bytes of the window from an offset on with the same marks: what was done, and by which instructions. `is_secret` is None without a
+    secret; `is_public` is true if --public names the bytes or the instruction."""
     what: str
     first: int
     size: int
@@ -49,7 +49,7 @@ class Found(NamedTuple):
 
 
 class Held(NamedTuple):
-    """A copy of a part of the secret in the window, whether it is another with another secret, and whether --public names it."""
+    """A copy of a part of the secret in the window, whether it changes with the secret, and whether --public names it."""
     copy: Copy
     is_secret: bool
     is_public: bool
@@ -62,15 +62,15 @@ class Held(NamedTuple):
 
 @dataclass(frozen=True)
 class View:
-    """What is told of one stay: its ranges, and the copies of the secret."""
+    """The findings of one activation: its ranges, and the copies of the secret."""
     found: list[Found]
     held: list[Held]
 
 
 @dataclass
 class Byte:
-    """A byte of the window in one stay: where it was read last with no store of the enclave since, where first, where it was read again, and
-    what was stored to it and where last."""
+    """A byte of the window in one activation: the instructions that read it last and first before a store of the enclave, that read it again,
+    and that stored to it last; and the values stored."""
     read_at: Optional[int] = None
     input_at: Optional[int] = None
     again: dict[tuple[int, int], bool] = field(default_factory=dict)  # of pairs of instructions
@@ -121,7 +121,7 @@ def ranges(what: str, told: Mapping[int, Marks]) -> list[Found]:
 
 
 class Left:
-    """What the stays of each enclave have left in its window: the value of each byte, where it was stored, and in which stay."""
+    """What the activations of each enclave have left in its window: the value of each byte, the instruction, and the activation."""
 
     def __init__(self) -> None:
         self.kept: dict[str, dict[int, Kept]] = defaultdict(dict)
@@ -207,7 +207,7 @@ def finding_of(stay: Stay, view: View, symbols: Symbols, secret: Secret | None) 
 
 
 class Others:
-    """The stays of the run in which the secret is another: its complement."""
+    """The activations of the run with the complement of the secret."""
 
     def __init__(self, run: Run, secret: Secret) -> None:
         other = secret.with_bytes(bytes(it ^ 0xFF for it in secret.bytes))

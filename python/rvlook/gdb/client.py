@@ -14,15 +14,14 @@ STORE, TO_SP, MOVE_SP = 0x2023, 0x2, 0x10113  # sw with the base sp; addi sp, sp
 
 
 class FrameId:
-    """Which frame it is."""
+    """The identity of a frame."""
 
     def __init__(self, sp: gdb.Value, pc: gdb.Value) -> None:
         self.sp, self.pc = sp, pc
 
 
 class Assembly(Unwinder):
-    """Frames in code that no debugging information describes as a function: a handler of traps, and in an enclave what the host has entered,
-    as the assembly is with which an enclave begins."""
+    """Unwinds frames in code without debugging information: trap handlers, and the assembly with which an enclave begins."""
 
     def __init__(self) -> None:
         super().__init__("rvbench")

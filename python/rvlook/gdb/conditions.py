@@ -12,7 +12,7 @@ MOST = 10000  # operations
 
 
 class Refused(Exception):
-    """An expression that is not understood, or not answered."""
+    """An expression that cannot be evaluated."""
 
 
 def signed(value: int) -> int:
@@ -49,7 +49,7 @@ def extended(value: int, bits: int) -> int:
 
 
 class Machine:
-    """The stack of an expression. `register` and `memory` answer a register by its number and bytes by their place."""
+    """The stack of an expression. `register` and `memory` read a register by its number, and bytes by address and count."""
 
     def __init__(self, code: bytes, register: Callable[[int], int], memory: Callable[[int, int], bytes]) -> None:
         self.code, self.register, self.memory, self.at = code, register, memory, 0

@@ -20,7 +20,7 @@ PC, CALL = 32, 4  # the register pc, and the bytes of an ecall
 
 @dataclass(frozen=True)
 class Entered:
-    """The step that entered, and the host's registers before it, in digits: `pc` is that of its ecall."""
+    """The step that entered the enclave, and the registers of the host before it in digits; `pc` is that of its ecall."""
     step: int
     pc: str
     values: tuple[str, ...]
@@ -33,7 +33,7 @@ class Entered:
 
 
 class Entry:
-    """For each hart what was found last: the entry, up to which step it is sure, and by what the timeline tells that the hart stayed."""
+    """Caches for each hart the entry that was found last, up to which step it is valid, and by what the timeline shows that the hart stayed."""
 
     def __init__(self) -> None:
         self.known: dict[int, tuple[Entered | None, int, tuple[Timeline, int] | None]] = {}

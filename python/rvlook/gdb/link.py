@@ -21,11 +21,11 @@ PATIENCE = 2  # seconds after which a debugger that waits is told that there is 
 
 
 class Gone(Exception):
-    """The debugger has gone without a word."""
+    """The debugger has closed the connection."""
 
 
 class Link:
-    """The connection with the debugger. What comes is a packet, or Ctrl-C, or an acknowledgement, which is passed over."""
+    """The connection with the debugger. It receives packets, Ctrl-C, and acknowledgements, which are ignored."""
 
     def __init__(self, reading: int, writing: int) -> None:
         self.reading, self.writing, self.buffer, self.acknowledged = reading, writing, b"", True

@@ -38,13 +38,13 @@ READ_FILES, FOLDERS = ("script", "symbols", "file", "input"), ("scripts", "sourc
 
 
 class CommandLine(NamedTuple):
-    """The command line of rvlook, as `monitor` offers it: the names of the subcommands, and what reads the arguments of one."""
+    """The command line of rvlook for `monitor`: the names of the subcommands, and the function that parses the arguments of one."""
     names: tuple[str, ...]
     read: Callable[[Sequence[str]], Namespace]
 
 
 class Monitor:
-    """Answers a line of `monitor` over the moves of a debugger. `symbols` reads the symbols; with `has_files` a line may name files."""
+    """Runs lines of `monitor`. `symbols` reads the symbols; only with `has_files` may a line name files."""
 
     def __init__(self, moves: Moves, symbols: Callable[[], Symbols], command_line: CommandLine, has_files: bool = True) -> None:
         self.moves, self.symbols, self.entry, self.is_fresh = moves, symbols, Entry(), False

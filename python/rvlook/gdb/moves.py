@@ -32,8 +32,8 @@ class Start(NamedTuple):
 
 
 class Moves:
-    """What a debugger does with the harts. `link` tells of Ctrl-C, and takes what is told meanwhile; `ready` has benches at earlier steps,
-    by those, and `follower` one that goes the way of this one behind it, so that it comes to a stop at which this one has been."""
+    """Moves the harts for a debugger. `link` is the connection. `ready` has benches at earlier steps; `follower` is a bench that follows this
+    one to stops that it has passed."""
 
     def __init__(self, timeline: Timeline, link: Link) -> None:
         self.timeline, self.view, self.link, self.stops, self.schedule = timeline, View(timeline), link, Stops(), SCHEDULE

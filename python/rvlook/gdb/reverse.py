@@ -23,11 +23,11 @@ AT_RESET = "replaylog:begin;"
 
 
 class Interrupted(Exception):
-    """Ctrl-C came while a stop was looked for."""
+    """Ctrl-C came during the search for a stop."""
 
 
 class Back:
-    """The way back of the moves of a debugger. The stops of the part that was looked through last are kept."""
+    """Moves the harts back for a debugger. Caches the stops of the part that was searched last."""
 
     def __init__(self, moves: Moves) -> None:
         self.moves, self.first, self.end = moves, 0, 0

@@ -39,12 +39,11 @@ GONE = "X09"  # the program was ended
 
 
 class Refused(Exception):
-    """What the bench cannot do; the text is for the debugger."""
+    """A request that the bench cannot fulfil; the text is for the debugger."""
 
 
 class Server:
-    """Answers packets. `shown` is the hart that is looked at, `moved` the one that goes on or back (None where any may), `last` the one
-    that halted."""
+    """Replies to packets. `shown` is the hart that is shown, `moved` the one that moves (None for any), `last` the one that halted."""
 
     def __init__(self, link: Link, setup: Setup, symbols: Callable[[], Symbols], command_line: CommandLine, has_files: bool = True) -> None:
         self.link, self.setup, self.symbols, self.has_files, self.command_line = link, setup, symbols, has_files, command_line

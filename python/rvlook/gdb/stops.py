@@ -21,7 +21,7 @@ PC, NO_TRAP = 32, b"trap=-"
 
 @dataclass(frozen=True)
 class Watch:
-    """Bytes that are watched for these kinds of access, and what a debugger calls that."""
+    """Bytes that are watched for kinds of access, and the name of that watchpoint in the protocol."""
     name: str
     kinds: str
     first: int
@@ -39,8 +39,7 @@ class Watch:
 
 @dataclass(frozen=True)
 class Halt:
-    """Where the harts halt, for one of them: `reason` is the protocol's, empty for a step, a breakpoint and a signal; `told` is a line for
-    the person."""
+    """A halt on a hart. `reason` is that of the protocol, empty for a step, a breakpoint and a signal; `told` is a line for the user."""
     hart: int
     reason: str = ""
     signal: int = STEPPED
@@ -53,8 +52,8 @@ def signal_of(trap: Trap | None) -> int:
 
 
 class Stops:
-    """What is asked for. `breaks` has for each address its kinds of breakpoint, each with its conditions; those `beyond` have no room in
-    the bench."""
+    """The breakpoints, watchpoints and catchpoints. `breaks` has for each address its kinds of breakpoint with their conditions; the bench has
+    no room for those in `beyond`."""
 
     def __init__(self) -> None:
         self.breaks: dict[int, dict[str, list[bytes]]] = {}

@@ -25,7 +25,7 @@ def line_of(address: int) -> str:
 
 
 class View:
-    """The registers and the memory of a timeline, as it stands; forgotten where anything changes."""
+    """The registers and the memory of a timeline, cached until anything changes."""
 
     def __init__(self, timeline: Timeline) -> None:
         self.timeline, self.changes = timeline, -1

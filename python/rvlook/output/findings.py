@@ -9,13 +9,13 @@ from rvlook.errors import FOUND, REFUSED, UNFINISHED, Unfinished, package_missin
 
 @dataclass(frozen=True)
 class Case:
-    """A question that a subcommand answers, and the finding; an empty text is none."""
+    """A question that a subcommand answers, and the finding; empty if there is none."""
     name: str
     finding: str = ""
 
 
 class Findings:
-    """The cases of one subcommand; the lines of the script that the bench refused; and why it could not finish, if it could not."""
+    """The cases of one subcommand, the lines of the script that the bench refused, and why it could not finish, if so."""
 
     def __init__(self) -> None:
         self.cases: list[Case] = []

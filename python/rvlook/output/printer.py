@@ -24,7 +24,7 @@ class Writer(Protocol):
 
 
 class Style(Enum):
-    """What a part of a line is; on a terminal without colours it is plain, and tells as much."""
+    """The style of a part of a line; plain on a terminal without colours."""
     heading = "1"
     good = "32"
     bad = "31"

@@ -9,7 +9,7 @@ EVERY = 0.2  # seconds
 
 
 class Progress:
-    """The line; it is written anew at most five times a second, and taken away at the end."""
+    """The progress line. It is updated at most five times a second, and removed at the end."""
 
     def __init__(self, stream: TextIO | None = None) -> None:
         self.stream = stream or sys.stderr

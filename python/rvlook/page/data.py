@@ -44,7 +44,7 @@ class Table:
 
 
 class Columns:
-    """Arrays of numbers as bytes behind one another, each from a multiple of four on."""
+    """Arrays of numbers as bytes, each aligned to four bytes."""
 
     def __init__(self) -> None:
         self.bytes = bytearray()
@@ -82,7 +82,7 @@ def shown_text(step: Mapping[str, Any]) -> str | None:
 
 
 class Collector:
-    """Takes objects as a printer does, and keeps what the page shows of them."""
+    """Takes objects as a printer does, and keeps those parts that the page shows."""
 
     def __init__(self) -> None:
         self.run: dict[str, Any] = {}

@@ -22,7 +22,7 @@ if TYPE_CHECKING:
 
 @dataclass(frozen=True)
 class Explained:
-    """A fault: the line (0 for the input as a whole), its text, what the bench replied, what is meant, and what to write."""
+    """An error: the line (0 for the input as a whole), its text, the reply, its meaning, and what to write."""
     line: int
     text: str
     reply: str

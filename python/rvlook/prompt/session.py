@@ -46,7 +46,7 @@ class Keeper(Protocol):
 
 
 class Held:
-    """A timeline, in whose place another one at an earlier step may come; what had been done behind that is forgotten."""
+    """A timeline that another one at an earlier step may replace; what had been done after that step is forgotten."""
 
     def __init__(self, timeline: Timeline) -> None:
         self.timeline = timeline
@@ -59,7 +59,7 @@ class Held:
 
 
 class Session:
-    """A bench under the prompt; `held` has its timeline."""
+    """The session of a prompt; `held` has its timeline."""
 
     def __init__(self, held: Keeper, run: Run, symbols: Symbols, printer: Printer) -> None:
         self.held, self.setup, self.symbols, self.printer, self.finder = held, run.setup, symbols, printer, Finder(run)

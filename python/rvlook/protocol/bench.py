@@ -78,7 +78,7 @@ def widen(*pipes: IO[bytes]) -> None:
 
 
 class Bench:
-    """One run of the program; `words` are those of its command line, `image` is the text of the image."""
+    """One process of the bench. `words` are its arguments, `image` the text of the image."""
 
     def __init__(self, words: Sequence[str], image: bytes, harts: int = 1) -> None:
         path = program_path()

@@ -13,7 +13,7 @@ if TYPE_CHECKING:
 
 
 class Form(Enum):
-    """What an operand is."""
+    """The form of an operand."""
     count = "a decimal number from 1 to 1000000"
     register = "a register's number, decimal, 0 to 31"
     address = "an address: one to eight hexadecimal digits, after 0x or not"

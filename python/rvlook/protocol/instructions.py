@@ -18,7 +18,7 @@ SET_CSR = re.compile(r"csrr([wsc])i? x\d+, 0x([0-9a-f]+), x?(\d+)")
 
 @dataclass(frozen=True)
 class Memory:
-    """The operand of a load (`r`) or store (`w`): so many bytes at a register and an offset, from or to another register."""
+    """The operand of a load (`r`) or store (`w`): `width` bytes at a base register and an offset, from or to another register."""
     kind: str
     width: int
     base: int
@@ -28,7 +28,7 @@ class Memory:
 
 @dataclass(frozen=True)
 class Instruction:
-    """A word of memory, as `dis` tells it."""
+    """A word of memory, as a reply of `dis` has it."""
     word: str
     text: str
     abi: str

@@ -25,7 +25,7 @@ SINGLE = b"step 1\n"
 
 @dataclass(frozen=True)
 class Setup:
-    """What is run: the image, the lines of the script, and the words of the command line."""
+    """The configuration of a run: the image, the lines of the script, and the options of the bench."""
     image: Image
     lines: tuple[ScriptLine, ...] = ()  # of the script
     monitor: bool = False
@@ -63,7 +63,7 @@ class Setup:
 
 @dataclass(frozen=True)
 class Line:
-    """A line of the script that does no step, as the bench takes it and as it stands; a hidden one stands for a part of another."""
+    """A line of the script that does no step, in the syntax of the bench and as given; a hidden one is a part of another line."""
     text: str
     replies: tuple[str, ...] = ()
     hidden: bool = False
@@ -92,13 +92,13 @@ class Line:
 
 @dataclass(frozen=True)
 class Steps:
-    """So many steps of the chosen hart."""
+    """Steps of the chosen hart."""
     count: int
 
 
 @dataclass(frozen=True)
 class End:
-    """How a run ended."""
+    """The end of a run."""
     steps: int
     why: str
     pc: str
@@ -108,7 +108,7 @@ class End:
 
 @dataclass
 class Stretch:
-    """Single steps of one hart, with their replies; the first has the number `first`."""
+    """`count` single steps of one hart with their replies; the first has the number `first`."""
     first: int
     hart: int
     data: bytes
@@ -116,8 +116,8 @@ class Stretch:
 
 
 class Run:
-    """A setup, with the plan of its script. `hart` is the hart that the script has left chosen, `faults` the lines that the bench has
-    refused, each with its reply."""
+    """A configuration with the plan of its script. `hart` is the chosen hart after the script, `faults` the lines that the bench refused, each
+    with its reply."""
 
     def __init__(self, setup: Setup) -> None:
         self.setup, self.hart, self.length = setup, 0, 0
@@ -246,7 +246,7 @@ def single_steps(bench: Bench, position: int, hart: int, count: int) -> Generato
 
 @dataclass
 class Replay:
-    """A bench that is brought to one step of a run after another. `lines_to` gives the commands; who calls it sends them."""
+    """A bench that is brought to one step of a run after another. `lines_to` returns the commands, which the caller sends."""
     run: Run
     position: int = 0
     hart: int = 0

@@ -14,7 +14,7 @@ UNSIZED = 4096  # bytes that a symbol without a size has at most
 
 @dataclass(frozen=True)
 class Symbol:
-    """A name at an address; size 0 where none is told."""
+    """A name at an address; size 0 if it is not known."""
     address: int
     size: int
     name: str
@@ -26,8 +26,8 @@ Inlined = Tuple[int, int, str]  # the first and the last address of what a call 
 
 
 class Symbols:
-    """`symbols` in any order; `lines` are pairs of an address and the source line from there on, None where one ends; `inlined` gives, as
-    it is asked for, the first and the last address of what stands for a call, and the line of the call."""
+    """`symbols` are in any order; `lines` are pairs of an address and the source line from there on, None at the end of one; `inlined` reads
+    the inlined calls when they are needed."""
 
     def __init__(self, symbols: Sequence[Symbol] = (), lines: Iterable[tuple[int, str | None]] = (),
                  inlined: Callable[[], Iterable[Inlined]] = tuple) -> None:

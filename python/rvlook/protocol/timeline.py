@@ -20,7 +20,7 @@ TURNS = 64  # digits of a sched, at most
 
 @dataclass(frozen=True)
 class Steps:
-    """So many steps of the harts that the digits of `turns` name, again and again in their order."""
+    """`count` steps by the schedule `turns`, whose digits name harts and repeat."""
     turns: str
     count: int
 
@@ -46,7 +46,7 @@ class Steps:
 
 @dataclass(frozen=True)
 class Told:
-    """A command that changed something and was no step, with the hart that was chosen."""
+    """A command that changed something and was no step, with the chosen hart."""
     hart: int
     line: str
 
@@ -107,9 +107,9 @@ def are_alike(one: str, other: str, count: int) -> bool:
 
 
 class Timeline:
-    """A bench behind all that stands in `past`. `future` is what had been done behind that, before one came back here; it stays for as
-    long as the same is done again. `modes` and `worlds` are those of each hart, `stops` the breaks and watches that are set; `changes`
-    counts what may have changed a register or a byte, and `moved`, for each hart, what may have brought it to another world."""
+    """A bench after all that is in `past`. `future` is what had been done after that before one went back; it stays as long as the same is done
+    again. `modes` and `worlds` are those of each hart, `stops` the breaks and watches; `changes` counts what may have changed a register or a
+    byte, and `moved`, for each hart, what may have changed its world."""
 
     def __init__(self, setup: Setup, past: Iterable[Part] = (), hart: int = 0) -> None:
         self.setup = setup

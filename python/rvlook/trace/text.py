@@ -29,7 +29,7 @@ A0 = 10
 
 @dataclass(frozen=True)
 class Filter:
-    """Which steps are shown."""
+    """The steps that are wanted."""
     first: int = 1
     last: Optional[int] = None
     world: Optional[str] = None
@@ -69,7 +69,7 @@ def show_trace(run: Run, symbols: Symbols, printer: Printer, wanted: Filter, is_
 
 @dataclass
 class Objects:
-    """Each as an object."""
+    """Writes a trace as objects."""
     run: Run
     symbols: Symbols
     printer: Writer
@@ -130,7 +130,7 @@ class Objects:
 
 @dataclass(frozen=True)
 class Site:
-    """What is shown of an instruction at a place: its text, its function and its source line."""
+    """The constant part of a line: the text of an instruction, its function and its source line."""
     text: str
     function: Optional[str]
     source: Optional[str]
@@ -138,7 +138,7 @@ class Site:
 
 @dataclass
 class Lines:
-    """Each as a line; a heading tells where the steps below it are, and a source line stands where it is another than above."""
+    """Prints a trace as lines. A heading shows world, mode and function if they change; so does the source line."""
     run: Run
     symbols: Symbols
     printer: Printer

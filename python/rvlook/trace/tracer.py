@@ -24,8 +24,8 @@ RanFields = Tuple[bytes, bytes, bytes, bytes]  # of RAN_FIELDS: pc, mode, world 
 
 
 class Touch(NamedTuple):
-    """A load (`r`) or store (`w`), derived of the instruction and the registers before it; the value has as many digits as bytes were
-    touched, and there is none where the step trapped, or what was loaded went nowhere."""
+    """A load (`r`) or store (`w`), derived from the instruction and the registers before it. The value has two digits for each byte; there is
+    none if the step trapped, or the loaded value was discarded."""
     kind: str
     address: int
     width: int
@@ -34,14 +34,14 @@ class Touch(NamedTuple):
 
 
 class CallMade(NamedTuple):
-    """A call of the monitor, derived of the registers before the ecall."""
+    """A call of the monitor, derived from the registers before the ecall."""
     call: names.Call
     arguments: dict[str, int]
     slot: Optional[int]
 
 
 class Step(NamedTuple):
-    """One step: `at` is before it and `next` after it; `changed` has the registers that are another value after it."""
+    """One step: `at` is before it and `next` after it; `changed` has the registers with another value after it."""
     number: int
     hart: int
     at: Place
@@ -87,7 +87,7 @@ class Step(NamedTuple):
 
 
 class Command(NamedTuple):
-    """A line of the script that does no step, behind the step of that number."""
+    """A line of the script that does no step, after the step of that number."""
     step: int
     hart: int
     line: str
@@ -102,7 +102,7 @@ class Done(NamedTuple):
 
 
 class Hart:
-    """What is known of a hart before its next step: where it is, and the digits of its registers, None where they are to be asked for."""
+    """A hart before its next step: where it is, and the digits of its registers, None if they must be read."""
 
     def __init__(self, place: Place) -> None:
         self.place = place
@@ -115,7 +115,7 @@ class Hart:
 
 
 class Tracer:
-    """The steps from `first` to `last`, with what stands between them."""
+    """The steps from `first` to `last`, with the lines of the script between them."""
 
     def __init__(self, run: Run, first: int = 1, last: int | None = None) -> None:
         self.run, self.first, self.last = run, first, last

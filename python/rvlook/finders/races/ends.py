@@ -29,8 +29,8 @@ Found = Tuple[Vertex, State, Tuple[Piece, ...]]  # a vertex, a state after it, a
 
 @dataclass
 class End:
-    """A final state: for each hart how and where it ended, the values, the node with the simplest way, the schedule of a round from there,
-    how many orders end so, the state, and the schedule from the node to it if a hart goes on alone."""
+    """A final state: how and where each hart ended, the values, the node with the simplest schedule, the schedule of a round from there, the
+    number of orders, the state, and the schedule from the node to it if a hart runs on alone."""
     harts: tuple[HartEnd, ...]
     values: tuple[Value, ...]
     node: Node
@@ -56,8 +56,8 @@ class End:
 
 
 class Ends:
-    """All final states of a search. `orders` is how many orders there are in all; `are_hidden` says that values may be missing, since harts
-    go on that change the outcome by independent steps; `is_cut` that the time was over."""
+    """All final states of a search. `orders` is the number of all orders. `are_hidden` says that values may be missing, as harts run on that
+    change the outcome by independent steps; `is_cut` says that the time limit was reached."""
 
     def __init__(self, search: Search, outcome: Sequence[Observed]) -> None:
         self.search, self.machine, self.outcome, self.orders = search, search.machine, outcome, 0
@@ -121,7 +121,7 @@ class Ends:
 
 
 class Part:
-    """A strongly connected part of the graph of orders, its vertices by cost."""
+    """A strongly connected component of the graph of orders, its vertices by cost."""
 
     def __init__(self, search: Search, graph: Graph, vertices: Iterable[Vertex], place_of: Mapping[Vertex, int]) -> None:
         self.search, self.machine, self.graph = search, search.machine, graph
@@ -299,7 +299,8 @@ def path_to(graph: Graph, here: Vertex, part: Set[Vertex], is_wanted: Callable[[
 
 
 class Components:
-    """The strongly connected parts of the graph, each behind those that it leads to (Tarjan), and for each vertex the place of its part."""
+    """The strongly connected components of the graph, each after those that it leads to (Tarjan), and for each vertex the index of its
+    component."""
 
     def __init__(self, graph: Graph) -> None:
         self.graph = graph

@@ -23,7 +23,7 @@ LONGEST_COMMENT = 118  # characters behind `# `
 
 
 class Replays:
-    """Does schedules again, and compares; `rows` are the replies of `mem` for all RAM behind the script."""
+    """Replays schedules, and compares their states. `rows` are the replies of `mem` for all RAM after the script."""
 
     def __init__(self, machine: Machine) -> None:
         self.machine = machine

@@ -24,8 +24,7 @@ SEARCH_SHARE = 0.85  # of the time limit; the rest is for the analysis of the gr
 
 
 class Met(NamedTuple):
-    """A step that others could be affected by: how many steps of its move come before it, where it is, what it touches, in which world, and
-    whether it took the timer."""
+    """A dependent step: the number of steps before it in its move, its pc, its access, its world, and whether it took the timer interrupt."""
     before: int
     pc: Optional[int]
     look: Optional[Look]
@@ -34,8 +33,8 @@ class Met(NamedTuple):
 
 
 class Move(NamedTuple):
-    """Such a step, with those around it that affect nobody, or these alone, where `pc` is None: where it leads, how many steps in all, and
-    whether memory or the table differed after one of them."""
+    """A dependent step with the independent steps around it, or only independent steps if `pc` is None: the state after it, the number of
+    steps, and whether memory or the table changed."""
     state: State
     steps: int
     met: Met
@@ -43,7 +42,8 @@ class Move(NamedTuple):
 
 
 class Place(NamedTuple):
-    """What decides how the search goes on: the state, who was last, how many timers came, and whether anything came yet."""
+    """What decides how the search continues: the state, the last hart, the number of timer interrupts, and whether a switch or an interrupt
+    came yet."""
     state: State
     last: Optional[int]
     timers: int
@@ -64,8 +64,8 @@ Cost = Tuple[int, int, int, int]  # preemptions, timers, switches and steps
 
 
 class Node:
-    """A place with the way to it. `cost` is of the whole way: preemptions, timers, switches and steps. `alone` counts the moves of its hart
-    in succession; `low` is the first step that the next switch may be attributed to."""
+    """A place with the way to it. `cost` is that of the whole way. `alone` counts the moves of its hart in succession; `low` is the first step
+    that the next switch may be attributed to."""
     __slots__ = ("place", "parent", "move", "is_timer", "alone", "cost", "low")
 
     def __init__(self, place: Place, cost: Cost = (0, 0, 0, 0), origin: Origin = Origin(), alone: int = 0, low: int = 0) -> None:
@@ -132,8 +132,8 @@ class Touches:
 
 
 class Graph:
-    """The orders of a round: the first node of each vertex, and the edges from it; the moves of each state; the endless loops in which no
-    other hart can affect a hart, by state and hart; and the states in which a hart was given up, within a move or after many moves alone."""
+    """The orders of a round: the first node of each vertex, and its edges; the moves of each state; the endless loops in which no other hart
+    can affect a hart; and the states in which a hart was given up, within a move or after many moves alone."""
 
     def __init__(self) -> None:
         self.nodes: dict[Vertex, Node] = {}
@@ -145,8 +145,8 @@ class Graph:
 
 
 class Bounds(NamedTuple):
-    """What is searched: at most so many preemptions (None: any number) and timers, steps of a hart that none is affected by, and between
-    which steps a hart is left, or the timer comes, for the first time."""
+    """The bounds of a search: preemptions (None: any number), timer interrupts, independent steps in succession, and the steps between which
+    the first switch or timer interrupt comes."""
     preemptions: Optional[int] = None
     timers: int = 0
     steps: int = 1000000

@@ -33,7 +33,7 @@ def counted(count: int, name: str) -> str:
 
 
 class Story:
-    """An end with the words for it."""
+    """A final state with its text."""
 
     def __init__(self, end: End, outcome: Sequence[Observed], search: Search, symbols: Symbols, places: Sequence[Set[int | None]]) -> None:
         self.end, self.outcome, self.search, self.symbols, self.places = end, outcome, search, symbols, places
