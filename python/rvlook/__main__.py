@@ -1,4 +1,4 @@
-"""rvlook: what comes wrong is told in one line."""
+"""Runs rvlook, and prints each error in one line."""
 from __future__ import annotations
 
 import os
@@ -12,13 +12,13 @@ INTERRUPTED, CLOSED = 130, 141  # as a shell tells the signals SIGINT and SIGPIP
 
 
 def told(line: str, status: int) -> int:
-    """Ends with one line on standard error."""
+    """Prints one line to standard error; returns the status."""
     print("rvlook: " + line, file=sys.stderr)
     return status
 
 
 def main(words: Sequence[str]) -> int:
-    """Does what the words ask for; the status of the program."""
+    """Runs rvlook with the arguments `words`; returns the exit status. Prints every error in one line."""
     take_all_characters()
     try:
         return ended(words)
@@ -33,7 +33,7 @@ def main(words: Sequence[str]) -> int:
 
 
 def ended(words: Sequence[str]) -> int:
-    """The same, where the output takes what it is given."""
+    """Runs a subcommand whose output can be written; returns the exit status."""
     if sys.stdout is None:
         return told("there is no standard output", UNFINISHED)
     try:
@@ -49,14 +49,14 @@ def ended(words: Sequence[str]) -> int:
 
 
 def take_all_characters() -> None:
-    """Has the standard streams take names and lines of any bytes, also where the locale has no encoding for them."""
+    """Makes the standard streams accept any bytes, also those that the encoding of the locale lacks."""
     for stream, errors in ((sys.stdin, "surrogateescape"), (sys.stdout, "backslashreplace"), (sys.stderr, "backslashreplace")):
         if hasattr(stream, "reconfigure"):
             stream.reconfigure(errors=errors)
 
 
 def drop_output() -> None:
-    """What is left of the output goes nowhere, so that the end of Python does not try again."""
+    """Sends the rest of the output to /dev/null, so that Python does not report the error again when it exits."""
     os.dup2(os.open(os.devnull, os.O_WRONLY), sys.stdout.fileno())
 
 

@@ -1,4 +1,4 @@
-"""What can come wrong, told in one line."""
+"""The exceptions of rvlook, each with a message of one line and an exit status."""
 from __future__ import annotations
 
 import sys
@@ -7,32 +7,32 @@ FOUND, REFUSED, UNFINISHED = 1, 2, 3  # statuses (docs/LOOK.md, How it ends); 2 
 
 
 class Fault(Exception):
-    """What rvlook cannot go on from: an argument or an input that it cannot use. Its text is the line that is told."""
+    """An argument or an input that rvlook cannot use. Its text is the message."""
     status = REFUSED
 
 
 class Unfinished(Fault):
-    """An error for which rvlook could not finish, though what it was given may be right."""
+    """An error for which rvlook could not finish, though its arguments and inputs may be valid."""
     status = UNFINISHED
 
 
 class WordsRefused(Fault):
-    """The words of the command line are not those of rvlook."""
+    """The command line is not valid."""
 
 
 class NameRefused(Fault):
-    """A name that stands for no address, or for more than one."""
+    """A name that has no address, or more than one."""
 
 
 class BenchEnded(Unfinished):
-    """The bench ended before it had answered."""
+    """The bench ended before it had replied."""
 
 
 def tell(line: str) -> None:
-    """A line on standard error."""
+    """Prints a line to standard error."""
     print("rvlook: " + line, file=sys.stderr, flush=True)
 
 
 def package_missing(module: str, package: str, what: str) -> str:
-    """The line for a package of the distribution that is not there."""
+    """Returns the message for a missing Python package: its module, its Debian package, and what does not work without it."""
     return "%s is not there, so %s; apt-get install %s brings it" % (module, what, package)

@@ -18,7 +18,7 @@ MUTANTS = (
     Mutant("registers_are_those_of_the_step_before", "gdb/view.py",
            "self.values[hart] = [line.partition(\"=\")[2] for line in seen[:REGISTERS]]", "self.values[hart] = before",
            "test_gdb_server.py::test_each_step_on_and_back_has_the_registers_of_the_bench"),
-    Mutant("condition_of_a_breakpoint_is_ignored", "gdb/stops.py", "        if None in conditions:\n", "        if conditions:\n",
+    Mutant("condition_of_a_breakpoint_is_ignored", "gdb/stops.py", "        if not all(kinds):\n", "        if kinds:\n",
            "test_gdb_stops.py::test_breakpoint_with_a_condition_halts_where_it_holds"),
 )
 

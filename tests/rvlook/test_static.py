@@ -123,11 +123,16 @@ def test_public_functions_have_docstrings():
     assert not [module.place(it) for module in MODULES for it in public_in(module.tree) if not ast.get_docstring(it)]
 
 
+def is_overload(node):
+    """Returns whether a function is a signature of an overloaded one, without a body."""
+    return any(isinstance(it, ast.Name) and it.id == "overload" for it in node.decorator_list)
+
+
 def public_in(node):
-    """Yields the functions and methods whose names begin with no underscore, without those inside functions."""
+    """Yields the functions and methods whose names begin with no underscore, without those inside functions and overloads."""
     for it in ast.iter_child_nodes(node):
         if isinstance(it, FUNCTIONS):
-            if not it.name.startswith("_"):
+            if not it.name.startswith("_") and not is_overload(it):
                 yield it
         else:
             yield from public_in(it)

@@ -1,5 +1,5 @@
-"""What a run fetched, loaded and stored, counted. Of a step that loads or stores the register that its address goes by is asked for before
-it; of the others none is, so that this takes less than a trace."""
+"""Counts what a run fetched, loaded and stored. Reads the base register before each load or store, and nothing else, which is faster than a
+trace."""
 from __future__ import annotations
 
 from collections import Counter
@@ -16,7 +16,7 @@ if TYPE_CHECKING:
 
 
 class Access(NamedTuple):
-    """Accesses of a world of one kind (`r`, `w` or `x`) at an address, of so many bytes, done or refused."""
+    """Accesses of a world of one kind (`r`, `w` or `x`) at an address, `width` bytes each, done or refused."""
     world: str
     kind: str
     address: int
@@ -25,7 +25,7 @@ class Access(NamedTuple):
 
 
 def accesses(run: Run) -> tuple[Counter[Access], End]:
-    """How many accesses of each kind there were, and the run's end."""
+    """Counts the accesses of a run by kind, address and width; returns the counts and the end of the run."""
     counter, end = Counting(run), None
     with run.replay() as reader, run.replay() as teller:
         for item in run.stretches():
@@ -38,7 +38,7 @@ def accesses(run: Run) -> tuple[Counter[Access], End]:
 
 
 class Counting:
-    """The counts of the steps by what the first bench replies to them, and of loads and stores."""
+    """Counts steps by their fields, and loads and stores by address and width."""
 
     def __init__(self, run: Run) -> None:
         self.steps: Counter[tuple[bytes, bytes, bytes]] = Counter()
@@ -46,7 +46,7 @@ class Counting:
         self.places = [(run.pc.encode(), run.world.encode()) for _ in range(run.setup.harts)]
 
     def take(self, reader: Replay, teller: Replay, stretch: Stretch) -> None:
-        """Steps of one hart, one after another."""
+        """Counts the accesses of the steps of a stretch."""
         after, _, worlds, traps = zip(*RAN_FIELDS.findall(stretch.data))
         pc, world = self.places[stretch.hart]
         self.places[stretch.hart] = after[-1], worlds[-1]
@@ -64,7 +64,7 @@ class Counting:
 
     @staticmethod
     def bases(teller: Replay, stretch: Stretch, found: Sequence[tuple[int, Memory]]) -> list[int]:
-        """The registers that these addresses go by, each before its step."""
+        """Returns the base register of each access, read before its step."""
         begin(teller, stretch)
         asked, count, done = [], 0, 0
         for place, memory in found:
@@ -78,7 +78,7 @@ class Counting:
         return [int(line.split(b"=")[1], 16) for line in lines if line.startswith(b"x")]
 
     def found(self) -> Counter[Access]:
-        """All of them: a step fetches the word at pc, but where an interrupt comes in its place."""
+        """Returns all counts. Each step fetches the word at pc, except if an interrupt replaces it."""
         every = Counter({Access(it[0].decode(), *it[1:]): count for it, count in self.touched.items()})
         for (pc, world, trap), count in self.steps.items():
             cause, _, value = trap.decode().partition(":")
@@ -89,6 +89,6 @@ class Counting:
 
 
 def begin(replay: Replay, stretch: Stretch) -> None:
-    """Brings a bench to where the next step is the first of these, and takes them as done."""
+    """Brings a replay to the step before a stretch, and marks the steps of the stretch as done."""
     replay.bench.ask(*(replay.lines_to(stretch.first - 1) + replay.lines_up_to_next() or ["reg 0"]))
     replay.lines_to(stretch.first - 1 + stretch.count)

@@ -1,6 +1,6 @@
-"""The stays of enclaves in a run, from each entry to the leave behind it, with what they did: each load and store, and the operands of
-divisions. Of a step that does such the registers are asked for that it names, before it. What an instruction is is asked once, for nobody
-but an enclave stores into its region; where it stores into its own code, it is asked at each step of that part of the run."""
+"""The activations of enclaves in a run, from each entry to the exit after it, with their loads, stores and operands of divisions. An
+instruction is decoded once, as only the enclave itself stores into its region. After it has stored into its own code, each instruction of
+that part of the run is decoded again."""
 from __future__ import annotations
 
 import itertools
@@ -50,7 +50,8 @@ class Fields(NamedTuple):
 
 @dataclass
 class Stay:
-    """An enclave on a hart, from the step that enters it to the one that leaves it; `number` counts those of its slot's life."""
+    """An activation: an enclave on a hart, from the step that enters it to the one that leaves it. `number` counts the activations of its
+    slot."""
     world: str
     hart: int
     first: int
@@ -72,6 +73,7 @@ class Stay:
 
     @property
     def slot(self) -> int:
+        """Returns the slot of the enclave."""
         return int(self.world[1:])
 
 
@@ -80,7 +82,7 @@ Wanted = Tuple[Optional[Memory], Tuple[int, ...]]  # an access, or None for a di
 
 @lru_cache(maxsize=65536)
 def wants(line: bytes, is_strict: bool) -> Wanted | None:
-    """Which registers are to be asked for before an instruction: those of the address and of what is stored, or of a division."""
+    """Returns the registers to read before an instruction: for its address and its stored value, or for a division. None if there are none."""
     it = instruction_of(line)
     if it is None:
         return None
@@ -91,7 +93,7 @@ def wants(line: bytes, is_strict: bool) -> Wanted | None:
 
 
 class Stays:
-    """The stays of a run behind a step, as far as it goes; `is_strict` asks for divisions too, and `last` ends it."""
+    """The activations of a run after a step. `is_strict` records the operands of divisions too."""
 
     def __init__(self, run: Run, start: int = 0, is_strict: bool = False) -> None:
         self.run, self.start, self.is_strict = run, start, is_strict
@@ -103,7 +105,7 @@ class Stays:
         self.offset = -1  # of the teller in the stretch; below 0 if it is not there yet
 
     def all(self) -> Generator[Stay, None, None]:
-        """Each stay when it has ended; one that the run leaves open comes last."""
+        """Yields each activation after it has ended; one that is open at the end of the run comes last."""
         with self.run.replay() as teller, self.run.replay() as shower:
             self.teller, self.shower = teller, shower
             for item in self.run.stretches():
@@ -118,7 +120,7 @@ class Stays:
                 yield self.closed(stay, self.end.steps, None, "nothing")
 
     def take(self, stretch: Stretch) -> Iterator[Stay]:
-        """Steps of one hart: those of enclaves are looked at."""
+        """Takes the steps of a stretch; yields the activations that end in it."""
         hart, place = stretch.hart, 0
         after = list(zip(*RAN_FIELDS.findall(stretch.data)))
         traps = after.pop()
@@ -145,7 +147,7 @@ class Stays:
 
     @staticmethod
     def entered(worlds: Iterable[bytes], after: Iterable[bytes]) -> list[str]:
-        """The worlds that steps entered."""
+        """Returns the worlds that steps entered."""
         return [now.decode() for was, now in zip(worlds, after) if now != was and now.startswith(b"e")]
 
     @staticmethod
@@ -163,7 +165,7 @@ class Stays:
     # ---- its borders
 
     def opened(self, world: str, hart: int, step: int) -> Stay:
-        """A stay that begins behind a step."""
+        """Returns an activation that begins after a step."""
         self.numbers[world] += 1
         enclave, before = self.seen(world, step)
         stay = Stay(world, hart, step + 1, self.numbers[world], enclave, before=before)
@@ -172,7 +174,7 @@ class Stays:
         return stay
 
     def closed(self, stay: Stay, step: int, pc: int | None, left: str | None = None) -> Stay:
-        """A stay that ends with a step."""
+        """Completes an activation that ends with a step, and returns it."""
         _, stay.after = self.seen(stay.world, step, stay.enclave)
         stay.last, stay.pc, stay.left = step, pc, left or ""
         if left is None:
@@ -181,10 +183,11 @@ class Stays:
         return stay
 
     def choose(self, hart: int) -> list[str]:
+        """Returns the command that chooses a hart, or one without effect if there is one hart."""
         return ["hart %d" % hart] if self.run.setup.harts > 1 else ["reg 0"]
 
     def seen(self, world: str, step: int, enclave: Enclave | None = None) -> tuple[Enclave, bytes]:
-        """The enclave's line of the table and its window, behind a step."""
+        """Returns the table entry of an enclave and the bytes of its window after a step."""
         bench = self.shower.bench
         commands = self.shower.lines_to(step)
         if self.run.setup.harts > 1:
@@ -221,7 +224,7 @@ class Stays:
         return did
 
     def step_by_step(self, stretch: Stretch, fields: Fields, inside: range) -> dict[int, Did]:
-        """The same, where each instruction is asked for right before it is done."""
+        """Returns the same as `looked_at`, but decodes each instruction right before its step."""
         with self.run.replay() as reader, self.run.replay() as teller:
             begin(reader, stretch)
             block = reader.bench.block(b"".join([b"dis %s\nstep 1\n" % it for it in fields.pcs]), 2 * stretch.count).split(b"\n")
@@ -232,7 +235,7 @@ class Stays:
             return did
 
     def asked(self, bench: Bench, stretch: Stretch, fields: Fields, inside: range, lines: Sequence[bytes]) -> dict[int, Did]:
-        """The registers before the steps that want them; the bench is then behind the last of these steps."""
+        """Reads the registers that the steps need, each before its step; returns what the steps did. The bench is then after the last step."""
         wanted = [(n, *found) for n, found in ((n, wants(line, self.is_strict)) for n, line in zip(inside, lines)) if found]
         questions, count = [], 0
         for n, _, registers in wanted:
@@ -254,7 +257,7 @@ class Stays:
 
     @staticmethod
     def what(step: int, pc: int, memory: Memory | None, told: Sequence[int], done: bool) -> Did:
-        """What a step did, by the registers before it."""
+        """Returns what a step did, from the registers before it."""
         if memory is None:
             return Did(step, pc, "d", 0, 0, tuple(told), done)
         stored = told[1].to_bytes(4, "little")[:memory.width] if memory.kind == "w" else b""

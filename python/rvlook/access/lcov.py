@@ -1,4 +1,4 @@
-"""The lines and functions that each world executed, as the file of lcov that genhtml takes: a test for each world."""
+"""Prints the lines and functions that each world executed in the format of lcov, which genhtml reads: a test for each world."""
 from __future__ import annotations
 
 from typing import Sequence, TYPE_CHECKING
@@ -15,7 +15,7 @@ if TYPE_CHECKING:
 
 
 def show_lcov(run: Run, symbols: Symbols, printer: Printer, paths: Sequence[str]) -> None:
-    """All worlds, each with its files."""
+    """Prints a record for each world and each source file; raises Fault if there are no source lines."""
     if not symbols.lines:
         raise Fault("there are no source lines: an ELF file that is built with -g has them")
     touches = Touches(run)
@@ -31,7 +31,7 @@ def show_lcov(run: Run, symbols: Symbols, printer: Printer, paths: Sequence[str]
 
 
 def functions_of(touches: Touches, world: str, symbols: Symbols) -> dict[str, list[tuple[int, str, int]]]:
-    """For each file the functions of which a world executed some: the line, the name, and how many times the first instruction was."""
+    """Returns for each file the functions that a world executed: line, name, and the count of the first instruction."""
     executed = touches.executed(world)
     found: dict[str, list[tuple[int, str, int]]] = {}
     for symbol, _, _ in covered_functions(touches, world, symbols):
@@ -43,7 +43,7 @@ def functions_of(touches: Touches, world: str, symbols: Symbols) -> dict[str, li
 
 
 def write(printer: Printer, world: str, path: str, functions: Sequence[tuple[int, str, int]], lines: Sequence[tuple[int, int]]) -> None:
-    """The record of a file."""
+    """Prints the record of a source file."""
     printer.line("TN:" + world)
     printer.line("SF:" + path)
     for line, name, _ in functions:

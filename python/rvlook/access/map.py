@@ -1,9 +1,6 @@
-"""The moments of a run at which what may be touched changes, and who may touch what from then on.
-
-Under the monitor the entries are laid out anew by a call or the timer's stop alone, which are traps, and no world can write them: so the
-moments are among the steps that trapped. On the bare bench only an instruction on such a register writes an entry: so they are among
-the steps of these instructions, by the word that stands at pc before each step.
-"""
+"""The changes of access rights in a run, and the rights after each. Under the monitor only a call or the timer's stop reprograms the PMP
+entries, and both trap, so only steps that trapped are examined. On the bare bench only an instruction on a PMP register writes an entry, so
+only the steps of these instructions are examined."""
 from __future__ import annotations
 
 import re
@@ -30,19 +27,20 @@ PC = re.compile(rb"pc=(\w+)")
 
 @dataclass(frozen=True)
 class Column:
-    """A world whose access is shown: a hart's own, or, derived, one that runs nowhere."""
+    """A world whose access rights are shown: that of a hart, or a derived one that runs on no hart."""
     name: str
     world: str
     hart: Optional[int]
 
     @property
     def derived(self) -> bool:
+        """Returns whether the world runs on no hart, so that its access is derived from the table."""
         return self.hart is None
 
 
 @dataclass(frozen=True)
 class Row:
-    """A range of RAM, what it is, and for each column's name the modes and what they may do."""
+    """A range of RAM, its meaning, and for each column the access rights in each mode."""
     range: Range
     what: str
     may: dict[str, dict[str, str]]
@@ -50,7 +48,7 @@ class Row:
 
 @dataclass(frozen=True)
 class Moment:
-    """How things stand behind a step; `pc` is of the instruction that was done, `event` what it was."""
+    """The access rights after a step. `pc` is that of the instruction, `event` what changed them."""
     step: int
     hart: int
     event: str
@@ -67,7 +65,7 @@ class Moment:
 
 @dataclass(frozen=True)
 class State:
-    """What decides who may touch what: the entries and the world of each hart, and the table."""
+    """All that decides access rights: the PMP entries and the world of each hart, and the table of enclaves."""
     entries: tuple[tuple[str, ...], ...]
     worlds: tuple[str, ...]
     enclaves: tuple[Enclave, ...]
@@ -75,7 +73,7 @@ class State:
 
 @dataclass(frozen=True)
 class Event:
-    """What a step did, by its name."""
+    """What a step did: its name, with the slot, the status and the text of the instruction if they apply."""
     name: str
     slot: Optional[int] = None
     status: Optional[str] = None
@@ -83,7 +81,7 @@ class Event:
 
 
 def moments(run: Run) -> Iterator[Moment | End]:
-    """Moment for each change, the first for the state at reset, and last End."""
+    """Yields a Moment for the state at reset and for each change of access rights, and then the End."""
     finder = Finder(run)
     end = None
     with run.replay() as replay:
@@ -100,7 +98,7 @@ def moments(run: Run) -> Iterator[Moment | End]:
 
 
 def changed_steps(run: Run) -> Iterator[tuple[int, int] | End]:
-    """The number and hart of each step that called the monitor or was the timer's, and End."""
+    """Yields the number and the hart of each step that called the monitor or was stopped by the timer, and then the End."""
     for item in run.stretches():
         if isinstance(item, End):
             yield item
@@ -110,8 +108,8 @@ def changed_steps(run: Run) -> Iterator[tuple[int, int] | End]:
 
 
 def changed_entries(run: Run) -> Iterator[tuple[int, int] | End]:
-    """The number and hart of each step of the bare bench that may have written an entry, and End: a second bench follows the first, and
-    tells the instruction of each step before it is done."""
+    """Yields the number and the hart of each step of a bare run that may have written a PMP entry, and then the End. A second bench follows the
+    first, and decodes each instruction before its step."""
     pc = run.pc.encode()
     with run.replay() as replay:
         for item in run.stretches():
@@ -128,7 +126,7 @@ def changed_entries(run: Run) -> Iterator[tuple[int, int] | End]:
 
 
 def places_of(pattern: re.Pattern[bytes], block: bytes) -> Iterator[int]:
-    """The numbers of the lines in which a pattern stands, at most once in each."""
+    """Yields the numbers of the lines that match a pattern, each number at most once."""
     place = number = 0
     for match in pattern.finditer(block):
         number += block.count(b"\n", place, match.start())
@@ -137,7 +135,7 @@ def places_of(pattern: re.Pattern[bytes], block: bytes) -> Iterator[int]:
 
 
 class Finder:
-    """Makes moments of steps, and keeps what `access` replied for entries that it has met."""
+    """Makes moments of steps, and caches the replies of `access` for PMP entries."""
 
     def __init__(self, run: Run) -> None:
         self.run, self.setup = run, run.setup
@@ -145,11 +143,12 @@ class Finder:
         self.state = State((), (), ())  # nothing is known yet
 
     def at_reset(self, replay: Replay) -> Moment:
+        """Returns the moment at reset."""
         self.state = self.state_of(replay, [self.run.world] * self.setup.harts)
         return self.moment(0, 0, Event("reset"), Place(self.run.pc, self.run.mode, self.run.world))
 
     def at_step(self, replay: Replay, step: int, hart: int) -> Moment | None:
-        """The moment behind a step, or None where nothing has changed."""
+        """Returns the moment after a step, or None if nothing has changed."""
         bench = replay.bench
         before = bench.ask(*replay.lines_to(step - 1), *replay.lines_up_to_next(), "regs")[-1]
         pc = before[32][3:]
@@ -164,7 +163,7 @@ class Finder:
         return self.moment(step, hart, event, Place(pc, ran.mode, ran.world))
 
     def state_of(self, replay: Replay | Timeline, worlds: Sequence[str]) -> State:
-        """The entries of each hart, and the table; the verdicts are asked for where the entries are new."""
+        """Reads the PMP entries of each hart and the table of enclaves. Queries the access rights only for entries that are new."""
         bench, entries = replay.bench, []
         for hart in range(self.setup.harts):
             bench.ask(*(["hart %d" % hart] if self.setup.harts > 1 else ["reg 0"]))
@@ -183,7 +182,7 @@ class Finder:
                       tuple(self.rows(columns)))
 
     def columns(self) -> tuple[Column, ...]:
-        """Each hart's world, and those that run nowhere."""
+        """Returns a column for the world of each hart, and one for each world that runs on no hart."""
         worlds = self.state.worlds
         shown = [Column("hart %d: %s" % (hart, world) if len(worlds) > 1 else world, world, hart)
                  for hart, world in enumerate(worlds)]
@@ -191,7 +190,7 @@ class Finder:
         return tuple(shown + [Column(world, world, None) for world in live if world not in worlds])
 
     def rows(self, columns: Sequence[Column]) -> Iterator[Row]:
-        """The ranges between all borders: those of the replies, and those of the table."""
+        """Yields the ranges between all boundaries: those of the PMP entries, and those of the table of enclaves."""
         by_hart = [self.verdicts[lines] for lines in self.state.entries]
         cuts = table_borders(self.state.enclaves, self.setup.ram) if self.setup.monitor else set()
         for verdicts in by_hart:
@@ -212,7 +211,7 @@ class Finder:
 
 
 def event_of(ran: Ran, old: State, hart: int, before: Sequence[int], after: Sequence[int], text: str) -> Event:
-    """What a step did, by its name."""
+    """Returns the event that a step caused."""
     world = old.worlds[hart]
     if world == "bare":
         return Event("pmp", text=text)

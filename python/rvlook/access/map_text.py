@@ -1,4 +1,4 @@
-"""The word map: the moments of a run, for a person and as objects."""
+"""The subcommand `map`: prints the changes of access rights as lines and as objects."""
 from __future__ import annotations
 
 from bisect import bisect_right
@@ -21,7 +21,7 @@ CELL = 6
 
 
 def show_map(run: Run, symbols: Symbols, printer: Printer, is_brief: bool = False) -> None:
-    """All moments of a run."""
+    """Prints the access rights at reset and after each change, as lines or as objects."""
     if printer.as_json:
         run_object(printer, run, symbols)
     before = None
@@ -40,6 +40,7 @@ def show_map(run: Run, symbols: Symbols, printer: Printer, is_brief: bool = Fals
 
 
 def moment_object(printer: Writer, moment: Moment, symbols: Symbols) -> None:
+    """Writes a moment as an object."""
     pc = int(moment.pc, 16)
     rows = [{"first": hex8(row.range.first), "last": hex8(row.range.end - 1), "size": row.range.end - row.range.first,
              "what": row.what, "may": row.may} for row in moment.rows]
@@ -50,7 +51,7 @@ def moment_object(printer: Writer, moment: Moment, symbols: Symbols) -> None:
 
 
 def event_text(moment: Moment) -> str:
-    """What happened, in a few words."""
+    """Returns an event in a few words."""
     if moment.event == "reset":
         return "reset"
     if moment.event == "now":
@@ -61,7 +62,7 @@ def event_text(moment: Moment) -> str:
 
 
 def moment_text(printer: Printer, moment: Moment, symbols: Symbols) -> None:
-    """A moment: what happened and where, the table of enclaves, and the ranges."""
+    """Prints a moment: the event and its place, the enclaves, and the ranges."""
     hart = "hart %d  " % moment.hart if sum(not it.derived for it in moment.columns) > 1 else ""
     heading = "%s%s" % (hart, event_text(moment))
     printer.line(printer.styled(heading, Style.heading) + "  at " + place_text(moment.pc, symbols))
@@ -76,7 +77,7 @@ def moment_text(printer: Printer, moment: Moment, symbols: Symbols) -> None:
 
 
 def brief_text(printer: Printer, moment: Moment, before: Moment | None, symbols: Symbols) -> None:
-    """What a moment changes: who runs, the enclaves, and the ranges that a world may touch otherwise than before."""
+    """Prints what a moment changes: the world that runs, the enclaves, and the ranges whose access rights change."""
     hart = "hart %d  " % moment.hart if sum(not it.derived for it in moment.columns) > 1 else ""
     parts = [printer.styled(hart + event_text(moment), Style.heading), "at " + place_text(moment.pc, symbols)]
     if before and moment.world != before.world:
@@ -92,8 +93,8 @@ def brief_text(printer: Printer, moment: Moment, before: Moment | None, symbols:
 
 
 def changed_rows(moment: Moment, before: Moment | None) -> list[tuple[Range, str, list[str]]]:
-    """Each range in which a world may do otherwise than before, what it is, and what that is; at first all ranges. Neighbours that change
-    alike are one."""
+    """Returns each range in which the access rights of a world change, with its meaning and the changes; without an earlier moment all ranges.
+    Adjacent ranges with the same changes are joined."""
     found: list[tuple[Range, str, list[str]]] = []
     starts = sorted({row.range.first for it in (moment, before) if it for row in it.rows})
     for first, end in zip(starts, [*starts[1:], moment.rows[-1].range.end]):
@@ -109,12 +110,12 @@ def changed_rows(moment: Moment, before: Moment | None) -> list[tuple[Range, str
 
 
 def row_at(moment: Moment, address: int) -> Row:
+    """Returns the row of an address."""
     return moment.rows[bisect_right([it.range.first for it in moment.rows], address) - 1]
 
 
 def rights_of(moment: Moment, address: int) -> dict[str, str]:
-    """What each world may do at an address, in each mode; in both at once under the monitor, where they are alike. A world that is no more,
-    or not yet, may do nothing."""
+    """Returns the access rights of each world to an address, by mode if they differ between modes. A world that does not exist has none."""
     row, found = row_at(moment, address), {}
     for column in moment.columns:
         for mode, rights in row.may[column.name].items():
@@ -124,23 +125,24 @@ def rights_of(moment: Moment, address: int) -> dict[str, str]:
 
 
 def change_text(name: str, old: str | None, new: str) -> str:
-    """What a world may do from now on, and what it might."""
+    """Returns the name of a world with its old and new access rights."""
     return "%s %s" % (name, new) if old is None else "%s %s -> %s" % (name, old, new)
 
 
 def enclave_text(enclave: Enclave) -> str:
+    """Returns a line about an enclave: slot, state, region, window and entry."""
     window = "no window" if not enclave.window_size else "window %08x %4s" % (enclave.window, names.size_text(enclave.window_size))
     return "  %-3s %-8s region %08x %4s  %s  entry %08x" % (
         enclave.world, enclave.state, enclave.base, names.size_text(enclave.size), window, enclave.entry)
 
 
 def is_split(column: Column, moment: Moment) -> bool:
-    """Whether the modes of a column may not all do the same."""
+    """Returns whether the modes of a column may have different access rights."""
     return any(len(set(row.may[column.name].values())) > 1 for row in moment.rows) or column.world == "bare"
 
 
 def heads_of(column: Column, moment: Moment) -> list[str]:
-    """What stands above a column, or above each of its modes."""
+    """Returns the headings of a column: one, or one for each mode."""
     name = "(%s)" % column.name if column.derived else column.name
     if not is_split(column, moment):
         return [name]
@@ -149,13 +151,14 @@ def heads_of(column: Column, moment: Moment) -> list[str]:
 
 
 def cells_of(row: Row, moment: Moment) -> Iterator[str]:
-    """What each column of a row has."""
+    """Yields the cells of a row."""
     for column in moment.columns:
         values = list(row.may[column.name].values())
         yield from values if is_split(column, moment) else values[:1]
 
 
 def row_text(row: Row, cells: Iterable[str], widths: Sequence[int]) -> str:
+    """Returns a row as a line; `widths` are those of the columns, in characters."""
     size = names.size_text(row.range.end - row.range.first)
     ends = "%08x-%08x" % (row.range.first, row.range.end - 1)
     shown = "".join(cell.ljust(width) for cell, width in zip(cells, widths))

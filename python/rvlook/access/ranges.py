@@ -1,5 +1,5 @@
-"""Who may touch which range of RAM: what `access` replies between the borders that `pmp` shows, and what the law of reach says of the
-worlds that do not run."""
+"""Access rights to ranges of RAM: the replies of `access` between the boundaries that `pmp` shows, and the rights that the table of
+enclaves gives to worlds that run on no hart."""
 from __future__ import annotations
 
 from dataclasses import dataclass
@@ -26,15 +26,14 @@ class Range:
 
 @dataclass(frozen=True)
 class Verdicts:
-    """What `access` replied for each byte of a range: for each mode the kinds that are allowed, and the replies themselves, which tell
-    the entries that decide."""
+    """The access rights to a range in each mode, and the replies of `access`, which name the entry that decides."""
     range: Range
     may: dict[str, str]
     replies: tuple[str, ...]
 
 
 def entry_range(entries: Sequence[Entry], index: int) -> Range | None:
-    """The range of an entry, or None where it is off or covers nothing."""
+    """Returns the range that a PMP entry covers, or None if it is off or empty."""
     entry = entries[index]
     mode = entry.cfg >> 3 & 3
     if mode == TOR:
@@ -50,7 +49,7 @@ def entry_range(entries: Sequence[Entry], index: int) -> Range | None:
 
 
 def borders(entries: Sequence[Entry], ram: int) -> list[int]:
-    """Where the entries begin and end in RAM: between two of them each byte is judged alike."""
+    """Returns the boundaries of the PMP entries in RAM, sorted. All bytes between two of them have the same access rights."""
     cuts = {RAM_BASE, RAM_BASE + ram}
     for index in range(len(entries)):
         covered = entry_range(entries, index)
@@ -60,7 +59,7 @@ def borders(entries: Sequence[Entry], ram: int) -> list[int]:
 
 
 def verdicts_of(bench: Bench, pmp_lines: Sequence[str], modes: str, ram: int) -> list[Verdicts]:
-    """The verdicts on every byte of RAM under the entries as they stand: `access` of the first byte between two borders."""
+    """Queries the access rights to all of RAM under the PMP entries: `access` of the first byte after each boundary."""
     cuts = borders([entry_of(line) for line in pmp_lines], ram)
     asked = [(mode, kind) for mode in modes for kind in KINDS]
     lines = ["access %s %s %x 1" % (mode, kind, at) for at in cuts[:-1] for mode, kind in asked]
@@ -75,7 +74,7 @@ def verdicts_of(bench: Bench, pmp_lines: Sequence[str], modes: str, ram: int) ->
 
 
 def merged(found: Iterable[Verdicts]) -> list[Verdicts]:
-    """Neighbours on which each verdict is the same, entry and all, are one range: an access across their border is judged so too."""
+    """Joins adjacent ranges that have the same replies, including the entry that decides. An access across their boundary has that reply too."""
     rows: list[Verdicts] = []
     for it in found:
         if rows and (rows[-1].may, rows[-1].replies) == (it.may, it.replies):
@@ -86,15 +85,17 @@ def merged(found: Iterable[Verdicts]) -> list[Verdicts]:
 
 
 def region_of(enclave: Enclave) -> Range:
+    """Returns the range of an enclave's region."""
     return Range(enclave.base, enclave.base + enclave.size)
 
 
 def window_of(enclave: Enclave) -> Range:
+    """Returns the range of an enclave's window."""
     return Range(enclave.window, enclave.window + enclave.window_size)
 
 
 def reach(world: str, enclaves: Sequence[Enclave], at: int) -> str:
-    """What a world that does not run may do to a byte, by the law of reach: a text of three letters."""
+    """Returns the access rights of a world that runs on no hart to a byte, by the table of enclaves: three letters, as `rw-`."""
     if at < MONITOR_END:
         return NOTHING
     owners = [it.world for it in enclaves if region_of(it).first <= at < region_of(it).end]
@@ -107,7 +108,7 @@ def reach(world: str, enclaves: Sequence[Enclave], at: int) -> str:
 
 
 def table_borders(enclaves: Sequence[Enclave], ram: int) -> set[int]:
-    """Where the monitor's range, the regions and the windows begin and end."""
+    """Returns the boundaries of the monitor's range, the regions and the windows."""
     cuts = {RAM_BASE, MONITOR_END, RAM_BASE + ram}
     for it in enclaves:
         cuts.update((it.base, it.base + it.size))
@@ -117,7 +118,7 @@ def table_borders(enclaves: Sequence[Enclave], ram: int) -> set[int]:
 
 
 def meaning(enclaves: Sequence[Enclave], at: int) -> str:
-    """What a byte is, by the table of enclaves."""
+    """Returns what a byte belongs to, by the table of enclaves; empty if to nothing."""
     if at < MONITOR_END:
         return "monitor"
     found = ["region of " + it.world for it in enclaves if region_of(it).first <= at < region_of(it).end]

@@ -51,7 +51,7 @@ class Overflow(NamedTuple):
 
 
 def stacks_of(symbols: Symbols) -> dict[str, list[Stack]]:
-    """The stacks that the symbols give, by their kind: `host`, `runtime` or `application`."""
+    """Returns the stacks that the symbols define, by kind: `host`, `runtime` or `application`."""
     found: dict[str, list[Stack]] = {}
     for name, symbol in symbols.by_name.items():
         match = NAME.match(name)
@@ -62,7 +62,7 @@ def stacks_of(symbols: Symbols) -> dict[str, list[Stack]]:
 
 
 def kind_of(world: str, mode: str) -> str | None:
-    """The kind of stack that a world uses in a mode."""
+    """Returns the kind of stack that a world uses in a mode, or None."""
     if world in ("host", "bare"):
         return "host"
     return "runtime" if mode == "S" else "application"
@@ -111,7 +111,7 @@ class Finder:
 
 
 def stack_pointers(replay: Replay, stretch: Stretch, steps: Sequence[int]) -> list[int]:
-    """The value of sp before each of these steps of a stretch; the bench goes to the end of the stretch."""
+    """Returns the value of sp before each of these steps of a stretch. The bench is then at the end of the stretch."""
     asked, done = [], 0
     for at in steps:
         asked.append((b"step %d\n" % (at - done) if at > done else b"") + b"reg %d\n" % SP)
@@ -122,7 +122,7 @@ def stack_pointers(replay: Replay, stretch: Stretch, steps: Sequence[int]) -> li
 
 
 def use_of(line: bytes) -> Use | None:
-    """What the instruction in a reply of `dis` does with the stack, or None."""
+    """Returns how the instruction in a reply of `dis` uses the stack, or None."""
     instruction = instruction_of(line)
     if instruction is None:
         return None
@@ -134,7 +134,7 @@ def use_of(line: bytes) -> Use | None:
 
 
 def overflows(run: Run, symbols: Symbols) -> list[Overflow]:
-    """The first overflow of each kind of stack, in the order of the run; none if the symbols give no stack."""
+    """Returns the first overflow of each kind of stack, in the order of the run; none if the symbols define no stack."""
     stacks = stacks_of(symbols)
     if not stacks:
         return []
@@ -147,7 +147,7 @@ def overflows(run: Run, symbols: Symbols) -> list[Overflow]:
 
 
 def overflow_text(it: Overflow, symbols: Symbols) -> str:
-    """An overflow in a line: where, and how far outside."""
+    """Returns an overflow as a line: its place, and how many bytes it is outside."""
     where = symbols.source(it.pc) or symbols.name(it.pc) or hex8(it.pc)
     does = "stores to" if it.is_store else "moves sp to"
     outside, border, side = ("below", it.stack.bottom, "bottom") if it.address < it.stack.bottom else ("above", it.stack.top, "top")

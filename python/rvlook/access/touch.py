@@ -1,4 +1,4 @@
-"""The word touch: what each world read, wrote and executed, beside what it might have."""
+"""The subcommand `touch`: what each world read, wrote and executed, beside what it was permitted."""
 from __future__ import annotations
 
 import re
@@ -36,7 +36,7 @@ class Kind:
 
 @dataclass(frozen=True)
 class Touched:
-    """Bytes within one symbol, and how many accesses there were."""
+    """Bytes within one symbol, and the number of accesses."""
     range: Range
     symbol: Optional[str]
     count: int
@@ -44,7 +44,7 @@ class Touched:
 
 @dataclass(frozen=True)
 class Permitted:
-    """A range of the map, its kinds, how many bytes of it were touched by each kind, and the lowest and highest byte."""
+    """A range that a world may access, the kinds, the number of bytes accessed by each kind, and the lowest and highest of them."""
     what: str
     range: Range
     kinds: str
@@ -54,7 +54,7 @@ class Permitted:
 
     @property
     def enough(self) -> int:
-        """The least lawful size from the base of the range that has all that was touched."""
+        """Returns the least valid size of a region, in bytes, that begins with the range and contains all accesses."""
         size = LEAST_SIZE
         while self.lowest is not None and self.highest is not None and self.range.first + size <= self.highest:
             size *= 2
@@ -62,7 +62,7 @@ class Permitted:
 
 
 class Touches:
-    """What a run touched: counts of accesses by their first byte and width."""
+    """The accesses of a run, counted by first byte and width."""
 
     def __init__(self, run: Run) -> None:
         self.counts: dict[Kind, Counter[tuple[int, int]]] = defaultdict(Counter)
@@ -75,16 +75,17 @@ class Touches:
                 self.allow(moment)
 
     def allow(self, moment: Moment) -> None:
-        """What the map permits each world that runs."""
+        """Adds the access rights that a moment gives to each world that runs."""
         for column in (it for it in moment.columns if not it.derived):
             self.permitted[column.world] += [(row.range, row.what, set("".join(row.may[column.name].values())) - {"-"})
                                              for row in moment.rows]
 
     def worlds(self) -> list[str]:
+        """Returns the worlds that accessed memory, the host first."""
         return sorted({kind.world for kind in self.counts}, key=lambda it: (it != "host", it))
 
     def ranges(self, kind: Kind, symbols: Symbols) -> list[Touched]:
-        """The bytes that were touched, in ranges within one symbol."""
+        """Returns the bytes that were accessed, in ranges within one symbol."""
         found: list[Touched] = []
         for (address, width), count in sorted(self.counts[kind].items()):
             name = symbols.function(address)
@@ -96,11 +97,11 @@ class Touches:
         return found
 
     def bytes_of(self, world: str, kind: str) -> list[int]:
-        """The bytes that a world touched, in rising order."""
+        """Returns the addresses that a world accessed, in ascending order."""
         return sorted({address + i for address, width in self.counts[Kind(world, kind, True)] for i in range(width)})
 
     def permitted_rows(self, world: str) -> Iterator[Permitted]:
-        """Beside what the map permitted a world at one time or another, what it touched there."""
+        """Yields each range that a world was ever permitted to access, with its accesses there."""
         touched = {kind: self.bytes_of(world, kind) for kind in KINDS}
         for found, what, kinds in joined(self.permitted[world]):
             inside = {kind: within(all_of, found) for kind, all_of in touched.items()}
@@ -109,12 +110,12 @@ class Touches:
                             max(every, default=None))
 
     def executed(self, world: str) -> dict[int, int]:
-        """How many times each instruction was executed."""
+        """Returns how often a world executed each instruction, by address."""
         return {address: count for (address, _), count in self.counts[Kind(world, "x", True)].items()}
 
 
 def joined(rows: Iterable[tuple[Range, str, set[str]]]) -> list[tuple[Range, str, str]]:
-    """Ranges that do not meet, of ranges that do: each with all its names and all its kinds, and none without a kind."""
+    """Splits overlapping ranges into disjoint ones, each with all its names and kinds. Leaves out ranges without a kind."""
     cuts = sorted({at for it, _, _ in rows for at in (it.first, it.end)})
     found: list[tuple[Range, str, str]] = []
     for first, end in zip(cuts, cuts[1:]):
@@ -129,19 +130,19 @@ def joined(rows: Iterable[tuple[Range, str, set[str]]]) -> list[tuple[Range, str
 
 
 def within(addresses: list[int], found: Range) -> list[int]:
-    """Those of the rising addresses that are in a range."""
+    """Returns those of the ascending addresses that are in a range."""
     return addresses[bisect_right(addresses, found.first - 1):bisect_right(addresses, found.end - 1)]
 
 
 def covered_functions(touches: Touches, world: str, symbols: Symbols) -> Iterator[tuple[Symbol, int, int]]:
-    """Each symbol of which a world executed some, with its bytes and how many were executed."""
+    """Yields each symbol of which a world executed a part, with its size and the executed bytes."""
     executed = Counter(symbol for symbol in map(symbols.at, touches.executed(world)) if symbol)
     for symbol in sorted(executed, key=lambda it: it.address):
         yield symbol, symbols.size_of(symbol), 4 * executed[symbol]
 
 
 def covered_lines(touches: Touches, world: str, symbols: Symbols) -> list[tuple[str, int]]:
-    """Each source line of the functions of which a world executed some, with how many times its most executed instruction was."""
+    """Returns each source line of the functions that a world executed, with the count of its most executed instruction."""
     executed = touches.executed(world)
     counts: dict[str, int] = {}
     addresses = sorted(executed)
@@ -156,13 +157,13 @@ def covered_lines(touches: Touches, world: str, symbols: Symbols) -> list[tuple[
 
 
 def place_of(source: str) -> tuple[str, int]:
-    """The file and the line number of a source line. The file's name may have a colon."""
+    """Returns the file and the line number of a source line. The name of the file may contain a colon."""
     name, number = source.rsplit(":", 1)
     return name, int(number)
 
 
 def by_file(lines: Iterable[tuple[str, int]]) -> Iterator[tuple[str, int, int, list[str]]]:
-    """Of each file how many of its lines were executed, how many there are, and the numbers of the others."""
+    """Yields for each file its number of executed lines, its number of lines, and the numbers of the lines that were not executed."""
     files = defaultdict(list)
     for source, count in lines:
         name, number = place_of(source)
@@ -188,7 +189,7 @@ def refuse_modes(run: Run) -> None:
 
 
 def show_touch(run: Run, symbols: Symbols, printer: Printer) -> None:
-    """All of it, world by world."""
+    """Prints the accesses of each world beside what it was permitted."""
     refuse_modes(run)
     touches = Touches(run)
     if printer.as_json:
@@ -199,12 +200,13 @@ def show_touch(run: Run, symbols: Symbols, printer: Printer) -> None:
 
 
 def all_touched(touches: Touches, world: str, symbols: Symbols) -> list[tuple[Kind, Touched]]:
-    """All ranges that a world touched, each with its kind."""
+    """Returns all ranges that a world accessed, each with the kind of access."""
     kinds = [Kind(world, kind, done) for kind in KINDS for done in (True, False)]
     return [(kind, it) for kind in kinds for it in touches.ranges(kind, symbols)]
 
 
 def world_objects(touches: Touches, world: str, symbols: Symbols, printer: Printer) -> None:
+    """Writes the accesses, permissions and coverage of a world as objects."""
     for kind, it in all_touched(touches, world, symbols):
         printer.object("touched", world=world, kind=kind.kind, first=hex8(it.range.first), last=hex8(it.range.end - 1),
                        symbol=it.symbol, count=it.count, done=kind.done)
@@ -213,6 +215,7 @@ def world_objects(touches: Touches, world: str, symbols: Symbols, printer: Print
 
 
 def permitted_objects(touches: Touches, world: str, printer: Printer) -> None:
+    """Writes the permitted ranges of a world as objects."""
     for it in touches.permitted_rows(world):
         printer.object("permitted", world=world, what=it.what, first=hex8(it.range.first), last=hex8(it.range.end - 1),
                        kinds=it.kinds, size=it.range.end - it.range.first, touched=it.touched, lowest=hex8(it.lowest),
@@ -220,6 +223,7 @@ def permitted_objects(touches: Touches, world: str, printer: Printer) -> None:
 
 
 def covered_objects(touches: Touches, world: str, symbols: Symbols, printer: Printer) -> None:
+    """Writes the functions and source lines that a world executed as objects."""
     functions: list[dict[str, Json]] = [dict(name=symbol.name, first=hex8(symbol.address), size=size, executed=executed)
                                         for symbol, size, executed in covered_functions(touches, world, symbols)]
     lines: list[dict[str, Json]] = [dict(source=source, count=count) for source, count in covered_lines(touches, world, symbols)]
@@ -228,6 +232,7 @@ def covered_objects(touches: Touches, world: str, symbols: Symbols, printer: Pri
 
 
 def world_text(touches: Touches, world: str, symbols: Symbols, printer: Printer) -> None:
+    """Prints the accesses, permissions and coverage of a world."""
     printer.line(printer.styled(world, Style.heading))
     lines = [touched_text(kind, it) for kind, it in all_touched(touches, world, symbols)]
     lines += ["  %-16s %s" % ("permitted", permitted_text(it)) for it in touches.permitted_rows(world)]
@@ -240,13 +245,13 @@ def world_text(touches: Touches, world: str, symbols: Symbols, printer: Printer)
 
 
 def touched_text(kind: Kind, it: Touched) -> str:
-    """A range that was touched."""
+    """Returns a range that was accessed as a line."""
     what = KINDS[kind.kind] + ("" if kind.done else ", refused")
     return "  %-16s %08x-%08x %7d  %s" % (what, it.range.first, it.range.end - 1, it.count, it.symbol or "")
 
 
 def permitted_text(it: Permitted) -> str:
-    """A range that was permitted, and how much of it was used."""
+    """Returns a permitted range as a line, with how much of it was used."""
     size = it.range.end - it.range.first
     used = "  ".join("%s %d" % (kind, it.touched[kind]) for kind in it.kinds if kind != "-") if it.lowest is not None else "nothing"
     text = "%08x-%08x %7s  %s  %s" % (it.range.first, it.range.end - 1, names.size_text(size), it.kinds, used)

@@ -19,7 +19,7 @@ if TYPE_CHECKING:
 
 
 def setup_of(arguments: Namespace) -> Setup:
-    """What is run: the image, and the script with its symbols as numbers."""
+    """Returns the configuration of a run: the image, and the script with numbers in place of symbols."""
     image = image_of(arguments.image, arguments.kind)
     script = image.script + script_of(arguments.script)
     monitor = has_monitor(arguments, image, script)
@@ -30,7 +30,7 @@ def setup_of(arguments: Namespace) -> Setup:
 
 
 def has_monitor(arguments: Namespace, image: Image, script: Iterable[ScriptLine]) -> bool:
-    """Whether the image is run under the monitor: as it is said, and else as the image asks for it, which is told."""
+    """Returns whether the image runs under the monitor: as the arguments say, or else as the image suggests, which is reported."""
     monitor = arguments.monitor
     reason = asks_for_monitor(image, script) if monitor is None else None
     if reason:
@@ -41,7 +41,7 @@ def has_monitor(arguments: Namespace, image: Image, script: Iterable[ScriptLine]
 
 
 def run_from(arguments: Namespace) -> Run:
-    """The run; what the bench refuses of its script is told, and the status will be 2."""
+    """Returns the run. Reports the lines of its script that the bench refuses, so that the exit status will be 2."""
     run = run_of(setup_of(arguments))
     for line, reply in run.faults:
         arguments.findings.refuse(fault_text(line, reply, run.setup.symbols))
@@ -62,13 +62,13 @@ def refuse_empty_part(arguments: Namespace, least: int) -> None:
 
 
 def refuse_json(arguments: Namespace, option: str) -> None:
-    """An output that is a form of its own has no objects."""
+    """Raises WordsRefused if --json is given with an output that has a format of its own."""
     if arguments.json:
         raise WordsRefused("%s has no --json" % option)
 
 
 def opened(arguments: Namespace) -> tuple[Run, Symbols, Printer]:
-    """The run, its symbols and the printer, for a word over an image."""
+    """Returns the run, its symbols and the printer of a subcommand over an image."""
     if arguments.opened:
         run, symbols = arguments.opened
         return run, symbols, Printer(arguments.json)
@@ -77,7 +77,7 @@ def opened(arguments: Namespace) -> tuple[Run, Symbols, Printer]:
 
 
 def opened_monitored(arguments: Namespace) -> tuple[Run, Symbols, Printer]:
-    """The same, for a subcommand that needs the bench's own monitor."""
+    """Returns the same as `opened`, for a subcommand that needs the monitor of the bench."""
     run, symbols, printer = opened(arguments)
     refuse_bare(arguments, run)
     return run, symbols, printer

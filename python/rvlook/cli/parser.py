@@ -1,4 +1,4 @@
-"""The command line: its subcommands, and the arguments that it gives."""
+"""The command line: its subcommands and their arguments."""
 from __future__ import annotations
 
 import argparse
@@ -37,7 +37,7 @@ NAMES = ("map", "trace", "touch", "window", "leak", "timer", "races", "measure",
 
 
 def add_word(words: Any, name: str, do: Callable[[Namespace], None], about: str, *more: Callable[[ArgumentParser], None]) -> Parser:
-    """A word over an image; `more` add its own options."""
+    """Adds a subcommand over an image; each function of `more` adds options."""
     parser = words.add_parser(name, help=about, description=about + ".")
     image_options(parser)
     for options in more:
@@ -47,6 +47,7 @@ def add_word(words: Any, name: str, do: Callable[[Namespace], None], about: str,
 
 
 def measure_word(words: Any) -> None:
+    """Adds the subcommand `measure`."""
     parser = words.add_parser("measure", help="the digest that create records", description="The digest that create records.")
     parser.add_argument("file", metavar="FILE", help="an ELF file, or the raw bytes of the region")
     for name in ("BASE", "SIZE", "WINDOW", "WINDOW_SIZE", "ENTRY"):
@@ -57,6 +58,7 @@ def measure_word(words: Any) -> None:
 
 
 def explain_word(words: Any) -> None:
+    """Adds the subcommand `explain`."""
     parser = words.add_parser("explain", help="an input read beside its faults", description="An input of the bench, read beside its "
                               "faults: which line, what is meant, what to write.", usage="rvlook explain [--json] INPUT [-- WORD...]")
     parser.add_argument("--json", action="store_true", help="one object a line (docs/LOOK.md)")
@@ -67,7 +69,7 @@ def explain_word(words: Any) -> None:
 
 
 def parser_of() -> Parser:
-    """All words."""
+    """Returns the parser of all subcommands."""
     parser = Parser(prog="rvlook", usage="rvlook [WORD] IMAGE [OPTIONS]", epilog=WORDS,
                     formatter_class=argparse.RawDescriptionHelpFormatter,
                     description="See what host and enclave can touch, and when: beside the bench, over a pipe.")
@@ -91,13 +93,13 @@ def parser_of() -> Parser:
 
 
 def unknown_word(word: str) -> str:
-    """What is told of a first word that is neither a word nor a file."""
+    """Returns the message for a first argument that is neither a subcommand nor a file."""
     near = nearest(word, NAMES)
     return "%s is no word of rvlook, and no file%s; rvlook --help tells the words" % (word, "; near it is %s" % near if near else "")
 
 
 def with_secrets(parser: Parser, words: Sequence[str]) -> Namespace:
-    """The arguments of leak, whose two secrets stand anywhere behind the image."""
+    """Parses the arguments of `leak`, whose two secrets may be anywhere after the image."""
     arguments, rest = parser.parse_known_args(words)
     if len(rest) > 2 or any(it.startswith("-") for it in rest):
         parser.error("unrecognized arguments: %s" % " ".join(rest))
@@ -106,7 +108,7 @@ def with_secrets(parser: Parser, words: Sequence[str]) -> Namespace:
 
 
 def read(words: Sequence[str]) -> Namespace:
-    """The arguments that the words give."""
+    """Parses the command line."""
     parser = parser_of()
     if not words:
         parser.print_help()

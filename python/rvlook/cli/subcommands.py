@@ -1,4 +1,4 @@
-"""What each subcommand does with its arguments."""
+"""Runs each subcommand with its arguments."""
 from __future__ import annotations
 
 from typing import TYPE_CHECKING
@@ -37,6 +37,7 @@ def report_overflows(arguments: Namespace, run: Run, symbols: Symbols) -> None:
 
 
 def do_map(arguments: Namespace) -> None:
+    """Runs `map`."""
     if arguments.brief:
         refuse_json(arguments, "--brief")
     run, symbols, printer = opened(arguments)
@@ -45,6 +46,7 @@ def do_map(arguments: Namespace) -> None:
 
 
 def do_trace(arguments: Namespace) -> None:
+    """Runs `trace`."""
     refuse_empty_part(arguments, 1)
     if arguments.format == "spike":
         refuse_json(arguments, "--format spike")
@@ -60,6 +62,7 @@ def do_trace(arguments: Namespace) -> None:
 
 
 def do_touch(arguments: Namespace) -> None:
+    """Runs `touch`."""
     if arguments.lcov:
         refuse_json(arguments, "--lcov")
         show_lcov(*opened(arguments), [it for it in (arguments.symbols, arguments.image) if it])
@@ -70,6 +73,7 @@ def do_touch(arguments: Namespace) -> None:
 
 
 def do_leak(arguments: Namespace) -> None:
+    """Runs `leak`."""
     refuse_empty_part(arguments, 1)
     if arguments.tries is not None and arguments.first > arguments.tries:
         raise WordsRefused("--from %d is after --tries %d" % (arguments.first, arguments.tries))
@@ -77,39 +81,47 @@ def do_leak(arguments: Namespace) -> None:
 
 
 def do_window(arguments: Namespace) -> None:
+    """Runs `window`."""
     if arguments.public and not arguments.at:
         raise WordsRefused("--public needs --at PLACE, which says what the secret is")
     show_window(*opened_monitored(arguments), arguments)
 
 
 def do_timer(arguments: Namespace) -> None:
+    """Runs `timer`."""
     show_timer(*opened_monitored(arguments), arguments)
 
 
 def do_races(arguments: Namespace) -> None:
+    """Runs `races`."""
     refuse_empty_part(arguments, 0)
     show_races(*opened(arguments), arguments)
 
 
 def do_measure(arguments: Namespace) -> None:
+    """Runs `measure`."""
     numbers = (arguments.base, arguments.size, arguments.window, arguments.window_size, arguments.entry)
     show_measure(arguments.file, numbers, arguments.symbols, Printer(arguments.json))
 
 
 def do_prompt(arguments: Namespace) -> None:
+    """Runs the prompt."""
     show_prompt(*opened(arguments))
 
 
 def do_gdb(arguments: Namespace) -> None:
+    """Runs `gdb`."""
     setup = setup_of(arguments)
     serve_gdb(setup, lambda: setup.symbols, arguments.port, arguments.allow_files, arguments.command_line)
 
 
 def do_explain(arguments: Namespace) -> None:
+    """Runs `explain`."""
     show_explain(arguments.input, arguments.words, Printer(arguments.json), arguments.findings)
 
 
 def do_page(arguments: Namespace) -> None:
+    """Runs `page`."""
     if arguments.json:
         raise Fault("page has no --json: it shows what map --json and trace --json write")
     template = page_template()

@@ -1,6 +1,6 @@
-"""The word leak: runs that differ in a secret of an enclave alone; where they part, in what a host can see or time while the enclave runs and
-when it leaves: where each step is, how many there are, the addresses of loads and stores, the operands of divisions where that is asked
-for, the answers, and the window. Where two runs go different ways they are compared from where they come together again."""
+"""The subcommand `leak`: compares runs that differ only in a secret of an enclave, by what a host can observe: pc and number of steps,
+addresses of loads and stores, operands of divisions if wanted, results, and the window. After a divergence two runs are compared from where
+they converge again."""
 from __future__ import annotations
 
 from array import array
@@ -27,7 +27,7 @@ SAME, FAR = 4, 4096  # so many steps alike, and two runs are together again; loo
 
 @dataclass
 class Apart:
-    """Where two runs part: in what, at which step of each first, with what values, the instruction that made it, and how many times there."""
+    """A difference of two runs: the channel, the first step of each run, the values, the instruction, and how often it occurs there."""
     what: str
     steps: tuple[int, int]
     values: tuple[Any, ...]  # of a form for each `what`
@@ -37,7 +37,7 @@ class Apart:
 
 @dataclass
 class Seen:
-    """One run from where the secret is put: the enclave's stays, and the step that is its last."""
+    """What a host observes of one run: the activations of the enclave, and the last step."""
     run: Run
     stays: list[Stay]
     last: int
@@ -46,22 +46,24 @@ class Seen:
 
 @dataclass(frozen=True)
 class Public:
-    """What may differ: the answer, bytes of the window, and what instructions of a range make."""
+    """What may differ: the result, bytes of the window, and what instructions of a range store."""
     answer: bool = False
     ranges: tuple[tuple[int, int], ...] = ()
 
     def has(self, address: int) -> bool:
+        """Returns whether an address may differ."""
         return any(at <= address < at + count for at, count in self.ranges)
 
 
 def public_of(texts: Sequence[str] | None, symbols: Symbols) -> Public:
-    """What --public names."""
+    """Returns what --public names."""
     found = [it for it in texts or () if it != "answer"]
     return Public("answer" in (texts or ()), tuple((at, count or 4) for at, count in (place_and_size(it, symbols) for it in found)))
 
 
 def seen(run: Run, secret: Secret, is_strict: bool) -> Seen:
-    """What a host sees of the slot's enclave, until it exits."""
+    """Records what a host observes of the enclave in the slot of the secret, until the enclave exits. Raises Unfinished if it is never
+    entered."""
     found, stays = [], Stays(run, secret.step, is_strict)
     with closing(stays.all()) as every:
         for stay in every:
@@ -76,7 +78,7 @@ def seen(run: Run, secret: Secret, is_strict: bool) -> Seen:
 
 
 class Comparison:
-    """Two runs; `found` has where they part, by the part and the instruction."""
+    """A comparison of two runs. `found` has the differences by channel and instruction."""
 
     def __init__(self, one: Seen, two: Seen, secret: Secret, public: Public, is_strict: bool) -> None:
         self.one, self.two, self.secret, self.public, self.is_strict = one, two, secret, public, is_strict
@@ -91,20 +93,22 @@ class Comparison:
             self.add("answer", (one.last, two.last), tuple("%d leaves" % len(it.stays) for it in (one, two)))
 
     def parts(self) -> list[str]:
+        """Returns the channels in which the runs differ, in the order of PARTS."""
         return [it for it in PARTS if any(found.what == it for found in self.found.values())]
 
     def all(self) -> list[Apart]:
+        """Returns all differences, by channel and step."""
         return sorted(self.found.values(), key=lambda it: (PARTS.index(it.what), it.steps))
 
     def add(self, what: str, steps: tuple[int, int], values: tuple[Any, ...], pc: int | None = None) -> None:
-        """A difference, or one more where there was such."""
+        """Adds a difference, or counts it if there is one at the same instruction."""
         if pc is not None and self.public.has(pc):
             return
         old = self.found.setdefault((what, pc), Apart(what, steps, values, pc, 0))
         old.count += 1
 
     def ways(self, one: Stay, two: Stay) -> None:
-        """Step by step, and from where two ways come together again."""
+        """Compares two activations step by step, and after a divergence from where they converge again."""
         theirs = dict(zip(two.did_at, two.did))
         x = y = 0
         while x < len(one.pcs) and y < len(two.pcs):
@@ -133,7 +137,7 @@ class Comparison:
         return together(one, x, two, y)
 
     def access(self, mine: Did, theirs: Did, enclave: Enclave) -> None:
-        """What two steps did that were at the same place."""
+        """Compares what two corresponding steps did."""
         steps = mine.step, theirs.step
         if mine.kind == "d":
             if mine.values != theirs.values:
@@ -144,12 +148,12 @@ class Comparison:
             self.add("window", steps, tuple((it.address, bytes(it.values)) for it in (mine, theirs)), mine.pc)
 
     def is_shown(self, it: Did, enclave: Enclave) -> bool:
-        """Whether a store is to a byte of the window that may not differ."""
+        """Returns whether a store is to a byte of the window that may not differ."""
         places = range(it.address, it.address + it.width)
         return any(enclave.window <= at < enclave.window + enclave.window_size and not self.public.has(at) for at in places)
 
     def leaves(self, one: Stay, two: Stay) -> None:
-        """The answer and the window when the enclave leaves."""
+        """Compares the results and the windows at the end of two activations."""
         if not self.public.answer and (one.left, one.answer) != (two.left, two.answer):
             self.add("answer", (one.last, two.last), tuple((it.left, *it.answer) for it in (one, two)), one.pc)
         self.writers.update(writers_of(one, two))
@@ -168,7 +172,7 @@ def did_at(stay: Stay, place: int) -> Did | None:
 
 
 def writers_of(one: Stay, two: Stay) -> dict[int, int]:
-    """The instruction that stored each byte last, in either run."""
+    """Returns the instruction that stored each byte last, in either run, by address."""
     found: dict[int, int] = {}
     for stay in (two, one):
         for it in stay.did:
@@ -178,7 +182,7 @@ def writers_of(one: Stay, two: Stay) -> dict[int, int]:
 
 
 def alike(one: Stay, x: int, two: Stay, y: int) -> int:
-    """How many steps from these on are at the same places, in the same modes, with the same traps."""
+    """Returns how many steps from x and y on have the same pcs, modes and traps."""
     count, most = 0, min(len(one.pcs) - x, len(two.pcs) - y)
     if one.pcs[x:x + most] == two.pcs[y:y + most]:
         count = most
@@ -195,7 +199,7 @@ def alike(one: Stay, x: int, two: Stay, y: int) -> int:
 
 
 def together(one: Stay, x: int, two: Stay, y: int) -> tuple[int, int]:
-    """Where two ways come together again: the fewest steps behind these, from which on some are alike; else the ends."""
+    """Returns where two activations converge: after the fewest steps from x and y; the ends if they do not."""
     places = defaultdict(list)
     for n in range(y, min(y + FAR, len(two.pcs))):
         places[two.pcs[n]].append(n)
@@ -212,5 +216,6 @@ def together(one: Stay, x: int, two: Stay, y: int) -> tuple[int, int]:
 
 
 def check_values(values: Sequence[bytes]) -> None:
+    """Raises Fault if two secrets have different lengths."""
     if len(values[0]) != len(values[1]):
         raise Fault("the two have not the same number of bytes")

@@ -1,4 +1,4 @@
-"""What the word leak tells: for a pair of secrets, or for each of many, in what the runs part, and where; for a person and as objects."""
+"""The report of `leak`, for a pair of secrets or for each of many: the channels in which the runs differ, and where."""
 from __future__ import annotations
 
 import time
@@ -32,27 +32,29 @@ class Leak:
         self.parts = [it for it in PARTS if it != "operand" or self.is_strict]
 
     def secret(self, size: int | None = None) -> Secret:
+        """Returns the secret that --at names; `size` is its length in bytes."""
         return secret_of(self.options.at, self.symbols, self.run, self.options.slot, size)
 
     def seen(self, secret: Secret) -> Seen:
-        """The run with a secret."""
+        """Returns the observations of the run with a secret. Notes if --steps ends the run too early."""
         found = seen(self.run.with_lines(secret.step, secret.lines()), secret, self.is_strict)
         if found.is_cut and not self.findings.cut:
             self.findings.cut_short("--steps %d ends the run before the enclave of slot %d leaves" % (self.run.setup.limit, secret.slot))
         return found
 
     def compared(self, one: Seen, two: Seen, secret: Secret) -> Comparison:
+        """Compares the observations of two runs."""
         return Comparison(one, two, secret, self.public, self.is_strict)
 
     def reply(self, run: Run, step: int) -> str:
-        """What the bench replies to a step."""
+        """Returns the reply of the bench to a step."""
         with run.replay() as replay:
             replay.go(step - 1)
             return (replay.go(step) or "")[len("ran 1 "):]
 
 
 def show_leak(run: Run, symbols: Symbols, printer: Printer, options: Namespace) -> None:
-    """One pair of secrets, or as many as are asked for."""
+    """Compares runs with one pair of secrets, or with many."""
     leak = Leak(run, symbols, printer, options)
     if options.tries is not None:
         show_tries(leak)
@@ -76,7 +78,7 @@ def show_leak(run: Run, symbols: Symbols, printer: Printer, options: Namespace) 
 
 
 def show_tries(leak: Leak) -> None:
-    """Many secrets, each beside what stands there by itself."""
+    """Compares the run with runs that have drawn secrets."""
     options, printer = leak.options, leak.printer
     first = leak.secret()
     own = first.with_bytes(first.bytes_in(leak.run))
@@ -117,7 +119,7 @@ def try_pair(leak: Leak, own: Secret, base: Seen, number: int, value: bytes) -> 
 
 
 def finish(leak: Leak, own: Secret, base: Seen | None, told: Mapping[int, tuple[Secret, Seen, Comparison]], done: int) -> None:
-    """What the pairs told, and the first of them that did."""
+    """Prints the result of all pairs, and the first pair that differs."""
     printer = leak.printer
     if printer.as_json:
         printer.object("leak", parts=sorted({part for *_, found in told.values() for part in found.parts()}, key=PARTS.index),
@@ -137,16 +139,17 @@ def finish(leak: Leak, own: Secret, base: Seen | None, told: Mapping[int, tuple[
 
 
 def pairs_text(count: int) -> str:
+    """Returns a number of pairs in words."""
     return "1 pair" if count == 1 else "%d pairs" % count
 
 
 def place_text(pc: int, symbols: Symbols) -> str:
-    """An instruction with its symbol and source line."""
+    """Returns an instruction with its symbol and source line."""
     return "  ".join(part for part in ("%08x" % pc, symbols.name(pc), symbols.line(pc)) if part)
 
 
 def values_of(leak: Leak, it: Apart, both: Sequence[Seen]) -> list[str]:
-    """The two values of a difference, in words."""
+    """Returns the two values of a difference in words."""
     if it.what == "pc":
         return [leak.reply(one.run, step) for one, step in zip(both, it.steps)]
     if it.what == "address":
@@ -159,7 +162,7 @@ def values_of(leak: Leak, it: Apart, both: Sequence[Seen]) -> list[str]:
 
 
 def pair_text(leak: Leak, secrets: Sequence[Secret], both: Sequence[Seen], comparison: Comparison) -> None:
-    """Each part of one pair, with all places at which it parts."""
+    """Prints the comparison of one pair, channel by channel."""
     printer, first = leak.printer, secrets[0]
     printer.line("e%d, from step %d on, with %s and with %s at %s  %s" % (
         first.slot, first.step, secrets[0].bytes.hex(), secrets[1].bytes.hex(), first.text(), leak.symbols.name(first.at) or ""))
@@ -177,7 +180,7 @@ def pair_text(leak: Leak, secrets: Sequence[Secret], both: Sequence[Seen], compa
 
 
 def heading_of(leak: Leak, it: Apart, secret: Secret) -> str:
-    """In what two runs part, and where."""
+    """Returns where two runs differ."""
     if it.what == "steps":
         return "apart: %d and %d" % tuple(step - secret.step for step in it.steps)
     step = "step %d" % it.steps[0] if it.steps[0] == it.steps[1] else "steps %d and %d" % it.steps
@@ -187,12 +190,13 @@ def heading_of(leak: Leak, it: Apart, secret: Secret) -> str:
 
 
 def apart_text(leak: Leak, it: Apart, secret: Secret, both: Sequence[Seen]) -> str:
-    """The same, with both values."""
+    """Returns where two runs differ, with both values."""
     values = () if it.what == "steps" else values_of(leak, it, both)
     return heading_of(leak, it, secret) + "".join("\n          " + value.rstrip() for value in values)
 
 
 def pair_objects(leak: Leak, secrets: Sequence[Secret], both: Sequence[Seen], comparison: Comparison) -> None:
+    """Writes the comparison of one pair as objects."""
     printer, first, symbols = leak.printer, secrets[0], leak.symbols
     run_object(printer, leak.run, symbols)
     printer.object("secret", slot=first.slot, at=first.text(), step=first.step, bytes=[it.bytes.hex() for it in secrets])

@@ -1,4 +1,4 @@
-"""What tells the ends of races apart, and what is forbidden of them: bytes, registers, the states of enclaves."""
+"""What distinguishes the final states of `races`, and what is forbidden of them: bytes, registers and the states of enclaves."""
 from __future__ import annotations
 
 import operator
@@ -24,12 +24,13 @@ WORD_BYTES = 4
 
 
 class Bytes(NamedTuple):
-    """So many bytes at an address."""
+    """`count` bytes at an address."""
     name: str
     at: int
     count: int  # type: ignore[assignment]  # a tuple has a method of that name
 
     def value_in(self, machine: Machine, _state: State, memory: Memory) -> bytes:
+        """Returns the bytes in a state."""
         return bytes(machine.bytes_at(memory, self.at, self.count) or ())
 
 
@@ -40,6 +41,7 @@ class Register(NamedTuple):
     number: int
 
     def value_in(self, machine: Machine, state: State, _memory: Memory) -> int:
+        """Returns the value of the register in a state."""
         return machine.harts[state.harts[self.hart]][2][self.number]
 
 
@@ -49,6 +51,7 @@ class Slot(NamedTuple):
     slot: int
 
     def value_in(self, machine: Machine, state: State, _memory: Memory) -> str:
+        """Returns the state of the enclave in a state of the machine; `none` if there is none."""
         return states_of(machine, state).get(self.slot, "none")
 
 
@@ -57,6 +60,7 @@ class Table(NamedTuple):
     name: str = "enclaves"
 
     def value_in(self, machine: Machine, state: State, _memory: Memory) -> tuple[tuple[int, str], ...]:
+        """Returns the slots and the states of all enclaves in a state of the machine."""
         return tuple(sorted(states_of(machine, state).items()))
 
 
@@ -86,13 +90,13 @@ def watched_of(outcome: Iterable[Observed]) -> Watched:
 
 
 class Condition(NamedTuple):
-    """Comparisons that are forbidden together: of each the name, the operator and the value; or how a hart must not end."""
+    """Comparisons that are forbidden together: name, operator and value of each; or how a hart must not end."""
     text: str
     parts: tuple[tuple[str, str, Union[int, str]], ...]
     how: str = ""
 
     def holds(self, end: End, names_of: Sequence[str]) -> bool:
-        """Whether an end is as it must not be."""
+        """Returns whether a final state meets the condition."""
         if self.how:
             return any(how == self.how for how, _ in end.harts)
         values = dict(zip(names_of, end.values))
@@ -100,16 +104,17 @@ class Condition(NamedTuple):
 
 
 def states_of(machine: Machine, state: State) -> dict[int, str]:
+    """Returns the state of each enclave, by slot."""
     return {it.slot: it.state for it in map(enclave_of, machine.tables[state.table][0])}
 
 
 def number_of(value: Value) -> Any:
-    """A value as it is compared: bytes are a number, the lowest byte first."""
+    """Returns a value as it is compared: bytes are a little-endian number."""
     return int.from_bytes(value, "little") if isinstance(value, bytes) else value
 
 
 def value_text(value: Value) -> str:
-    """A value as it is shown: a small number decimal, a larger one in hexadecimal digits."""
+    """Returns a value as text: a small number in decimal, a larger one in hexadecimal digits."""
     if isinstance(value, tuple):
         return " ".join("e%d %s" % it for it in value) or "none"
     if isinstance(value, str):
@@ -122,7 +127,7 @@ def value_text(value: Value) -> str:
 
 
 def outcome_of(text: str, symbols: Symbols, harts: int) -> Observed:
-    """What --outcome names: PLACE or PLACE:BYTES, HART.REGISTER, a slot, or enclaves."""
+    """Parses --outcome: PLACE or PLACE:BYTES, HART.REGISTER, a slot, or `enclaves`. Raises Fault."""
     hart, dot, register = text.partition(".")
     if text == "enclaves":
         return Table()
@@ -140,7 +145,7 @@ def outcome_of(text: str, symbols: Symbols, harts: int) -> Observed:
 
 
 def condition_of(text: str, symbols: Symbols) -> Condition:
-    """What --forbid says: comparisons joined by and; or stays, waits, livelock, unended."""
+    """Parses --forbid: comparisons joined by `and`, or one of `stays`, `waits`, `livelock` and `unended`. Raises Fault."""
     if text.strip() in HOW:
         return Condition(text, (), HOW[text.strip()])
     texts = re.split(r"\band\b", text)
@@ -151,7 +156,7 @@ def condition_of(text: str, symbols: Symbols) -> Condition:
 
 
 def compared_with(name: str, value: str, symbols: Symbols) -> int | str:
-    """The value of a comparison: a number, decimal or after 0x, or a symbol's address; the state of an enclave."""
+    """Parses the value of a comparison: a number, decimal or after 0x, a symbol's address, or the state of an enclave. Raises Fault."""
     if re.fullmatch(r"e\d+", name) and name not in symbols.by_name:
         return value
     try:
@@ -164,13 +169,13 @@ def compared_with(name: str, value: str, symbols: Symbols) -> int | str:
 
 
 def outcomes_of(texts: Iterable[str] | None, conditions: Sequence[Condition], symbols: Symbols, harts: int) -> list[Observed]:
-    """What tells ends apart, with what is forbidden; none where all that both touch does."""
+    """Returns what distinguishes final states, with what --forbid compares; empty if it is all shared memory."""
     named = list(texts or ()) + [part[0] for it in conditions for part in it.parts]
     return [outcome_of(it, symbols, harts) for it in dict.fromkeys(named)]
 
 
 def ranges_of(addresses: Iterable[int], symbols: Symbols) -> list[Bytes]:
-    """Addresses as bytes of one symbol each."""
+    """Returns addresses as ranges within one symbol each."""
     found: list[Bytes] = []
     for at in sorted(addresses):
         if found and found[-1].at + found[-1].count == at and symbols.function(at) == symbols.function(found[-1].at):

@@ -1,4 +1,4 @@
-"""Where bytes have a copy of a part of a secret: each maximal run of bytes that the secret has too, in the same order."""
+"""Finds copies of parts of a secret: maximal runs of bytes that the secret has in the same order."""
 from __future__ import annotations
 
 from typing import Iterable, NamedTuple
@@ -7,7 +7,7 @@ LEAST = 4  # bytes of a copy that is told; the whole secret if that is shorter
 
 
 class Copy(NamedTuple):
-    """So many bytes at a place, which are those of the secret from an offset on."""
+    """`size` bytes at a place that are those of the secret from an offset on."""
     at: int
     size: int
     offset: int

@@ -1,5 +1,5 @@
-"""Where a secret is: bytes of an enclave's region, which are poked right behind its create; bytes of the image, which are poked at reset; or
-a register, at the moment at which an enclave first comes to a place. And which values it is given."""
+"""The place of a secret: bytes of an enclave's region, poked right after its `create`; bytes of the image, poked at reset; or a register
+when an enclave first comes to a place. And the values that it is given."""
 from __future__ import annotations
 
 import random
@@ -29,7 +29,7 @@ Bytes = bytes  # a member of Secret has that name
 
 @dataclass(frozen=True)
 class Secret:
-    """Bytes that are poked into memory behind a step, or put into a register."""
+    """Bytes that are poked into memory after a step, or written to a register."""
     slot: int
     at: int
     step: int
@@ -38,15 +38,17 @@ class Secret:
     hart: int = 0
 
     def lines(self) -> list[str]:
+        """Returns the commands that set the secret."""
         if self.register:
             return ["hart %d" % self.hart] * bool(self.hart) + ["setreg %d %x" % (self.register, int.from_bytes(self.bytes, "little"))]
         return ["poke %x %02x" % (self.at + place, value) for place, value in enumerate(self.bytes)]
 
     def with_bytes(self, value: Bytes) -> Secret:
+        """Returns the secret with another value."""
         return replace(self, bytes=value)
 
     def bytes_in(self, run: Run) -> Bytes:
-        """What stands there by itself."""
+        """Reads the value that the run itself gives."""
         with run.replay() as replay:
             replay.go(self.step)
             if self.register:
@@ -56,11 +58,12 @@ class Secret:
             return b"".join(bytes_of(reply[0]) for reply in replay.bench.ask(*reads))
 
     def text(self) -> str:
+        """Returns the place of the secret: a register or an address."""
         return names.abi_name(self.register) if self.register else "%08x" % self.at
 
 
 def created(run: Run, slot: int) -> Moment:
-    """The moment at which the slot's enclave is created."""
+    """Returns the moment at which the enclave of a slot is created; raises Unfinished if it is not."""
     for moment in moments(run):
         if not isinstance(moment, End) and moment.event == "create" and moment.slot == slot:
             return moment
@@ -68,7 +71,7 @@ def created(run: Run, slot: int) -> Moment:
 
 
 def place_and_size(text: str, symbols: Symbols) -> tuple[int, int | None]:
-    """PLACE or PLACE:BYTES, as an address and how many bytes, None where it is not told."""
+    """Parses PLACE or PLACE:BYTES into an address and a number of bytes, None if it is not known. Raises Fault."""
     place, _, count = text.partition(":")
     at = symbols.address(place)
     if at is None or count and not count.isdigit():
@@ -78,7 +81,7 @@ def place_and_size(text: str, symbols: Symbols) -> tuple[int, int | None]:
 
 
 def secret_of(text: str, symbols: Symbols, run: Run, slot: int, size: int | None = None) -> Secret:
-    """The secret that --at names, of zeros; `size` is that of the values that it is given, where there are such."""
+    """Returns the secret that --at names, all zeros. `size` is the length of the given values, if there are any. Raises Fault."""
     register = REGISTER_AT.match(text)
     if register and register[1] in names.NUMBER_OF and text.split("@")[0] not in symbols.by_name:
         return register_secret(register, symbols, run, slot)
@@ -97,7 +100,7 @@ def secret_of(text: str, symbols: Symbols, run: Run, slot: int, size: int | None
 
 
 def register_secret(match: re.Match[str], symbols: Symbols, run: Run, slot: int) -> Secret:
-    """A register at the first step of the slot's enclave at a place."""
+    """Returns the secret in a register when the enclave first comes to a place; raises Unfinished if it does not."""
     pc, _ = place_and_size(match[2], symbols)
     with closing(Stays(run).all()) as every:
         for stay in every:
@@ -108,7 +111,7 @@ def register_secret(match: re.Match[str], symbols: Symbols, run: Run, slot: int)
 
 
 def drawn(size: int, seed: int, first: int, last: int) -> list[tuple[int, bytes]]:
-    """The values from one number to another of a list that goes on: corner values, and then single bits and random ones in turn."""
+    """Returns the values with numbers `first` to `last` of an endless list: corner values, then single bits and random values in turn."""
     rng = random.Random(seed)
     values = [it * size for it in CORNERS] + [bytes([1]) + bytes(size - 1), bytes(size - 1) + b"\x80"]
     bits = [1 << n for n in range(8 * size)]

@@ -1,5 +1,5 @@
-"""The word timer: the timer's line is raised before each step of an enclave, or before every Nth; whether it comes to the same end as
-without, and in how many stops. The script comes before, as it stands."""
+"""The subcommand `timer`: sets the timer interrupt pending before each step of an enclave, or before every Nth, and checks that the enclave
+comes to the same end as without. The script runs before, unchanged."""
 from __future__ import annotations
 
 import itertools
@@ -31,7 +31,7 @@ LEFT = ("Exited", "Stopped")  # states in which the enclave has left: what its h
 
 @dataclass(frozen=True)
 class Inside:
-    """A step of the enclave: where it was done, the reply, whether the host was on turn before it, and the host's a0 and a1 if it leaves."""
+    """A step of the enclave: pc, reply, whether the host ran before it, and a0 and a1 of the host if it leaves."""
     pc: str
     reply: str
     is_entered: bool
@@ -40,8 +40,8 @@ class Inside:
 
 @dataclass(frozen=True)
 class Last:
-    """The step with which the enclave has left for good, or the run's last if it has not left; its line of the table; and whether it
-    still runs where --steps ends the run."""
+    """The step with which the enclave leaves for good, or the last one of the run; its entry of the table; and whether it still runs when
+    --steps ends the run."""
     step: int
     enclave: Enclave
     is_cut: bool = False
@@ -49,7 +49,7 @@ class Last:
 
 @dataclass(frozen=True)
 class Differs:
-    """The first step of the enclave that came to something else, or its end."""
+    """The first step of the enclave with another result, or its end."""
     number: int
     pc: Optional[str]
     wanted: str
@@ -58,7 +58,7 @@ class Differs:
 
 @dataclass
 class Outcome:
-    """How the interrupted run went."""
+    """The result of the interrupted run."""
     steps: int = 0
     stops: int = 0
     differs: Optional[Differs] = None
@@ -66,7 +66,7 @@ class Outcome:
 
 
 def last_of(run: Run, slot: int) -> Last:
-    """Where the slot's enclave leaves for good, behind the script."""
+    """Returns the step after the script with which the enclave leaves for good. Raises Unfinished if there is no enclave."""
     found, end = None, None
     for moment in moments(run):
         if isinstance(moment, End):
@@ -81,7 +81,7 @@ def last_of(run: Run, slot: int) -> Last:
 
 
 def inside_steps(run: Run, slot: int, last: Last, teller: Replay) -> Iterator[Inside]:
-    """The steps of the enclave behind the script, with no timer; `teller`, a replay, tells what the host is answered."""
+    """Yields the steps of the enclave after the script, without a timer. `teller` is a replay that reads the results of the host."""
     pc, world, own, entered = run.pc, run.world, "e%d" % slot, True
     for item in run.stretches():
         if isinstance(item, Stretch) and item.first <= last.step:
@@ -95,17 +95,17 @@ def inside_steps(run: Run, slot: int, last: Last, teller: Replay) -> Iterator[In
 
 
 def answer_behind(teller: Replay, step: int) -> tuple[str, ...]:
-    """The host's a0 and a1 behind a step."""
+    """Returns a0 and a1 of the host after a step, as replies."""
     return tuple(reply[0] for reply in teller.bench.ask(*teller.lines_to(step), *ANSWER)[-len(ANSWER):])
 
 
 def enter(pc: str) -> list[str]:
-    """Lets the host go on until the enclave is at pc."""
+    """Returns the commands that run the host until the enclave is at pc."""
     return ["break " + pc, "run %d" % PATIENCE, "clear " + pc]
 
 
 def commands_for(step: Inside, is_stopped: bool, is_first: bool) -> list[str]:
-    """What is asked for one step of the enclave; the last command is the step itself, or reads the answer behind it."""
+    """Returns the commands for one step of the enclave. The last one does the step, or reads the result after it."""
     commands = enter(step.pc) if step.is_entered and not is_first else []
     if is_stopped:
         commands += ["timer on", "step 1", *enter(step.pc)]
@@ -113,7 +113,7 @@ def commands_for(step: Inside, is_stopped: bool, is_first: bool) -> list[str]:
 
 
 def interrupted(replay: Replay, steps: Iterable[Inside], every: int) -> Outcome:
-    """The same steps with the timer before every one of them that is on turn; behind the first difference they are only counted."""
+    """Runs the steps with a timer interrupt before every one that is due. After the first difference the steps are only counted."""
     outcome = Outcome()
     with Progress() as progress:
         for part in parts_of(enumerate(steps)):
@@ -125,7 +125,7 @@ def interrupted(replay: Replay, steps: Iterable[Inside], every: int) -> Outcome:
 
 
 def parts_of(steps: Iterator[tuple[int, Inside]]) -> Iterator[list[tuple[int, Inside]]]:
-    """Steps for one exchange each. The first are few, since behind a difference each of them may cost the host's whole patience."""
+    """Yields the steps for one exchange each. The first parts are small: after a difference each step may run the host to its limit."""
     count = 1
     while part := list(itertools.islice(steps, count)):
         yield part
@@ -133,7 +133,7 @@ def parts_of(steps: Iterator[tuple[int, Inside]]) -> Iterator[list[tuple[int, In
 
 
 def compare(replay: Replay, part: Sequence[tuple[int, Inside]], every: int, outcome: Outcome) -> None:
-    """Some steps of the enclave, up to the first that comes to something else."""
+    """Compares some steps of the enclave, up to the first difference."""
     lists = [commands_for(step, number % every == 0, number == 0 and not step.is_entered) for number, step in part]
     replies = iter(replay.bench.ask(*(command for it in lists for command in it)))
     for (number, step), commands in zip(part, lists):
@@ -148,7 +148,7 @@ def compare(replay: Replay, part: Sequence[tuple[int, Inside]], every: int, outc
 
 
 def not_entered(number: int, step: Inside, commands: Sequence[str], told: Sequence[str]) -> Differs | None:
-    """The first time at which the host was to enter the enclave before a step and did not, or None."""
+    """Returns the first time that the host did not enter the enclave before a step, or None."""
     for command, reply in zip(commands, told):
         if command.startswith("run") and step_of(reply).why != "break":
             return Differs(number, step.pc, "the host enters the enclave", reply)
@@ -156,7 +156,7 @@ def not_entered(number: int, step: Inside, commands: Sequence[str], told: Sequen
 
 
 def difference(number: int, step: Inside, is_stopped: bool, told: Sequence[str], answer: tuple[str, ...]) -> Differs | None:
-    """What came otherwise in one step of the enclave, or None."""
+    """Returns the difference in one step of the enclave, or None."""
     if is_stopped:
         stop = step_of(told[-5])
         if stop.trap is None or stop.trap.cause != names.TIMER:
@@ -167,13 +167,13 @@ def difference(number: int, step: Inside, is_stopped: bool, told: Sequence[str],
 
 
 def seen_inside(reply: str) -> object:
-    """What the enclave's own step is; where the host goes on is not, for it may be by another call that it entered the enclave."""
+    """Returns what the enclave's own step shows. The place of the host is left out, as another call may have entered the enclave."""
     ran = step_of(reply)
     return (ran.world, ran.trap) if ran.world == "host" else reply
 
 
 def finish_of(bench: Bench, enclave: Enclave) -> list[str]:
-    """What the enclave has left behind: the host's a0 and a1, its region and its window."""
+    """Reads what the enclave has left: a0 and a1 of the host, its region and its window."""
     values = register_values(bench.ask("regs")[0])
     ranges = [(enclave.base, enclave.size), (enclave.window, enclave.window_size)]
     reads = ["mem %x %d" % (base + at, ROW) for base, size in ranges for at in range(0, size, ROW)]
@@ -181,7 +181,7 @@ def finish_of(bench: Bench, enclave: Enclave) -> list[str]:
 
 
 def behind_script(run: Run) -> Replay:
-    """The run, brought behind its script; what the script had set of breaks and watches is not set there."""
+    """Returns a replay after the script, without the script's breaks and watches."""
     replay = run.replay()
     commands = replay.lines_to(run.length) + replay.lines_up_to_next()
     if commands:
@@ -190,7 +190,8 @@ def behind_script(run: Run) -> Replay:
 
 
 def show_timer(run: Run, symbols: Symbols, printer: Printer, options: Namespace) -> None:
-    """Both runs, and whether they end alike; a host that does not resume the enclave is no finding, but leaves the question open."""
+    """Runs an enclave with and without timer interrupts, and reports whether both end alike. Raises Unfinished if the host does not resume the
+    enclave."""
     slot, every, findings = options.slot, options.every, options.findings
     last = last_of(run, slot)
     with run.replay() as quiet, run.replay() as teller, behind_script(run) as replay:
@@ -212,6 +213,7 @@ def show_timer(run: Run, symbols: Symbols, printer: Printer, options: Namespace)
 
 
 def timer_object(run: Run, symbols: Symbols, printer: Printer, slot: int, every: int, outcome: Outcome) -> None:
+    """Writes the result as objects."""
     it = outcome.differs or outcome.not_resumed
     run_object(printer, run, symbols)
     apart = None if it is None else {"step": it.number, "pc": it.pc, "wanted": it.wanted, "found": it.found,
@@ -221,6 +223,7 @@ def timer_object(run: Run, symbols: Symbols, printer: Printer, slot: int, every:
 
 
 def timer_text(_run: Run, symbols: Symbols, printer: Printer, slot: int, every: int, outcome: Outcome) -> None:
+    """Prints the result."""
     it = outcome.differs or outcome.not_resumed
     how = "each" if every == 1 else "one in %d" % every
     stops = "1 stop" if outcome.stops == 1 else "%d stops" % outcome.stops

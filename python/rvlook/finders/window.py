@@ -1,6 +1,6 @@
-"""The word window: for each stay of an enclave what it did with each byte of its window: which it read before it wrote them, which it read
-again with nothing of its own between (a double fetch, if another writes between), which it wrote, which are left of an earlier stay, and
-whether what it wrote depends on a secret, by a second run in which the secret is another; and where the window has a copy of the secret."""
+"""The subcommand `window`: what each activation of an enclave did with the bytes of its window: read, read again (a double fetch), written,
+or left by an earlier activation. A second run shows whether what was written depends on a secret. Copies of the secret in the window are
+found too."""
 from __future__ import annotations
 
 from collections import defaultdict
@@ -33,8 +33,8 @@ Kept = Tuple[int, int, int]  # a value, the instruction that stored it, and the 
 
 
 class Found(NamedTuple):
-    """Bytes of the window from an offset on, of which the same is told: what, and at which instructions; `is_secret` is None where no secret
-    was named, `is_public` is true where --public names the bytes or the instruction."""
+    """Bytes of the window from an offset on with the same marks: what was done, and by which instructions. `is_secret` is None without a
+    secret; `is_public` is true if --public names the bytes or the instruction."""
     what: str
     first: int
     size: int
@@ -44,31 +44,33 @@ class Found(NamedTuple):
 
     @property
     def is_finding(self) -> bool:
+        """Returns whether the range counts as a finding."""
         return self.what == "reads again" or bool(self.is_secret) and not self.is_public
 
 
 class Held(NamedTuple):
-    """A copy of a part of the secret in the window, whether it is another with another secret, and whether --public names it."""
+    """A copy of a part of the secret in the window, whether it changes with the secret, and whether --public names it."""
     copy: Copy
     is_secret: bool
     is_public: bool
 
     @property
     def is_finding(self) -> bool:
+        """Returns whether the copy counts as a finding."""
         return self.is_secret and not self.is_public
 
 
 @dataclass(frozen=True)
 class View:
-    """What is told of one stay: its ranges, and the copies of the secret."""
+    """The findings of one activation: its ranges, and the copies of the secret."""
     found: list[Found]
     held: list[Held]
 
 
 @dataclass
 class Byte:
-    """A byte of the window in one stay: where it was read last with no store of the enclave since, where first, where it was read again, and
-    what was stored to it and where last."""
+    """A byte of the window in one activation: the instructions that read it last and first before a store of the enclave, that read it again,
+    and that stored to it last; and the values stored."""
     read_at: Optional[int] = None
     input_at: Optional[int] = None
     again: dict[tuple[int, int], bool] = field(default_factory=dict)  # of pairs of instructions
@@ -77,7 +79,7 @@ class Byte:
 
 
 def bytes_of(stay: Stay) -> dict[int, Byte]:
-    """What the stay did with each byte of its window, by its offset."""
+    """Returns what the activation did with each byte of its window, by offset."""
     found: dict[int, Byte] = defaultdict(Byte)
     base, size = stay.enclave.window, stay.enclave.window_size
     for it in stay.did:
@@ -91,7 +93,7 @@ def bytes_of(stay: Stay) -> dict[int, Byte]:
 
 
 def read(byte: Byte, pc: int) -> None:
-    """A load: of what the host may have put there, as long as the enclave has stored nothing to it in this stay."""
+    """Records a load of a byte that the host may have written: the enclave has not stored to it in this activation."""
     if byte.stored_at is None:
         if byte.input_at is None:
             byte.input_at = pc
@@ -101,13 +103,13 @@ def read(byte: Byte, pc: int) -> None:
 
 
 def stored(byte: Byte, pc: int, value: int) -> None:
-    """A store."""
+    """Records a store."""
     byte.stored_at = pc
     byte.values.append(value)
 
 
 def ranges(what: str, told: Mapping[int, Marks]) -> list[Found]:
-    """Neighbours of which the same is told, as one; `told` gives for an offset its instructions, and whether it is secret and public."""
+    """Joins adjacent bytes with the same marks. `told` has the marks by offset."""
     found: list[Found] = []
     for at in sorted(told):
         last = found[-1] if found else None
@@ -119,17 +121,18 @@ def ranges(what: str, told: Mapping[int, Marks]) -> list[Found]:
 
 
 class Left:
-    """What the stays of each enclave have left in its window: the value of each byte, where it was stored, and in which stay."""
+    """What the activations of each enclave have left in its window: the value of each byte, the instruction, and the activation."""
 
     def __init__(self) -> None:
         self.kept: dict[str, dict[int, Kept]] = defaultdict(dict)
 
     def of(self, stay: Stay) -> dict[int, Kept]:
-        """The bytes at the stay's end that an earlier one has left as they are."""
+        """Returns the bytes at the end of the activation that an earlier one has left unchanged."""
         return {at: it for at, it in self.kept[stay.world].items() if at < len(stay.after) and stay.after[at] == it[0] == stay.before[at]
                 and it[2] != stay.number}
 
     def take(self, stay: Stay, found: Mapping[int, Byte]) -> dict[int, Kept]:
+        """Updates the window after an activation; returns the bytes that an earlier activation has left."""
         kept = self.kept[stay.world]
         for at in [it for it in kept if it >= len(stay.before) or stay.before[it] != kept[it][0]]:
             del kept[at]  # the host has written there
@@ -142,7 +145,7 @@ class Left:
 
 
 def view_of(stay: Stay, left: Left, other: Stay | None, secret: Secret | None, public: Public) -> View:
-    """All that is told of a stay; `other` is the same stay of the run with another secret, where there is one."""
+    """Returns all findings of an activation. `other` is the same activation with another secret, if there is one."""
     found, base = bytes_of(stay), stay.enclave.window
     theirs = bytes_of(other) if other else {}
     kept = left.take(stay, found)
@@ -163,7 +166,8 @@ def view_of(stay: Stay, left: Left, other: Stay | None, secret: Secret | None, p
 
 
 def held_in(stay: Stay, other: Stay | None, secret: Secret, writers: Mapping[int, int], public: Public) -> Iterator[Held]:
-    """The copies of parts of the secret that the window has when the stay ends; `writers` has the instruction that stored each byte."""
+    """Yields the copies of parts of the secret in the window at the end of the activation. `writers` has the instruction that stored each
+    byte."""
     base = stay.enclave.window
     for copy in copies_in(stay.after, secret.bytes):
         places = range(copy.at, copy.at + copy.size)
@@ -172,7 +176,7 @@ def held_in(stay: Stay, other: Stay | None, secret: Secret, writers: Mapping[int
 
 
 def show_window(run: Run, symbols: Symbols, printer: Printer, options: Namespace) -> None:
-    """Each stay of the slot's enclave, or of all, one after another."""
+    """Prints what each activation did with its window."""
     secret, slot, public = None, options.slot, public_of(options.public, symbols)
     if options.at:
         secret = secret_of(options.at, symbols, run, 0 if slot is None else slot)
@@ -203,20 +207,20 @@ def finding_of(stay: Stay, view: View, symbols: Symbols, secret: Secret | None) 
 
 
 class Others:
-    """The stays of the run in which the secret is another: its complement."""
+    """The activations of the run with the complement of the secret."""
 
     def __init__(self, run: Run, secret: Secret) -> None:
         other = secret.with_bytes(bytes(it ^ 0xFF for it in secret.bytes))
         self.stays: Iterator[Stay] = (it for it in Stays(run.with_lines(other.step, other.lines()), secret.step).all() if it.slot == secret.slot)
 
     def next(self, stay: Stay) -> Stay:
-        """The same stay there; one without any store where there is none."""
+        """Returns the next activation there; one without stores if there is none."""
         found: Stay | None = next(self.stays, None)
         return found or Stay(stay.world, stay.hart, 0, 0, stay.enclave)
 
 
 def between_text(stay: Stay, at: int) -> str:
-    """Who may write to a byte of the window between two loads of a stay."""
+    """Returns who may write to a byte of the window between two loads of an activation."""
     for world in stay.others:
         if "w" in reach(world, stay.table, at):
             return "the other hart, in %s, may write between" % world
@@ -224,11 +228,12 @@ def between_text(stay: Stay, at: int) -> str:
 
 
 def places_text(pcs: Iterable[int], symbols: Symbols) -> str:
+    """Returns instructions by source line, symbol or address."""
     return " and ".join(dict.fromkeys(symbols.source(pc) or symbols.name(pc) or hex8(pc) for pc in pcs))
 
 
 def found_text(stay: Stay, it: Found, symbols: Symbols) -> str:
-    """A range in a line."""
+    """Returns a range as a line."""
     base = stay.enclave.window + it.first
     parts = ["  %-11s %08x-%08x %6d" % (it.what, base, base + it.size - 1, it.size), symbols.name(base) or ""]
     if it.what == "left":
@@ -245,12 +250,12 @@ def found_text(stay: Stay, it: Found, symbols: Symbols) -> str:
 
 
 def secret_text(it: Found | Held) -> str:
-    """Whether bytes of the window are other ones with another secret."""
+    """Returns whether bytes of the window depend on the secret."""
     return ("depends on the secret" + (", public" if it.is_public else "")) if it.is_secret else "the same with another secret"
 
 
 def held_text(stay: Stay, it: Held, symbols: Symbols, secret: Secret | None) -> str:
-    """A copy of a part of the secret, in a line."""
+    """Returns a copy of a part of the secret as a line."""
     assert secret is not None
     copy, base = it.copy, stay.enclave.window + it.copy.at
     what = "all %d bytes of the secret" % copy.size if copy.size == len(secret.bytes) else \
@@ -260,7 +265,7 @@ def held_text(stay: Stay, it: Held, symbols: Symbols, secret: Secret | None) -> 
 
 
 def rows_of(stay: Stay) -> Iterator[tuple[int, bytes]]:
-    """The rows of the window at the end that have a byte that is not 0."""
+    """Yields the address and the bytes of each row of the window at the end that is not all zero."""
     for at in range(0, len(stay.after), WIDTH):
         row = stay.after[at:at + WIDTH]
         if any(row):
@@ -268,17 +273,20 @@ def rows_of(stay: Stay) -> Iterator[tuple[int, bytes]]:
 
 
 def row_text(at: int, row: bytes) -> str:
+    """Returns a row of the window as a line of a hex dump."""
     shown = "".join(chr(it) if 0x20 <= it < 0x7F else "." for it in row)
     return "  %08x  %s  %s" % (at, " ".join("%02x" % it for it in row), shown)
 
 
 def heading_of(stay: Stay) -> str:
+    """Returns the heading of an activation."""
     hart = "hart %d  " % stay.hart if stay.others else ""
     answer = "  a0=%08x a1=%08x" % stay.answer if stay.answer else ""
     return "%s%s, stay %d: steps %d to %d, left by %s%s" % (hart, stay.world, stay.number, stay.first, stay.last, stay.left, answer)
 
 
 def stay_text(printer: Printer, symbols: Symbols, stay: Stay, view: View, secret: Secret | None) -> None:
+    """Prints an activation."""
     printer.line(printer.styled(heading_of(stay), Style.heading))
     for it in view.found:
         text = found_text(stay, it, symbols)
@@ -294,6 +302,7 @@ def stay_text(printer: Printer, symbols: Symbols, stay: Stay, view: View, secret
 
 
 def stay_objects(printer: Printer, symbols: Symbols, stay: Stay, view: View, _secret: Secret | None) -> None:
+    """Writes an activation as objects."""
     printer.object("stay", world=stay.world, hart=stay.hart, stay=stay.number, first=stay.first, last=stay.last, left=stay.left,
                    answer=[hex8(it) for it in stay.answer], window=hex8(stay.enclave.window), size=stay.enclave.window_size)
     for it in view.found:

@@ -1,6 +1,6 @@
-"""For gdb itself, which reads it by `-x python/rvlook/gdb/client.py`: what it cannot learn by the protocol. A backtrace goes on over a handler of
-traps to what it interrupted, and from an enclave to the host that entered it, so that `up`, `finish` and `next` over the call know the host
-as the caller; what it shows is read anew behind a `monitor`, which may step; and it waits as long as a run of the bench may take."""
+"""Loaded by gdb with `-x python/rvlook/gdb/client.py`, for what the protocol cannot express: a backtrace continues from a trap handler to
+the interrupted code, and from an enclave to the host that entered it; registers are read again after each `monitor`, which may step; and
+gdb waits as long as a run of the bench may take."""
 from __future__ import annotations
 
 import gdb
@@ -14,15 +14,14 @@ STORE, TO_SP, MOVE_SP = 0x2023, 0x2, 0x10113  # sw with the base sp; addi sp, sp
 
 
 class FrameId:
-    """Which frame it is."""
+    """The identity of a frame."""
 
     def __init__(self, sp: gdb.Value, pc: gdb.Value) -> None:
         self.sp, self.pc = sp, pc
 
 
 class Assembly(Unwinder):
-    """Frames in code that no debugging information describes as a function: a handler of traps, and in an enclave what the host has entered,
-    as the assembly is with which an enclave begins."""
+    """Unwinds frames in code without debugging information: trap handlers, and the assembly with which an enclave begins."""
 
     def __init__(self) -> None:
         super().__init__("rvbench")
@@ -41,7 +40,7 @@ class Assembly(Unwinder):
 
     @staticmethod
     def is_function(place: int) -> bool:
-        """Whether debugging information has a function there."""
+        """Returns whether the debugging information has a function at an address."""
         space = gdb.current_progspace()
         block = space.block_for_pc(place) if space else None
         while block and not block.function:
@@ -50,8 +49,8 @@ class Assembly(Unwinder):
 
     @staticmethod
     def interrupted(pending: gdb.PendingFrame, place: int, handler: int) -> gdb.UnwindInfo:
-        """The frame of a handler, with what it interrupted as its caller: of its instructions up to here, those that put registers on its
-        stack and that change the stack tell where these are."""
+        """Returns the frame of a trap handler, with the interrupted code as its caller. The handler's instructions up to here show where it
+        saved registers."""
         stack, saved, moved, swapped = int(pending.read_register("sp")), {}, 0, False
         for at in range(handler, place, 4):
             word = int.from_bytes(bytes(gdb.selected_inferior().read_memory(at, 4)), "little")
@@ -74,7 +73,7 @@ class Assembly(Unwinder):
 
     @staticmethod
     def caller(pending: gdb.PendingFrame, place: int) -> gdb.UnwindInfo:
-        """The frame, with the host's registers as those of its caller."""
+        """Returns the frame of an enclave, with the registers of the host as those of its caller."""
         values = {name: pending.read_register("host_" + name) for name in ["pc", *SAVED]}
         int(values["pc"])  # which fails where the bridge has found no entry
         info = pending.create_unwind_info(FrameId(pending.read_register("sp"), gdb.Value(place)))
@@ -84,12 +83,12 @@ class Assembly(Unwinder):
 
 
 def signed(value: int) -> int:
-    """Twelve bits as a number."""
+    """Sign-extends 12 bits."""
     return (value & 0xFFF) - (1 << 12 if value & 0x800 else 0)
 
 
 def name_of(place: int) -> str:
-    """The label at or before an address."""
+    """Returns the label at or before an address."""
     return (gdb.execute("info symbol 0x%x" % place, to_string=True) or "").split(" ")[0]
 
 

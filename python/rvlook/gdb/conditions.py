@@ -1,5 +1,5 @@
-"""Conditions of breakpoints: agent expressions of the GDB manual (appendix F), asked where the bench halts, so that a debugger is not
-told of halts at which they do not hold."""
+"""Evaluates the conditions of breakpoints, which are agent expressions (GDB manual, appendix F), so that a debugger does not see halts at
+which they do not hold."""
 from __future__ import annotations
 
 import operator
@@ -12,21 +12,23 @@ MOST = 10000  # operations
 
 
 class Refused(Exception):
-    """An expression that is not understood, or not answered."""
+    """An expression that cannot be evaluated."""
 
 
 def signed(value: int) -> int:
+    """Returns 64 bits as a signed number."""
     return value - FIRST_OF_64 if value >> 63 else value
 
 
 def divided(one: int, other: int) -> int:
-    """The quotient, towards zero."""
+    """Returns the quotient, rounded towards zero; raises Refused for a division by zero."""
     if other == 0:
         raise Refused("a division by zero")
     return abs(one) // abs(other) * (1 if (one < 0) == (other < 0) else -1)
 
 
 def on_signed(operation: Callable[[int, int], int]) -> Callable[[int, int], int]:
+    """Returns an operation on signed numbers."""
     return lambda one, other: operation(signed(one), signed(other))
 
 
@@ -39,7 +41,7 @@ TWO = {
 
 
 def extended(value: int, bits: int) -> int:
-    """The low bits, with the highest of them as their sign."""
+    """Sign-extends the low bits of a value; raises Refused for 0 bits."""
     if bits == 0:
         raise Refused("a value of no bits")
     value &= (1 << bits) - 1
@@ -47,28 +49,30 @@ def extended(value: int, bits: int) -> int:
 
 
 class Machine:
-    """The stack of an expression. `register` and `memory` answer a register by its number and bytes by their place."""
+    """The stack of an expression. `register` and `memory` read a register by its number, and bytes by address and count."""
 
     def __init__(self, code: bytes, register: Callable[[int], int], memory: Callable[[int, int], bytes]) -> None:
         self.code, self.register, self.memory, self.at = code, register, memory, 0
         self.stack: list[int] = []
 
     def number(self, size: int) -> int:
-        """The next bytes of the code, the highest first."""
+        """Reads the next bytes of the code as a big-endian number."""
         self.at += size
         return int.from_bytes(self.code[self.at - size:self.at], "big")
 
     def push(self, value: int) -> None:
+        """Pushes a value, modulo 2 to the 64."""
         self.stack.append(int(value) % FIRST_OF_64)
 
     def read(self, size: int) -> None:
+        """Replaces the address on the stack by a little-endian number from memory."""
         found = self.memory(self.stack.pop() & 0xFFFFFFFF, size)
         if len(found) < size:
             raise Refused("it reads outside RAM")
         self.push(int.from_bytes(found, "little"))
 
     def run(self) -> int:
-        """What stands on the stack at the end."""
+        """Runs the expression; returns the top of the stack. Raises Refused if it does not end."""
         for _ in range(MOST):
             code = self.number(1)
             if code == 0x27:
@@ -77,7 +81,7 @@ class Machine:
         raise Refused("it comes to no end")
 
     def do(self, code: int) -> None:
-        """One operation."""
+        """Executes one operation."""
         stack = self.stack
         if code in TWO:
             other = stack.pop()
@@ -92,17 +96,21 @@ class Machine:
             raise Refused("the operation %02x" % code)
 
     def jump_if(self) -> None:
+        """Jumps if the top of the stack is not zero."""
         target = self.number(2)
         if self.stack.pop():
             self.at = target
 
     def jump(self) -> None:
+        """Jumps."""
         self.at = self.number(2)
 
     def swap(self) -> None:
+        """Swaps the two topmost values."""
         self.stack[-2:] = self.stack[:-3:-1]
 
     def rotate(self) -> None:
+        """Rotates the three topmost values."""
         self.stack[-3:] = [self.stack[-1], *self.stack[-3:-1]]
 
 
@@ -115,7 +123,7 @@ MOVES = {
 
 
 def holds(code: bytes, register: Callable[[int], int], memory: Callable[[int, int], bytes]) -> bool:
-    """Whether a condition holds; where it cannot be told it does, and the debugger asks it itself."""
+    """Returns whether a condition holds. Returns True if it cannot be evaluated: the debugger then evaluates it itself."""
     try:
         return bool(Machine(code, register, memory).run())
     except (Refused, IndexError, ValueError):

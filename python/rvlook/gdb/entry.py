@@ -1,5 +1,5 @@
-"""Where the host entered the enclave in which a hart is: at the last step that brought the hart to another world. It is looked for in the
-past, from here back, and kept for as long as the hart cannot have left."""
+"""Finds where the host entered the enclave on a hart: the last step that brought the hart to another world. It is searched from the present
+step back, and cached for as long as the hart cannot have left the enclave."""
 from __future__ import annotations
 
 import contextlib
@@ -20,35 +20,35 @@ PC, CALL = 32, 4  # the register pc, and the bytes of an ecall
 
 @dataclass(frozen=True)
 class Entered:
-    """The step that entered, and the host's registers before it, in digits: `pc` is that of its ecall."""
+    """The step that entered the enclave, and the registers of the host before it in digits; `pc` is that of its ecall."""
     step: int
     pc: str
     values: tuple[str, ...]
 
     @property
     def registers(self) -> dict[str, str]:
-        """What the host goes on with, by the names that a debugger is told."""
+        """Returns the registers with which the host continues, by the names for the debugger."""
         behind = "%08x" % ((int(self.pc, 16) + CALL) & 0xFFFFFFFF)
         return {"host_pc": behind, **{"host_" + name: self.values[NUMBER_OF[name]] for name in SAVED}}
 
 
 class Entry:
-    """For each hart what was found last: the entry, up to which step it is sure, and by what the timeline tells that the hart stayed."""
+    """Caches for each hart the entry that was found last, up to which step it is valid, and by what the timeline shows that the hart stayed."""
 
     def __init__(self) -> None:
         self.known: dict[int, tuple[Entered | None, int, tuple[Timeline, int] | None]] = {}
 
     def limit(self, position: int) -> None:
-        """Behind this step it is sure no more: something else may be done than what had been done."""
+        """Limits what is known to the steps up to this one, as what follows may change."""
         self.known = {hart: (entry, min(sure, position), witness) for hart, (entry, sure, witness) in self.known.items()}
 
     def registers(self, timeline: Timeline, hart: int) -> dict[str, str] | None:
-        """The registers of the host that entered the enclave in which a hart is; None where it is in none."""
+        """Returns the registers of the host that entered the enclave on a hart; None if the hart is in no enclave."""
         found = self.find(timeline, hart)
         return found.registers if found else None
 
     def find(self, timeline: Timeline, hart: int) -> Entered | None:
-        """The entry to the enclave in which a hart is; None where it is in none."""
+        """Finds the step that entered the enclave on a hart; None if the hart is in no enclave."""
         timeline.settle()
         if not timeline.worlds[hart].startswith("e"):
             return None
@@ -64,7 +64,7 @@ class Entry:
 
     @staticmethod
     def at(timeline: Timeline, hart: int, step: int) -> Entered:
-        """The entry that a step made."""
+        """Returns the entry that a step made."""
         with contextlib.closing(timeline.again(step - 1)) as before:
             before.settle()
             before.choose(hart)
@@ -73,7 +73,7 @@ class Entry:
 
 
 def last_switch(timeline: Timeline, hart: int, lowest: int) -> int | None:
-    """The last step behind `lowest` that brought a hart to another world, or None."""
+    """Returns the last step after `lowest` that brought a hart to another world, or None."""
     end, size = timeline.position, FIRST_PART
     while end > lowest:
         first = max(lowest, end - size)
@@ -86,7 +86,7 @@ def last_switch(timeline: Timeline, hart: int, lowest: int) -> int | None:
 
 
 def blocks(timeline: Timeline, ahead: Timeline, first: int, end: int) -> Iterator[Steps]:
-    """The steps of a part of the past in blocks; what was told between them is told to the bench ahead."""
+    """Yields the steps of a part of the past in blocks. Gives the commands between them to the other bench."""
     for it in part(timeline.past, first, end):
         if isinstance(it, Told):
             ahead.choose(it.hart)
@@ -97,7 +97,7 @@ def blocks(timeline: Timeline, ahead: Timeline, first: int, end: int) -> Iterato
 
 
 def blocks_with_traps(timeline: Timeline, hart: int, first: int, end: int) -> list[tuple[int, Steps]]:
-    """The blocks in which a hart trapped, as it does where it goes to another world; the step before each."""
+    """Returns the blocks in which a hart trapped, as it does at each switch of world, each with the step before it."""
     found = []
     with contextlib.closing(timeline.again(first)) as ahead:
         for steps in blocks(timeline, ahead, first, end):
@@ -108,7 +108,7 @@ def blocks_with_traps(timeline: Timeline, hart: int, first: int, end: int) -> li
 
 
 def switch_in(timeline: Timeline, hart: int, start: int, steps: Steps) -> int | None:
-    """The last step of a block that brought a hart to another world, or None."""
+    """Returns the last step of a block that brought a hart to another world, or None."""
     found = None
     with contextlib.closing(timeline.again(start)) as ahead:
         ahead.settle()

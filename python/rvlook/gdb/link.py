@@ -1,4 +1,4 @@
-"""Packets of the GDB remote serial protocol, over two file descriptors. Their bytes stand in texts, as latin-1."""
+"""Packets of the GDB remote serial protocol, over two file descriptors. Their bytes are kept in strings, as latin-1."""
 from __future__ import annotations
 
 import contextlib
@@ -21,11 +21,11 @@ PATIENCE = 2  # seconds after which a debugger that waits is told that there is 
 
 
 class Gone(Exception):
-    """The debugger has gone without a word."""
+    """The debugger has closed the connection."""
 
 
 class Link:
-    """The connection with the debugger. What comes is a packet, or Ctrl-C, or an acknowledgement, which is passed over."""
+    """The connection with the debugger. It receives packets, Ctrl-C, and acknowledgements, which are ignored."""
 
     def __init__(self, reading: int, writing: int) -> None:
         self.reading, self.writing, self.buffer, self.acknowledged = reading, writing, b"", True
@@ -42,7 +42,7 @@ class Link:
         self.buffer += data
 
     def packet(self) -> str:
-        """The next packet."""
+        """Returns the next packet."""
         while True:
             match = PACKET.search(self.buffer)
             if not match:
@@ -57,7 +57,7 @@ class Link:
                 return match[1].decode("latin-1")
 
     def drop(self) -> None:
-        """Drops what begins no packet, and a packet that is too long, which is refused as a damaged one."""
+        """Drops what begins no packet, and a packet that is too long."""
         start = self.buffer.rfind(b"$")
         self.buffer = self.buffer[start:] if start >= 0 else b""
         if len(self.buffer) > MOST:
@@ -66,7 +66,7 @@ class Link:
                 self.write(b"-")
 
     def interrupted(self) -> bool:
-        """Whether Ctrl-C came while the harts go on: no packet comes then."""
+        """Returns whether Ctrl-C came while the harts run; no packet comes then."""
         if len(self.buffer) < MOST and select.select([self.reading], [], [], 0)[0]:
             self.fill()
         found = self.buffer.startswith(INTERRUPT)
@@ -75,9 +75,9 @@ class Link:
 
     @contextlib.contextmanager
     def watched(self, is_impatient: bool = False) -> Iterator[None]:
-        """While something is done that asks nothing of the connection: where that ends, it ends too. An impatient debugger is shown a dot
-        from time to time."""
+        """Raises Gone in the body if the connection ends. Shows a dot from time to time to a debugger that has a time limit."""
         def end(*_: object) -> NoReturn:
+            """Raises Gone."""
             raise Gone
 
         before, done = signal.signal(signal.SIGUSR1, end), threading.Event()
@@ -91,7 +91,7 @@ class Link:
             signal.signal(signal.SIGUSR1, before)
 
     def watch(self, done: threading.Event, is_impatient: bool) -> None:
-        """Wakes the main thread once the debugger has gone."""
+        """Wakes the main thread when the debugger has gone."""
         poll, told = select.poll(), time.monotonic()
         poll.register(self.reading, HUNG_UP)
         while not done.wait(OFTEN):
@@ -105,14 +105,16 @@ class Link:
                 told = time.monotonic()
 
     def send(self, text: str) -> None:
+        """Sends a packet."""
         data = text.encode("latin-1", "replace")
         self.write(b"$%s#%02x" % (data, sum(data) & 0xFF))
 
     def tell(self, line: str) -> None:
-        """Has the debugger show a line while the harts go on."""
+        """Makes the debugger show a line while the harts run."""
         self.send("O" + hex_of(line + "\n"))
 
     def write(self, data: bytes) -> None:
+        """Writes all bytes; raises Gone if the connection ended."""
         try:
             while data:
                 data = data[os.write(self.writing, data):]
@@ -121,12 +123,12 @@ class Link:
 
 
 def escaped(text: str) -> str:
-    """A text as binary data."""
+    """Escapes a text as binary data of the protocol."""
     return ESCAPED.sub(lambda match: "}" + chr(ord(match[0]) ^ 0x20), text)
 
 
 def unescaped(text: str) -> str:
-    """Binary data as it is meant."""
+    """Reverts `escaped`."""
     return re.sub(r"\}(.)", lambda match: chr(ord(match[1]) ^ 0x20), text, flags=re.S)
 
 
@@ -143,5 +145,5 @@ def number_of(text: str) -> int:
 
 
 def little(word: str) -> str:
-    """Eight hexadecimal digits as four bytes, the lowest first; and back."""
+    """Converts eight hexadecimal digits between big and little endian."""
     return word[6:8] + word[4:6] + word[2:4] + word[0:2]

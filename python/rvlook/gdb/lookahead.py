@@ -1,4 +1,4 @@
-"""Many steps of a timeline in one exchange, and where its harts do nothing any more."""
+"""Does many steps of a timeline in one exchange, and finds where its harts do nothing any more."""
 from __future__ import annotations
 
 import contextlib
@@ -24,7 +24,7 @@ RanState = Tuple[str, str, str, Optional[Trap]]  # pc, mode, world and trap
 
 
 def runs_of(turns: str, count: int, is_single: bool) -> list[tuple[int, int]]:
-    """Steps as runs: their harts, and how many steps each."""
+    """Returns steps as runs: their harts, and the number of steps of each."""
     if len(set(turns)) == 1 and not is_single:
         return [(int(turns[0]), count)]
     rounds, rest = divmod(count, len(turns))
@@ -34,7 +34,7 @@ def runs_of(turns: str, count: int, is_single: bool) -> list[tuple[int, int]]:
 
 
 def commands_of_runs(runs: Iterable[tuple[int, int]], chosen: int) -> Iterator[str]:
-    """The commands that do runs, where hart `chosen` is the chosen one."""
+    """Yields the commands that do runs; hart `chosen` is the chosen one."""
     for hart, length in runs:
         if hart != chosen:
             yield "hart %d" % hart
@@ -44,7 +44,7 @@ def commands_of_runs(runs: Iterable[tuple[int, int]], chosen: int) -> Iterator[s
 
 @functools.lru_cache(maxsize=8)
 def planned(turns: str, count: int, is_single: bool, chosen: int) -> tuple[list[tuple[int, int]], bytes, int]:
-    """The runs of steps by the turns, the text that asks for them, and the number of lines of its replies."""
+    """Returns the runs of a schedule, the text of their commands, and the number of lines of the replies."""
     runs = runs_of(turns, count, is_single)
     lines = list(commands_of_runs(runs, chosen))
     return runs, ("\n".join(lines) + "\n").encode(), len(lines)
@@ -52,9 +52,8 @@ def planned(turns: str, count: int, is_single: bool, chosen: int) -> tuple[list[
 
 def asked(timeline: Timeline, turns: str, count: int, is_single: bool,
           is_quiet: Callable[[bytes, int], bool] | None = None) -> list[tuple[int, int, Ran]]:
-    """So many steps by the turns, one by one or each hart's at once: for each run its hart, how many steps it was asked for, and its reply.
-    Where one of more steps met a stop, those behind it are not by the turns any more. Where `is_quiet` tells of the replies that they need
-    not be looked at, only the last ones are given."""
+    """Does steps of a schedule, one by one or in runs; returns for each run its hart, its wanted steps and its reply. If a run met a stop, what
+    follows is not by the schedule any more. Only the last replies are decoded if `is_quiet` holds."""
     timeline.settle()
     runs, text, lines = planned(turns, count, is_single, timeline.hart)
     block = timeline.bench.block(text, lines)
@@ -72,8 +71,8 @@ def asked(timeline: Timeline, turns: str, count: int, is_single: bool,
 
 
 def by_turns(timeline: Timeline, stops: Stops, turns: str, count: int) -> Iterator[Halt | None]:
-    """So many steps by the turns, each run of a hart in an exchange of its own, so that the bench is never further than a stop: behind each
-    run the halt there, or None."""
+    """Does steps of a schedule, each run in an exchange of its own, so that the bench never passes a stop. Yields the halt after each run, or
+    None."""
     end = timeline.position + count
     while timeline.position < end:
         hart, left = int(turns[0]), min(end - timeline.position, MOST_STEPS)
@@ -105,16 +104,17 @@ def judged(timeline: Timeline, stops: Stops, hart: int, count: int) -> list[tupl
 
 
 def ran_of_match(match: re.Match[str]) -> Ran:
+    """Returns a reply from its match with RAN."""
     return Ran(int(match[1]), match[2], match[3], match[4], match[5], trap_of(match[6]))
 
 
 def state_of(ran: Ran) -> RanState:
-    """What stays as it is where a hart does nothing any more."""
+    """Returns what stays the same while a hart does nothing more."""
     return ran.pc, ran.mode, ran.world, ran.trap
 
 
 def ends_of(found: Iterable[tuple[int, int, Ran]]) -> dict[int, RanState] | None:
-    """For each hart of single steps what its last ones leave, or None where some hart does something."""
+    """Returns the state of each hart if no hart does anything more, or None."""
     last: dict[int, list[RanState]] = {}
     for hart, _, ran in found:
         last.setdefault(hart, []).append(state_of(ran))
@@ -124,7 +124,7 @@ def ends_of(found: Iterable[tuple[int, int, Ran]]) -> dict[int, RanState] | None
 
 
 def first_alike(timeline: Timeline, first: int, ends: Mapping[int, RanState]) -> int:
-    """The first step behind `first` from which on each hart does nothing; `ends` are what it leaves where the timeline is."""
+    """Returns the first step after `first` from which on no hart does anything. `ends` has the state of each hart now."""
     end = timeline.position
     with contextlib.closing(timeline.again(block_before(timeline, first, ends))) as ahead:
         since: dict[int, int] = {}
@@ -145,7 +145,7 @@ def first_alike(timeline: Timeline, first: int, ends: Mapping[int, RanState]) ->
 
 
 def block_before(timeline: Timeline, first: int, ends: Mapping[int, RanState]) -> int:
-    """A step near the one that is looked for, and before it: behind the last block of a hart alone that leaves something else."""
+    """Returns a step shortly before the one that `first_alike` looks for: the end of the last block after which the hart has another state."""
     if len(ends) > 1:
         return first
     (hart, state), = ends.items()

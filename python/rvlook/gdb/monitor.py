@@ -1,5 +1,5 @@
-"""What `monitor` takes: the lines of the bench and of the prompt, the words of rvlook over what was done up to now, and what is asked of
-the bridge itself."""
+"""The commands of `monitor`: those of the bench and of the prompt, the subcommands of rvlook over what was done so far, and those of the
+server itself."""
 from __future__ import annotations
 
 import contextlib
@@ -38,13 +38,13 @@ READ_FILES, FOLDERS = ("script", "symbols", "file", "input"), ("scripts", "sourc
 
 
 class CommandLine(NamedTuple):
-    """The command line of rvlook, as `monitor` offers it: the names of the subcommands, and what reads the arguments of one."""
+    """The command line of rvlook for `monitor`: the names of the subcommands, and the function that parses the arguments of one."""
     names: tuple[str, ...]
     read: Callable[[Sequence[str]], Namespace]
 
 
 class Monitor:
-    """Answers a line of `monitor` over the moves of a debugger. `symbols` reads the symbols; with `has_files` a line may name files."""
+    """Runs lines of `monitor`. `symbols` reads the symbols; only with `has_files` may a line name files."""
 
     def __init__(self, moves: Moves, symbols: Callable[[], Symbols], command_line: CommandLine, has_files: bool = True) -> None:
         self.moves, self.symbols, self.entry, self.is_fresh = moves, symbols, Entry(), False
@@ -53,7 +53,7 @@ class Monitor:
         self.subcommands = tuple(it for it in command_line.names if it not in (*OTHERS, "gdb"))  # over an image
 
     def line(self, text: str) -> str:
-        """What a line tells. What `page` tells beside the page goes to standard error."""
+        """Runs a line of `monitor`; returns its output. What `page` reports goes to standard error."""
         out, moves = io.StringIO(), self.moves
         before, told = (moves.timeline, moves.timeline.changes), moves.timeline.was_told
         errors = contextlib.nullcontext() if "page" in words_of(text)[:2] else contextlib.redirect_stderr(out)
@@ -72,6 +72,7 @@ class Monitor:
         return out.getvalue()
 
     def do(self, text: str, out: TextIO) -> None:
+        """Runs a line, and prints its output."""
         words = words_of(text)
         if "\n" in text:
             print("monitor takes one line")
@@ -85,7 +86,7 @@ class Monitor:
             self.opened(out).line(text)
 
     def own(self, name: str, *operands: str) -> None:
-        """What is asked of the bridge."""
+        """Runs a command of the server."""
         act = getattr(self, name)
         try:
             inspect.signature(act).bind(*operands)
@@ -96,17 +97,18 @@ class Monitor:
 
     @staticmethod
     def is_command(words: Sequence[str]) -> bool:
-        """Whether a line is one of the bench: `timer on` is, and `timer --every 2` is a word."""
+        """Returns whether a line is a command of the bench: `timer on` is, `timer --every 2` is a subcommand."""
         return words[0] in COMMANDS and written(words[0], words[1:]) is not None
 
     def opened(self, out: TextIO | None = None) -> Session:
-        """What the prompt does with a line, over the bench of the debugger."""
+        """Returns the session of the prompt over the debugger's bench."""
         if not self.session:
             self.session = Session(self.moves, run_of(self.moves.timeline.setup.with_script((), 0)), self.symbols(), Printer())
         self.session.printer = Printer(stream=out)
         return self.session
 
     def help(self) -> None:
+        """Prints the commands."""
         print("of the bridge:")
         for text in OWN.values():
             print("  " + text)
@@ -114,7 +116,7 @@ class Monitor:
         self.opened().help()
 
     def word(self, words: Sequence[str]) -> None:
-        """A word of rvlook, over a run of what was done up to now."""
+        """Runs a subcommand of rvlook over a run of what was done so far."""
         words = [it.encode("latin-1", "replace").decode("utf-8", "surrogateescape") for it in words]
         if not words or words[0] not in (*self.subcommands, *OTHERS):
             print("rvlook takes a word over what was done up to now: %s; or %s" % (" ".join(self.subcommands), " ".join(OTHERS)))
@@ -161,7 +163,7 @@ class Monitor:
         print("caught: %s" % (" ".join(it for it in CAUGHT if it in stops.caught) or "none"))
 
     def schedule(self, digits: str | None = None) -> None:
-        """The turns of two harts."""
+        """Sets or shows the schedule of two harts."""
         if self.moves.timeline.setup.harts == 1:
             print("the bench has one hart: write ./rvlook gdb --monitor --harts 2 %s" % self.moves.timeline.setup.image.name)
             return
@@ -172,7 +174,7 @@ class Monitor:
         print("schedule: " + self.moves.schedule)
 
     def entered(self) -> None:
-        """Where the host entered the enclave in which the hart is."""
+        """Prints where the host entered the enclave on the hart."""
         timeline, symbols = self.moves.timeline, self.opened().symbols
         found = self.entry.find(timeline, timeline.hart)
         if not found:

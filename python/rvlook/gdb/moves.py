@@ -1,5 +1,5 @@
-"""How harts go on under a debugger. What a person may wait for is asked in few exchanges; where that brings the bench further than the
-stop, another one is brought to the stop itself, by the timeline."""
+"""Runs harts forward under a debugger. Steps are done in few exchanges; if the bench passes a stop, another bench is brought to the stop by
+the timeline."""
 from __future__ import annotations
 
 import time
@@ -32,8 +32,8 @@ class Start(NamedTuple):
 
 
 class Moves:
-    """What a debugger does with the harts. `link` tells of Ctrl-C, and takes what is told meanwhile; `ready` has benches at earlier steps,
-    by those, and `follower` one that goes the way of this one behind it, so that it comes to a stop at which this one has been."""
+    """Moves the harts for a debugger. `link` is the connection. `ready` has benches at earlier steps; `follower` is a bench that follows this
+    one to stops that it has passed."""
 
     def __init__(self, timeline: Timeline, link: Link) -> None:
         self.timeline, self.view, self.link, self.stops, self.schedule = timeline, View(timeline), link, Stops(), SCHEDULE
@@ -44,6 +44,7 @@ class Moves:
         self.behind_watches = False  # whether a debugger expects to be behind the access that a watch met
 
     def close(self) -> None:
+        """Ends all benches."""
         self.forget(0)
         self.timeline.close()
 
@@ -76,7 +77,7 @@ class Moves:
             self.notes.append(FORGOTTEN % self.timeline.position)
 
     def tell_notes(self) -> None:
-        """Has the debugger show what could not be told before."""
+        """Makes the debugger show the notes that were held back."""
         for note in self.notes:
             self.link.tell(note)
         self.notes = []
@@ -87,7 +88,7 @@ class Moves:
             self.forget(self.timeline.position)
 
     def followed(self, position: int) -> Timeline | None:
-        """The bench that follows, at a step, or None where it is further."""
+        """Returns the following bench, brought to a step; None if it is past that step."""
         found = self.follower if self.follower and self.follower.position <= position else None
         if found:
             found.follow(part(self.timeline.past, found.position, position))
@@ -95,7 +96,7 @@ class Moves:
         return found
 
     def follow(self) -> None:
-        """Has a bench follow up to here."""
+        """Makes a bench follow to the present step."""
         if self.follower:
             self.follower.settle()
             self.follower.follow(part(self.timeline.past, self.follower.position, self.timeline.position))
@@ -103,20 +104,20 @@ class Moves:
             self.follower = self.timeline.again(self.timeline.position)
 
     def turns_of(self, harts: Sequence[int]) -> str:
-        """The turns of these harts, from the next one on."""
+        """Returns the schedule of these harts from the next step on."""
         if len(harts) == 1:
             return str(harts[0])
         return self.timeline.turns_of(self.schedule)
 
     def turn_of(self, hart: int) -> str:
-        """The turns, where the next one is this hart's; else the hart alone."""
+        """Returns the schedule if its next step is of this hart; else the hart alone."""
         turns = self.timeline.turns_of(self.schedule) if self.timeline.setup.harts > 1 else ""
         return turns if turns.startswith(str(hart)) else str(hart)
 
     # one step
 
     def step(self, hart: int, others: Sequence[int], inside: Container[int] = ()) -> Halt:
-        """A step of a hart, or so many as end inside a range; the others go on by their turns up to it."""
+        """Does a step of a hart, or as many as are inside a range; the other harts run by the schedule meanwhile."""
         last, alike = None, 0
         while True:
             self.redo()
@@ -148,7 +149,7 @@ class Moves:
     # many steps
 
     def go_on(self, harts: Sequence[int]) -> Halt:
-        """Steps of these harts by their turns, up to a stop, to Ctrl-C, or to where they all stay."""
+        """Runs these harts by the schedule, to a stop, to Ctrl-C, or until none does anything more."""
         size, by_turns, self.careful = FIRST_RUN, len(harts) > 1 or self.stops.is_single, 0
         while True:
             self.redo()
@@ -170,7 +171,7 @@ class Moves:
                 size = max(FIRST_RUN, size // 2)
 
     def advance(self, turns: str, count: int) -> Halt | None:
-        """So many steps, or fewer; the halt where there is one before."""
+        """Does at most this many steps; returns the halt if there is one before."""
         if len(set(turns)) == 1 and not self.stops.is_single and not self.stops.has_conditions or self.careful > 0:
             self.careful -= count
             return self.exactly(turns, count, LONG)
@@ -197,7 +198,7 @@ class Moves:
         return self.stops.met(self.timeline, hart, ran, before)
 
     def exactly(self, turns: str, count: int, seconds: float | None = None) -> Halt | None:
-        """Steps of which each run is an exchange, or as many as are done in some seconds; the halt where there is one."""
+        """Does steps with an exchange for each run, for at most some seconds; returns the halt, or None."""
         began = time.monotonic()
         for halt in by_turns(self.timeline, self.stops, turns, count):
             if halt or seconds and time.monotonic() > began + seconds:
@@ -205,7 +206,7 @@ class Moves:
         return None
 
     def halt_at(self, halt: Halt) -> Halt:
-        """Halts where the bench is; but for a watch before the access, where gdb has it on RISC-V, and does the step itself."""
+        """Halts where the bench is. Halts before the access of a watchpoint if the debugger expects that, as gdb does on RISC-V."""
         if halt.told:
             self.link.tell(halt.told)
         if halt.reason and not self.behind_watches:
@@ -213,7 +214,7 @@ class Moves:
         return halt
 
     def end_of(self, harts: Sequence[int], first: int) -> Halt | None:
-        """Where these harts do nothing any more: the halt at the first step behind `first` from which on they do not."""
+        """Returns the halt at the first step after `first` from which on these harts do nothing, or None."""
         turns = self.turns_of(harts)
         start, worlds = Start(self.timeline.position, list(self.timeline.future)), list(self.timeline.worlds)
         found = asked(self.timeline, turns, ALIKE * len(turns), True)
@@ -230,7 +231,7 @@ class Moves:
         return self.stays(harts, found[-1][0], found[-1][2])
 
     def stays(self, harts: Sequence[int], hart: int, ran: Ran) -> Halt:
-        """The halt of harts that do nothing any more."""
+        """Returns the halt of harts that do nothing more."""
         cause = ran.trap and ran.trap.cause
         who = "hart %d stays" % hart if len(harts) == 1 else "all harts stay"
         told = "[%s at %s%s]" % (who, ran.pc, ": " + names.cause_name(cause) if cause else "")

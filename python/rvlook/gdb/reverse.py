@@ -1,5 +1,5 @@
-"""How harts go back under a debugger: to the step before, or to the last stop before, which is looked for on other benches that play parts
-of the past again."""
+"""Runs harts back under a debugger: to the step before, or to the last stop before, which is searched on other benches that repeat parts of
+the past."""
 from __future__ import annotations
 
 import contextlib
@@ -23,11 +23,11 @@ AT_RESET = "replaylog:begin;"
 
 
 class Interrupted(Exception):
-    """Ctrl-C came while a stop was looked for."""
+    """Ctrl-C came during the search for a stop."""
 
 
 class Back:
-    """The way back of the moves of a debugger. The stops of the part that was looked through last are kept."""
+    """Moves the harts back for a debugger. Caches the stops of the part that was searched last."""
 
     def __init__(self, moves: Moves) -> None:
         self.moves, self.first, self.end = moves, 0, 0
@@ -35,7 +35,7 @@ class Back:
         self.found: list[tuple[int, Halt]] = []
 
     def forget(self) -> None:
-        """Forgets what was found: what is done from here on may be something else than what had been done."""
+        """Forgets the stops that were found, as what follows may change."""
         self.key, self.found = None, []
 
     def step(self, hart: int) -> Halt:
@@ -49,7 +49,7 @@ class Back:
         return Halt(hart)
 
     def prepare(self, positions: Iterable[int]) -> None:
-        """Sends benches to steps that may be asked for next, where that takes time."""
+        """Sends benches to steps that may be needed next, if that takes time."""
         ready = self.moves.ready
         for position in positions:
             if position > FAR and position not in ready:
@@ -58,7 +58,7 @@ class Back:
             ready.pop(min(ready)).close()
 
     def ask_person(self) -> None:
-        """Whether Ctrl-C came, which ends a search."""
+        """Raises Interrupted if Ctrl-C came."""
         if self.moves.link.interrupted():
             raise Interrupted
 
@@ -96,11 +96,11 @@ class Back:
         return Halt(hart, "" if at_break else AT_RESET)
 
     def before(self, here: int) -> list[tuple[int, Halt]]:
-        """The stops before a step, and a watch there."""
+        """Returns the stops before a step, and a watchpoint at it."""
         return [(position, halt) for position, halt in self.found if position < here + bool(halt.reason)]
 
     def stops_between(self, first: int, end: int, harts: Sequence[int]) -> list[tuple[int, Halt]]:
-        """The stops behind step `first`, up to step `end`."""
+        """Returns the stops after step `first`, up to step `end`."""
         moves = self.moves
         found: dict[int, Halt] = {}
         pieces = list(part(moves.timeline.past, first, end))
@@ -121,7 +121,7 @@ class Back:
         return sorted(((position, halt) for position, halt in found.items() if halt.hart in harts), key=lambda it: it[0])
 
     def may_stop(self, first: int, pieces: Sequence[Part]) -> bool:
-        """Whether there may be a stop in steps of two harts; of one hart it is as soon looked at."""
+        """Returns whether there may be a stop in steps of two harts. Steps of one hart are searched at once."""
         if all(isinstance(it, Told) or it.chosen for it in pieces):
             return True
         with contextlib.closing(self.moves.timeline.again(first)) as ahead:
@@ -136,14 +136,14 @@ class Back:
         return False
 
     def stops_by_turns(self, ahead: Timeline, steps: Steps) -> Iterator[tuple[int, Halt]]:
-        """The stops in steps of the past, each run of a hart an exchange."""
+        """Yields the stops in steps of the past, with an exchange for each run."""
         for halt in by_turns(ahead, self.moves.stops, steps.turns, steps.count):
             self.ask_person()
             if halt:
                 yield ahead.position, halt
 
     def judged_stops(self, ahead: Timeline, steps: Steps) -> Iterator[tuple[int, Halt]]:
-        """The stops in steps of one hart, where conditions decide, many in one exchange."""
+        """Yields the stops in steps of one hart with conditions, with many runs in one exchange."""
         hart, end = int(steps.turns), ahead.position + steps.count
         while ahead.position < end:
             self.ask_person()
@@ -154,7 +154,7 @@ class Back:
                     yield position + done, halt
 
     def single_stops(self, ahead: Timeline, steps: Steps) -> Iterator[tuple[int, Halt]]:
-        """The stops in steps of the past that are asked one by one, many in one exchange."""
+        """Yields the stops in steps of the past that are checked one by one, with many steps in one exchange."""
         stops = self.moves.stops
         for at in range(0, steps.count, BLOCK):
             self.ask_person()
@@ -169,7 +169,7 @@ class Back:
                 worlds[hart] = ran.world
 
     def halt_there(self, ahead: Timeline, position: int, hart: int, ran: Ran, before: str) -> Halt | None:
-        """The halt behind a step, for which the bench that is ahead of it is not asked where it would have to be there."""
+        """Returns the halt after a step, or None. Uses another bench if the halt depends on registers or memory at that step."""
         stops = self.moves.stops
         if not stops.asks(ran):
             return stops.met(ahead, hart, ran, before)

@@ -1,4 +1,4 @@
-"""The word gdb: the bench for a debugger that speaks the GDB remote serial protocol. Each hart is a thread."""
+"""The subcommand `gdb`: serves the bench to a debugger by the GDB remote serial protocol. Each hart is a thread."""
 from __future__ import annotations
 
 import re
@@ -39,12 +39,11 @@ GONE = "X09"  # the program was ended
 
 
 class Refused(Exception):
-    """What the bench cannot do; the text is for the debugger."""
+    """A request that the bench cannot fulfil; the text is for the debugger."""
 
 
 class Server:
-    """Answers packets. `shown` is the hart that is looked at, `moved` the one that goes on or back (None where any may), `last` the one
-    that halted."""
+    """Replies to packets. `shown` is the hart that is shown, `moved` the one that moves (None for any), `last` the one that halted."""
 
     def __init__(self, link: Link, setup: Setup, symbols: Callable[[], Symbols], command_line: CommandLine, has_files: bool = True) -> None:
         self.link, self.setup, self.symbols, self.has_files, self.command_line = link, setup, symbols, has_files, command_line
@@ -54,7 +53,7 @@ class Server:
         self.start()
 
     def start(self) -> None:
-        """The bench behind its script."""
+        """Starts a bench, and runs the script."""
         self.close()
         moves = self.running = Moves(Timeline.of_script(self.setup), self.link)
         self.back, self.commands = Back(moves), Monitor(moves, self.symbols, self.command_line, self.has_files)
@@ -62,22 +61,25 @@ class Server:
         self.moved = None
 
     def close(self) -> None:
+        """Ends the bench."""
         if self.running:
             self.running.close()
         self.running = None
 
     @property
     def moves(self) -> Moves:
+        """Returns the moves of the debugger; raises Refused if the bench was ended."""
         if not self.running:
             raise Refused("the bench was ended")
         return self.running
 
     @property
     def timeline(self) -> Timeline:
+        """Returns the timeline of the bench."""
         return self.moves.timeline
 
     def serve(self) -> None:
-        """Answers up to the end."""
+        """Replies to packets until the debugger ends."""
         while not self.over:
             packet = self.link.packet()
             match = NAME.match(packet)
@@ -99,11 +101,12 @@ class Server:
     # what there is
 
     def no_acknowledgements(self, _: str) -> None:
+        """Replies to QStartNoAckMode."""
         self.link.send("OK")
         self.link.acknowledged = False
 
     def transfer(self, rest: str) -> str:
-        """A part of a document."""
+        """Replies to qXfer with a part of a document."""
         kind, _, name, place = rest[1:].split(":")
         made = {("features", "target.xml"): target_text, ("memory-map", ""): lambda: memory_text(self.setup.ram),
                 ("threads", ""): lambda: threads_text(map(self.hart_text, range(self.setup.harts if self.running else 0)))}
@@ -112,22 +115,23 @@ class Server:
         return ("m" if first + count < len(text) else "l") + escaped(text[first:first + count])
 
     def threads(self, _: str) -> str:
+        """Replies to qfThreadInfo."""
         return "m" + ",".join("%x" % (hart + 1) for hart in range(self.setup.harts)) if self.running else "l"
 
     def hart_text(self, hart: int) -> str:
-        """What is said of a hart among the threads."""
+        """Returns the description of a hart as a thread."""
         self.timeline.settle()
         return "hart %d: %s in %s" % (hart, self.timeline.worlds[hart], self.timeline.modes[hart])
 
     def hart_of(self, thread: str) -> int:
-        """The hart of a thread; that which halted where any will do."""
+        """Returns the hart of a thread, the last one that halted for any thread. Raises Refused."""
         hart = self.last if thread in ("", "0", "-1") else number_of(thread) - 1
         if not 0 <= hart < self.setup.harts:
             raise Refused("there is no such thread")
         return hart
 
     def choose(self, rest: str) -> str:
-        """The hart that is shown, or that is moved."""
+        """Replies to H: chooses the hart that is shown, or the one that moves."""
         hart = self.hart_of(rest[1:])
         if rest[0] == "g":
             self.shown = hart
@@ -138,11 +142,11 @@ class Server:
     # registers and memory
 
     def registers(self, _: str = "") -> str:
-        """The values of CORE, as the protocol has them."""
+        """Replies to g with the values of CORE."""
         return "".join(map(little, self.moves.view.registers(self.shown)))
 
     def read_register(self, rest: str) -> str:
-        """Any of REGISTERS."""
+        """Replies to p with one of REGISTERS."""
         number = number_of(rest)
         if number < len(CORE):
             return little(self.moves.view.registers(self.shown)[number])
@@ -157,18 +161,18 @@ class Server:
         return little(value)
 
     def state(self) -> dict[int, str]:
-        """What the bench tells behind a step alone, by its numbers among the registers."""
+        """Returns mode and world of the hart, by their numbers among the registers."""
         self.timeline.settle()
         return {PRIV: little("%08x" % MODES[self.timeline.modes[self.shown]]),
                 WORLD: little("%08x" % WORLDS[self.timeline.worlds[self.shown]])}
 
     def changing(self) -> None:
-        """Something is done, perhaps something else than what had been done behind this step."""
+        """Forgets what was derived from the steps after the present one, as they may change."""
         self.back.forget()
         self.commands.entry.limit(self.timeline.position)
 
     def write_register(self, rest: str) -> str:
-        """x1 to x31: no command of the bench writes another."""
+        """Replies to P. Only x1 to x31 can be written; raises Refused for others."""
         digits, value = rest.split("=")
         number = number_of(digits)
         if not 0 < number < PC:
@@ -181,7 +185,7 @@ class Server:
         return "OK"
 
     def read_memory(self, rest: str) -> str:
-        """Bytes, up to the first that is outside."""
+        """Replies to m with bytes up to the first that is outside RAM."""
         first, count = map(number_of, rest.split(","))
         found = self.moves.view.bytes(first, min(count, MOST_READ))
         if count and not found:
@@ -189,15 +193,17 @@ class Server:
         return found.hex()
 
     def write_memory(self, rest: str) -> str:
+        """Replies to M."""
         place, digits = rest.split(":", 1)
         return self.write(place, bytes.fromhex(digits))
 
     def write_binary(self, rest: str) -> str:
+        """Replies to X."""
         place, data = rest.split(":", 1)
         return self.write(place, unescaped(data).encode("latin-1"))
 
     def write(self, place: str, data: bytes) -> str:
-        """Bytes, each by a poke; none where one is outside."""
+        """Pokes bytes; raises Refused if one is outside RAM."""
         first, count = map(number_of, place.split(","))
         if len(data) != count:
             raise Refused("%d bytes in place of %d" % (len(data), count))
@@ -210,6 +216,7 @@ class Server:
     # breakpoints and watchpoints
 
     def set_stop(self, rest: str) -> str:
+        """Replies to Z."""
         kind, first, count = self.stop_of(rest)
         if kind in BREAKS:
             conditions = [bytes.fromhex(it[2])[:int(it[1], 16)] for it in CONDITION.finditer(rest)]
@@ -220,6 +227,7 @@ class Server:
         return "OK"
 
     def clear_stop(self, rest: str) -> str:
+        """Replies to z."""
         kind, first, count = self.stop_of(rest)
         if kind in BREAKS:
             self.moves.stops.clear_break(self.timeline, kind, first)
@@ -229,24 +237,24 @@ class Server:
 
     @staticmethod
     def stop_of(rest: str) -> tuple[str, int, int]:
-        """The kind, the address and the length of a break or watch."""
+        """Returns the kind, the address and the length of a breakpoint or watchpoint."""
         kind, first, count = rest.split(";")[0].split(",")
         return kind, number_of(first), number_of(count)
 
     # on and back
 
     def halted(self, halt: Halt) -> str:
-        """The reply that tells where a hart halts, with its registers."""
+        """Returns the reply that reports a halt, with the registers."""
         self.shown = self.last = halt.hart
         values = [*enumerate(map(little, self.moves.view.registers(halt.hart))), *self.state().items()]
         return "T%02xthread:%x;%s%s" % (halt.signal, halt.hart + 1, halt.reason, "".join("%02x:%s;" % it for it in values))
 
     def where(self, _: str) -> str:
-        """Why the harts halt: they have not gone on."""
+        """Replies to ? with the present halt."""
         return self.halted(Halt(self.shown)) if self.running else "W00"
 
     def resume(self, rest: str) -> str:
-        """vCont: each hart does what the first action that names it tells."""
+        """Replies to vCont: each hart does the first action that names it."""
         self.moves.tell_notes()
         self.changing()
         actions: dict[int, str] = {}
@@ -266,23 +274,24 @@ class Server:
         return self.halted(halt)
 
     def go_on(self, action: str, place: str) -> str:
-        """c and s of a debugger without vCont."""
+        """Replies to c and s of a debugger without vCont."""
         if place:
             raise Refused("no command of the bench writes pc")
         return self.resume(";%s:%s" % (action, "-1" if self.moved is None else "%x" % (self.moved + 1)))
 
     def step_back(self, _: str) -> str:
-        """Where no thread is named, it is the one that is looked at."""
+        """Replies to bs. The hart that is shown steps if no thread was chosen."""
         return self.halted(self.back.step(self.shown if self.moved is None else self.moved))
 
     def go_back(self, _: str) -> str:
+        """Replies to bc."""
         harts = range(self.setup.harts) if self.moved is None else [self.moved]
         return self.halted(self.back.go(self.shown if self.moved is None else self.moved, list(harts)))
 
     # what else
 
     def monitor(self, rest: str) -> str:
-        """A line of the bench or of the prompt, or a word over what was done up to now."""
+        """Replies to qRcmd: runs a line of the bench or of the prompt, or a subcommand."""
         self.changing()
         self.timeline.choose(self.last if self.moves.behind_watches else self.shown)  # lldb reads registers of each hart, and names none here
         text = self.commands.line(bytes.fromhex(rest[1:]).decode("latin-1"))
@@ -293,44 +302,49 @@ class Server:
         return "OK"
 
     def detach(self, _: str) -> str:
+        """Replies to D."""
         self.over = not self.extended
         return "OK"
 
     def kill(self, _: str) -> str:
-        """The bench ends; an extended debugger may run it again."""
+        """Replies to vKill. A debugger in extended mode may run the bench again."""
         self.close()
         return self.detach("")
 
     def end(self, _: str) -> str | None:
-        """k: gdb wants no answer, and lldb one."""
+        """Replies to k: lldb expects a reply, gdb none."""
         answers_it = self.running and self.running.behind_watches
         self.close()
         self.over = not self.extended
         return GONE if answers_it else None
 
     def extend(self, _: str) -> str:
+        """Replies to !."""
         self.extended = True
         return "OK"
 
     def run_again(self, _: str) -> str:
+        """Replies to vRun."""
         self.start()
         return self.where("")
 
     def restart(self, _: str) -> None:
+        """Restarts the bench for R, which has no reply."""
         self.start()
 
     def host(self, _: str) -> str:
-        """What lldb asks, and gdb does not."""
+        """Replies to qHostInfo, which only lldb sends."""
         self.moves.behind_watches = True
         return "triple:%s;ptrsize:4;endian:little;watchpoint_exceptions_received:after;" % hex_of(TRIPLE)
 
     def fresh(self, _: str) -> str:
-        """A debugger that reads all anew behind each line of `monitor`."""
+        """Replies to QRvlookFresh: the debugger reads everything again after each line of `monitor`."""
         self.commands.is_fresh = True
         return "OK"
 
 
 def answers(text: str) -> Callable[[Server, str], str]:
+    """Returns a function that replies a fixed text."""
     return lambda server, rest: text
 
 
@@ -349,8 +363,8 @@ ACTS: Dict[str, Callable[[Server, str], Optional[str]]] = {
 
 
 def link_of(setup: Setup, port: int | None) -> Link:
-    """The connection with the debugger: over the standard streams, or over a port of this machine, to the first that comes. Whoever comes
-    to the port after that one is turned away, in a thread of its own."""
+    """Opens the connection with the debugger: the standard streams, or a port of this machine for the first client. A thread turns away later
+    clients. Raises Fault."""
     if port is None and sys.stdin.isatty():
         words = " ".join([*(["--monitor"] if setup.monitor else []), setup.image.name])
         raise Fault("a debugger speaks here, and no person: gdb-multiarch %s -ex 'target remote | ./rvlook gdb %s'; or --port N" % (
@@ -378,8 +392,8 @@ def turn_away(listening: socket.socket) -> None:
 
 
 def serve_gdb(setup: Setup, symbols: Callable[[], Symbols], port: int | None, allow_files: bool, command_line: CommandLine) -> None:
-    """Serves a debugger. `symbols` reads the symbols, which are wanted by `monitor` alone: gdb waits two seconds for the first answer.
-    Over a port, on which any program of this machine may come, files are read and written if that is allowed."""
+    """Serves a debugger. `symbols` reads the symbols, which only `monitor` needs, since gdb waits two seconds for the first reply. A debugger on
+    a port may name files only if `allow_files`, as any program of this machine may connect."""
     if port is None:
         signal.signal(signal.SIGINT, signal.SIG_IGN)  # of the terminal that the debugger shares; its own Ctrl-C comes as a byte
     server = None

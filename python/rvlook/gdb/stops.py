@@ -1,5 +1,5 @@
-"""Where harts halt under a debugger: breakpoints with their conditions, watchpoints by the kind of the access, and catchpoints. The bench
-asks its own breaks and watches; what it tells is judged here."""
+"""Where harts halt under a debugger: breakpoints with conditions, watchpoints by kind of access, and catchpoints. The bench checks its
+breaks and watches; whether they are halts is decided here."""
 from __future__ import annotations
 
 import contextlib
@@ -21,7 +21,7 @@ PC, NO_TRAP = 32, b"trap=-"
 
 @dataclass(frozen=True)
 class Watch:
-    """Bytes that are watched for these kinds of access, and what a debugger calls that."""
+    """Bytes that are watched for kinds of access, and the name of that watchpoint in the protocol."""
     name: str
     kinds: str
     first: int
@@ -29,16 +29,17 @@ class Watch:
 
     @property
     def bytes(self) -> range:
+        """Returns the addresses of the watched bytes."""
         return range(self.first, self.first + self.count)
 
     def meets(self, first: int, width: int) -> bool:
+        """Returns whether an access meets the watched bytes."""
         return self.first < first + width and first < self.first + self.count
 
 
 @dataclass(frozen=True)
 class Halt:
-    """Where the harts halt, for one of them: `reason` is the protocol's, empty for a step, a breakpoint and a signal; `told` is a line for
-    the person."""
+    """A halt on a hart. `reason` is that of the protocol, empty for a step, a breakpoint and a signal; `told` is a line for the user."""
     hart: int
     reason: str = ""
     signal: int = STEPPED
@@ -46,13 +47,13 @@ class Halt:
 
 
 def signal_of(trap: Trap | None) -> int:
-    """The signal for a trap; that of an interrupt or a call only stops."""
+    """Returns the signal number for a trap. An interrupt or a call only stops."""
     return SIGNALS.get(trap.cause, STOPPED) if trap else STOPPED
 
 
 class Stops:
-    """What is asked for. `breaks` has for each address its kinds of breakpoint, each with its conditions; those `beyond` have no room in
-    the bench."""
+    """The breakpoints, watchpoints and catchpoints. `breaks` has for each address its kinds of breakpoint with their conditions; the bench has
+    no room for those in `beyond`."""
 
     def __init__(self) -> None:
         self.breaks: dict[int, dict[str, list[bytes]]] = {}
@@ -63,21 +64,23 @@ class Stops:
 
     @property
     def is_single(self) -> bool:
-        """Whether it is asked behind each step, and not by the bench alone."""
+        """Returns whether each step must be checked, and not only by the bench."""
         return bool(self.beyond or self.caught)
 
     @property
     def has_conditions(self) -> bool:
+        """Returns whether a breakpoint has conditions."""
         return any(code for it in self.breaks.values() for code in it.values())
 
     def key(self, timeline: Timeline) -> tuple[Any, ...]:
-        """What decides where the harts halt."""
+        """Returns all that decides where the harts halt."""
         return (frozenset(timeline.stops), frozenset(self.beyond), tuple(self.watches), frozenset(self.caught),
                 repr(sorted((at, sorted(it.items())) for at, it in self.breaks.items())))
 
     # what is set
 
     def set_break(self, timeline: Timeline, kind: str, at: int, conditions: list[bytes]) -> None:
+        """Sets a breakpoint of a kind, with its conditions."""
         self.breaks.setdefault(at, {})[kind] = conditions
         if timeline.do("break %x" % at)[0] != "ok":
             self.beyond.add(at)
@@ -85,6 +88,7 @@ class Stops:
             self.holds(timeline, timeline.hart, at)  # what it asks is asked behind each run from then on
 
     def clear_break(self, timeline: Timeline, kind: str, at: int) -> None:
+        """Removes a breakpoint of a kind."""
         self.breaks.get(at, {}).pop(kind, None)
         if not self.breaks.get(at):
             self.breaks.pop(at, None)
@@ -92,7 +96,7 @@ class Stops:
             timeline.do("clear %x" % at)
 
     def set_watch(self, timeline: Timeline, watch: Watch) -> bool:
-        """Watches; False where the bench has no room."""
+        """Sets a watchpoint; returns False if the bench has no room."""
         self.watches.append(watch)
         if any("ok" not in replies for replies in timeline.do_all(["watch %x" % at for at in watch.bytes])):
             self.clear_watch(timeline, watch)
@@ -100,7 +104,7 @@ class Stops:
         return True
 
     def clear_watch(self, timeline: Timeline, watch: Watch) -> None:
-        """Takes a watch away, if it is set."""
+        """Removes a watchpoint, if it is set."""
         if watch not in self.watches:
             return
         self.watches = [it for it in self.watches if it != watch]
@@ -110,10 +114,11 @@ class Stops:
     # what is met
 
     def is_break(self, timeline: Timeline, pc: str) -> bool:
+        """Returns whether there is a breakpoint at pc."""
         return timeline.is_break(pc) or int(pc, 16) in self.beyond
 
     def is_quiet(self, timeline: Timeline) -> Callable[[bytes, int], bool]:
-        """What tells of the replies to so many runs, as bytes, that no halt is behind any of them."""
+        """Returns a function that checks the replies to runs, as bytes: whether there is certainly no halt after any of them."""
         places = [b"pc=%s " % it.split()[1].rjust(8, "0").encode() for it in timeline.stops if it.startswith("break")]
         places += [b"pc=%08x " % at for at in self.beyond]
 
@@ -124,15 +129,15 @@ class Stops:
         return is_quiet
 
     def may_meet(self, timeline: Timeline, ran: Ran, before: str) -> bool:
-        """Whether a halt may be behind a run, by its reply alone. `before` is the world before it."""
+        """Returns whether there may be a halt after a run, by its reply alone. `before` is the world before it."""
         return ran.why != "done" or self.is_break(timeline, ran.pc) or bool(self.caught and self.catch(0, ran, before))
 
     def asks(self, ran: Ran) -> bool:
-        """Whether registers or memory decide if there is a halt."""
+        """Returns whether registers or memory decide if there is a halt."""
         return ran.why.startswith("watch") or any(code for it in self.breaks.get(int(ran.pc, 16), {}).values() for code in it)
 
     def met(self, timeline: Timeline, hart: int, ran: Ran, before: str) -> Halt | None:
-        """The halt behind a run, where the timeline is, or None."""
+        """Returns the halt after a run at the present step, or None."""
         if ran.why.startswith("watch"):
             reason = self.watched(timeline, hart, ran)
             if reason is not None:
@@ -142,7 +147,7 @@ class Stops:
         return self.catch(hart, ran, before)
 
     def holds(self, timeline: Timeline, hart: int, pc: int) -> bool:
-        """Whether one of the breakpoints at pc has no condition, or one that holds."""
+        """Returns whether a breakpoint at pc has no condition, or one that holds."""
         timeline.choose(hart)
 
         def reply_to(line: str) -> str:
@@ -152,7 +157,7 @@ class Stops:
         return self.decided(pc, reply_to)
 
     def decided(self, pc: int, reply_to: Callable[[str], str]) -> bool:
-        """Whether one of the breakpoints at pc has no condition, or one that holds by the replies to commands."""
+        """Returns the same as `holds`, with the replies of `reply_to`."""
         kinds = self.breaks.get(pc, {"": []}).values()
         if not all(kinds):
             return True
@@ -167,7 +172,7 @@ class Stops:
         return any(holds(code, register, memory) for conditions in kinds for code in conditions)
 
     def verdict(self, timeline: Timeline, ran: Ran, replies: Mapping[str, str]) -> bool | None:
-        """Whether there is a halt behind a run of one hart, by the replies to `questions` there; None where they do not tell."""
+        """Returns whether there is a halt after a run of one hart, by the replies to `questions`; None if they do not decide."""
         if ran.why.startswith("watch"):
             return None
         try:
@@ -176,8 +181,8 @@ class Stops:
             return None
 
     def watched(self, timeline: Timeline, hart: int, ran: Ran) -> str | None:
-        """Why the harts halt behind an access; None where they go on, for it was of a kind that is not watched there. A watch that was
-        set by a command of the bench is for any access."""
+        """Returns the stop reason after an access, or None if no watchpoint is for its kind. A watch that a command of the bench has set is for
+        any access."""
         lowest = int(ran.why[6:], 16)
         if not any(lowest in it.bytes for it in self.watches):
             return ""
@@ -186,7 +191,7 @@ class Stops:
         return "%s:%x;" % (met[0].name, max(first, met[0].first)) if met else None
 
     def catch(self, hart: int, ran: Ran, before: str) -> Halt | None:
-        """What a catchpoint tells of a single step."""
+        """Returns the halt of a catchpoint after a single step, or None."""
         if "switch" in self.caught and ran.world != before:
             return Halt(hart, "", STOPPED, "[hart %d: from %s to %s, by %s]" % (
                 hart, before, ran.world, "the timer" if ran.trap and ran.trap.cause == names.TIMER else "a call"))
@@ -198,8 +203,8 @@ class Stops:
 
 
 def access_before(timeline: Timeline, hart: int, ran: Ran) -> tuple[str, int, int]:
-    """The kind, the address and the width of the access that the last step made: the instruction stands before pc, for it did not jump.
-    Where it loaded its own base, the registers are asked on another bench, before the step."""
+    """Returns kind, address and width of the access of the last step; its instruction is before pc, as it did not jump. Reads the registers
+    before the step if a load overwrote its base."""
     timeline.choose(hart)
     (line,), registers = timeline.ask("dis %x" % ((int(ran.pc, 16) - 4) & 0xFFFFFFFF), "regs")
     instruction = instruction_of(line.encode())

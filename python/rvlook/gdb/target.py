@@ -1,4 +1,4 @@
-"""What the debugger is told of the bench: its registers, by the features of RISC-V and one of its own; its memory; and its harts."""
+"""The descriptions that the debugger reads: the registers, by the features of RISC-V and one of rvbench; the memory map; and the harts."""
 from __future__ import annotations
 
 from xml.sax.saxutils import quoteattr
@@ -30,7 +30,7 @@ MEMORY = """<?xml version="1.0"?><!DOCTYPE memory-map SYSTEM "gdb-memory-map.dtd
 
 
 def register(name: str, kind: str = "int", more: str = "") -> str:
-    """A register, at its place in all of them."""
+    """Returns the description of a register."""
     number = NUMBERS[name]
     if name in names.ABI:
         more += ' dwarf_regnum="%d"' % number
@@ -40,7 +40,7 @@ def register(name: str, kind: str = "int", more: str = "") -> str:
 
 
 def target_text() -> str:
-    """target.xml."""
+    """Returns target.xml."""
     core = "".join(register(it, "code_ptr" if it == "pc" else ABI_KINDS.get(it, "int")) for it in CORE)
     csrs = "".join(register(it, more=' group="csr" save-restore="no"') for it in names.CSRS)
     values = "".join('<evalue name="%s" value="%d"/>' % it for it in WORLDS.items())
@@ -50,11 +50,11 @@ def target_text() -> str:
 
 
 def memory_text(ram: int) -> str:
-    """The memory map: beside RAM there is nothing."""
+    """Returns the memory map: only RAM. `ram` is its size in bytes."""
     return MEMORY % (RAM_BASE, ram)
 
 
 def threads_text(lines: Iterable[str]) -> str:
-    """The harts, each with what is said of it."""
+    """Returns the list of harts with their descriptions."""
     threads = "".join('<thread id="%x" core="%d" name=%s/>' % (hart + 1, hart, quoteattr(it)) for hart, it in enumerate(lines))
     return '<?xml version="1.0"?><threads>%s</threads>' % threads

@@ -1,5 +1,5 @@
-"""What a debugger sees of a bench that halts, each thing asked once: registers, and memory by lines of 64 bytes. A debugger asks for two
-bytes at a time, and for those around pc and above sp at each step; these come with the step, in one exchange."""
+"""Caches what a debugger reads from a halted bench: registers, and memory in lines of 64 bytes. A debugger reads two bytes at a time, and
+those around pc and above sp after each step; the step brings them in the same exchange."""
 from __future__ import annotations
 
 from typing import Any, TYPE_CHECKING
@@ -15,16 +15,17 @@ SP, PC, REGISTERS = 2, 32, 33
 
 
 def value_of(reply: str) -> str:
-    """The digits of a line of `regs` or of `csr`."""
+    """Returns the digits of a line of `regs` or `csr`."""
     return reply[reply.index("=") + 1:]
 
 
 def line_of(address: int) -> str:
+    """Returns the command that reads the line of an address."""
     return "mem %x %d" % (address & -LINE & 0xFFFFFFFF, LINE)
 
 
 class View:
-    """The registers and the memory of a timeline, as it stands; forgotten where anything changes."""
+    """The registers and the memory of a timeline, cached until anything changes."""
 
     def __init__(self, timeline: Timeline) -> None:
         self.timeline, self.changes = timeline, -1
@@ -32,12 +33,12 @@ class View:
         self.lines: dict[int, bytes] = {}
 
     def check(self) -> None:
-        """Forgets what may have changed."""
+        """Forgets the values if something may have changed."""
         if self.changes != self.timeline.changes:
             self.changes, self.values, self.lines = self.timeline.changes, {}, {}
 
     def registers(self, hart: int) -> list[str]:
-        """x0 to x31 and pc, in digits."""
+        """Returns x0 to x31 and pc, in hexadecimal digits."""
         self.check()
         if hart not in self.values:
             self.timeline.choose(hart)
@@ -45,7 +46,7 @@ class View:
         return self.values[hart]
 
     def csr(self, hart: int, number: int) -> str | None:
-        """A control and status register, in digits, or None where there is none."""
+        """Returns a control and status register in hexadecimal digits, or None if there is none."""
         self.check()
         if (hart, number) not in self.values:
             self.timeline.choose(hart)
@@ -54,7 +55,7 @@ class View:
         return self.values[hart, number]
 
     def bytes(self, first: int, count: int) -> bytes:
-        """Bytes, up to the first that is outside RAM."""
+        """Returns bytes, up to the first that is outside RAM."""
         self.check()
         lines = range(first & -LINE, first + count, LINE)
         missing = [at for at in lines if at not in self.lines]
@@ -68,10 +69,11 @@ class View:
         return found[first & LINE - 1:][:count]
 
     def take_line(self, address: int, reply: str) -> None:
+        """Keeps the bytes of a reply of `mem`."""
         self.lines[address] = b"" if reply.startswith("error ") else bytes.fromhex(reply[reply.index(":") + 1:])
 
     def step(self, hart: int, turns: str) -> Ran:
-        """A single `run` of a hart, whose reply it gives; what is seen behind it is asked in the same exchange."""
+        """Does a `run 1` of a hart, and returns its reply. Reads the registers and the memory nearby in the same exchange."""
         before = self.registers(hart)
         self.timeline.choose(hart)
         near = {address & -LINE & 0xFFFFFFFF for address in (int(before[PC], 16) + 4, int(before[SP], 16))}

@@ -1,4 +1,4 @@
-"""What an image says of itself: whether it is made for the monitor, and whether it has instructions that the bench has not."""
+"""Detects whether an image is made for the monitor, and whether it has instructions that the bench lacks."""
 from __future__ import annotations
 
 import re
@@ -23,13 +23,13 @@ KEY_SET = re.compile(r"\s*setreg\s+(17|x17|a7)\s+(0x)?0?a454e43\s*\Z", re.I)
 
 
 def is_elf_32(image: Image) -> bool:
-    """Whether it is an ELF file of 32 bits, the lowest byte first, with a whole header."""
+    """Returns whether the image is a 32-bit little-endian ELF file with a complete header."""
     data = image.data
     return image.is_elf and data is not None and len(data) >= 52 and data[4:6] == b"\x01\x01"
 
 
 def segments_of(data: bytes) -> Iterator[tuple[int, int]]:
-    """The address, and the size in memory, of each segment that is loaded."""
+    """Yields the address and the size in memory, in bytes, of each loaded segment."""
     offset = struct.unpack_from("<I", data, AT_SEGMENTS)[0]
     size, count = struct.unpack_from("<HH", data, AT_SIZES)
     for number in range(count):
@@ -40,12 +40,12 @@ def segments_of(data: bytes) -> Iterator[tuple[int, int]]:
 
 
 def has_compressed(image: Image) -> bool:
-    """Whether the flags of an ELF file tell of compressed instructions."""
+    """Returns whether the flags of an ELF file say that it has compressed instructions."""
     return is_elf_32(image) and bool(struct.unpack_from("<I", image.data or b"", AT_FLAGS)[0] & COMPRESSED)
 
 
 def asks_for_monitor(image: Image, script: Iterable[ScriptLine]) -> str | None:
-    """By what an image asks for the monitor, or None."""
+    """Returns why an image seems to be made for the monitor, or None."""
     if is_elf_32(image):
         first = min((address for address, _ in segments_of(image.data or b"")), default=0)
         return "its first address is %08x" % first if first == MONITOR_END else None
@@ -55,7 +55,7 @@ def asks_for_monitor(image: Image, script: Iterable[ScriptLine]) -> str | None:
 
 
 def has_key(data: bytes) -> bool:
-    """Whether the words of an image put the monitor's key into a7, and have an ecall."""
+    """Returns whether the words of an image set a7 to the monitor's key, and contain an ecall."""
     words = array("I", data[:len(data) // 4 * 4])
     if sys.byteorder == "big":
         words.byteswap()

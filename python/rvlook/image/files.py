@@ -1,4 +1,4 @@
-"""The image, in whatever form it stands in a file: an ELF file, raw bytes, or the text that the bench reads."""
+"""Reads an image in any form: an ELF file, raw bytes, or the text that the bench reads."""
 from __future__ import annotations
 
 import re
@@ -19,7 +19,7 @@ PRINTABLE = re.compile(rb"[\t\r\n\x20-\x7e]*\Z")
 
 
 def read_file(path: str) -> bytes:
-    """The bytes of a file, at most MOST_READ."""
+    """Returns the bytes of a file, at most MOST_READ; raises Fault."""
     try:
         with open(path, "rb") as file:
             return bounded(file, path)
@@ -38,14 +38,14 @@ def bounded(file: BinaryIO, path: str) -> bytes:
 
 
 def digits_of(data: bytes) -> bytes:
-    """Bytes as the text of an image."""
+    """Returns bytes as the text of an image."""
     digits = data.hex()
     lines = [digits[i:i + DIGITS_A_LINE] for i in range(0, len(digits), DIGITS_A_LINE)]
     return "".join(line + "\n" for line in lines).encode("ascii")
 
 
 def script_lines(data: bytes, path: str, before: int = 0) -> tuple[ScriptLine, ...]:
-    """The lines of a script that stands in a file behind so many lines. A line -- in it is for two benches, and left out."""
+    """Returns the lines of a script that follows `before` lines of a file. Leaves out lines --, which are for two benches. Raises Fault."""
     if data.count(b"\n") > MOST_LINES:
         raise Fault("%s: the script is too long: it has more than %d lines" % (path, MOST_LINES))
     lines = enumerate(lines_of(data.decode("latin-1")), before + 1)
@@ -54,7 +54,7 @@ def script_lines(data: bytes, path: str, before: int = 0) -> tuple[ScriptLine, .
 
 
 def decoded(text: bytes) -> bytes | None:
-    """The bytes that an image's text says, or None where it is faulty."""
+    """Returns the bytes of an image's text, or None if it is malformed."""
     try:
         return bytes.fromhex(text.decode("ascii"))
     except ValueError:
@@ -62,8 +62,8 @@ def decoded(text: bytes) -> bytes | None:
 
 
 def image_of(path: str, kind: str = "auto") -> Image:
-    """The image in a file. A text of hexadecimal digits is taken as the bench takes it, with the script behind its line `--` if it has
-    one; and so is any other text before such a line, whose faults are the bench's to tell. All other bytes are the image themselves."""
+    """Reads an image. Hexadecimal digits are passed on with the script after their line `--`, if there is one. So is any other text before such
+    a line, whose errors the bench reports. All other bytes are the image itself. Raises Fault."""
     data = read_file(path)
     cut = separator_in(data)
     head, rest = (data[:cut.start()], data[cut.end():]) if cut else (data, b"")
@@ -86,7 +86,7 @@ def separator_in(data: bytes) -> re.Match[bytes] | None:
 
 
 def is_marked_text(data: bytes) -> bool:
-    """Whether the bytes are a text behind a byte order mark, which no image begins with and editors put there unasked."""
+    """Returns whether the bytes are a text after a byte order mark, which no image begins with."""
     mark = next((it for it in MARKS if data.startswith(it)), None)
     if mark is None:
         return False
@@ -97,5 +97,5 @@ def is_marked_text(data: bytes) -> bool:
 
 
 def script_of(path: str | None) -> tuple[ScriptLine, ...]:
-    """The lines of a file of commands."""
+    """Reads the lines of a script; empty without a path."""
     return script_lines(read_file(path), path) if path else ()

@@ -1,4 +1,4 @@
-"""The word measure: the digest that create records, worked out by hashlib; none of it is a reply."""
+"""The subcommand `measure`: computes the digest that `create` records."""
 from __future__ import annotations
 
 import hashlib
@@ -21,8 +21,8 @@ LEAST_SIZE = 4096
 
 
 def region_bytes(path: str, data: bytes, base: int, size: int) -> bytes:
-    """The bytes of a region as the file has them: of an ELF file what its segments put there, of another file its bytes from the
-    region's base on; and zeros."""
+    """Returns the bytes of a region, padded with zeros: the segments of an ELF file, or the bytes of another file from the base on. Raises
+    Fault."""
     if not data.startswith(ELF_MAGIC):
         if len(data) > size:
             raise Fault("%s has %d bytes, and the region %d" % (path, len(data), size))
@@ -36,7 +36,7 @@ def region_bytes(path: str, data: bytes, base: int, size: int) -> bytes:
 
 
 def segments(path: str, data: bytes) -> list[tuple[int, bytes]]:
-    """The load address and the bytes of each segment of an ELF file."""
+    """Returns the load address and the bytes of each segment of an ELF file; raises Fault or Unfinished."""
     try:
         from elftools.common.exceptions import ELFError
         from elftools.elf.elffile import ELFFile
@@ -50,17 +50,17 @@ def segments(path: str, data: bytes) -> list[tuple[int, bytes]]:
 
 
 def measurement(record: Sequence[int], region: bytes) -> str:
-    """SHA-256 over base, size, window base, window size and entry, and then the region."""
+    """Returns SHA-256 over base, size, window base, window size and entry, and then the region, in hexadecimal digits."""
     return hashlib.sha256(struct.pack("<5I", *record) + region).hexdigest()
 
 
 def is_lawful(base: int, size: int, least: int) -> bool:
-    """Whether create takes such a range."""
+    """Returns whether `create` accepts such a range."""
     return size >= LEAST_SIZE and size & (size - 1) == 0 and base % size == 0 and base >= least
 
 
 def refusal_of(base: int, size: int, window: int, window_size: int, entry: int) -> str | None:
-    """The status that create answers whatever the machine is, or None."""
+    """Returns the status with which `create` always refuses these arguments, or None."""
     if not is_lawful(base, size, 0x80000000):
         return "BadRegion"
     if window_size and not is_lawful(window, window_size, 0x80000000):
@@ -71,7 +71,7 @@ def refusal_of(base: int, size: int, window: int, window_size: int, entry: int) 
 
 
 def show_measure(path: str, numbers: Sequence[str], symbols_path: str | None, printer: Printer) -> None:
-    """The digest, and whether create would take these numbers at all."""
+    """Prints the digest; raises Fault if `create` refuses these arguments."""
     data = read_file(path)
     symbols = symbols_of(symbols_path or path, read_file(symbols_path) if symbols_path else data)
     values = [symbols.address(text) for text in numbers]

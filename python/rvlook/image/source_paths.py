@@ -28,7 +28,7 @@ def files_of(path: str) -> dict[str, str]:
 
 
 def rows_of_file(file: Any) -> Iterator[bytes]:
-    """The path of the file of each row of all line tables, as bytes."""
+    """Yields the path of the file of each row of all line tables."""
     dwarf = file.get_dwarf_info() if file.has_dwarf_info() else None
     for unit, program in line_programs(dwarf) if dwarf else ():
         built_in = unit.get_top_DIE().attributes.get("DW_AT_comp_dir")
@@ -39,7 +39,7 @@ def rows_of_file(file: Any) -> Iterator[bytes]:
 
 
 def paths_in(program: Any, built_in: bytes) -> dict[int, bytes]:
-    """The path of each file by its number: folders are counted from 1 on, and files too, up to DWARF 4; in DWARF 5 from 0 on."""
+    """Returns the path of each file by its number. Folders and files count from 1 up to DWARF 4, from 0 in DWARF 5."""
     first = 0 if program["version"] >= 5 else 1
     folders = [b""] * first + list(program["include_directory"])
     found = {}

@@ -1,5 +1,4 @@
-"""Names and source lines of addresses, from an ELF file by pyelftools, or from lines of text as nm prints them. All of it is derived:
-the bench knows no symbols."""
+"""Reads symbols and source lines from an ELF file with pyelftools, or from the output of nm."""
 from __future__ import annotations
 
 import io
@@ -32,7 +31,7 @@ T = TypeVar("T")
 
 
 def symbols_of(path: str, data: bytes | None) -> Symbols:
-    """The symbols of an ELF file's bytes or of an nm's lines; `path` names them in a fault."""
+    """Returns the symbols of an ELF file or of a listing by nm; `path` is for error messages."""
     if data is None:
         return Symbols()
     if data.startswith(ELF_MAGIC):
@@ -50,7 +49,7 @@ def decoded(data: bytes) -> str:
 
 
 def symbols_from(path: str | None, image: Image) -> Symbols:
-    """The symbols in the file that is named, or else in the image itself where it is an ELF file."""
+    """Returns the symbols of a file, or else those of the image if it is an ELF file. Raises Fault."""
     if path:
         found = symbols_of(path, read_file(path))
         if not found:
@@ -60,7 +59,7 @@ def symbols_from(path: str | None, image: Image) -> Symbols:
 
 
 def elf_symbols(path: str, data: bytes) -> Symbols:
-    """The symbols and source lines of an ELF file."""
+    """Returns the symbols and source lines of an ELF file. Reports what cannot be read."""
     try:
         from elftools.elf.elffile import ELFFile
     except ImportError:
@@ -76,7 +75,7 @@ def elf_symbols(path: str, data: bytes) -> Symbols:
 
 
 def readable(path: str, without: str, read: Callable[[], T]) -> T | None:
-    """What `read` gives; where the file is not as it should be, that is told, and what there is then none of."""
+    """Calls `read`; returns None, and reports the error, if the file is damaged."""
     try:
         return read()
     except Exception as error:  # pyelftools has no common class for what it cannot read, and lets errors of Python through
@@ -111,12 +110,12 @@ def inflated_size(data: bytes) -> int:
 
 @lru_cache(maxsize=None)
 def told(line: str) -> None:
-    """Tells a line, once."""
+    """Prints a line once."""
     tell(line)
 
 
 def knows_all_forms() -> None:
-    """pyelftools before 0.30 does not know the form in which clang keeps the MD5 of a source file."""
+    """Adds DW_FORM_data16 to pyelftools before 0.30: clang uses it for the MD5 of a source file."""
     from elftools.construct import Array
     from elftools.dwarf.structs import DWARFStructs
     create = DWARFStructs._create_dw_form
@@ -129,7 +128,7 @@ def knows_all_forms() -> None:
 
 
 def named(file: Any) -> Iterator[Symbol]:
-    """The symbols of functions, objects and labels."""
+    """Yields the symbols of functions, objects and labels."""
     table = file.get_section_by_name(".symtab")
     sections = {number for number, section in enumerate(file.iter_sections()) if section["sh_flags"] & 2}
     length = 0
@@ -147,7 +146,7 @@ def named(file: Any) -> Iterator[Symbol]:
 
 
 def source_lines(file: Any) -> Iterator[tuple[int, str | None]]:
-    """The rows of all line tables: the address of each and its file and line, or None where a sequence ends."""
+    """Yields the rows of all line tables: an address with its file and line, or with None at the end of a sequence."""
     if not file.has_dwarf_info():
         return
     for _, program in line_programs(file.get_dwarf_info()):
@@ -158,7 +157,7 @@ def source_lines(file: Any) -> Iterator[tuple[int, str | None]]:
 
 
 def line_programs(dwarf: Any) -> Iterator[tuple[Any, Any]]:
-    """Each unit with its line table; a table that more units share comes once."""
+    """Yields each unit with its line table. A shared table comes once."""
     seen = set()
     for unit in dwarf.iter_CUs():
         program = dwarf.line_program_for_CU(unit)
@@ -168,15 +167,14 @@ def line_programs(dwarf: Any) -> Iterator[tuple[Any, Any]]:
 
 
 def file_names(program: Any) -> dict[int, str]:
-    """The names of a line table's files by their numbers: from 1 on up to DWARF 4, from 0 on in DWARF 5."""
+    """Returns the file names of a line table by number: from 1 up to DWARF 4, from 0 in DWARF 5."""
     first = 0 if program["version"] >= 5 else 1
     return {first + place: name_of(entry.name.split(b"/")[-1])
             for place, entry in enumerate(program["file_entry"])}
 
 
 def inlined_calls(file: Any) -> Iterator[Inlined]:
-    """For each call that the compiler has inlined and that is in no other, the first and the last address of what stands for it, and the
-    file and line of the call."""
+    """Yields for each outermost inlined call its first and last address, and the file and line of the call."""
     if not file.has_dwarf_info():
         return
     dwarf = file.get_dwarf_info()
@@ -191,7 +189,7 @@ def inlined_calls(file: Any) -> Iterator[Inlined]:
 
 
 def outermost(dwarf: Any, unit: Any) -> Iterator[Any]:
-    """The inlined calls of a unit that are in functions and their blocks alone, and in no other call."""
+    """Yields the inlined calls of a unit that are in no other inlined call."""
     inside = [True]  # for each entry that is open, whether it is the unit, or a function or block in such
     for entry in entries_of(dwarf, unit):
         if entry.is_null():
@@ -207,8 +205,7 @@ def outermost(dwarf: Any, unit: Any) -> Iterator[Any]:
 
 
 def entries_of(dwarf: Any, unit: Any) -> Iterator[Any]:
-    """The entries of a unit in the order of the file, each right after the one before. pyelftools goes by the siblings that entries name,
-    and does not end where one names itself."""
+    """Yields the entries of a unit in the order of the file. pyelftools follows sibling references, and does not end if one is circular."""
     from elftools.dwarf.die import DIE
     unit.get_top_DIE()  # which others need to read indirect values
     place, end = unit.cu_die_offset, unit.cu_offset + unit.size
@@ -219,7 +216,7 @@ def entries_of(dwarf: Any, unit: Any) -> Iterator[Any]:
 
 
 def ranges_of(dwarf: Any, unit: Any, entry: Any) -> Iterator[tuple[int, int]]:
-    """The ranges of addresses of an entry, each up to, and not with, its end."""
+    """Yields the address ranges of an entry, each without its end."""
     told = entry.attributes
     if "DW_AT_low_pc" in told and "DW_AT_high_pc" in told:
         first, end = told["DW_AT_low_pc"].value, told["DW_AT_high_pc"]

@@ -1,4 +1,4 @@
-"""Names and texts from input files, made visible: no control character of a file reaches a terminal, a script or a format of lines."""
+"""Makes names and texts from input files visible: no control character of a file reaches a terminal, a script or a line format."""
 from __future__ import annotations
 
 import re

@@ -1,4 +1,4 @@
-"""What a subcommand found, as its exit status and as a JUnit report: a test case for each question, with the finding if there is one."""
+"""The findings of a subcommand, as its exit status and as a JUnit report with a test case for each question."""
 from __future__ import annotations
 
 from dataclasses import dataclass
@@ -9,13 +9,13 @@ from rvlook.errors import FOUND, REFUSED, UNFINISHED, Unfinished, package_missin
 
 @dataclass(frozen=True)
 class Case:
-    """A question that a subcommand answers, and the finding; an empty text is none."""
+    """A question that a subcommand answers, and the finding; empty if there is none."""
     name: str
     finding: str = ""
 
 
 class Findings:
-    """The cases of one subcommand; the lines of the script that the bench refused; and why it could not finish, if it could not."""
+    """The cases of one subcommand, the lines of the script that the bench refused, and why it could not finish, if so."""
 
     def __init__(self) -> None:
         self.cases: list[Case] = []
@@ -38,6 +38,7 @@ class Findings:
 
     @property
     def has_found(self) -> bool:
+        """Returns whether there is a finding."""
         return any(it.finding for it in self.cases)
 
     def status(self, is_report: bool) -> int:

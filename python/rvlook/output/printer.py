@@ -1,4 +1,4 @@
-"""How things are written: lines for a person, objects for a program, and colours where a terminal has them."""
+"""Prints lines for a person and objects for a program, with colours on a terminal that has them."""
 from __future__ import annotations
 
 import json
@@ -24,7 +24,7 @@ class Writer(Protocol):
 
 
 class Style(Enum):
-    """What a part of a line is; on a terminal without colours it is plain, and tells as much."""
+    """The style of a part of a line; plain on a terminal without colours."""
     heading = "1"
     good = "32"
     bad = "31"
@@ -32,7 +32,7 @@ class Style(Enum):
 
 
 def has_colours(stream: TextIO) -> bool:
-    """Whether the stream is a terminal that takes them."""
+    """Returns whether the stream is a terminal with colours."""
     return stream.isatty() and os.environ.get("TERM", "dumb") != "dumb" and "NO_COLOR" not in os.environ
 
 
@@ -44,6 +44,7 @@ class Printer:
         self.colours = not as_json and has_colours(self.stream)
 
     def line(self, text: str = "") -> None:
+        """Prints a line."""
         self.stream.write(text.rstrip() + "\n")
 
     def document(self, text: str) -> None:
@@ -61,6 +62,7 @@ class Printer:
         self.stream.write(json.dumps({"object": __kind, **members}, separators=(",", ":")) + "\n")
 
     def styled(self, text: str, style: Style) -> str:
+        """Returns a text in a style, if there are colours."""
         return "\033[%sm%s\033[0m" % (style.value, text) if self.colours else text
 
 
@@ -73,36 +75,37 @@ def hex8(number: Optional[int]) -> Optional[str]: ...
 
 
 def hex8(number: int | None) -> str | None:
-    """A number as the replies write it, None as it is."""
+    """Returns a number in eight hexadecimal digits, None for None."""
     return None if number is None else "%08x" % number
 
 
 def end_object(printer: Writer, end: End) -> None:
+    """Writes the end of a run as an object."""
     printer.object("end", steps=end.steps, why=end.why, pc=end.pc, mode=end.mode, world=end.world)
 
 
 def end_text(printer: Printer, end: End, symbols: Symbols) -> None:
-    """The last line of a run."""
+    """Prints the last line of a run."""
     why = "stays at" if end.why == "stays" else "has come to"
     count = "1 step" if end.steps == 1 else "%d steps" % end.steps
     printer.line("%s: %s %s %s in %s" % (count, end.world, why, place_text(end.pc, symbols), end.mode))
 
 
 def place_text(pc: str, symbols: Symbols) -> str:
-    """An address, with its symbol and source line where there are such."""
+    """Returns an address with its symbol and source line, if there are any."""
     number = int(pc, 16)
     return "  ".join(it for it in (pc, symbols.name(number), symbols.line(number)) if it)
 
 
 def run_object(printer: Writer, run: Run, symbols: Symbols) -> None:
-    """The first line of an output."""
+    """Writes the first object of an output."""
     setup = run.setup
     printer.object("run", image=setup.image.name, monitor=setup.monitor, harts=setup.harts, ram=setup.ram, pc=run.pc, mode=run.mode,
                    world=run.world, symbols=bool(symbols))
 
 
 def enclave_object(enclave: Enclave) -> dict[str, Json]:
-    """A line of `enclaves` as an object."""
+    """Returns the table entry of an enclave as an object."""
     return {"slot": enclave.slot, "state": enclave.state, "base": hex8(enclave.base), "size": enclave.size,
             "window": hex8(enclave.window), "window_size": enclave.window_size, "entry": hex8(enclave.entry),
             "measurement": enclave.measurement}

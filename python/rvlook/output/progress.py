@@ -1,4 +1,4 @@
-"""A line on a terminal that tells how far long work is; nothing is written where standard error is no terminal."""
+"""Shows the progress of a long task in a line on a terminal. Writes nothing if standard error is no terminal."""
 from __future__ import annotations
 
 import sys
@@ -9,7 +9,7 @@ EVERY = 0.2  # seconds
 
 
 class Progress:
-    """The line; it is written anew at most five times a second, and taken away at the end."""
+    """The progress line. It is updated at most five times a second, and removed at the end."""
 
     def __init__(self, stream: TextIO | None = None) -> None:
         self.stream = stream or sys.stderr
@@ -22,7 +22,7 @@ class Progress:
         self.clear()
 
     def tell(self, text: str, *values: object) -> None:
-        """Shows a line, of a form and its values."""
+        """Shows a line, from a format and its values."""
         if not self.is_shown or time.monotonic() - self.last < EVERY:
             return
         self.last, told = time.monotonic(), text % values
@@ -37,6 +37,7 @@ class Progress:
             self.tell("[%s%s] %d of %d  %s", "#" * filled, "." * (30 - filled), done, of, found)
 
     def clear(self) -> None:
+        """Removes the line."""
         if self.width:
             self.stream.write("\r" + " " * self.width + "\r")
             self.stream.flush()

@@ -1,5 +1,5 @@
-"""The page's axis of memory: RAM is cut where a row of the map ends, and where what is touched begins and ends. What nobody touched is
-shut."""
+"""The memory axis of the page. RAM is cut at the boundaries of the map, and where accessed memory begins and ends; memory without accesses
+is collapsed."""
 from __future__ import annotations
 
 from typing import Any, Iterator, Sequence, TYPE_CHECKING
@@ -14,7 +14,7 @@ JOINED = 1024  # touched places nearer than that are one segment
 
 
 def segments_of(found: Collector) -> list[dict[str, Any]]:
-    """The segments of RAM from below, each with its first and last address, whether something is touched in it, and the names in it."""
+    """Returns the segments of RAM in ascending order: first and last address, whether it is accessed, and the names in it."""
     borders = sorted(int(first, 16) for first in found.borders)
     ends = borders[1:] + [RAM_BASE + found.run["ram"]]
     touched = sorted(it * GRANULE for it in found.granules)
@@ -30,12 +30,12 @@ def segments_of(found: Collector) -> list[dict[str, Any]]:
 
 
 def outside(first: int, end: int) -> dict[str, Any]:
-    """Where there is no memory, and something was tried."""
+    """Returns a segment without memory that was accessed."""
     return {"first": "%08x" % first, "last": "%08x" % (end - 1), "range": "%08x" % first, "open": True, "outside": True, "labels": []}
 
 
 def cut(first: int, end: int, touched: Sequence[int]) -> Iterator[tuple[int, int, bool]]:
-    """The parts of a range: from, to, and whether it is touched."""
+    """Yields the parts of a range: first address, end, and whether it is accessed."""
     place, at = first, 0
     while at < len(touched):
         low = high = touched[at]

@@ -1,6 +1,6 @@
-"""The objects of a run, packed for the page: what comes again and again is a number in a table, and numbers are columns of bytes. All
-of it is compressed by zlib, and stands as digits of base 64: the length of an object in JSON, in four bytes, the lowest first; the object;
-and the columns, at the places that it tells."""
+"""Packs the objects of a run for the page: repeated values are numbers in a table, and numbers are columns of bytes. The result is
+compressed by zlib, in base 64: the length of a JSON object in four bytes, little-endian; the object; and the columns, at the places that
+the object names."""
 from __future__ import annotations
 
 import base64
@@ -35,21 +35,22 @@ class Table:
         self.numbers: dict[Any, int] = {}
 
     def number(self, value: Hashable) -> int:
+        """Returns the number of a value, and adds the value if it is new."""
         return self.numbers.setdefault(value, len(self.numbers))
 
     def rows(self, *names: str) -> list[dict[str, Any]]:
-        """The values, each as an object with these members."""
+        """Returns the values as objects with these members."""
         return [dict(zip(names, value)) for value in self.numbers]
 
 
 class Columns:
-    """Arrays of numbers as bytes behind one another, each from a multiple of four on."""
+    """Arrays of numbers as bytes, each aligned to four bytes."""
 
     def __init__(self) -> None:
         self.bytes = bytearray()
 
     def add(self, numbers: array[int]) -> dict[str, int]:
-        """An array, in numbers of as few bytes as hold the largest, the lowest byte first: where it stands."""
+        """Appends an array, in little-endian numbers of the least width that is enough; returns its place."""
         largest = max(numbers, default=0)
         narrow = array(next(kind for kind in KINDS_OF_ARRAYS if largest < 256 ** array(kind).itemsize), numbers)
         if sys.byteorder == "big":
@@ -60,20 +61,20 @@ class Columns:
 
 
 def compressed(data: Mapping[str, Any], columns: Columns) -> str:
-    """The data of a page and its columns, as text."""
+    """Returns the data of a page and its columns as text."""
     told = json.dumps(data, separators=(",", ":")).encode("utf-8")
     told += b" " * (-len(told) % 4)
     return base64.b64encode(zlib.compress(struct.pack("<I", len(told)) + told + bytes(columns.bytes), LEVEL)).decode("ascii")
 
 
 def refusal(step: Mapping[str, Any]) -> str | None:
-    """The name of the status by which the monitor has refused a call, or None: a0, where no other world goes on."""
+    """Returns the status with which the monitor refused a call, or None. It is in a0 if no other world continues."""
     status = step["registers"].get("x10", next(iter(step["call"]["arguments"].values())))
     return STATUSES.get(int(status, 16)) if step["next"]["world"] == step["world"] else None
 
 
 def shown_text(step: Mapping[str, Any]) -> str | None:
-    """The text of an instruction, with what a branch or jump goes to in place of how far that is."""
+    """Returns the text of an instruction, with the target of a branch or jump in place of its offset."""
     text, target = step["abi"], step["target"]
     if not target or not BRANCH.match(text):
         return text
@@ -81,7 +82,7 @@ def shown_text(step: Mapping[str, Any]) -> str | None:
 
 
 class Collector:
-    """Takes objects as a printer does, and keeps what the page shows of them."""
+    """Takes objects as a printer does, and keeps those parts that the page shows."""
 
     def __init__(self) -> None:
         self.run: dict[str, Any] = {}
@@ -102,7 +103,7 @@ class Collector:
 
     @property
     def title(self) -> str:
-        """The image's name: that of its folder, where the file has a common one."""
+        """Returns the name of the image, or of its folder if the image has a common name."""
         path = os.path.abspath(self.run["image"])
         name = os.path.basename(path)
         return os.path.basename(os.path.dirname(path)) if name in COMMON else os.path.splitext(name)[0] if name.endswith(".elf") else name
@@ -112,16 +113,19 @@ class Collector:
         getattr(self, "take_" + __kind)(members)
 
     def take_run(self, it: dict[str, Any]) -> None:
+        """Takes the object of the run."""
         self.run = it
 
     def take_end(self, it: dict[str, Any]) -> None:
+        """Takes the object of the end."""
         self.end = it
 
     def take_command(self, it: dict[str, Any]) -> None:
+        """Takes a line of the script."""
         self.commands.append(it)
 
     def take_moment(self, it: dict[str, Any]) -> None:
-        """The map of a moment is that of others mostly, and stands once."""
+        """Takes a moment. Equal maps are stored once."""
         self.rows += len(it["rows"])
         self.borders.update(row["first"] for row in it["rows"])
         shown = json.dumps({name: it[name] for name in MAP})
@@ -129,6 +133,7 @@ class Collector:
         self.moments.append({**rest, "map": self.maps.number(shown)})
 
     def take_step(self, it: dict[str, Any]) -> None:
+        """Takes a step."""
         self.site.append(self.sites.number((it["pc"], it["word"], it["abi"], it["symbol"], it["function"], it["source"], it["caller"],
                                             shown_text(it))))
         self.place.append(self.places.number((it["hart"], it["world"], it["mode"])))
@@ -143,7 +148,7 @@ class Collector:
         self.take_points(it)
 
     def take_points(self, it: dict[str, Any]) -> None:
-        """What is drawn of a step: the instruction that was fetched, where no interrupt came, and what it loaded or stored."""
+        """Takes the accesses that are drawn for a step: its fetch, unless an interrupt came, and its load or store."""
         if not (it["trap"] and it["trap"]["cause"].startswith("8")):
             self.add_point(int(it["pc"], 16), 4, it["symbol"])
         touch = it["touch"]
@@ -156,6 +161,7 @@ class Collector:
                 column.append(value)
 
     def add_point(self, address: int, width: int, symbol: str | None) -> None:
+        """Takes an access of `width` bytes."""
         self.points += 1
         self.granules.update((address // GRANULE, (address + width - 1) // GRANULE))
         name = symbol and symbol.split("+")[0]
@@ -163,12 +169,12 @@ class Collector:
             self.labels[name] = address
 
     def source_names(self) -> set[str]:
-        """The files of which a line was executed."""
+        """Returns the names of the files of which a line was executed."""
         sources = [source for site in self.sites.numbers for source in site[5:7] if source]
         return {source.rsplit(":", 1)[0] for source in sources}
 
     def data(self, columns: Columns) -> dict[str, Any]:
-        """All of it, as one object, and the columns behind it."""
+        """Returns all data as one object, and appends the columns."""
         return {
             "title": self.title, "run": self.run, "end": self.end, "steps": len(self.site), "points": self.points,
             "rows": self.rows, "maps": [json.loads(it) for it in self.maps.numbers],

@@ -1,4 +1,4 @@
-"""The word page: a run as one page for a browser, which needs nothing else. It is made of the objects that --json writes."""
+"""The subcommand `page`: writes a run as one page for a browser, made from the objects of --json."""
 from __future__ import annotations
 
 import os
@@ -44,7 +44,7 @@ def show_page(run: Run, symbols: Symbols, printer: Printer, template: Any, paths
 
 
 def collected(run: Run, symbols: Symbols) -> Collector:
-    """All objects of a run's map and trace."""
+    """Returns all objects of the map and the trace of a run."""
     found = Collector()
     run_object(found, run, symbols)
     writer = Objects(run, symbols, found)

@@ -1,6 +1,5 @@
-"""The texts of the source files that the line tables of an ELF file name, if the reader of the page may have them: a line table can name
-any file of this machine, and a page is passed on. So only regular files below the folder of the ELF file are taken in, or below a folder
-of `--sources`, and each is named on standard error."""
+"""Reads the source files that the line tables of an ELF file name. A line table can name any file of this machine, and pages are passed on,
+so only regular files below the folder of the ELF file, or below a folder of `--sources`, are read. Each is reported on standard error."""
 from __future__ import annotations
 
 import os

@@ -1,5 +1,4 @@
-"""The word explain: an input of the bench, read beside its faults. The bench is given the input as it stands; what its faults mean, and
-what to write in their place, is derived."""
+"""The subcommand `explain`: shows the errors of an input of the bench, what they mean, and what to write instead."""
 from __future__ import annotations
 
 import re
@@ -23,7 +22,7 @@ if TYPE_CHECKING:
 
 @dataclass(frozen=True)
 class Explained:
-    """A fault: the line (0 for the input as a whole), its text, what the bench replied, what is meant, and what to write."""
+    """An error: the line (0 for the input as a whole), its text, the reply, its meaning, and what to write."""
     line: int
     text: str
     reply: str
@@ -32,7 +31,7 @@ class Explained:
 
 
 def replies_to(words: Sequence[str], data: bytes) -> list[str]:
-    """What the bench writes for an input."""
+    """Returns the lines that the bench writes for an input; raises Unfinished."""
     try:
         done = subprocess.run([program_path(), *words], input=data, capture_output=True, check=False)
     except OSError as error:
@@ -41,7 +40,7 @@ def replies_to(words: Sequence[str], data: bytes) -> list[str]:
 
 
 def explained(words: Sequence[str], data: bytes) -> list[Explained]:
-    """All faults of an input, in their order."""
+    """Returns all errors of an input, in order."""
     replies = replies_to(words, data)
     lines = lines_of(data.decode("latin-1"))
     last = replies[-1] if replies and replies[-1].startswith("rvbench: ") else None
@@ -58,12 +57,12 @@ def explained(words: Sequence[str], data: bytes) -> list[Explained]:
 
 
 def whole_fault(reply: str) -> Explained:
-    """A fault of the image as a whole."""
+    """Returns an error of the input as a whole."""
     return Explained(0, "", reply, *input_error(reply))
 
 
 def image_faults(lines: Sequence[str]) -> list[Explained]:
-    """The first line of the image's text that is no text of an image."""
+    """Returns the first malformed line of the image's text."""
     for number, line in enumerate(lines, 1):
         if is_separator(line):
             break
@@ -74,7 +73,7 @@ def image_faults(lines: Sequence[str]) -> list[Explained]:
 
 
 def image_line_fault(line: str) -> tuple[str, str | None] | None:
-    """What is wrong with a line of an image, and what to write; None where it is right."""
+    """Returns what is wrong with a line of an image, and what to write; None if it is well-formed."""
     if re.search(r"[^\t\x20-\x7e]", line):
         return "these are bytes, and not their digits", "the file's digits: od -An -v -tx1 -w60 FILE | tr -d ' '; rvlook takes it as it is"
     if len(line) > LONGEST_LINE:
@@ -96,12 +95,12 @@ def image_line_fault(line: str) -> tuple[str, str | None] | None:
 
 
 def shown(text: str) -> str:
-    """A line of the input, as it may be shown."""
+    """Returns a line of the input in printable characters."""
     return re.sub(r"[^\x20-\x7e]", "?", text[:LONGEST_LINE])
 
 
 def script_faults(lines: Iterable[tuple[int, str]], replies: Sequence[str], is_twin: bool) -> list[Explained]:
-    """The lines of a script that are answered by a fault."""
+    """Returns the lines of a script that have an error reply."""
     found, place = [], 0
     for number, line in lines:
         if not has_reply(line):
@@ -119,14 +118,14 @@ def script_faults(lines: Iterable[tuple[int, str]], replies: Sequence[str], is_t
 
 
 def marked_count(replies: Sequence[str]) -> int:
-    """How many lines of the replies are those of two benches to one command."""
+    """Returns how many of the lines are the replies of two benches to one command."""
     first = next((n for n, it in enumerate(replies) if not it.startswith("a: ")), len(replies))
     second = next((n for n, it in enumerate(replies[first:]) if not it.startswith("b: ")), len(replies) - first)
     return first + second
 
 
 def count_of(words: Sequence[str], replies: Sequence[str]) -> int:
-    """How many lines of the replies are a command's."""
+    """Returns how many of the lines are the reply to a command."""
     if words[0] == "enclaves":
         return next((n for n, it in enumerate(replies) if not it.startswith("enclave ")), len(replies))
     if words[0] == "sched":
@@ -135,7 +134,7 @@ def count_of(words: Sequence[str], replies: Sequence[str]) -> int:
 
 
 def command_line_faults(words: Sequence[str]) -> list[Explained]:
-    """The first word that the bench does not take: the words before it are taken, with a value behind an option that has one."""
+    """Returns the first argument that the bench refuses: it accepts the arguments before it, with a value after an option that has one."""
     for count in range(1, len(words) + 1):
         tried = [words[:count], [*words[:count], "1"], [*words[:count], "raw"], [*words[:count], "65536"],
                  [*words[:count], "--monitor"], [*words[:count], "1", "--monitor"]]
@@ -145,7 +144,7 @@ def command_line_faults(words: Sequence[str]) -> list[Explained]:
 
 
 def word_fault(words: Sequence[str], place: int) -> tuple[str, str]:
-    """Which word it is, and what might be meant."""
+    """Returns which argument is refused, and what might be meant."""
     known = ("run", "twin", "asm", "dis", "help", "--kind", "--monitor", "--ram", "--harts", "--slot", "--help", "auto", "raw", "elf")
     near = get_close_matches(words[place].lower(), known, 1, 0.6)
     return "%s, word %d, is not taken there" % (words[place], place + 1), near[0] if near and near[0] != words[place] else \
@@ -153,7 +152,7 @@ def word_fault(words: Sequence[str], place: int) -> tuple[str, str]:
 
 
 def show_explain(path: str, words: Sequence[str], printer: Printer, findings: Findings) -> None:
-    """The faults of an input, and what to write; each is a finding."""
+    """Prints the errors of an input, and what to write; each is a finding."""
     data = bounded(sys.stdin.buffer, "standard input") if path == "-" else read_file(path)
     found = explained(words or ["run"], data)
     for it in found:

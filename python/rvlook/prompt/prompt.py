@@ -1,4 +1,4 @@
-"""The prompt: lines from a terminal, with the history and the completion of Python's readline, or as they come."""
+"""Reads the lines of the prompt: from a terminal, with history and completion by readline, or from standard input."""
 from __future__ import annotations
 
 import sys
@@ -20,7 +20,7 @@ LONGEST_INPUT = 1 << 16  # characters of a line; a longer one is taken in parts
 
 
 def plain_lines(session: Session) -> Iterator[str]:
-    """Lines as they come, each shown behind its prompt."""
+    """Yields lines of standard input, each shown after its prompt."""
     while True:
         sys.stdout.write(session.prompt())
         sys.stdout.flush()
@@ -33,13 +33,14 @@ def plain_lines(session: Session) -> Iterator[str]:
 
 
 def complete_by(session: Session) -> None:
-    """Has a tab complete the word before the cursor."""
+    """Makes the tab key complete the word before the cursor."""
     try:
         import readline
     except ImportError:
         return  # a Python that was built without it
 
     def complete(text: str, number: int) -> str | None:
+        """Returns a completion by its number, or None."""
         words = (readline.get_line_buffer()[:readline.get_begidx()] + "|").split()
         found = [it + " " for it in completions(session, words) if it.startswith(text)]
         return found[number] if number < len(found) else None
@@ -50,7 +51,7 @@ def complete_by(session: Session) -> None:
 
 
 def terminal_lines(session: Session) -> Iterator[str]:
-    """Lines from a terminal."""
+    """Yields lines from a terminal."""
     complete_by(session)
     while True:
         try:

@@ -1,5 +1,4 @@
-"""What the prompt does with a line: the bench's commands, in which symbols and ABI names may stand, and a few of its own, for what a
-debugger has not."""
+"""Runs the lines of the prompt: commands of the bench with symbols and ABI names, and a few commands of its own."""
 from __future__ import annotations
 
 import inspect
@@ -47,37 +46,41 @@ class Keeper(Protocol):
 
 
 class Held:
-    """A timeline, in whose place another one at an earlier step may come; what had been done behind that is forgotten."""
+    """A timeline that another one at an earlier step may replace; what had been done after that step is forgotten."""
 
     def __init__(self, timeline: Timeline) -> None:
         self.timeline = timeline
 
     def go(self, position: int) -> None:
+        """Goes back to a step. Keeps breaks and watches."""
         old, self.timeline = self.timeline, self.timeline.again(position)
         self.timeline.set_stops(old.stops)
         old.close()
 
 
 class Session:
-    """A bench under the prompt; `held` has its timeline."""
+    """The session of a prompt; `held` has its timeline."""
 
     def __init__(self, held: Keeper, run: Run, symbols: Symbols, printer: Printer) -> None:
         self.held, self.setup, self.symbols, self.printer, self.finder = held, run.setup, symbols, printer, Finder(run)
 
     @property
     def timeline(self) -> Timeline:
+        """Returns the timeline of the bench."""
         return self.held.timeline
 
     @property
     def hart(self) -> int:
+        """Returns the chosen hart."""
         return self.timeline.hart
 
     @property
     def pc(self) -> str:
+        """Reads the pc of the chosen hart, in hexadecimal digits."""
         return self.timeline.ask("regs")[0][32][3:]
 
     def prompt(self) -> str:
-        """What stands before a line: the world, the mode, where it is."""
+        """Returns the prompt: world, mode and place."""
         hart = "hart %d " % self.hart if self.setup.harts > 1 else ""
         pc = self.pc
         name = self.symbols.name(int(pc, 16))
@@ -92,7 +95,7 @@ class Session:
             return True
 
     def done(self, text: str) -> bool:
-        """The same; a name that stands for no one address is a fault."""
+        """Runs a line; returns False if the session ends. Raises NameRefused for an ambiguous name."""
         words = words_of(text)
         if not has_reply(text):
             return True
@@ -105,7 +108,7 @@ class Session:
         return True
 
     def own(self, name: str, operands: Sequence[str]) -> None:
-        """A command of the prompt; where the operands are not its own, it is told how it is written."""
+        """Runs a command of the prompt, or shows its syntax."""
         act = getattr(self, name)
         try:
             inspect.signature(act).bind(*operands)
@@ -115,11 +118,12 @@ class Session:
         act(*operands)
 
     def tell(self, text: str, style: Style | None = None) -> None:
+        """Prints a text."""
         text = visible(text)
         self.printer.line(self.printer.styled(text, style) if style else text)
 
     def command(self, line: str) -> None:
-        """A command of the bench, as it is."""
+        """Runs a command of the bench."""
         replies = self.timeline.do(line)
         for reply in replies:
             self.tell(reply, Style.bad if reply.startswith("error ") else None)
@@ -129,7 +133,7 @@ class Session:
             self.where()
 
     def refused(self, reply: str, words: Sequence[str]) -> None:
-        """What is meant by a fault, and what to write."""
+        """Prints what an error means, and what to write."""
         meant, write = line_error(reply, words)
         unknown = self.unknown_symbol(words) if reply == "error operand" else None
         if unknown:
@@ -142,14 +146,14 @@ class Session:
             self.tell("  write: " + write)
 
     def unknown_symbol(self, words: Sequence[str]) -> str | None:
-        """The operand that stands for an address and is none, or None."""
+        """Returns the operand that should be an address or a value and is none, or None."""
         command = COMMANDS.get(words[0])
         pairs = zip(words[1:], command.forms) if command and len(words) - 1 == len(command.forms) else ()
         return next((word for word, form in pairs if form in PLACES and not is_form(word, form)
                      and self.symbols.address(word) is None), None)
 
     def help(self) -> None:
-        """The commands."""
+        """Prints the commands."""
         self.tell("of the bench, in which symbols and the names of registers may stand:")
         self.tell("  " + "  ".join(("%s %s" % (name, it.letters)).strip() for name, it in list(COMMANDS.items())[:10]))
         self.tell("  " + "  ".join(("%s %s" % (name, it.letters)).strip() for name, it in list(COMMANDS.items())[10:]))
@@ -158,21 +162,21 @@ class Session:
             self.tell("  " + text)
 
     def where(self) -> None:
-        """The next instruction."""
+        """Prints the next instruction."""
         pc = self.pc
         text = self.timeline.ask("dis " + pc)[0][0].split(": ")[-1]
         word, _, text = text.partition(" ")
         self.tell("next  %s  %s" % (names.with_abi_names(text) if word != "error" else "(outside)", place_text(pc, self.symbols)))
 
     def map(self) -> None:
-        """Who may touch what now."""
+        """Prints the present access rights."""
         pc, now = self.pc, self.timeline
         self.finder.state = self.finder.state_of(now, now.worlds)
         moment = self.finder.moment(now.position, now.hart, Event("now"), Place(pc, now.modes[now.hart], now.worlds[now.hart]))
         moment_text(self.printer, moment, self.symbols)
 
     def back(self, count: str = "1") -> None:
-        """Steps back, by playing what was done up to there."""
+        """Goes back by a number of steps."""
         if not (count.isascii() and count.isdigit() and len(count) <= LONGEST_COUNT):
             self.tell(OWN["back"])
             return
@@ -201,7 +205,7 @@ class Session:
 
 
 def steps_to(ahead: Timeline, usual: str) -> int | None:
-    """How many steps it is to one whose reply has not this part; None where none comes, or the hart stays where it is."""
+    """Returns the number of steps to the first reply without the text `usual`; None if none comes, or the hart does nothing more."""
     for done in range(0, MOST_STEPS, CHUNK):
         lines = ahead.bench.block(b"step 1\n" * CHUNK, CHUNK).decode().splitlines()
         found = next((n for n, line in enumerate(lines) if usual not in line), None)
@@ -213,12 +217,12 @@ def steps_to(ahead: Timeline, usual: str) -> int | None:
 
 
 def operands_of(name: str) -> tuple[Form, ...]:
-    """The forms of a command's operands."""
+    """Returns the forms of the operands of a command."""
     return COMMANDS[name].forms if name in COMMANDS else ()
 
 
 def completions(session: Session, words: Sequence[str]) -> Sequence[str]:
-    """What the last word may become."""
+    """Returns the completions of the last word."""
     if len(words) <= 1:
         return sorted([*COMMANDS, *OWN])
     if words[0] == "until":

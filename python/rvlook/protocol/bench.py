@@ -32,7 +32,7 @@ MARKED = b"x0=00000000"
 
 @lru_cache(maxsize=None)
 def program_path() -> str:
-    """The program: the one that RVBENCH names, or the one that ./rvbench runs, which is found once."""
+    """Returns the path of the program: the one that RVBENCH names, or the one that ./rvbench runs."""
     path = os.environ.get("RVBENCH") or installed_program()
     if path and not os.path.exists(path):
         raise Fault("there is no program at %s, which RVBENCH names" % path)
@@ -40,12 +40,13 @@ def program_path() -> str:
 
 
 def installed_program() -> str | None:
-    """The program `rvbench` on the PATH, if this package is not in a clone of the repository."""
+    """Returns the path of `rvbench` on the PATH, if this package is not in a clone of the repository."""
     return None if os.path.exists(FINDER) else shutil.which("rvbench")
 
 
 def built_program() -> str:
-    """The program that ./prove has built, or an unproved one, which is built now if there is none. Ends the build on SIGTERM and Ctrl-C."""
+    """Returns the path of the program that ./prove has built, or builds one without proof. Ends the build on SIGTERM and Ctrl-C. Raises
+    Unfinished."""
     if not os.path.exists(FINDER):
         raise Unfinished("there is no program; RVBENCH names one, or it is rvbench on the PATH")
     with subprocess.Popen([FINDER, "rvlook"], stdin=subprocess.DEVNULL, stdout=subprocess.PIPE, text=True) as building:
@@ -63,7 +64,7 @@ def built_program() -> str:
 
 
 def is_enclaves(command: str) -> bool:
-    """Whether a command is one whose reply may have any number of lines."""
+    """Returns whether a command's reply may have any number of lines."""
     return "enclaves" in command and words_of(command)[0] == "enclaves" and not is_malformed(command)
 
 
@@ -77,7 +78,7 @@ def widen(*pipes: IO[bytes]) -> None:
 
 
 class Bench:
-    """One run of the program; `words` are those of its command line, `image` is the text of the image."""
+    """One process of the bench. `words` are its arguments, `image` the text of the image."""
 
     def __init__(self, words: Sequence[str], image: bytes, harts: int = 1) -> None:
         path = program_path()
@@ -114,7 +115,7 @@ class Bench:
         self.process.wait()
 
     def send(self, text: bytes) -> None:
-        """Gives the program more to read; it is written as replies are read."""
+        """Queues input for the program; it is written while replies are read."""
         self.pending = memoryview(bytes(self.pending) + text)
 
     def transfer(self) -> bytes:
@@ -136,14 +137,14 @@ class Bench:
         return part
 
     def last_words(self) -> str:
-        """What the program said where it ended."""
+        """Returns the last error of the program."""
         said = b"".join(self.parts).decode("ascii", "replace").splitlines()
         self.process.wait()
         faults = [line for line in said if line.startswith("rvbench: ")]
         return faults[-1] if faults else "the bench ended with status %d" % self.process.returncode
 
     def block(self, text: bytes, count: int) -> bytes:
-        """The replies to the commands of `text`, which have `count` lines, as they are."""
+        """Sends commands whose replies have `count` lines; returns the replies."""
         self.send(text)
         found = sum(part.count(b"\n") for part in self.parts)
         while found < count:
@@ -156,7 +157,7 @@ class Bench:
         return block
 
     def line(self) -> bytes:
-        """The next line of the replies."""
+        """Returns the next line of the replies."""
         while not self.lines:
             self.parts.append(self.transfer())
             if self.parts[-1].endswith(b"\n"):
@@ -168,7 +169,7 @@ class Bench:
         return line
 
     def reply(self, command: str) -> list[bytes]:
-        """The lines of one command's reply; a comment has none."""
+        """Returns the lines of the reply to one command; none for a comment."""
         if not has_reply(command):
             return []
         if is_enclaves(command):
@@ -181,19 +182,19 @@ class Bench:
         return [first] + [self.line() for _ in range(count - 1)]
 
     def ask(self, *commands: str) -> list[list[str]]:
-        """The replies to commands that each have one: for each the list of its lines."""
+        """Sends commands; returns for each one the lines of its reply."""
         self.give(*commands)
         return self.told(*commands)
 
     def give(self, *commands: str) -> None:
-        """Gives commands whose replies `told` will read."""
+        """Queues commands whose replies `told` will read. Raises Fault for a command of more than one line."""
         if any("\n" in it for it in commands):
             raise Fault("a command of the bench is one line, and has no line feed")
         text = "".join(ended(it) + (MARK + "\n" if is_enclaves(it) else "") for it in commands)
         self.send(text.encode("latin-1", "replace"))
 
     def begin(self, *commands: str) -> None:
-        """Gives commands that it is to do now, whose replies `told` will read."""
+        """Sends commands now whose replies `told` will read."""
         self.give(*commands)
         try:
             self.pending = self.pending[os.write(self.stdin.fileno(), self.pending[:PIPE]):]
@@ -201,9 +202,9 @@ class Bench:
             pass
 
     def told(self, *commands: str) -> list[list[str]]:
-        """The replies to commands that were given."""
+        """Returns the replies to commands that were sent."""
         return [[line.decode("latin-1") for line in self.reply(it)] for it in commands]
 
     def one(self, command: str) -> str:
-        """The one line that answers a command."""
+        """Sends a command; returns the one line of its reply."""
         return self.ask(command)[0][0]

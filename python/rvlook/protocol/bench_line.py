@@ -10,7 +10,7 @@ PLAIN = re.compile(r"[\t\x20-\x7e]{0,%d}\Z" % LONGEST_LINE)
 
 
 def is_malformed(line: str) -> bool:
-    """Whether the bench replies `error line`: the line is too long, or has a byte that is no tab and not one of 20 to 7E."""
+    """Returns whether the bench replies `error line`: the line is too long, or has a byte that is no tab and not one of 20 to 7E."""
     return not PLAIN.match(line)
 
 
@@ -20,13 +20,13 @@ def words_of(line: str) -> list[str]:
 
 
 def has_reply(line: str) -> bool:
-    """Whether the bench replies at all: it does not reply to a well-formed comment or blank line."""
+    """Returns whether the bench replies to a line: it does not to a well-formed comment or blank line."""
     words = words_of(line)
     return is_malformed(line) or bool(words) and not words[0].startswith("#")
 
 
 def is_separator(line: str) -> bool:
-    """Whether the line ends an image or a script: its only word is `--`."""
+    """Returns whether the line ends an image or a script: its only word is `--`."""
     return words_of(line) == ["--"] and not is_malformed(line)
 
 

@@ -1,4 +1,4 @@
-"""The commands of the bench and the forms of their operands (docs/COMMANDS.md), for what reads them beside it."""
+"""The commands of the bench and the forms of their operands (docs/COMMANDS.md)."""
 from __future__ import annotations
 
 import re
@@ -13,7 +13,7 @@ if TYPE_CHECKING:
 
 
 class Form(Enum):
-    """What an operand is."""
+    """The form of an operand."""
     count = "a decimal number from 1 to 1000000"
     register = "a register's number, decimal, 0 to 31"
     address = "an address: one to eight hexadecimal digits, after 0x or not"
@@ -57,7 +57,7 @@ PATTERNS = {
 
 
 def is_form(word: str, form: Form) -> bool:
-    """Whether a word has the form of an operand, range and all."""
+    """Returns whether a word is a valid operand of a form, including its range."""
     if form in LIMITS:
         low, high = LIMITS[form]
         return bool(DECIMAL.match(word)) and low <= int(word) <= high
@@ -65,8 +65,8 @@ def is_form(word: str, form: Form) -> bool:
 
 
 def rewritten(word: str, form: Form, symbols: Symbols | None = None) -> str | None:
-    """The word as the form has it, where what is meant is plain: an ABI name, the name of a control and status register, a symbol, a
-    number in the other base. None where it is not."""
+    """Returns a word in the syntax of a form if its meaning is clear, else None. It may be an ABI name, the name of a control and status
+    register, a symbol, or a number in the other base."""
     if form is Form.address and symbols and word.split("+")[0].split("@")[0] in symbols.places:
         at = symbols.address(word)
         return None if at is None else "%x" % at
@@ -83,7 +83,7 @@ def rewritten(word: str, form: Form, symbols: Symbols | None = None) -> str | No
 
 
 def rewritten_number(word: str, form: Form) -> str | None:
-    """The word in the base of the form, or in its case."""
+    """Returns a number in the base of the form, or a word in its case; None if it is not valid."""
     if form in LIMITS and re.match(r"0[xX][0-9a-fA-F]+\Z", word):
         number = str(int(word, 16))
     elif form is Form.byte and re.match(r"0[xX][0-9a-fA-F]{1,2}\Z", word) or form in (Form.address, Form.value):
@@ -94,7 +94,7 @@ def rewritten_number(word: str, form: Form) -> str | None:
 
 
 def written(name: str, operands: Sequence[str], symbols: Symbols | None = None) -> str | None:
-    """The command as the bench takes it, or None where an operand cannot be told."""
+    """Returns a command in the syntax of the bench, or None if an operand is not valid."""
     forms = COMMANDS[name].forms
     found = [rewritten(word, form, symbols) for word, form in zip(operands, forms)]
     texts = [it for it in found if it is not None]

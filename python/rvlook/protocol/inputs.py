@@ -9,7 +9,7 @@ ELF_MAGIC = b"\x7fELF"
 
 @dataclass(frozen=True)
 class ScriptLine:
-    """A line of a script: as it stands, where it stands, and what the bench is given for it."""
+    """A line of a script: its text in the file, its place, and its text in the syntax of the bench."""
     given: str
     place: str
     text: str
@@ -18,8 +18,8 @@ class ScriptLine:
 
 @dataclass(frozen=True)
 class Image:
-    """`text` is what the bench reads up to the line `--`, `data` the bytes that it says (None where it says none rightly), `script` the
-    lines behind that line, where the file had them."""
+    """An image: the text that the bench reads before the line `--`, its bytes (None if the text is malformed), and the lines of the script
+    after that line."""
     name: str
     text: bytes
     data: Optional[bytes]
@@ -27,4 +27,5 @@ class Image:
 
     @property
     def is_elf(self) -> bool:
+        """Returns whether the bytes begin as an ELF file."""
         return self.data is not None and self.data.startswith(ELF_MAGIC)

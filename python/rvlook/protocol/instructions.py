@@ -1,5 +1,5 @@
-"""What the text of an instruction says: the register that it writes, the memory that it loads or stores, where it goes, and the short
-form that the manual has for it. All of it is derived of the text that the bench's `dis` replies."""
+"""Decodes the text of an instruction in a reply of `dis`: the register that it writes, its load or store, its target, and the manual's
+short form."""
 from __future__ import annotations
 
 import re
@@ -18,7 +18,7 @@ SET_CSR = re.compile(r"csrr([wsc])i? x\d+, 0x([0-9a-f]+), x?(\d+)")
 
 @dataclass(frozen=True)
 class Memory:
-    """The operand of a load (`r`) or store (`w`): so many bytes at a register and an offset, from or to another register."""
+    """The operand of a load (`r`) or store (`w`): `width` bytes at a base register and an offset, from or to another register."""
     kind: str
     width: int
     base: int
@@ -28,7 +28,7 @@ class Memory:
 
 @dataclass(frozen=True)
 class Instruction:
-    """A word of memory, as `dis` tells it."""
+    """A word of memory, as a reply of `dis` has it."""
     word: str
     text: str
     abi: str
@@ -40,12 +40,13 @@ class Instruction:
 
     @property
     def short(self) -> str:
+        """Returns the manual's short form."""
         return short_form(self.abi)
 
 
 @lru_cache(maxsize=65536)
 def instruction_of(line: bytes) -> Instruction | None:
-    """The instruction of a reply of `dis`, or None where there is none."""
+    """Decodes a reply of `dis`; returns None for an error."""
     if line.startswith(b"error"):
         return None
     word, text = line.decode().split(": ")[1].split(" ", 1)
@@ -56,7 +57,7 @@ def instruction_of(line: bytes) -> Instruction | None:
 
 
 def memory_of(match: re.Match[str]) -> Memory:
-    """The operand of a load or a store."""
+    """Returns the operand of a load or a store."""
     kind = "r" if match[1][0] == "l" else "w"
     return Memory(kind, WIDTHS[match[1][1]], int(match[4]), int(match[3]), int(match[2]))
 
@@ -79,5 +80,5 @@ SHORT = [(re.compile(pattern + r"\Z"), form) for pattern, form in (
 
 @lru_cache(maxsize=65536)
 def short_form(text: str) -> str:
-    """The manual's short form of a text with ABI names, or the text itself."""
+    """Returns the manual's short form of a text with ABI names, or the text itself."""
     return next((pattern.sub(form, text) for pattern, form in SHORT if pattern.match(text)), text)

@@ -1,5 +1,4 @@
-"""A line of a script or of the prompt, as the bench takes it: symbols, and the names of registers, become numbers. What was made of a
-line is derived; what the bench replies to it is not."""
+"""Converts a line of a script or of the prompt to the syntax of the bench: symbols and names of registers become numbers."""
 from __future__ import annotations
 
 from typing import Iterable, Sequence, TYPE_CHECKING
@@ -19,8 +18,8 @@ LONGEST_SHOWN = 160  # characters of a line in a message
 
 
 def resolved(line: str, symbols: Symbols) -> str:
-    """The text for the bench. A name that stands for two addresses is refused; what cannot be told is left to the bench to refuse, and so
-    is a malformed line."""
+    """Returns a line in the syntax of the bench. Raises NameRefused for an ambiguous name. Returns what is not valid unchanged, as the bench
+    refuses it."""
     words = words_of(line)
     if is_malformed(line) or not words or words[0] not in COMMANDS:
         return line
@@ -28,12 +27,12 @@ def resolved(line: str, symbols: Symbols) -> str:
 
 
 def resolved_script(lines: Iterable[ScriptLine], symbols: Symbols) -> tuple[ScriptLine, ...]:
-    """The lines of a script with their texts for the bench."""
+    """Returns the lines of a script in the syntax of the bench."""
     return tuple(resolved_line(it, symbols) for it in lines)
 
 
 def resolved_line(line: ScriptLine, symbols: Symbols) -> ScriptLine:
-    """A line of a script; a name that is refused leaves it as it stands, and the bench refuses it."""
+    """Returns a line of a script in the syntax of the bench; unchanged if a name is ambiguous, as the bench then refuses it."""
     try:
         return ScriptLine(line.given, line.place, resolved(line.given, symbols))
     except NameRefused as fault:
@@ -41,19 +40,19 @@ def resolved_line(line: ScriptLine, symbols: Symbols) -> ScriptLine:
 
 
 def fault_text(line: ScriptLine, reply: str, symbols: Symbols) -> str:
-    """What is told of a line that the bench refuses."""
+    """Returns the message for a line that the bench refuses."""
     meant = line.refused or meaning(reply, words_of(line.given), symbols)
     return visible_line("%s: %s: %s: %s" % (line.place, line.given[:LONGEST_SHOWN], reply, meant))
 
 
 def meaning(reply: str, words: Sequence[str], symbols: Symbols) -> str:
-    """What is meant by a fault of a line."""
+    """Returns what an error of a line means."""
     unknown = reply == "error operand" and unknown_name(words, symbols)
     return unknown or line_error(reply, words)[0]
 
 
 def unknown_name(words: Sequence[str], symbols: Symbols) -> str | None:
-    """What is told of the first operand that should be an address or a value and looks like a name, or None."""
+    """Returns the message for the first operand that should be an address or a value and looks like a name, or None."""
     for word, form in zip(words[1:], COMMANDS[words[0]].forms):
         if form in (Form.address, Form.value) and not is_form(word, form) and not word[:1].isdigit():
             return no_symbol(word, symbols)
@@ -61,7 +60,7 @@ def unknown_name(words: Sequence[str], symbols: Symbols) -> str | None:
 
 
 def no_symbol(name: str, symbols: Symbols) -> str:
-    """What is told of a name that is none."""
+    """Returns the message for an unknown name."""
     if not symbols:
         return "%s is no address, and there are no symbols: an ELF file has them, or --symbols FILE" % name
     near = nearest(name, symbols.by_name)

@@ -40,7 +40,7 @@ def input_error(reply: str) -> tuple[str, str | None]:
 
 
 def line_error(reply: str, words: Sequence[str]) -> tuple[str, str | None]:
-    """What is meant by a fault of a line, and what to write in its place."""
+    """Returns what an error of a line means, and what to write instead, or None."""
     if reply == "error command":
         return command_error(words)
     if reply == "error operand":
@@ -56,7 +56,7 @@ def line_error(reply: str, words: Sequence[str]) -> tuple[str, str | None]:
 
 
 def command_error(words: Sequence[str]) -> tuple[str, str | None]:
-    """A first word that is no command."""
+    """Returns what is wrong with a first word that is no command, and what to write instead, or None."""
     word = words[0]
     if word == "--":
         return "a second -- is a line for `rvbench twin` alone", None
@@ -70,7 +70,7 @@ def command_error(words: Sequence[str]) -> tuple[str, str | None]:
 
 
 def operand_error(words: Sequence[str]) -> tuple[str, str | None]:
-    """The operands of a command that are not as it has them."""
+    """Returns what is wrong with the operands of a command, and what to write instead, or None."""
     name, operands = words[0], words[1:]
     command = COMMANDS[name]
     comment = next((place for place, word in enumerate(operands) if word.startswith("#")), None)
@@ -87,6 +87,6 @@ def operand_error(words: Sequence[str]) -> tuple[str, str | None]:
 
 
 def count_text(name: str, wanted: int, given: int) -> str:
-    """What is told of a number of operands that a command does not take."""
+    """Returns the message for a wrong number of operands."""
     operands = {0: "no operands", 1: "1 operand"}.get(wanted, "%d operands" % wanted)
     return "%s takes %s, %d given" % (name, operands, given)

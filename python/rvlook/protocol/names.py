@@ -1,4 +1,4 @@
-"""Names of the field for numbers: registers by the ABI, causes, calls and statuses of the monitor."""
+"""Names for numbers: ABI registers, causes of traps, and calls and statuses of the monitor."""
 from __future__ import annotations
 
 import re
@@ -59,12 +59,12 @@ CSR_OPERAND = re.compile(r"(?<=, )0x([0-9a-f]+)(?=, )")  # in the text of an ins
 
 
 def abi_name(number: int) -> str:
-    """The ABI name of a register."""
+    """Returns the ABI name of a register."""
     return ABI[number]
 
 
 def with_abi_names(text: str) -> str:
-    """The text of an instruction with the ABI names of its registers, and the names of control and status registers."""
+    """Returns the text of an instruction with ABI names, and with the names of control and status registers."""
     text = REGISTER.sub(lambda match: ABI[int(match[1])], text)
     if text.startswith("csr"):
         return CSR_OPERAND.sub(lambda match: CSR_NAMES.get(int(match[1], 16), match[0]), text)
@@ -72,17 +72,17 @@ def with_abi_names(text: str) -> str:
 
 
 def cause_name(cause: str) -> str:
-    """A trap's name."""
+    """Returns the name of a trap."""
     return CAUSES.get(cause, "cause " + cause)
 
 
 def call_of(registers: Sequence[int]) -> Call | None:
-    """The call that an ecall with these registers asks the monitor for, or None."""
+    """Returns the call of the monitor that an ecall with these registers makes, or None."""
     return NUMBERED.get(registers[16]) if registers[17] == KEY else None
 
 
 def size_text(size: int) -> str:
-    """A number of bytes, in the largest unit that divides it."""
+    """Returns a number of bytes in the largest unit that divides it."""
     for unit, name in ((1 << 20, "M"), (1 << 10, "K")):
         if size and size % unit == 0:
             return "%d%s" % (size // unit, name)

@@ -1,4 +1,4 @@
-"""The name that is meant by an unknown one, in bounded time."""
+"""Finds the known name that is most similar to an unknown one, in bounded time."""
 from __future__ import annotations
 
 from difflib import get_close_matches

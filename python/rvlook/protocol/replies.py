@@ -1,4 +1,4 @@
-"""Replies of the bench as values (docs/COMMANDS.md)."""
+"""Decodes the replies of the bench (docs/COMMANDS.md)."""
 from __future__ import annotations
 
 import re
@@ -50,6 +50,7 @@ class Enclave:
 
     @property
     def world(self) -> str:
+        """Returns the world of the enclave."""
         return "e%d" % self.slot
 
 
@@ -61,12 +62,12 @@ class Entry:
 
 
 def trap_of(text: str) -> Trap | None:
-    """The trap behind `trap=`, or None for a hyphen."""
+    """Decodes the text after `trap=`; returns None for a hyphen."""
     return None if text == "-" else Trap(*text.split(":"))
 
 
 def ran_of(line: str) -> Ran | None:
-    """The reply of a step, or None where it is a fault."""
+    """Decodes the reply of `step` or `run`; returns None for an error."""
     match = RAN.fullmatch(line)
     return Ran(int(match[1]), match[2], match[3], match[4], match[5], trap_of(match[6])) if match else None
 
@@ -80,23 +81,23 @@ def step_of(line: str) -> Ran:
 
 
 def enclave_of(line: str) -> Enclave:
-    """A live enclave."""
+    """Decodes a line of `enclaves`."""
     words = line.split()
     base, size, window, window_size, entry = (int(word, 16) for word in words[3:8])
     return Enclave(int(words[1]), words[2], base, size, window, window_size, entry, words[8])
 
 
 def entry_of(line: str) -> Entry:
-    """An entry of physical memory protection."""
+    """Decodes a line of `pmp`."""
     cfg, addr = line.split()[2:]
     return Entry(int(cfg[4:], 16), int(addr[5:], 16))
 
 
 def register_values(lines: list[str]) -> list[int]:
-    """The values of x0 to x31, and of pc, in the reply of `regs`."""
+    """Decodes the reply of `regs`: the values of x0 to x31 and pc."""
     return [int(line.split("=")[1], 16) for line in lines]
 
 
 def bytes_of(line: str) -> bytes:
-    """The bytes that `mem` shows."""
+    """Decodes a reply of `mem`."""
     return bytes.fromhex(line.split(":")[1])

@@ -1,8 +1,6 @@
-"""A run: what its script does, step by step, and how to come to any step of it again.
-
-The script is played once as it stands, which tells how many steps each `run` of it did. From then on every step can be done alone: a
-`run` of so many steps is as many single steps, and `sched` is a step of the hart that each digit names.
-"""
+"""A run: what its script does, step by step, and how to return to any step. The script is run once unchanged, which shows the number of
+steps of each `run`. From then on every step can be done alone: a `run` is as many single steps, and `sched` is a step of the hart that each
+digit names."""
 from __future__ import annotations
 
 import copy
@@ -27,7 +25,7 @@ SINGLE = b"step 1\n"
 
 @dataclass(frozen=True)
 class Setup:
-    """What is run: the image, the lines of the script, and the words of the command line."""
+    """The configuration of a run: the image, the lines of the script, and the options of the bench."""
     image: Image
     lines: tuple[ScriptLine, ...] = ()  # of the script
     monitor: bool = False
@@ -39,33 +37,33 @@ class Setup:
 
     @property
     def script(self) -> tuple[str, ...]:
-        """The lines of the script as the bench takes them."""
+        """Returns the lines of the script in the syntax of the bench."""
         return tuple(it.text for it in self.lines)
 
     def words(self) -> list[str]:
-        """The words for the program."""
+        """Returns the arguments of the program."""
         words = ["run", "--ram", str(self.ram), "--kind", self.kind]
         if self.monitor:
             words.append("--monitor")
         return words + (["--harts", str(self.harts)] if self.harts > 1 else [])
 
     def with_script(self, lines: Iterable[str], limit: int) -> Setup:
-        """The same with other lines of the script, and so many steps behind it at most."""
+        """Returns the configuration with another script, and at most `limit` steps after it."""
         return replace(self, lines=tuple(ScriptLine(it, "line %d" % at, it) for at, it in enumerate(lines, 1)), limit=limit)
 
     def bench(self) -> Bench:
-        """A bench at reset."""
+        """Starts a bench."""
         return Bench(self.words(), self.image.text, self.harts)
 
     @property
     def modes(self) -> str:
-        """The modes that an access may be judged in."""
+        """Returns the modes in which an access can be checked."""
         return "SU" if self.monitor else "MSU"
 
 
 @dataclass(frozen=True)
 class Line:
-    """A line of the script that does no step, as the bench takes it and as it stands; a hidden one stands for a part of another."""
+    """A line of the script that does no step, in the syntax of the bench and as given; a hidden one is a part of another line."""
     text: str
     replies: tuple[str, ...] = ()
     hidden: bool = False
@@ -73,33 +71,34 @@ class Line:
 
     @property
     def is_refused(self) -> bool:
-        """Whether the bench has refused it."""
+        """Returns whether the bench refused the line."""
         return bool(self.replies) and self.replies[0].startswith("error ")
 
     @property
     def word(self) -> str:
-        """The command, or none if it was refused."""
+        """Returns the command; empty if it was refused."""
         return "" if self.is_refused else words_of(self.text)[0]
 
     @property
     def changes_state(self) -> bool:
+        """Returns whether the command changes what a step does."""
         return self.word in STATE_WORDS
 
     @property
     def hart(self) -> int | None:
-        """The hart that it chooses, or None."""
+        """Returns the hart that the line chooses, or None."""
         return int(words_of(self.text)[1]) if self.word == "hart" else None
 
 
 @dataclass(frozen=True)
 class Steps:
-    """So many steps of the chosen hart."""
+    """Steps of the chosen hart."""
     count: int
 
 
 @dataclass(frozen=True)
 class End:
-    """How a run ended."""
+    """The end of a run."""
     steps: int
     why: str
     pc: str
@@ -109,7 +108,7 @@ class End:
 
 @dataclass
 class Stretch:
-    """Single steps of one hart, with their replies; the first has the number `first`."""
+    """`count` single steps of one hart with their replies; the first has the number `first`."""
     first: int
     hart: int
     data: bytes
@@ -117,8 +116,8 @@ class Stretch:
 
 
 class Run:
-    """A setup, with the plan of its script. `hart` is the hart that the script has left chosen, `faults` the lines that the bench has
-    refused, each with its reply."""
+    """A configuration with the plan of its script. `hart` is the chosen hart after the script, `faults` the lines that the bench refused, each
+    with its reply."""
 
     def __init__(self, setup: Setup) -> None:
         self.setup, self.hart, self.length = setup, 0, 0
@@ -131,7 +130,7 @@ class Run:
                 self.play(bench, line.text, line)
 
     def play(self, bench: Bench, line: str, script_line: ScriptLine) -> None:
-        """One line of the script, as a part of the plan."""
+        """Runs a line of the script, and adds it to the plan."""
         if not has_reply(line):
             return
         words = words_of(line)
@@ -149,18 +148,19 @@ class Run:
             self.hart = self.hart if done.hart is None else done.hart
 
     def add_steps(self, count: int) -> None:
+        """Adds steps to the plan."""
         self.plan.append(Steps(count))
         self.length += count
 
     def add_schedule(self, digits: str) -> None:
-        """Steps of the harts that the digits name, in their order."""
+        """Adds the steps of a `sched` to the plan."""
         for part in re.finditer(r"0+|1+", digits):
             self.plan.append(Line("hart " + part[0][0], hidden=True))
             self.add_steps(len(part[0]))
         self.plan.append(Line("hart %d" % self.hart, hidden=True))
 
     def with_lines(self, step: int, lines: Sequence[str]) -> Run:
-        """The same run with more lines behind a step: those of the script come at the same steps as before."""
+        """Returns the run with more lines after a step; the lines of the script stay at their steps."""
         other = copy.copy(self)
         inserted = [Line(line, hidden=True) for line in lines]
         other.plan, position = [], 0
@@ -181,7 +181,7 @@ class Run:
         return other
 
     def stretches(self) -> Iterator[Line | Stretch | End]:
-        """The whole run in single steps: Line for a line of the script, Stretch for steps, and End."""
+        """Runs everything in single steps; yields Line for a line of the script, Stretch for steps, and End."""
         with self.setup.bench() as bench:
             position, hart = 0, 0
             last = ("ran 0 pc=%s mode=%s world=%s why=done trap=-" % (self.pc, self.mode, self.world)).encode()
@@ -202,7 +202,7 @@ class Run:
         return hart if line.hart is None else line.hart
 
     def tail(self, bench: Bench, position: int, hart: int, last: bytes) -> Iterator[Stretch | End]:
-        """The steps behind the script, up to where the hart stays or the limit is; then the end."""
+        """Yields the steps after the script, until the hart does nothing more or the limit is reached, and then the end."""
         held, left = b"", self.setup.limit
         why = "limit"
         while left > 0 and why == "limit":
@@ -222,12 +222,12 @@ class Run:
         yield End(position, why, ran.pc, ran.mode, ran.world)
 
     def replay(self) -> Replay:
-        """The run again, from reset."""
+        """Starts the run again from reset."""
         return Replay(self)
 
 
 def alike_at_end(lines: Sequence[AnyStr]) -> int:
-    """How many lines at the end are the same."""
+    """Returns how many lines at the end are the same."""
     count = 1
     while count < len(lines) and lines[-1 - count] == lines[-1]:
         count += 1
@@ -235,7 +235,7 @@ def alike_at_end(lines: Sequence[AnyStr]) -> int:
 
 
 def single_steps(bench: Bench, position: int, hart: int, count: int) -> Generator[Stretch, None, bytes]:
-    """So many steps, one at a time; the replies to the last of them are what it returns."""
+    """Yields single steps; returns the replies to the last of them."""
     data = b""
     for done in range(0, count, CHUNK):
         part = min(CHUNK, count - done)
@@ -246,7 +246,7 @@ def single_steps(bench: Bench, position: int, hart: int, count: int) -> Generato
 
 @dataclass
 class Replay:
-    """A bench that is brought to one step of a run after another. `lines_to` gives the commands; who calls it sends them."""
+    """A bench that is brought to one step of a run after another. `lines_to` returns the commands, which the caller sends."""
     run: Run
     position: int = 0
     hart: int = 0
@@ -264,7 +264,7 @@ class Replay:
         self.bench.close()
 
     def lines_to(self, step: int) -> list[str]:
-        """The commands from where it is to right behind a step."""
+        """Returns the commands from the present step to right after a step."""
         commands: list[str] = []
         while self.position < step:
             item = self.run.plan[self.place] if self.place < len(self.run.plan) else Steps(step - self.position)
@@ -282,13 +282,13 @@ class Replay:
         return commands
 
     def take(self, line: Line, commands: list[str]) -> None:
-        """A line of the script on the way."""
+        """Takes a line of the script on the way."""
         if line.changes_state:
             commands.append(line.text)
         self.hart = self.hart if line.hart is None else line.hart
 
     def lines_up_to_next(self) -> list[str]:
-        """The script's lines that stand between where it is and the next step."""
+        """Returns the lines of the script before the next step."""
         commands: list[str] = []
         while self.place < len(self.run.plan):
             item = self.run.plan[self.place]
@@ -305,7 +305,7 @@ class Replay:
 
 
 def run_of(setup: Setup) -> Run:
-    """The run of a setup."""
+    """Returns the run of a configuration; raises Fault or Unfinished if the bench ends."""
     try:
         return Run(setup)
     except BenchEnded as error:
@@ -313,7 +313,7 @@ def run_of(setup: Setup) -> Run:
 
 
 def told_fault(setup: Setup, error: BenchEnded) -> Fault:
-    """The fault of a bench that ended: where it refuses the image, that is told, and what it means."""
+    """Returns the error for a bench that ended, with its meaning if it refused the image."""
     told = str(error)
     if told not in INPUT_REPLIES:
         return Unfinished("%s: %s" % (setup.image.name, told))

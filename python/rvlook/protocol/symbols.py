@@ -14,7 +14,7 @@ UNSIZED = 4096  # bytes that a symbol without a size has at most
 
 @dataclass(frozen=True)
 class Symbol:
-    """A name at an address; size 0 where none is told."""
+    """A name at an address; size 0 if it is not known."""
     address: int
     size: int
     name: str
@@ -26,8 +26,8 @@ Inlined = Tuple[int, int, str]  # the first and the last address of what a call 
 
 
 class Symbols:
-    """`symbols` in any order; `lines` are pairs of an address and the source line from there on, None where one ends; `inlined` gives, as
-    it is asked for, the first and the last address of what stands for a call, and the line of the call."""
+    """`symbols` are in any order; `lines` are pairs of an address and the source line from there on, None at the end of one; `inlined` reads
+    the inlined calls when they are needed."""
 
     def __init__(self, symbols: Sequence[Symbol] = (), lines: Iterable[tuple[int, str | None]] = (),
                  inlined: Callable[[], Iterable[Inlined]] = tuple) -> None:
@@ -48,19 +48,19 @@ class Symbols:
         return bool(self.ordered)
 
     def at(self, address: int) -> Symbol | None:
-        """The symbol that an address belongs to, or None: that with the nearest address at or below it, as far as its size goes."""
+        """Returns the nearest symbol at or below an address whose size includes the address, or None."""
         place = bisect_right(self.addresses, address) - 1
         symbol = self.ordered[place] if place >= 0 else None
         return symbol if symbol and address < symbol.address + (symbol.size or UNSIZED) else None
 
     def size_of(self, symbol: Symbol) -> int:
-        """The bytes of a symbol: those that are told, or else those up to the next one."""
+        """Returns the size of a symbol in bytes: its own, or else up to the next symbol."""
         place = bisect_right(self.addresses, symbol.address)
         following = self.addresses[place] - symbol.address if place < len(self.addresses) else UNSIZED
         return symbol.size or min(following, UNSIZED)
 
     def name(self, address: int) -> str | None:
-        """The address as a symbol, and how far behind it, or None."""
+        """Returns an address as a symbol and an offset, or None."""
         symbol = self.at(address)
         if symbol is None:
             return None
@@ -68,18 +68,18 @@ class Symbols:
         return "%s+%x" % (symbol.name, offset) if offset else symbol.name
 
     def function(self, address: int) -> str | None:
-        """The symbol without how far behind it, or None."""
+        """Returns the symbol of an address without an offset, or None."""
         symbol = self.at(address)
         return symbol.name if symbol else None
 
     def source(self, address: int) -> str | None:
-        """The file and line of an instruction, or None."""
+        """Returns the file and line of an instruction, or None."""
         place = bisect_right(self.line_starts, address) - 1
         return self.lines[place][1] if place >= 0 else None
 
     def sources_in(self, first: int, end: int) -> Iterator[str | None]:
-        """The file and line of each instruction of four bytes from one address on up to another, each row of the line table once; None
-        where there is no line. A size that a file tells may be that of all memory, and the rows are not more for it."""
+        """Yields the file and line, or None, of each row of the line table for the instructions from `first` up to before `end`. A damaged size
+        may span all memory; there are never more results than rows."""
         place = max(0, bisect_right(self.line_starts, first) - 1)
         for at in range(place, len(self.lines)):
             start = max(self.line_starts[at], first)
@@ -91,7 +91,7 @@ class Symbols:
                 yield self.lines[at][1]
 
     def caller(self, address: int) -> str | None:
-        """The file and line of the call that an instruction was inlined for, or None."""
+        """Returns the file and line of the call that was replaced by inlined code, or None."""
         if self.inlined is None:
             self.inlined = sorted(self.read_inlined())
         place = bisect_right(self.inlined, (address, 1 << 32)) - 1
@@ -99,13 +99,13 @@ class Symbols:
         return source if address <= last else None
 
     def line(self, address: int) -> str | None:
-        """The source line of an instruction, behind that of the call that it was inlined for, or None."""
+        """Returns the source line of an instruction, after that of the inlined call, or None."""
         source, caller = self.source(address), self.caller(address)
         return "%s, in %s" % (caller, source) if caller and source else source
 
     def address(self, text: str) -> int | None:
-        """The address that a name, a name+offset or hexadecimal digits say, or None. Of a name at more places, name@place is the first from
-        that place on."""
+        """Returns the address of a name, a name+offset or hexadecimal digits, or None. Of an ambiguous name, name@place is the first from a
+        place on. Raises NameRefused."""
         named, plus, offset = text.partition("+")
         name, at, place = named.partition("@")
         try:
@@ -116,7 +116,7 @@ class Symbols:
             return None
 
     def place_of(self, name: str, first: int | None) -> int:
-        """Where a name is: the only place, or the first from an address on."""
+        """Returns the address of a name: the only one, or the first from an address on. Raises NameRefused."""
         places = sorted(self.places[name])
         if first is not None:
             places = [it for it in places if it >= first][:1]

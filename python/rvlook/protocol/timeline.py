@@ -1,5 +1,5 @@
-"""A bench and its history: what was done on it since reset. The same commands give the same run each time, so any earlier step is come to
-again by giving them to another bench up to there. Steps are counted over all harts."""
+"""A bench and its history since reset. The same commands give the same run each time, so an earlier step is reached by repeating them on
+another bench. Steps are counted over all harts."""
 from __future__ import annotations
 
 from dataclasses import dataclass
@@ -20,22 +20,22 @@ TURNS = 64  # digits of a sched, at most
 
 @dataclass(frozen=True)
 class Steps:
-    """So many steps of the harts that the digits of `turns` name, again and again in their order."""
+    """`count` steps by the schedule `turns`, whose digits name harts and repeat."""
     turns: str
     count: int
 
     @property
     def chosen(self) -> list[str]:
-        """The command that chooses their hart, where all are of one."""
+        """Returns the command that chooses the hart, if all steps are of one."""
         return ["hart " + self.turns[0]] if len(set(self.turns)) == 1 else []
 
     @property
     def last(self) -> int:
-        """The hart of the last one."""
+        """Returns the hart of the last step."""
         return int(self.turns[(self.count - 1) % len(self.turns)])
 
     def lines(self) -> list[str]:
-        """The commands that do them, behind `chosen`."""
+        """Returns the commands that do the steps, after `chosen`."""
         if self.chosen:
             full, rest = divmod(self.count, MOST_STEPS)
             return ["step %d" % MOST_STEPS] * full + (["step %d" % rest] if rest else [])
@@ -46,15 +46,17 @@ class Steps:
 
 @dataclass(frozen=True)
 class Told:
-    """A command that changed something and was no step, with the hart that was chosen."""
+    """A command that changed something and was no step, with the chosen hart."""
     hart: int
     line: str
 
     @property
     def chosen(self) -> list[str]:
+        """Returns the command that chooses the hart."""
         return ["hart %d" % self.hart]
 
     def lines(self) -> list[str]:
+        """Returns the command."""
         return [self.line]
 
 
@@ -62,13 +64,13 @@ Part = Union[Steps, Told]  # of what was done on a bench
 
 
 def turned(turns: str, count: int) -> str:
-    """The turns behind so many steps."""
+    """Returns a schedule as it continues after some steps."""
     place = count % len(turns)
     return turns[place:] + turns[:place]
 
 
 def part(past: Iterable[Part], first: int, end: int) -> Iterator[Part]:
-    """What was done behind step `first`, up to step `end`, and was told right behind that."""
+    """Yields what was done after step `first`, up to step `end`, with the commands right after that."""
     at = 0
     for it in past:
         if isinstance(it, Told):
@@ -87,7 +89,7 @@ def steps_within(steps: Steps, first: int, end: int) -> Steps:
 
 
 def commands_of(past: Iterable[Part], chosen: int, hart: int) -> Iterator[str]:
-    """The commands that do again what was done, where hart `chosen` is the chosen one, and choose `hart` last."""
+    """Yields the commands that repeat what was done; hart `chosen` is chosen before, and `hart` after them."""
     choice = ["hart %d" % chosen]
     for it in past:
         if it.chosen and it.chosen != choice:
@@ -99,15 +101,15 @@ def commands_of(past: Iterable[Part], chosen: int, hart: int) -> Iterator[str]:
 
 
 def are_alike(one: str, other: str, count: int) -> bool:
-    """Whether so many steps of the one turns are those of the other."""
+    """Returns whether two schedules agree for a number of steps."""
     period = len(one) * len(other)
     return all(one[n % len(one)] == other[n % len(other)] for n in range(min(count, period)))
 
 
 class Timeline:
-    """A bench behind all that stands in `past`. `future` is what had been done behind that, before one came back here; it stays for as
-    long as the same is done again. `modes` and `worlds` are those of each hart, `stops` the breaks and watches that are set; `changes`
-    counts what may have changed a register or a byte, and `moved`, for each hart, what may have brought it to another world."""
+    """A bench after all that is in `past`. `future` is what had been done after that before one went back; it stays as long as the same is done
+    again. `modes` and `worlds` are those of each hart, `stops` the breaks and watches; `changes` counts what may have changed a register or a
+    byte, and `moved`, for each hart, what may have changed its world."""
 
     def __init__(self, setup: Setup, past: Iterable[Part] = (), hart: int = 0) -> None:
         self.setup = setup
@@ -123,7 +125,7 @@ class Timeline:
 
     @staticmethod
     def of_script(setup: Setup) -> Timeline:
-        """The timeline behind the script of a setup."""
+        """Returns the timeline after the script."""
         timeline = Timeline(setup)
         for line in setup.script:
             if has_reply(line):
@@ -131,12 +133,13 @@ class Timeline:
         return timeline
 
     def close(self) -> None:
+        """Ends the bench."""
         self.bench.close()
 
     # what is given, and read later
 
     def follow(self, past: Iterable[Part], hart: int | None = None) -> None:
-        """Does what was done elsewhere. It is on its way while others are asked."""
+        """Repeats what was done elsewhere. The replies are read later."""
         past = list(past)
         lines = list(commands_of(past, self.hart, self.hart if hart is None else hart))
         for line in lines:
@@ -148,7 +151,7 @@ class Timeline:
             self.bench.begin(*lines)
 
     def settle(self) -> None:
-        """Reads the replies to what was given. Of each hart the last one tells where it is, and all whether one trapped."""
+        """Reads the replies to what was sent: the state of each hart from its last reply, and whether one trapped."""
         given, self.given = self.given, []
         counts = [self.setup.harts if line.startswith("sched") else 1 for line, _ in given]
         block = self.bench.block(b"", sum(counts)).decode("latin-1") if given else ""
@@ -165,18 +168,18 @@ class Timeline:
     # what is asked
 
     def ask(self, *commands: str) -> list[list[str]]:
-        """The replies to commands that change nothing."""
+        """Sends commands that change nothing; returns the replies."""
         if self.given:
             self.settle()
         return self.bench.ask(*commands)
 
     def do(self, line: str) -> list[str]:
-        """Does any command, and keeps it where it changes something; its replies."""
+        """Runs a command, and records it if it changes something; returns its reply."""
         return self.do_all([line])[0]
 
     def do_all(self, lines: Sequence[str], turns: str | None = None) -> list[list[str]]:
-        """Does commands in one exchange, and keeps those that change something; the replies to each. Where a step of the chosen hart is
-        one of a schedule, `turns` are those from that step on."""
+        """Runs commands in one exchange, and records those that change something; returns the reply to each. `turns` is the schedule from the
+        first step on, if there is one."""
         replies = self.ask(*lines)
         for line, told in zip(lines, replies):
             if told and not told[0].startswith("error "):
@@ -187,7 +190,7 @@ class Timeline:
         return replies
 
     def do_at_once(self, line: str, questions: Iterable[str], count: int, turns: str | None = None) -> list[str]:
-        """Does a command that has one line of reply, and asks what changes nothing; all the lines of the replies, which are so many."""
+        """Runs a command with a reply of one line, and queries that change nothing; returns all `count` lines."""
         if self.given:
             self.settle()
         replies = self.bench.block("\n".join([line, *questions, ""]).encode(), count).decode("latin-1").splitlines()
@@ -201,14 +204,14 @@ class Timeline:
             self.do("hart %d" % hart)
 
     def run(self, hart: int, count: int, turns: str | None = None) -> Ran:
-        """A `run` of a hart; its reply."""
+        """Does a `run` of a hart; returns its reply."""
         self.choose(hart)
         return step_of(self.do_all(["run %d" % min(count, MOST_STEPS)], turns)[0][0])
 
     # what is kept
 
     def take(self, line: str, hart: int, replies: Sequence[str]) -> None:
-        """What is known of the harts behind a command."""
+        """Updates mode and world of the harts after a command."""
         if line.startswith(("step", "run")):
             ran = step_of(replies[0])
             self.reach(hart, ran.mode, ran.world, ran.trap and ran.steps > 1)
@@ -218,12 +221,12 @@ class Timeline:
                 self.reach(number, mode, world, trap != "-")
 
     def reach(self, hart: int, mode: str, world: str, trapped: object) -> None:
-        """A hart has come to a mode and a world; where it trapped on the way it may have been in others."""
+        """Sets mode and world of a hart. If it trapped on the way, it may have been in other worlds."""
         self.moved[hart] += bool(trapped or world != self.worlds[hart])
         self.modes[hart], self.worlds[hart] = mode, world
 
     def keep(self, word: str, line: str, replies: Sequence[str], turns: str | None = None) -> None:
-        """Keeps what was done."""
+        """Records what was done."""
         if word in ("step", "run"):
             self.add(Steps(turns or str(self.hart), step_of(replies[0]).steps))
         elif word == "sched":
@@ -236,7 +239,7 @@ class Timeline:
             self.stops.pop("%s %x" % (CONTRARY[word], int(line.split()[1], 16)), None)
 
     def add(self, it: Part) -> None:
-        """Adds to what was done; steps become one with those before them where the turns go on."""
+        """Appends to what was done; joins steps that continue the schedule."""
         self.changes += 1
         self.spend(it)
         last = self.past[-1] if self.past else None
@@ -248,7 +251,7 @@ class Timeline:
         self.past.append(it)
 
     def spend(self, it: Part) -> None:
-        """Takes what is done now from the future; where it is something else there is none any more."""
+        """Removes what is done now from the future; drops the future if it differs."""
         if isinstance(it, Told):
             self.future = self.future[1:] if self.future[:1] == [it] else []
             return
@@ -263,11 +266,11 @@ class Timeline:
 
     @property
     def was_told(self) -> bool:
-        """Whether something was told in the future."""
+        """Returns whether the future has a command."""
         return any(isinstance(it, Told) for it in self.future)
 
     def room(self) -> int | None:
-        """How many steps of the future come before something that was told, or None."""
+        """Returns the number of steps before the first command of the future, or None."""
         count = 0
         for it in self.future:
             if isinstance(it, Told):
@@ -276,7 +279,7 @@ class Timeline:
         return None
 
     def redo(self) -> bool:
-        """Tells again what was told at this step before one came back; whether there was such."""
+        """Repeats the commands of the future at this step; returns whether there were any."""
         found = False
         while self.future:
             head = self.future[0]
@@ -290,32 +293,33 @@ class Timeline:
     # the way back
 
     def again(self, position: int) -> Timeline:
-        """Another one at an earlier step, without breaks and watches."""
+        """Returns another timeline at an earlier step, without breaks and watches."""
         return Timeline(self.setup, part(self.past, -1, position), self.hart)
 
     def take_future(self, old: Timeline) -> None:
-        """Takes what another one, which has been further, did behind this step as the future of this one."""
+        """Takes what another timeline did after this step as the future."""
         self.future = [*part(old.past, self.position, old.position), *old.future]
 
     def set_stops(self, wanted: Iterable[str]) -> None:
-        """Sets these breaks and watches, and takes away all others."""
+        """Sets these breaks and watches, and removes all others."""
         self.do_all(["%s %s" % (CONTRARY[it.split()[0]], it.split()[1]) for it in self.stops if it not in wanted])
         self.do_all([it for it in wanted if it not in self.stops])
 
     def is_break(self, pc: str) -> bool:
+        """Returns whether there is a break at pc."""
         return "break %x" % int(pc, 16) in self.stops
 
     # whose turn it is
 
     def turns_of(self, schedule: str) -> str:
-        """The schedule from the turn on that comes next: it goes on where it was, whatever a hart did alone meanwhile."""
+        """Returns the schedule from the next step on, also if a hart ran alone meanwhile."""
         for it in reversed(self.past):
             if isinstance(it, Steps) and len(it.turns) == len(schedule) and it.turns in schedule * 2:
                 return turned(it.turns, it.count)
         return schedule
 
     def step_before(self, hart: int) -> int | None:
-        """The step before the last one of a hart, or None where it did none."""
+        """Returns the step before the last one of a hart, or None if it did none."""
         at = self.position
         for it in reversed(self.past):
             if isinstance(it, Steps):

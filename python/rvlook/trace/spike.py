@@ -1,5 +1,5 @@
-"""The log of commits as the simulator Spike writes it with --log-commits, for tools that read it: a line for each instruction that did not
-trap, with the register that it wrote, the control and status register, and what it loaded or stored."""
+"""Prints a trace in the format of Spike's --log-commits: a line for each instruction that did not trap, with the register and the control
+register that it wrote, and its load or store."""
 from __future__ import annotations
 
 from typing import TYPE_CHECKING
@@ -17,7 +17,7 @@ PRIVILEGE = {"M": 3, "S": 1, "U": 0}
 
 
 def show_spike(run: Run, wanted: Filter, printer: Printer) -> None:
-    """The commits among the steps that are wanted."""
+    """Prints the commits among the wanted steps."""
     symbols = run.setup.symbols
     with run.replay() as follower:
         for item in Tracer(run, wanted.first, wanted.last).events():
@@ -28,7 +28,7 @@ def show_spike(run: Run, wanted: Filter, printer: Printer) -> None:
 
 
 def commit_text(step: Step, follower: Replay) -> str:
-    """One commit. The value of a control and status register is asked for behind the step."""
+    """Returns a commit as a line. Reads the value of a control and status register after the step."""
     it = step.instruction
     assert it is not None
     text = "core%4d: %d 0x%s (0x%s)" % (step.hart, PRIVILEGE[step.at.mode], step.at.pc, it.word)

@@ -1,4 +1,4 @@
-"""The word trace: the steps of a run, for a person and as objects."""
+"""The subcommand `trace`: prints the steps of a run as lines and as objects."""
 from __future__ import annotations
 
 from dataclasses import dataclass, field
@@ -29,7 +29,7 @@ A0 = 10
 
 @dataclass(frozen=True)
 class Filter:
-    """Which steps are shown."""
+    """The steps that are wanted."""
     first: int = 1
     last: Optional[int] = None
     world: Optional[str] = None
@@ -37,18 +37,19 @@ class Filter:
     traps: bool = False
 
     def takes(self, step: Step, symbols: Symbols) -> bool:
-        """Whether a step is one of them."""
+        """Returns whether a step is wanted."""
         if self.world and step.at.world != self.world or self.traps and step.trap is None:
             return False
         return not self.function or symbols.function(int(step.at.pc, 16)) == self.function
 
     @property
     def is_whole(self) -> bool:
+        """Returns whether all steps from the first to the last are wanted."""
         return not (self.world or self.function or self.traps)
 
 
 def show_trace(run: Run, symbols: Symbols, printer: Printer, wanted: Filter, is_short: bool = False) -> None:
-    """The steps that are wanted, with the script's lines between them where all are."""
+    """Prints the wanted steps, and the lines of the script if all steps are wanted."""
     if printer.as_json:
         run_object(printer, run, symbols)
     writer: Objects | Lines = Objects(run, symbols, printer) if printer.as_json else Lines(run, symbols, printer, is_short)
@@ -68,13 +69,14 @@ def show_trace(run: Run, symbols: Symbols, printer: Printer, wanted: Filter, is_
 
 @dataclass
 class Objects:
-    """Each as an object."""
+    """Writes a trace as objects."""
     run: Run
     symbols: Symbols
     printer: Writer
     sites: dict[tuple[str, Optional[Instruction]], dict[str, Optional[str]]] = field(default_factory=dict)
 
     def step(self, step: Step) -> None:
+        """Writes a step."""
         target = step.target
         self.printer.object(
             "step", step=step.number, hart=step.hart, world=step.at.world, mode=step.at.mode, pc=step.at.pc, **self.site(step),
@@ -84,7 +86,7 @@ class Objects:
             next={"pc": step.next.pc, "mode": step.next.mode, "world": step.next.world})
 
     def site(self, step: Step) -> dict[str, str | None]:
-        """What stands at a pc, which is the same at many steps."""
+        """Returns what is the same each time at a pc and an instruction."""
         key = step.at.pc, step.instruction
         if key not in self.sites:
             pc, it = int(step.at.pc, 16), step.instruction
@@ -95,6 +97,7 @@ class Objects:
         return self.sites[key]
 
     def touch(self, touch: Touch | None) -> dict[str, Json] | None:
+        """Returns an access as an object."""
         if touch is None:
             return None
         return {"kind": touch.kind, "address": hex8(touch.address), "width": touch.width, "value": touch.value,
@@ -102,28 +105,32 @@ class Objects:
 
     @staticmethod
     def call(call: CallMade | None) -> dict[str, Json] | None:
+        """Returns a call as an object."""
         if call is None:
             return None
         return {"name": call.call.name, "arguments": {name: hex8(value) for name, value in call.arguments.items()}, "slot": call.slot}
 
     @staticmethod
     def trap(trap: Trap | None) -> dict[str, Json] | None:
+        """Returns a trap as an object."""
         return None if trap is None else {"cause": trap.cause, "value": trap.value, "name": names.cause_name(trap.cause)}
 
     def command(self, command: Command) -> None:
+        """Writes a line of the script."""
         self.printer.object("command", step=command.step, hart=command.hart, line=command.line, given=command.given,
                             replies=list(command.replies))
 
     def none(self) -> None:
-        """No step is one of those: so it is seen."""
+        """Writes nothing if no step is wanted."""
 
     def end(self, end: End) -> None:
+        """Writes the end."""
         end_object(self.printer, end)
 
 
 @dataclass(frozen=True)
 class Site:
-    """What is shown of an instruction at a place: its text, its function and its source line."""
+    """The constant part of a line: the text of an instruction, its function and its source line."""
     text: str
     function: Optional[str]
     source: Optional[str]
@@ -131,7 +138,7 @@ class Site:
 
 @dataclass
 class Lines:
-    """Each as a line; a heading tells where the steps below it are, and a source line stands where it is another than above."""
+    """Prints a trace as lines. A heading shows world, mode and function if they change; so does the source line."""
     run: Run
     symbols: Symbols
     printer: Printer
@@ -141,6 +148,7 @@ class Lines:
     sites: dict[tuple[str, Optional[Instruction]], Site] = field(default_factory=dict)
 
     def step(self, step: Step) -> None:
+        """Prints a step."""
         key = step.at.pc, step.instruction
         site = self.sites.get(key)
         if site is None:
@@ -162,7 +170,7 @@ class Lines:
             self.aside("%s goes on in %s" % (step.next.world, step.next.mode))
 
     def site(self, step: Step) -> Site:
-        """The text of an instruction, with what a branch or jump goes to in place of how far that is."""
+        """Returns the text of an instruction, with the target of a branch or jump in place of its offset."""
         pc, it = int(step.at.pc, 16), step.instruction
         text = it.abi if it else "(not fetched)"
         if it and it.offset is not None:
@@ -170,19 +178,19 @@ class Lines:
         return Site(short_form(text) if self.is_short else text, self.symbols.function(pc), self.symbols.line(pc))
 
     def place(self, address: int) -> str:
-        """An address as objdump writes it."""
+        """Returns an address as objdump writes it."""
         name = self.symbols.name(address)
         return "%08x <%s>" % (address, name) if name else "%08x" % address
 
     def head(self, heading: tuple[int, str, str, str | None]) -> None:
-        """The world, mode and function, where they are others than above."""
+        """Prints world, mode and function if they change."""
         self.heading, self.source = heading, None
         number, world, mode, function = heading
         parts = ("hart %d" % number if self.run.setup.harts > 1 else None, world, mode, function)
         self.printer.line(self.printer.styled("  ".join(it for it in parts if it), Style.heading))
 
     def effects(self, step: Step) -> list[str]:
-        """The registers that changed, what was touched, and where a jump to a register goes."""
+        """Returns the registers that changed, the access, and the target of a jump to a register."""
         changed = ["%s=%s" % (names.ABI[number], value) for number, value in step.changed.items()]
         if len(changed) > SHOWN_REGISTERS:
             value = "a0=%s" % step.changed[A0] if A0 in step.changed else changed[0]
@@ -194,10 +202,11 @@ class Lines:
         return changed
 
     def aside(self, text: str, style: Style = Style.aside) -> None:
+        """Prints an indented line."""
         self.printer.line(" " * 8 + self.printer.styled(text, style))
 
     def command(self, command: Command) -> None:
-        """A line of the script, and the first line of its reply."""
+        """Prints a line of the script, and the first line of its reply."""
         first = command.replies[0] if command.replies else "(nothing)"
         shown = first if len(first) <= SHOWN_REPLY else first[:SHOWN_REPLY] + " .."
         more = len(command.replies) - 1
@@ -206,15 +215,16 @@ class Lines:
                                           "  and %d more lines" % more if more > 0 else ""))
 
     def none(self) -> None:
-        """No step is one of those that are wanted."""
+        """Prints that no step is wanted."""
         self.printer.line("no step is one of these")
 
     def end(self, end: End) -> None:
+        """Prints the end."""
         end_text(self.printer, end, self.symbols)
 
 
 def call_text(step: Step) -> str:
-    """A call, its arguments, and why it is refused where it is."""
+    """Returns a call with its arguments, and the status if it is refused."""
     call = step.call
     assert call is not None
     text = " ".join(ARGUMENT_FORMS.get(name, name + " %x") % value for name, value in call.arguments.items())
@@ -224,7 +234,7 @@ def call_text(step: Step) -> str:
 
 
 def touch_text(touch: Touch, symbols: Symbols) -> str:
-    """A load or store: its kind, its address, the value that was loaded or stored, or how many bytes, and the symbol."""
+    """Returns a load or store: kind, address, value or width, and symbol."""
     name = symbols.name(touch.address)
     value = "=" + touch.value if touch.value else " %d" % touch.width
     return "%s %08x%s%s%s" % (touch.kind, touch.address, value, "  " + name if name else "", "" if touch.done else "  refused")

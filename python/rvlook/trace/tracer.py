@@ -1,8 +1,5 @@
-"""Each step of a run, with all that it changed and touched.
-
-Of an instruction that does not trap only the register that its text names is asked for, and all of them behind a trap and at the end of
-each part of the run, where those that were kept must be the same.
-"""
+"""Each step of a run, with all that it changed and accessed. After an instruction that does not trap only the register that it writes is
+read. All registers are read after a trap and at the end of each part of the run, where the values so far must agree."""
 from __future__ import annotations
 
 from typing import Iterator, NamedTuple, Optional, Sequence, TYPE_CHECKING, Tuple
@@ -27,8 +24,8 @@ RanFields = Tuple[bytes, bytes, bytes, bytes]  # of RAN_FIELDS: pc, mode, world 
 
 
 class Touch(NamedTuple):
-    """A load (`r`) or store (`w`), derived of the instruction and the registers before it; the value has as many digits as bytes were
-    touched, and there is none where the step trapped, or what was loaded went nowhere."""
+    """A load (`r`) or store (`w`), derived from the instruction and the registers before it. The value has two digits for each byte; there is
+    none if the step trapped, or the loaded value was discarded."""
     kind: str
     address: int
     width: int
@@ -37,14 +34,14 @@ class Touch(NamedTuple):
 
 
 class CallMade(NamedTuple):
-    """A call of the monitor, derived of the registers before the ecall."""
+    """A call of the monitor, derived from the registers before the ecall."""
     call: names.Call
     arguments: dict[str, int]
     slot: Optional[int]
 
 
 class Step(NamedTuple):
-    """One step: `at` is before it and `next` after it; `changed` has the registers that are another value after it."""
+    """One step: `at` is before it and `next` after it; `changed` has the registers with another value after it."""
     number: int
     hart: int
     at: Place
@@ -58,20 +55,22 @@ class Step(NamedTuple):
 
     @property
     def word(self) -> str | None:
+        """Returns the instruction in hexadecimal digits, or None."""
         return self.instruction.word if self.instruction else None
 
     @property
     def text(self) -> str | None:
+        """Returns the text of the instruction, or None."""
         return self.instruction.text if self.instruction else None
 
     @property
     def is_interrupt(self) -> bool:
-        """Whether an interrupt came in place of an instruction."""
+        """Returns whether an interrupt replaced the instruction."""
         return self.trap is not None and self.trap.cause.startswith("8")
 
     @property
     def is_executed(self) -> bool:
-        """Whether the word at pc was fetched: no interrupt came, and the fetch was not refused."""
+        """Returns whether the word at pc was fetched: no interrupt came, and the fetch was not refused."""
         if self.trap is None:
             return True
         refused = self.trap.cause in names.FETCH_FAULTS and self.trap.value == self.at.pc
@@ -79,7 +78,7 @@ class Step(NamedTuple):
 
     @property
     def target(self) -> int | None:
-        """Where a branch or a jump goes, or would go, or None."""
+        """Returns where a branch or a jump goes, or would go, or None."""
         if self.instruction is None or not self.is_executed:
             return None
         if self.instruction.offset is not None:
@@ -88,7 +87,7 @@ class Step(NamedTuple):
 
 
 class Command(NamedTuple):
-    """A line of the script that does no step, behind the step of that number."""
+    """A line of the script that does no step, after the step of that number."""
     step: int
     hart: int
     line: str
@@ -103,7 +102,7 @@ class Done(NamedTuple):
 
 
 class Hart:
-    """What is known of a hart before its next step: where it is, and the digits of its registers, None where they are to be asked for."""
+    """A hart before its next step: where it is, and the digits of its registers, None if they must be read."""
 
     def __init__(self, place: Place) -> None:
         self.place = place
@@ -116,7 +115,7 @@ class Hart:
 
 
 class Tracer:
-    """The steps from `first` to `last`, with what stands between them."""
+    """The steps from `first` to `last`, with the lines of the script between them."""
 
     def __init__(self, run: Run, first: int = 1, last: int | None = None) -> None:
         self.run, self.first, self.last = run, first, last
@@ -127,8 +126,8 @@ class Tracer:
         self.traps: dict[bytes, Trap | None] = {NO_TRAP: None}
 
     def events(self) -> Iterator[Command | Step | End]:
-        """Command, Step and End, in the order of the run. Two benches follow the first one, which tells each pc: one is asked what the next
-        instruction is, and the other what is in the register that this writes."""
+        """Yields Command, Step and End in the order of the run. Two benches follow the first one, which reports each pc: one decodes the next
+        instruction, the other reads the register that it writes."""
         with self.run.replay() as reader, self.run.replay() as teller:
             for item in self.run.stretches():
                 if isinstance(item, Line):
@@ -146,12 +145,12 @@ class Tracer:
                         return
 
     def cut(self) -> End:
-        """The end where no more steps were asked for."""
+        """Returns the end after the last wanted step."""
         place = self.harts[self.hart].place
         return End(self.position if self.last is None else self.last, "limit", place.pc, place.mode, place.world)
 
     def steps(self, reader: Replay, teller: Replay, stretch: Stretch) -> Iterator[Step]:
-        """The steps of a stretch that are asked for."""
+        """Yields the wanted steps of a stretch; raises Unfinished if the registers do not agree."""
         rans = RAN_FIELDS.findall(stretch.data)
         end = stretch.first + stretch.count - 1
         begin, stop = max(self.first, stretch.first), min(end, self.last or end)
@@ -173,11 +172,11 @@ class Tracer:
 
     @staticmethod
     def begin(replay: Replay, begin: int) -> None:
-        """Brings a bench to where the next step is the first of these."""
+        """Brings a replay to before a step."""
         replay.bench.ask(*(replay.lines_to(begin - 1) + replay.lines_up_to_next() or ["reg 0"]))
 
     def instructions(self, reader: Replay, hart: Hart, begin: int, rans: Sequence[RanFields]) -> list[Instruction | None]:
-        """What stands at pc before each of these steps."""
+        """Returns the instruction at pc before each of these steps."""
         self.begin(reader, begin)
         pcs = [hart.place.pc.encode()] + [ran[0] for ran in rans[:-1]]
         block = reader.bench.block(b"".join([b"dis %s\nstep 1\n" % pc for pc in pcs]), 2 * len(rans))
@@ -186,7 +185,7 @@ class Tracer:
 
     def registers(self, teller: Replay, hart: Hart, begin: int, rans: Sequence[RanFields],
                   instructions: Sequence[Instruction | None]) -> Iterator[bytes]:
-        """The replies of each of these steps: its own, and then what it may have changed; behind the last all registers."""
+        """Returns the replies of these steps: each with what it may have changed, and all registers after the last."""
         self.begin(teller, begin)
         if hart.registers is None:
             hart.registers = [line.split("=")[1] for line in teller.bench.ask("regs")[0][:32]]
@@ -227,7 +226,7 @@ class Tracer:
 
     @staticmethod
     def touched(memory: Memory, address: int, value: str) -> Touch:
-        """A load or store that was done; the value is that of its register after it."""
+        """Returns a load or store that was done; `value` is its register after it."""
         has_value = memory.kind == "w" or memory.register
         return Touch(memory.kind, address, memory.width, True, value[8 - 2 * memory.width:] if has_value else None)
 
@@ -246,17 +245,18 @@ class Tracer:
         return step._replace(changed=changed, touch=touch, call=call)
 
     def place_of(self, ran: RanFields) -> Place:
-        """Where the hart is behind a step."""
+        """Returns where a hart is after a step."""
         return self.places.setdefault(ran[:3], Place(*(it.decode() for it in ran[:3])))
 
     def trap_of(self, text: bytes) -> Trap | None:
+        """Decodes a trap, or a hyphen."""
         if text not in self.traps:
             self.traps[text] = Trap(*text.decode().split(":"))
         return self.traps[text]
 
 
 def call_of(world: str, registers: Sequence[int], after: Sequence[int]) -> CallMade | None:
-    """The call that an ecall from S made of a world, or None where it is none that the table has."""
+    """Returns the call that an ecall from S made in a world, or None."""
     call = names.call_of(registers)
     if call is None:
         return None

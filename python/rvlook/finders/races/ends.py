@@ -1,6 +1,6 @@
-"""The final states that a search has found. Each is a strongly connected part of the graph of orders in which each hart can go on for ever
-within the part. A hart has ended if it accesses no memory there. If a hart goes on, its part has a final state for each set of values that
-holds again and again. Orders are counted over the parts: the rounds of an endless loop are left out."""
+"""The final states that a search has found. Each is a strongly connected component of the graph of orders in which each hart can run for
+ever. A hart has ended if it accesses no memory there. If a hart runs on, its component has a final state for each set of values that
+recurs. Orders are counted over the components: rounds of an endless loop are left out."""
 from __future__ import annotations
 
 from collections import defaultdict, deque
@@ -29,8 +29,8 @@ Found = Tuple[Vertex, State, Tuple[Piece, ...]]  # a vertex, a state after it, a
 
 @dataclass
 class End:
-    """A final state: for each hart how and where it ended, the values, the node with the simplest way, the schedule of a round from there,
-    how many orders end so, the state, and the schedule from the node to it if a hart goes on alone."""
+    """A final state: how and where each hart ended, the values, the node with the simplest schedule, the schedule of a round from there, the
+    number of orders, the state, and the schedule from the node to it if a hart runs on alone."""
     harts: tuple[HartEnd, ...]
     values: tuple[Value, ...]
     node: Node
@@ -42,21 +42,22 @@ class End:
 
     @property
     def key(self) -> tuple[tuple[HartEnd, ...], tuple[Value, ...]]:
+        """Returns what distinguishes final states."""
         return self.harts, self.values
 
     @property
     def steps(self) -> int:
-        """The steps of its schedule."""
+        """Returns the number of steps of the schedule."""
         return self.node.cost[3] + sum(steps for _, steps, _ in self.tail)
 
     def way(self) -> list[Piece]:
-        """The schedule that leads to it."""
+        """Returns the schedule that leads to the final state."""
         return self.node.way() + list(self.tail)
 
 
 class Ends:
-    """All final states of a search. `orders` is how many orders there are in all; `are_hidden` says that values may be missing, since harts
-    go on that change the outcome by independent steps; `is_cut` that the time was over."""
+    """All final states of a search. `orders` is the number of all orders. `are_hidden` says that values may be missing, as harts run on that
+    change the outcome by independent steps; `is_cut` says that the time limit was reached."""
 
     def __init__(self, search: Search, outcome: Sequence[Observed]) -> None:
         self.search, self.machine, self.outcome, self.orders = search, search.machine, outcome, 0
@@ -85,7 +86,7 @@ class Ends:
         self.renumber()
 
     def add(self, end: End) -> None:
-        """Final states that are reported alike are one, with the simplest way."""
+        """Adds a final state. Joins those with the same report, and keeps the simplest schedule."""
         old = self.found.setdefault(end.key, end)
         if old is not end:
             best = min(old, end, key=lambda it: (it.node.cost, it.steps))
@@ -93,7 +94,7 @@ class Ends:
             self.found[end.key] = best
 
     def of_graph(self, graph: Graph) -> Iterator[End]:
-        """The final states of one round of the search."""
+        """Yields the final states of one round of the search."""
         if self.search.bounds.preemptions is not None:
             graph = counted(graph, self.search.bounds.preemptions)
         found = Components(graph)
@@ -107,7 +108,7 @@ class Ends:
                 yield from self.of_part(part, harts, ways[place])
 
     def of_part(self, part: Part, harts: Sequence[str], orders: int) -> Iterator[End]:
-        """The final states of a part: one for each set of values, or one if the values are not known."""
+        """Yields the final states of a component: one for each set of values, or one if the values are not known."""
         over = tuple(part.over(hart) if how == OVER else (how, None) for hart, how in enumerate(harts))
         vertex = part.vertices[0]
         found: dict[tuple[Value, ...], Found] = {(): (vertex, part.graph.nodes[vertex].place.state, ())}
@@ -120,7 +121,7 @@ class Ends:
 
 
 class Part:
-    """A strongly connected part of the graph of orders, its vertices by cost."""
+    """A strongly connected component of the graph of orders, its vertices by cost."""
 
     def __init__(self, search: Search, graph: Graph, vertices: Iterable[Vertex], place_of: Mapping[Vertex, int]) -> None:
         self.search, self.machine, self.graph = search, search.machine, graph
@@ -130,11 +131,11 @@ class Part:
         self.state = graph.nodes[self.vertices[0]].place.state if self.vertices else search.machine.start
 
     def loop(self, hart: int) -> Loop | None:
-        """The endless loop of a hart that nobody can affect, or None."""
+        """Returns the endless loop of a hart that no other hart can affect, or None."""
         return self.graph.loops.get((self.state._replace(steps=()), hart))
 
     def ended(self) -> tuple[str, ...] | None:
-        """How each hart ended here; None if a hart would go on to another part."""
+        """Returns how each hart ended in this component; None if a hart would continue to another component."""
         if not self.vertices:
             return None
         is_still = not any(move.changes for moves in self.moves.values() for move in moves)
@@ -146,7 +147,7 @@ class Part:
         return known if len(known) == len(harts) else None
 
     def how(self, hart: int, is_still: bool, is_given_up: bool) -> str | None:
-        """How a hart ended here."""
+        """Returns how a hart ended in this component, or None."""
         state, graph, going = self.state, self.graph, WAITS if is_still else GOES_ON
         if hart in self.moves:
             return going if any(move.met.look and move.met.look.kind for move in self.moves[hart]) else OVER
@@ -160,7 +161,7 @@ class Part:
         return LEFT if is_given_up else None
 
     def over(self, hart: int) -> HartEnd:
-        """Where a hart has ended; one that was to come to an end and did not stays there."""
+        """Returns how and where a hart ended. It STAYS if it was expected to end elsewhere."""
         machine, nodes = self.machine, self.graph.nodes
         pc = min(machine.pc(nodes[it].place.state, hart) for it in self.vertices)
         if hart in self.moves:
@@ -168,7 +169,7 @@ class Part:
         return (STAYS if machine.ends and not machine.limit and pc not in machine.ends else OVER), pc
 
     def alone(self, hart: int) -> Iterator[Work]:
-        """A hart that goes on alone from the first state of the part until it comes back there; gives it after each step."""
+        """Runs a hart alone from the first state of the component until it returns there; yields it after each step."""
         work, loop = Work(self.machine, self.state, hart), self.loop(hart)
         start = full_state(work)
         most = loop.length if loop and hart not in self.moves else sum(move.steps for move in self.moves[hart])
@@ -196,7 +197,7 @@ class Part:
         return found, len(going) > 1 and any(self.search.is_hidden(hart) for hart in going)
 
     def values_alone(self, hart: int, outcome: Sequence[Observed]) -> dict[tuple[Value, ...], Found]:
-        """The sets of values while a hart goes on alone, as in `values`."""
+        """Returns the sets of values while a hart runs alone, as `values` does."""
         watched, first = self.search.outcome, self.vertices[0]
         found: dict[tuple[Value, ...], Found] = {values_in(self.machine, outcome, self.state): (first, self.state, ())}
         if not watched.registers and not watched.addresses:
@@ -210,7 +211,7 @@ class Part:
         return found
 
     def round(self, vertex: Vertex, state: State, harts: Sequence[int], tail: Sequence[Piece]) -> tuple[Piece, ...]:
-        """The schedule of a round from a state and back, in which each of these harts moves."""
+        """Returns the schedule from a state back to it in which each of these harts moves."""
         moving = [it for it in harts if it in self.moves]
         if len(moving) == 1 and tail:
             return ((moving[0], sum(1 for _ in self.alone(moving[0])), ""),)
@@ -220,13 +221,13 @@ class Part:
 
 
 def values_in(machine: Machine, outcome: Sequence[Observed], state: State) -> tuple[Value, ...]:
-    """The values of an outcome in a state."""
+    """Returns the values of an outcome in a state."""
     memory = machine.memories[state.memory]
     return tuple(it.value_in(machine, state, memory) for it in outcome)
 
 
 def full_state(work: Work) -> tuple[Any, ...]:
-    """All that may change in the steps of one hart."""
+    """Returns all that may change in the steps of one hart."""
     return work.pc, work.context, work.digest, work.table, work.host, tuple(work.registers)
 
 
@@ -244,7 +245,7 @@ def search_ends(search: Search, outcome_of: Callable[[Search], Sequence[Observed
 
 
 def moves_inside(graph: Graph, part: Iterable[Vertex], place_of: Mapping[Vertex, int]) -> dict[int, list[Move]]:
-    """The moves of each hart that stay in a part."""
+    """Returns the moves of each hart that stay in a component."""
     found = defaultdict(list)
     for vertex in part:
         for target, hart, move, _ in graph.edges.get(vertex, ()):
@@ -254,7 +255,7 @@ def moves_inside(graph: Graph, part: Iterable[Vertex], place_of: Mapping[Vertex,
 
 
 def counted(graph: Graph, bound: int) -> Graph:
-    """A graph whose vertices have the number of preemptions that came, up to the bound."""
+    """Returns a graph whose vertices include the number of preemptions so far, at most `bound`."""
     new, start = Graph(), (next(iter(graph.nodes)), 0)
     new.moves, new.loops, new.unended, new.alone = graph.moves, graph.loops, graph.unended, graph.alone
     waiting: list[Vertex] = [start]
@@ -270,7 +271,7 @@ def counted(graph: Graph, bound: int) -> Graph:
 
 
 def round_of(graph: Graph, vertex: Vertex, moving: Sequence[int], part: Set[Vertex]) -> tuple[tuple[int, Move], ...]:
-    """Moves from a vertex through its part and back, in which each of these harts moves."""
+    """Returns moves from a vertex through its component and back in which each of these harts moves."""
     here = start = vertex
     found: list[tuple[int, Move]] = []
     for hart in moving:
@@ -282,7 +283,7 @@ def round_of(graph: Graph, vertex: Vertex, moving: Sequence[int], part: Set[Vert
 
 
 def path_to(graph: Graph, here: Vertex, part: Set[Vertex], is_wanted: Callable[[Edge], bool]) -> tuple[Vertex, tuple[tuple[int, Move], ...]]:
-    """The shortest path within a part whose last edge is a wanted one; where it leads, and its moves."""
+    """Finds the shortest path within a component whose last edge is wanted; returns its end and its moves."""
     waiting: deque[tuple[Vertex, tuple[tuple[int, Move], ...]]] = deque([(here, ())])
     seen = {here}
     while True:
@@ -298,7 +299,8 @@ def path_to(graph: Graph, here: Vertex, part: Set[Vertex], is_wanted: Callable[[
 
 
 class Components:
-    """The strongly connected parts of the graph, each behind those that it leads to (Tarjan), and for each vertex the place of its part."""
+    """The strongly connected components of the graph, each after those that it leads to (Tarjan), and for each vertex the index of its
+    component."""
 
     def __init__(self, graph: Graph) -> None:
         self.graph = graph
@@ -313,13 +315,14 @@ class Components:
                 self.walk(root)
 
     def enter(self, vertex: Vertex, work: list[tuple[Vertex, Iterator[Edge]]]) -> None:
+        """Begins a vertex, with its edges."""
         self.number[vertex] = self.low[vertex] = len(self.number)
         self.stack.append(vertex)
         self.on_stack.add(vertex)
         work.append((vertex, iter(self.graph.edges.get(vertex, ()))))
 
     def walk(self, root: Vertex) -> None:
-        """All that a vertex leads to."""
+        """Visits all vertices that a vertex leads to."""
         work: list[tuple[Vertex, Iterator[Edge]]] = []
         self.enter(root, work)
         while work:
@@ -335,7 +338,7 @@ class Components:
                 self.leave(vertex, work)
 
     def leave(self, vertex: Vertex, work: list[tuple[Vertex, Iterator[Edge]]]) -> None:
-        """A vertex all of whose edges were followed: its part is whole where it leads no further back."""
+        """Ends a vertex. Its component is complete if no edge leads further back."""
         if work:
             above = work[-1][0]
             self.low[above] = min(self.low[above], self.low[vertex])
@@ -349,7 +352,7 @@ class Components:
 
 
 def ways_of(graph: Graph, parts: Sequence[Sequence[Vertex]], place_of: Mapping[Vertex, int]) -> dict[int, int]:
-    """For each part in how many ways it is come to from the start."""
+    """Returns for each component the number of paths from the start."""
     if not graph.nodes:
         return {}
     ways, start = defaultdict(int), next(iter(graph.nodes))

@@ -1,5 +1,5 @@
-"""An end of races is told once its schedule was done again on the bench, and all that the bench shows is as it was worked out: registers,
-control registers, modes and worlds, entries, the table, and each byte of RAM. And the schedule as an input of the bench."""
+"""Replays a final state of `races` on the bench before it is reported, and compares all that the bench shows: registers, control registers,
+modes, worlds, PMP entries, the table of enclaves, and each byte of RAM. Also writes its schedule as an input of the bench."""
 from __future__ import annotations
 
 import os
@@ -23,7 +23,7 @@ LONGEST_COMMENT = 118  # characters behind `# `
 
 
 class Replays:
-    """Does schedules again, and compares; `rows` are the replies of `mem` for all RAM behind the script."""
+    """Replays schedules, and compares their states. `rows` are the replies of `mem` for all RAM after the script."""
 
     def __init__(self, machine: Machine) -> None:
         self.machine = machine
@@ -33,11 +33,11 @@ class Replays:
         self.count = count
 
     def ram(self, bench: Bench) -> list[str]:
-        """All rows of RAM."""
+        """Reads all rows of RAM."""
         return bench.block(self.question, self.count).decode().splitlines()
 
     def check(self, end: End) -> None:
-        """A Fault where the bench comes otherwise; the round that stands behind the schedule is done twice."""
+        """Replays a final state, and its round twice; raises Fault if the bench comes to another state."""
         machine, state = self.machine, end.state
         with machine.at_start() as bench:
             if self.rows is None:
@@ -65,7 +65,7 @@ class Replays:
         self.expect(end, self.ram(bench), self.wanted(machine.memories[state.memory]))
 
     def wanted(self, memory: Memory) -> list[str]:
-        """The rows as they should be."""
+        """Returns the expected rows of RAM."""
         rows = list(self.rows or ())
         for row in {(at - RAM_BASE) // ROW for at in memory}:
             at = RAM_BASE + ROW * row
@@ -74,12 +74,13 @@ class Replays:
 
     @staticmethod
     def expect(end: End, found: object, wanted: object) -> None:
+        """Raises Fault if the bench shows something unexpected."""
         if found != wanted:
             raise Fault("the order of end %d came otherwise on the bench: what a step depends on was not all seen" % end.number)
 
 
 def questions_of(outcome: Observed, count: int) -> list[str]:
-    """The commands that show an outcome."""
+    """Returns the commands that show an outcome."""
     if isinstance(outcome, Bytes):
         return ["mem %x %d" % (outcome.at + n, min(ROW, outcome.count - n)) for n in range(0, outcome.count, ROW)]
     if isinstance(outcome, Register):
@@ -93,7 +94,7 @@ def comment(text: str) -> str:
 
 
 def script_of(machine: Machine, end: End, outcome: Sequence[Observed], heading: str) -> bytes:
-    """The input of the bench that does an end's schedule again, and shows what tells it from others."""
+    """Returns an input of the bench that replays the schedule of a final state, and shows its outcome."""
     setup = machine.setup
     lines = [comment(heading), comment("./rvbench %s < this file" % " ".join(setup.words()))]
     lines += machine.lines_of_script() + commands_of(end.way(), machine.count)
@@ -105,7 +106,7 @@ def script_of(machine: Machine, end: End, outcome: Sequence[Observed], heading: 
 
 
 def write_scripts(folder: str, machine: Machine, ends: Sequence[End], outcome: Sequence[Observed], heading_of: Callable[[End], str]) -> None:
-    """A file for each end."""
+    """Writes a file for each final state; raises Fault if that fails."""
     try:
         os.makedirs(folder, exist_ok=True)
         for end in ends:

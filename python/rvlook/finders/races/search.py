@@ -1,7 +1,7 @@
-"""The search of the word races: all orders of two harts, and all moments of the timer. A hart is left only before a step that another could
-be affected by: one that touches a byte which both touch and one writes, that calls the monitor, or that touches what is a region at one
-time or another. All other steps commute with those of the other, so no end is lost. What both touch is found by searching again as long as
-it grows. Places that are alike are one; the simplest way to each is found first, by preemptions, timers, switches and steps."""
+"""The search of `races` over all orders of two harts and all timer interrupts, with partial-order reduction. It switches harts only before
+a dependent step: one that accesses a byte which both harts access and at least one writes, that calls the monitor, or that accesses memory
+which is ever part of a region. The search is repeated as long as more shared bytes are found. Equal places are joined; the simplest way to
+each is found first, by preemptions, timer interrupts, switches and steps."""
 from __future__ import annotations
 
 import heapq
@@ -24,8 +24,7 @@ SEARCH_SHARE = 0.85  # of the time limit; the rest is for the analysis of the gr
 
 
 class Met(NamedTuple):
-    """A step that others could be affected by: how many steps of its move come before it, where it is, what it touches, in which world, and
-    whether it took the timer."""
+    """A dependent step: the number of steps before it in its move, its pc, its access, its world, and whether it took the timer interrupt."""
     before: int
     pc: Optional[int]
     look: Optional[Look]
@@ -34,8 +33,8 @@ class Met(NamedTuple):
 
 
 class Move(NamedTuple):
-    """Such a step, with those around it that affect nobody, or these alone, where `pc` is None: where it leads, how many steps in all, and
-    whether memory or the table differed after one of them."""
+    """A dependent step with the independent steps around it, or only independent steps if `pc` is None: the state after it, the number of
+    steps, and whether memory or the table changed."""
     state: State
     steps: int
     met: Met
@@ -43,7 +42,8 @@ class Move(NamedTuple):
 
 
 class Place(NamedTuple):
-    """What decides how the search goes on: the state, who was last, how many timers came, and whether anything came yet."""
+    """What decides how the search continues: the state, the last hart, the number of timer interrupts, and whether a switch or an interrupt
+    came yet."""
     state: State
     last: Optional[int]
     timers: int
@@ -64,8 +64,8 @@ Cost = Tuple[int, int, int, int]  # preemptions, timers, switches and steps
 
 
 class Node:
-    """A place with the way to it. `cost` is of the whole way: preemptions, timers, switches and steps. `alone` counts the moves of its hart
-    in succession; `low` is the first step that the next switch may be attributed to."""
+    """A place with the way to it. `cost` is that of the whole way. `alone` counts the moves of its hart in succession; `low` is the first step
+    that the next switch may be attributed to."""
     __slots__ = ("place", "parent", "move", "is_timer", "alone", "cost", "low")
 
     def __init__(self, place: Place, cost: Cost = (0, 0, 0, 0), origin: Origin = Origin(), alone: int = 0, low: int = 0) -> None:
@@ -85,7 +85,7 @@ class Node:
         return self.move
 
     def pieces(self) -> list[Node]:
-        """The nodes of the way, the first move's first."""
+        """Returns the nodes on the path from the start, without the start."""
         found, node = [], self
         while node.parent:
             found.append(node)
@@ -93,12 +93,12 @@ class Node:
         return found[::-1]
 
     def way(self) -> list[Piece]:
-        """The schedule that leads here: of each piece the hart, its steps, and what is done with the timer's line before them."""
+        """Returns the schedule that leads to the node."""
         return way_of((it.hart, it.last_move, it.is_timer) for it in self.pieces())
 
 
 def way_of(moves: Iterable[tuple[int, Move, bool]]) -> list[Piece]:
-    """Moves as a schedule. On the bare bench the line that was taken is lowered."""
+    """Returns moves as a schedule. On the bare bench the timer interrupt is cleared after it was taken."""
     joined: list[Piece] = []
     lowers = False
     for hart, move, is_timer in moves:
@@ -123,7 +123,7 @@ class Touches:
         self.executed: dict[Agent, set[int]] = defaultdict(set)
 
     def met(self) -> set[int]:
-        """The bytes that two agents touched, one of them by a store."""
+        """Returns the bytes that two agents accessed, at least one of them by a store."""
         met = set()
         for one, other in itertools.permutations(set(self.read) | set(self.written) | set(self.executed), 2):
             met |= self.written[one] & (self.read[other] | self.written[other])
@@ -132,8 +132,8 @@ class Touches:
 
 
 class Graph:
-    """The orders of a round: the first node of each vertex, and the edges from it; the moves of each state; the endless loops in which no
-    other hart can affect a hart, by state and hart; and the states in which a hart was given up, within a move or after many moves alone."""
+    """The orders of a round: the first node of each vertex, and its edges; the moves of each state; the endless loops in which no other hart
+    can affect a hart; and the states in which a hart was given up, within a move or after many moves alone."""
 
     def __init__(self) -> None:
         self.nodes: dict[Vertex, Node] = {}
@@ -145,8 +145,8 @@ class Graph:
 
 
 class Bounds(NamedTuple):
-    """What is searched: at most so many preemptions (None: any number) and timers, steps of a hart that none is affected by, and between
-    which steps a hart is left, or the timer comes, for the first time."""
+    """The bounds of a search: preemptions (None: any number), timer interrupts, independent steps in succession, and the steps between which
+    the first switch or timer interrupt comes."""
     preemptions: Optional[int] = None
     timers: int = 0
     steps: int = 1000000
@@ -155,6 +155,7 @@ class Bounds(NamedTuple):
 
     @property
     def is_part(self) -> bool:
+        """Returns whether only a part of the orders is searched."""
         return self.first > 0 or self.last is not None
 
 
@@ -179,6 +180,7 @@ class Search:
         self.reset()
 
     def reset(self) -> None:
+        """Begins a new round."""
         self.cycles: dict[tuple[State, int], int] = {}
         self.done: set[Place] = set()
         self.graph = Graph()
@@ -224,7 +226,7 @@ class Search:
         return not self.why_cut and not any(it.alone or it.unended for it in self.graphs())
 
     def grows(self) -> bool:
-        """Whether more bytes are met, or more is a region, than this round was searched with."""
+        """Returns whether more bytes are shared, or are in a region, than this round was searched with."""
         regions, met = len(self.machine.regions), self.touches.met()
         if self.plain or met <= self.met and regions == self.regions:
             return False
@@ -232,7 +234,7 @@ class Search:
         return True
 
     def search(self) -> bool:
-        """One round: True where it came to its end, False where more turned out to be met."""
+        """Searches one round; returns False if more bytes turned out to be shared."""
         order, self.regions = itertools.count(), len(self.machine.regions)
         start = Node(Place(self.machine.start, None, 0, not self.bounds.is_part))
         heap = [(start.cost, next(order), start)]
@@ -257,17 +259,17 @@ class Search:
         return not self.grows()
 
     def vertex(self, node: Node) -> Vertex:
-        """The vertex of a node in the graph of orders; who was last does not matter where any number of preemptions is allowed."""
+        """Returns the vertex of a node in the graph of orders. The last hart does not matter if the preemptions are not bounded."""
         place = node.place
         return place if self.bounds.preemptions is not None else (place.state, place.timers, place.begun)
 
     def edges_of(self, node: Node) -> list[Edge]:
-        """Where the edges from a node are kept; those of a vertex that has them go nowhere."""
+        """Returns the list for the edges of a node; a discarded one if its vertex has edges already."""
         vertex, edges = self.vertex(node), self.graph.edges
         return edges.setdefault(vertex, []) if vertex not in edges else []
 
     def next_nodes(self, node: Node) -> Iterator[Node]:
-        """Where it may go on, with the cost: preemptions, timers, switches, steps."""
+        """Yields the nodes that follow, with their cost."""
         state, last, timers, begun = node.place
         if node.alone > MOST_ALONE:
             self.graph.alone.add((state, node.hart))
@@ -310,7 +312,7 @@ class Search:
     # ---- moves
 
     def move(self, state: State, hart: int, way: Way, is_timer: bool = False) -> Move | None:
-        """A hart's move, or None where it does no more; `way` gives the schedule that leads here."""
+        """Returns the move of a hart, or None if it stops. `way` gives the schedule that leads here."""
         key = (state, hart, is_timer)
         moves = self.graph.moves
         if key not in moves:
@@ -318,7 +320,8 @@ class Search:
         return moves[key]
 
     def timer_move(self, state: State, hart: int, way: Way) -> Move | None:
-        """The timer's line rises. Under the monitor it matters to enclaves alone, and stops one before its next instruction."""
+        """Sets the timer interrupt pending; returns the move, or None. Under the monitor this matters only to enclaves, and stops one before its
+        next instruction."""
         work = Work(self.machine, state, hart)
         world = work.own.world
         if world == "host" or work.own.is_line_on or self.machine.is_over(work):
@@ -333,13 +336,13 @@ class Search:
 
     @staticmethod
     def kept(work: Work, done: Outcome | None) -> State:
-        """The state behind a step; on the bare bench the line that was taken is lowered."""
+        """Returns the state after a step. On the bare bench the timer interrupt is cleared after it was taken."""
         if is_taken(done) and work.own.world == "bare":
             work.raise_line(False)
         return work.kept()
 
     def made(self, state: State, hart: int, way: Way) -> Move | None:
-        """Steps up to one that others could be affected by, this one, and those behind it up to the next such."""
+        """Returns a move: independent steps, one dependent step, and the independent steps after it; or None."""
         machine, work, detector = self.machine, Work(self.machine, state, hart), LoopDetector()
         met: Met | None = None
 
@@ -385,7 +388,7 @@ class Search:
         return found
 
     def is_met(self, work: Work, look: Look) -> bool:
-        """Whether others could be affected by a hart's next step, or it by theirs."""
+        """Returns whether the next step of a hart is dependent: another hart could affect it or be affected."""
         if self.plain or look.asks_table:
             return True
         met = self.met
@@ -400,14 +403,14 @@ class Search:
         return not met.isdisjoint(range(look.at, look.at + look.width)) or self.machine.meets(look.at, look.width)
 
     def is_watched(self, own: Context, look: Look) -> bool:
-        """Whether an enclave's step is one of which an order may leave out those behind it, as the timer may come and the host not resume: it
-        stores what tells ends apart, or the steps of a hart are limited."""
+        """Returns whether a step of an enclave is dependent because the timer may come and the host not resume it: it stores a part of the
+        outcome, or the steps are limited."""
         if own.world == "host":
             return False
         return bool(self.machine.limit) or look.kind == "w" and not self.watched.isdisjoint(range(look.at, look.at + look.width))
 
     def log(self, hart: int, world: str, pc: int, look: Look, done: Outcome) -> None:
-        """Keeps what a step touched."""
+        """Records the accesses of a step."""
         agent: Agent = (hart, world) if self.bounds.timers else hart
         self.touches.executed[agent].add(pc)
         if look.kind in ("r", "w"):
@@ -420,11 +423,11 @@ class Search:
     # ---- harts that do no more
 
     def is_free(self, state: State, hart: int, way: Way) -> bool:
-        """Whether leaving a hart is no preemption: it does no more, or by itself comes back to where it is."""
+        """Returns whether a switch from a hart is no preemption: the hart stops, or returns by itself to its state."""
         return self.move(state, hart, way) is None or self.goes_round(state, hart, way)
 
     def goes_round(self, state: State, hart: int, way: Way) -> bool:
-        """Whether a hart by itself comes back to this state; `cycles` has in how many steps, or 0."""
+        """Returns whether a hart returns by itself to this state; `cycles` has the number of steps, or 0."""
         chain: dict[State, int] = {}
         passed, asked, move = [0], state, None
         while (state, hart) not in self.cycles and state not in chain and len(chain) <= MOST_ALONE:
@@ -440,13 +443,13 @@ class Search:
 
 
 def is_taken(done: Outcome | None) -> bool:
-    """Whether a step was an interrupt of the timer."""
+    """Returns whether a step was a timer interrupt."""
     if done is None:
         return False
     return done.trap.startswith(names.TIMER) if isinstance(done, Called) else done.trapped == names.TIMER
 
 
 def is_inside(own: Context, look: Look) -> bool:
-    """Whether an enclave touches its own region, where nobody else is while it runs."""
+    """Returns whether an enclave accesses its own region, which no other world accesses while it runs."""
     blocks = own.blocks
     return bool(blocks) and blocks[0] <= look.at and look.at + look.width <= blocks[0] + blocks[1]

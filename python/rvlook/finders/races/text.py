@@ -1,4 +1,4 @@
-"""What the word races tells: the ends, each with the simplest order that leads to it, for a person and as objects; and what was covered."""
+"""The report of `races`: the final states, each with the simplest order that leads to it, and what was covered."""
 from __future__ import annotations
 
 from dataclasses import dataclass, field
@@ -28,17 +28,18 @@ HOW_TEXT = {WAITS: "waits for ever", GOES_ON: "goes on for ever", LEFT: "is left
 
 
 def counted(count: int, name: str) -> str:
+    """Returns a number and a noun, in the plural if needed."""
     return "%d %s%s" % (count, name, "" if count == 1 else "s")
 
 
 class Story:
-    """An end with the words for it."""
+    """A final state with its text."""
 
     def __init__(self, end: End, outcome: Sequence[Observed], search: Search, symbols: Symbols, places: Sequence[Set[int | None]]) -> None:
         self.end, self.outcome, self.search, self.symbols, self.places = end, outcome, search, symbols, places
 
     def heading(self) -> str:
-        """An end in a line: the values that tell it, and how the harts ended where that is not told by them."""
+        """Returns a final state as a line: its values, and how the harts ended if the values do not show it."""
         parts = ["%s=%s" % (it.name, value_text(value)) for it, value in zip(self.outcome, self.end.values) if value != ()]
         for hart, (how, pc) in enumerate(self.end.harts):
             if how == LONG:
@@ -52,7 +53,7 @@ class Story:
         return "  ".join(parts) or "all is over"
 
     def limit(self, hart: int) -> str:
-        """How long a hart was let go on."""
+        """Returns how far a hart was run."""
         search, state = self.search, self.end.node.place.state
         is_alone = any((state, hart) in it.alone for it in search.graphs())
         return "%d moves alone" % MOST_ALONE if is_alone else counted(search.bounds.steps, "step")
@@ -63,7 +64,7 @@ class Story:
         return self.symbols.source(pc) or self.symbols.name(pc) or hex8(pc)
 
     def turns(self) -> list[list[Node]]:
-        """The moves that lead to it, in turns of one hart; the timer begins a turn."""
+        """Returns the moves that lead to the final state, grouped by hart; a timer interrupt begins a group."""
         turns: list[list[Node]] = []
         for it in self.end.node.pieces():
             if turns and turns[-1][0].place.last == it.place.last and not it.is_timer:
@@ -73,7 +74,7 @@ class Story:
         return turns
 
     def sentences(self) -> Iterator[str]:
-        """What a turn did that came into another one, and where the timer came."""
+        """Yields sentences about interleaved accesses and timer interrupts."""
         turns = self.turns()
         for number, turn in enumerate(turns):
             if turn[0].is_timer:
@@ -86,11 +87,12 @@ class Story:
                         turn[0].hart, self.span(met[1]), self.place(met[0][-1]), self.place(met[2][0]), before[0].hart)
 
     def span(self, pcs: Sequence[int]) -> str:
+        """Returns the first and the last place of a group."""
         first, last = self.place(pcs[0]), self.place(pcs[-1])
         return first if first == last else "%s to %s" % (first, last)
 
     def access(self, node: Node) -> str:
-        """One move by what it touched, and where."""
+        """Returns a move as a line: its access, and its place."""
         _, pc, look, _, _ = met = node.last_move.met
         assert pc is not None and look is not None
         if node.is_timer:
@@ -102,7 +104,7 @@ class Story:
         return "      %-34s %s" % (what.rstrip(), place_text(hex8(pc), self.symbols))
 
     def lines(self, total: int) -> Iterator[str]:
-        """The end, line by line, behind its heading."""
+        """Yields the lines of a final state after its heading."""
         preemptions, timers, switches, _ = self.end.node.cost
         parts = [counted(preemptions, "preemption")] + ([counted(timers, "timer")] if self.search.bounds.timers else [])
         yield "  %d of %s; simplest: %s, %s, %s" % (self.end.orders, counted(total, "order"), ", ".join(parts),
@@ -120,6 +122,7 @@ class Story:
             yield "    and from there, again and again: " + ", ".join("%s of hart %d" % (counted(steps, "step"), hart) for hart, steps, _ in pieces)
 
     def object(self, printer: Printer) -> None:
+        """Writes the final state as an object."""
         end, count = self.end, self.search.machine.count
         preemptions, timers, switches, _ = end.node.cost
         turns = [dict(hart=turn[0].hart, steps=sum(it.last_move.steps for it in turn),
@@ -131,6 +134,7 @@ class Story:
                        turns=turns)
 
     def touched(self, node: Node) -> dict[str, Json]:
+        """Returns the access of a node as an object."""
         look, pc = node.last_move.met.look, node.last_move.met.pc
         assert look is not None and pc is not None
         return dict(kind="timer" if node.is_timer else look.kind or "x", address=hex8(look.at) if look.kind in ("r", "w") else None,
@@ -138,19 +142,19 @@ class Story:
 
 
 def timer_text(met: Met) -> str:
-    """What the timer does where its line rises: on the bare bench it may be masked."""
+    """Returns what the timer interrupt does. On the bare bench it may be masked."""
     return "the timer rises" if met.world == "bare" else "the timer stops " + met.world
 
 
 def shown(value: Value) -> Json:
-    """A value in an object: words as numbers, longer bytes as digits."""
+    """Returns a value for an object: words as numbers, longer bytes as digits."""
     if isinstance(value, bytes):
         return number_of(value) if len(value) in (1, 2, 4) else value.hex()
     return dict(("e%d" % slot, state) for slot, state in value) if isinstance(value, tuple) else value
 
 
 def bound_text(bounds: Bounds) -> str:
-    """The bounds of a search, in words."""
+    """Returns the bounds of a search in words."""
     bound = []
     if bounds.preemptions is not None:
         bound.append("at most " + counted(bounds.preemptions, "preemption"))
@@ -163,7 +167,7 @@ def bound_text(bounds: Bounds) -> str:
 
 
 def covered_text(search: Search, found: Ends) -> str:
-    """What was searched. `all` is written only if no order is missing."""
+    """Returns what was searched in words. `all` is used only if no order is missing."""
     what, graph = bound_text(search.bounds), search.graph
     given_up = len(graph.alone) + len(graph.unended)
     if search.why_cut:
@@ -178,7 +182,7 @@ def covered_text(search: Search, found: Ends) -> str:
 
 
 def level_text(search: Search) -> str:
-    """Of which orders all were searched before it was cut."""
+    """Returns the orders that were completely searched before the search was cut."""
     if search.whole is None:
         return "none"
     preemptions, timers = search.whole
@@ -188,7 +192,7 @@ def level_text(search: Search) -> str:
 
 
 def show_races(run: Run, symbols: Symbols, printer: Printer, options: Namespace) -> None:
-    """The search, and what it found."""
+    """Searches all orders, and reports the final states. Raises Unfinished if the program cannot be searched."""
     conditions = [condition_of(it, symbols) for it in options.forbid or ()]
     outcome = outcomes_of(options.outcome, conditions, symbols, run.setup.harts)
     ends = [place_of(it, symbols) for it in options.end or ()]
@@ -210,6 +214,7 @@ def show_races(run: Run, symbols: Symbols, printer: Printer, options: Namespace)
 
 
 def place_of(text: str, symbols: Symbols) -> int:
+    """Returns the address of a place; raises Fault."""
     at = symbols.address(text)
     if at is None:
         raise Fault("%s is no hexadecimal number and no symbol" % text)
@@ -217,8 +222,9 @@ def place_of(text: str, symbols: Symbols) -> int:
 
 
 def teller(progress: Progress) -> Callable[[Search], None]:
-    """How far the search is."""
+    """Returns a function that shows the progress of a search."""
     def tell(search: Search) -> None:
+        """Shows the progress of a search."""
         if progress.is_shown:
             progress.tell("round %d: %d places, %d more wait, %d preemptions, %d timers, %d runs of the bench", search.rounds,
                           len(search.done), search.waiting, *search.level, search.machine.asked)
@@ -289,7 +295,7 @@ def note_forbidden(findings: Findings, stories: Sequence[Story], bad: Sequence[t
 
 
 def replay(search: Search, found: Ends, conditions: Sequence[Condition]) -> None:
-    """Replays the final states on the bench, those first that are forbidden; leaves out those for which no time is left."""
+    """Replays the final states on the bench, forbidden ones first. Leaves out those for which no time is left."""
     replayed, is_forbidden = [], {id(end) for _, end in forbidden(conditions, found)}
     try:
         with search.limit.until(1 + GRACE, SLACK):
@@ -304,13 +310,13 @@ def replay(search: Search, found: Ends, conditions: Sequence[Condition]) -> None
 
 
 def forbidden(conditions: Sequence[Condition], found: Ends) -> list[tuple[Condition, End]]:
-    """The conditions that hold, each with the final state."""
+    """Returns the conditions that hold, each with the final state."""
     named = [it.name for it in found.outcome]
     return [(condition, end) for condition in conditions for end in found.ends if condition.holds(end, named)]
 
 
 def is_whole(search: Search, found: Ends) -> bool:
-    """Whether all orders within the bounds were searched, and all final states reported."""
+    """Returns whether all orders within the bounds were searched, and all final states reported."""
     return search.is_whole() and not found.is_cut
 
 

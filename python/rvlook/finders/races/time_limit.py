@@ -1,5 +1,5 @@
-"""The time limit of a command. An alarm of the system interrupts whatever runs, so the limit also holds within one long computation and
-while a reply of the bench is awaited."""
+"""The time limit of a subcommand. An alarm of the system interrupts any work, so the limit also holds within one long computation and
+during a reply of the bench."""
 from __future__ import annotations
 
 import signal
@@ -45,4 +45,5 @@ class Alarm:
 
     @staticmethod
     def stop(*_: object) -> NoReturn:
+        """Raises OutOfTime."""
         raise OutOfTime
