@@ -40,8 +40,9 @@ class Model:
 
     def end(self, interrupted=None):
         """The steps of the enclave up to its exit, and what the host has then; the timer rises before one of these steps."""
-        count, machine = 0, self.bench.machine
+        count, machine, most = 0, self.bench.machine, iter(range(MOST))
         while self.state != "Exited":
+            assert next(most, None) is not None, "the enclave of the model does not exit"
             if machine.world == 0 and count == interrupted:
                 self.bench.replies("timer on")
                 interrupted = None
