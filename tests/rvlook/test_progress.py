@@ -17,7 +17,7 @@ from conftest import EXAMPLES, ROOT, RVLOOK
 COUNTER = ("lui x5, 0x80011", "addi x6, x0, 200", "loop: lw x7, 0(x5)", "addi x7, x7, 1", "sw x7, 0(x5)", "addi x6, x6, -1", "bne x6, x0, loop",
            "done: jal x0, done")
 STORE = EXAMPLES / "enclaves" / "store_leaking"
-LEAK = ("leak", "--monitor", STORE / "image", "--symbols", STORE / "listing", "--at", "key:32", "--tries", "1000", "--json")
+LEAK = ("leak", "--monitor", STORE / "image", "--symbols", STORE / "symbols", "--at", "key:32", "--tries", "1000", "--json")
 TIMES, LIMIT = 3, 60  # how often the progress is shown before Ctrl-C, and the seconds to wait for it
 
 

@@ -17,8 +17,8 @@ COMMANDS = {
     "timer_not_resumed": ("timer", "--monitor", EXAMPLES / "enclaves" / "adds" / "image"),
     "timer": ("timer", "--monitor", EXAMPLES / "enclaves" / "timer" / "image"), "leak": (*LEAK, "80020800", "00", "05"),
     "leak_tries": (*LEAK, "80020800:4", "--tries", "3"), "window": ("window", "--monitor", GOLDEN / "window" / "image", "--at", "80020800:4"),
-    "window_copies": ("window", "--monitor", COPIES / "image", "--symbols", COPIES / "listing", "--script", COPIES / "script", "--at", "key:20"),
-    "window_harts": ("window", "--harts", "2", "--monitor", STORE / "image", "--symbols", STORE / "listing", "--at", "key:32"),
+    "window_copies": ("window", "--monitor", COPIES / "image", "--symbols", COPIES / "symbols", "--script", COPIES / "script", "--at", "key:20"),
+    "window_harts": ("window", "--harts", "2", "--monitor", STORE / "image", "--symbols", STORE / "symbols", "--at", "key:32"),
     "races": ("races", "--monitor", "--timer", "1", EXAMPLES / "enclaves" / "adds" / "image"), "explain": ("explain", GOLDEN / "explain" / "input"),
     "measure": ("measure", GOLDEN / "measure" / "region", "80020000", "1000", "0", "0", "80020000")}
 

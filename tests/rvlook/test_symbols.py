@@ -10,7 +10,7 @@ import pytest
 
 from conftest import BUILD, EXAMPLES
 
-SHARED, EXAMPLE = BUILD.parent, EXAMPLES / "enclaves" / "adds"
+SHARED, EXAMPLE = EXAMPLES / "shared", EXAMPLES / "enclaves" / "adds"
 HOST = (SHARED / "host.s", EXAMPLE / "host.c")
 ENCLAVE = (SHARED / "runtime.s", EXAMPLE / "runtime.c", EXAMPLE / "application.c")
 C_FLAGS = ("-ffreestanding", "-fno-builtin", "-Os")

@@ -5,10 +5,10 @@ import subprocess
 
 import pytest
 
-from conftest import EXAMPLES
+from conftest import EXAMPLES, input_of
 
 FOLDER = EXAMPLES / "enclaves" / "timer"
-TIMER = ("--monitor", FOLDER / "image", "--symbols", FOLDER / "listing")
+TIMER = ("--monitor", FOLDER / "image", "--symbols", FOLDER / "symbols")
 DUMP = "riscv64-unknown-elf-objdump"
 LEVELS = {"M": 3, "S": 1, "U": 0}
 SOURCE = """nop
@@ -127,9 +127,10 @@ def changes_of(lines):
     return found
 
 
-@pytest.mark.parametrize("image", ["enclave_adds/image", "enclave_refused/stdin"])
+@pytest.mark.parametrize("image", ["enclaves/adds/image", "enclaves/refused/stdin"])
 def test_changes_of_the_brief_map_give_the_rows_of_the_map(results, rvlook, image):
-    words = ("--monitor", EXAMPLES / image)
+    path = EXAMPLES / image
+    words = ("--monitor", path if path.exists() else input_of(path.parent))
     moments = [it for it in results("map", *words) if it["object"] == "moment"]
     starts = sorted({int(row["first"], 16) for it in moments for row in it["rows"]})
     now, changes = {at: {} for at in starts}, changes_of(rvlook("map", "--brief", *words).stdout.splitlines())
