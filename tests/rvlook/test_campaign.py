@@ -12,7 +12,7 @@ import pytest
 from conftest import EXAMPLES, PROGRAMS, RVLOOK
 
 pytestmark = pytest.mark.skipif(not shutil.which("parallel"), reason="GNU parallel is not installed")
-WINDOW, ADDS = PROGRAMS.parent / "golden" / "window" / "image", EXAMPLES / "enclaves" / "adds" / "image"
+WINDOW, ADDS = PROGRAMS.parent / "images" / "window" / "image", EXAMPLES / "enclaves" / "adds" / "image"
 TRIES, PART = 30, 3
 LEAK = ("leak", "--monitor", WINDOW, "--at", "80020800:4", "--seed", "5")
 RACES = ("races", "--monitor", "--timer", "2", "--outcome", "80030000:12", ADDS)

@@ -1,8 +1,10 @@
-"""Golden files: what rvlook prints for each folder of `golden` is kept there, byte for byte.
+"""Golden files: what rvlook prints for each file of `golden` is kept there, byte for byte.
 
-A folder has `words` (the command line, seen from the root of the repository), perhaps `input` (standard input) or `inputs` (files that are
-joined to it), and what comes of it: `stdout`, and `stderr` and `status` unless they are empty or 0. `pytest --update-golden` writes these anew; read them before you keep them.
+A file begins with the command line, seen from the root of the repository. A line `status N` has its exit status unless that is 0, and a line
+`joined FILE..` names files that are its standard input. Then come the parts `input`, `stdout` and `stderr`, each after a line `--- NAME`.
+`pytest --update-golden` writes what comes of the command anew; read it before you keep it.
 """
+import re
 from pathlib import Path
 
 import pytest
@@ -10,31 +12,33 @@ import pytest
 from conftest import ROOT
 
 GOLDEN = Path(__file__).with_name("golden")
+PART = re.compile(r"^--- (input|stdout|stderr)\n", re.M)
 NO_SYMBOLS = "rvlook: pyelftools is not there"
 
 
-def text_of(path, default=""):
-    return path.read_text(encoding="utf-8") if path.exists() else default
+def read(path):
+    """The command line of a golden file, its status, the files that are joined, and its parts."""
+    head, *parts = PART.split(path.read_text(encoding="utf-8"))
+    command, *rest = head.splitlines()
+    options = dict(line.split(" ", 1) for line in rest)
+    return command.split()[2:], int(options.get("status", 0)), options.get("joined", "").split(), dict(zip(parts[::2], parts[1::2]))
 
 
-def write(path, text):
-    """Writes a golden file, or removes it if there is nothing to keep."""
-    if text:
-        path.write_text(text, encoding="utf-8")
-    else:
-        path.unlink(missing_ok=True)
+def text_of(words, status, joined, parts):
+    """The text of a golden file."""
+    lines = ["$ rvlook " + " ".join(words), *(["status %d" % status] if status else []), *(["joined " + " ".join(joined)] if joined else [])]
+    return "\n".join([*lines, ""]) + "".join("--- %s\n%s" % (name, parts[name]) for name in ("input", "stdout", "stderr") if parts.get(name))
 
 
-@pytest.mark.parametrize("folder", sorted(it.parent for it in GOLDEN.glob("*/words")), ids=lambda it: it.name)
-def test_golden(rvlook, request, folder):
-    words = (folder / "words").read_text(encoding="utf-8").splitlines()[0].split()
-    joined = "".join(text_of(ROOT / it) for it in text_of(folder / "inputs").split())
-    done = rvlook(*words, stdin=text_of(folder / "input") + joined)
+@pytest.mark.parametrize("path", sorted(GOLDEN.iterdir()), ids=lambda it: it.name)
+def test_golden(rvlook, request, path):
+    words, status, joined, parts = read(path)
+    stdin = parts.get("input", "") + "".join((ROOT / it).read_text(encoding="utf-8") for it in joined)
+    done = rvlook(*words, stdin=stdin)
     errors = "".join(line for line in done.stderr.splitlines(True) if not line.startswith(NO_SYMBOLS))
     if request.config.getoption("--update-golden"):
-        (folder / "stdout").write_text(done.stdout, encoding="utf-8")
-        write(folder / "stderr", errors)
-        write(folder / "status", "%d\n" % done.returncode if done.returncode else "")
-    assert done.stdout == text_of(folder / "stdout")
-    assert errors == text_of(folder / "stderr")
-    assert done.returncode == int(text_of(folder / "status", "0"))
+        found = {**parts, "stdout": done.stdout, "stderr": errors}
+        path.write_text(text_of(words, done.returncode, joined, found), encoding="utf-8")
+    assert done.stdout == parts.get("stdout", "")
+    assert errors == parts.get("stderr", "")
+    assert done.returncode == status

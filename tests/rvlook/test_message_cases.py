@@ -4,7 +4,7 @@ import tempfile
 from pathlib import Path
 
 import pytest
-from support.message_files import GOLDEN, Files
+from support.message_files import IMAGES, Files
 from support.message_runs import FULL, MORE, NEVER_BACK, ORDER, OTHERWISE, REGISTERS, Runs
 
 from conftest import EXAMPLES, PROGRAMS, ROOT, RVLOOK
@@ -14,7 +14,7 @@ ROWS = [(int(status), line.replace("\\|", "|")) for status, line in
         ROW.findall((ROOT / "docs" / "LOOK.md").read_text(encoding="utf-8").split("## How it ends")[1])]
 KEPT = ("RVBENCH",)  # in capitals, but no placeholder
 ADDS, LISTING, SUM = EXAMPLES / "enclaves" / "adds" / "image", EXAMPLES / "enclaves" / "adds" / "symbols", EXAMPLES / "programs" / "sum" / "stdin"
-LEAKS, OVERFLOW = GOLDEN + "/leak/image", PROGRAMS / "stack_overflow"
+LEAKS, OVERFLOW = IMAGES + "/leak/image", PROGRAMS / "stack_overflow"
 NUMBERS = ("80020000", "1000", "0", "0", "80020000")
 
 

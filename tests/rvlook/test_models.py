@@ -10,8 +10,8 @@ from conftest import EXAMPLES, PROGRAMS
 from models.monitor_bench import Bench, cut_at, image_of, lines_of
 
 RAM, MOST = 0x80000000, 20000  # the first byte of RAM; steps of the model
-GOLDEN = PROGRAMS.parent / "golden"
-TIMER, LEAK, REGION = EXAMPLES / "enclaves" / "timer" / "image", GOLDEN / "leak" / "image", GOLDEN / "measure" / "region"
+IMAGES = PROGRAMS.parent / "images"
+TIMER, LEAK, REGION = EXAMPLES / "enclaves" / "timer" / "image", IMAGES / "leak" / "image", IMAGES / "measure" / "region"
 
 
 class Model:

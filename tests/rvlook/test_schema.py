@@ -6,8 +6,8 @@ import pytest
 from conftest import EXAMPLES, PROGRAMS, ROOT, input_of
 
 SHAPES = json.loads((ROOT / "python" / "rvlook" / "output" / "objects.schema.json").read_text(encoding="utf-8"))["$defs"]
-GOLDEN, COPIES = PROGRAMS.parent / "golden", PROGRAMS / "window_copies"
-LEAK, STORE = ("leak", "--monitor", GOLDEN / "leak" / "image", "--at"), EXAMPLES / "enclaves" / "store_leaking"
+IMAGES, COPIES = PROGRAMS.parent / "images", PROGRAMS / "window_copies"
+LEAK, STORE = ("leak", "--monitor", IMAGES / "leak" / "image", "--at"), EXAMPLES / "enclaves" / "store_leaking"
 EXIT_ZERO = ("timer", "leak", "window", "races", "explain")  # subcommands that end with 1 if they find something
 UNFINISHED = ("timer_not_resumed",)
 COMMANDS = {
@@ -16,11 +16,11 @@ COMMANDS = {
     "trace": ("trace", "--monitor", input_of(EXAMPLES / "enclaves" / "timer")),
     "timer_not_resumed": ("timer", "--monitor", EXAMPLES / "enclaves" / "adds" / "image"),
     "timer": ("timer", "--monitor", EXAMPLES / "enclaves" / "timer" / "image"), "leak": (*LEAK, "80020800", "00", "05"),
-    "leak_tries": (*LEAK, "80020800:4", "--tries", "3"), "window": ("window", "--monitor", GOLDEN / "window" / "image", "--at", "80020800:4"),
+    "leak_tries": (*LEAK, "80020800:4", "--tries", "3"), "window": ("window", "--monitor", IMAGES / "window" / "image", "--at", "80020800:4"),
     "window_copies": ("window", "--monitor", COPIES / "image", "--symbols", COPIES / "symbols", "--script", COPIES / "script", "--at", "key:20"),
     "window_harts": ("window", "--harts", "2", "--monitor", STORE / "image", "--symbols", STORE / "symbols", "--at", "key:32"),
-    "races": ("races", "--monitor", "--timer", "1", EXAMPLES / "enclaves" / "adds" / "image"), "explain": ("explain", GOLDEN / "explain" / "input"),
-    "measure": ("measure", GOLDEN / "measure" / "region", "80020000", "1000", "0", "0", "80020000")}
+    "races": ("races", "--monitor", "--timer", "1", EXAMPLES / "enclaves" / "adds" / "image"), "explain": ("explain", IMAGES / "explain" / "input"),
+    "measure": ("measure", IMAGES / "measure" / "region", "80020000", "1000", "0", "0", "80020000")}
 
 
 @pytest.fixture(scope="module")

@@ -2,12 +2,12 @@
 from pathlib import Path
 
 import pytest
-from support.message_files import GOLDEN, REGION, Files
+from support.message_files import IMAGES, REGION, Files
 from support.message_runs import FULL, Runs
 
 from conftest import EXAMPLES, ROOT, RVLOOK
 
-ADDS, SUM, LEAKS = str(EXAMPLES / "enclaves" / "adds" / "image"), str(EXAMPLES / "programs" / "sum" / "stdin"), GOLDEN + "/leak/image"
+ADDS, SUM, LEAKS = str(EXAMPLES / "enclaves" / "adds" / "image"), str(EXAMPLES / "programs" / "sum" / "stdin"), IMAGES + "/leak/image"
 LONG_RACE = ("races", "--monitor", "--harts", "2", "--ram", "131072", "MANY")
 SHORT = {
     "map": ("map", SUM), "trace": ("trace", SUM), "touch": ("touch", SUM), "page": ("page", SUM), "map --json": ("map", SUM, "--json"),

@@ -89,7 +89,7 @@ def test_touch_counts_the_accesses_of_the_steps(results, name):
 
 
 def test_touch_counts_the_accesses_behind_a_script(results):
-    folder = PROGRAMS.parent / "golden" / "trace_script"
+    folder = PROGRAMS.parent / "images" / "trace_script"
     check_counts(results, folder / "image", ("--script", folder / "script", "--steps", "50"), 2)
 
 

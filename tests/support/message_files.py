@@ -1,8 +1,8 @@
 """Files for the cases of messages: images, scripts and listings, each of which makes rvlook print one of them."""
 from support.hostile import named
 
-GOLDEN = "tests/rvlook/golden"
-REGION = GOLDEN + "/measure/region"
+IMAGES = "tests/rvlook/images"
+REGION = IMAGES + "/measure/region"
 LARGE = (32 << 20) + 1  # bytes, one more than an image may have
 LINES = 1000001  # one more than a script may have
 

@@ -9,8 +9,8 @@ from pathlib import Path
 ROOT = Path(__file__).resolve().parents[2]
 SECONDS = 240  # for the test of one mutant
 COPIED = ("python", "tests/rvlook", "tests/support")
-LINKED = ("examples", "docs", "tools", "tests/models", "tests/rvlook/programs", "tests/rvlook/golden")
-SKIPPED = ("__pycache__", "programs", "golden", "fuzz")
+LINKED = ("examples", "docs", "tools", "tests/models", "tests/rvlook/programs", "tests/rvlook/golden", "tests/rvlook/images")
+SKIPPED = ("__pycache__", "programs", "golden", "images", "fuzz")
 
 
 @dataclass(frozen=True)
