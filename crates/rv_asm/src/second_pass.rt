@@ -1,4 +1,4 @@
-//! The second look at the lines of a text: their words, the labels being known.
+//! The second pass over the lines of a text. It makes the words, with the labels of the first pass.
 
 ghost use Rattle.std.specs.Prelude.{◌≡◌, ◌⊎◌, ◌≤◌, ◌+◌, ◌++◌, [], None, Some, Ok, Err, IfOk, IfErr, IsOk, OnOk, List, ℕ, length, take};
 ghost use Rattle.rv_asm.specs.LabelMap.{places_of};

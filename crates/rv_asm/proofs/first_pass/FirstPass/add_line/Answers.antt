@@ -1,11 +1,11 @@
 use Rattle.std.proofs.Common.{◌≡◌, ◌∙◌, ◌+◌, ◌≤◌, sym, arith, inr, refl, false, is_some, Ok}
 use Rattle.rv_word.specs.Cases.{option_case}
 use Rattle.rv_asm.specs.LabelMap.{places_of}
-use Rattle.rv_asm.specs.Looks.{AddsLabel}
+use Rattle.rv_asm.specs.Passes.{AddsLabel}
 use Rattle.rv_asm.specs.LineReading.{line_read}
 use Rattle.rv_asm.specs.Program.{line_size}
 use Rattle.rv_asm.proofs.LabelLemmas.{reads_more, own_fault-none, label_fault-none}
-use Rattle.rv_asm.proofs.first_look.FirstLook.add_line.Goals as goal
+use Rattle.rv_asm.proofs.first_pass.FirstPass.add_line.Goals as goal
 
 pub returns-clause-ok : goal.returns-clause-ok
 returns-clause-ok c = λ before has.

@@ -1,6 +1,6 @@
 use Rattle.std.proofs.Common.{arith}
 use Rattle.rv_asm.proofs.WordLemmas.{fails_or_lacks, writes_on}
-use Rattle.rv_asm.proofs.second_look.words_of.Goals as goal
+use Rattle.rv_asm.proofs.second_pass.words_of.Goals as goal
 
 pub returns-in-Err-clause-fault : goal.returns-in-Err-clause-fault
 returns-in-Err-clause-fault c =

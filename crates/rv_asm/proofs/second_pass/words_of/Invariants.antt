@@ -1,7 +1,7 @@
 use Rattle.std.proofs.Common.{◌+◌, ◌≤◌, length}
 use Rattle.rv_asm.specs.LabelMap.{places_of}
 use Rattle.rv_asm.proofs.WordLemmas.{HasWrittenUpTo}
-use Rattle.rv_asm.proofs.second_look.words_of.Given as goal
+use Rattle.rv_asm.proofs.second_pass.words_of.Given as goal
 
 abbrev pub invariant-loop-line : goal.invariant-loop-line
 invariant-loop-line l = record {

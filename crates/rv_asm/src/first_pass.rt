@@ -1,10 +1,10 @@
-//! The first look at the lines of a text: their own faults, and where their labels stand.
+//! The first pass over the lines of a text. It finds the errors of each line alone, and the addresses of the labels.
 
 ghost use Rattle.std.specs.Prelude.{◌≡◌, ◌⊎◌, ◌≤◌, ◌<◌, ◌+◌, ◌^◌, ◌-◌, ◌∷◌, [], ◌++◌, IfOk, IfErr, OnOk, OnErr, Some, None, length, List, false, is_some};
 ghost use Rattle.rv_word.specs.Cases.{option_case};
 ghost use Rattle.rv_asm.specs.LabelMap.{places_of};
 ghost use Rattle.rv_asm.specs.Lacking.{FailsAt, LacksForLabel};
-ghost use Rattle.rv_asm.specs.Looks.{HasRead, AddsLabel};
+ghost use Rattle.rv_asm.specs.Passes.{HasRead, AddsLabel};
 ghost use Rattle.rv_asm.specs.LineReading.{line_read};
 ghost use Rattle.rv_asm.specs.Program.{Reading, readings, own_fault, first_line_fault, statement_size as statement_size_of};
 
@@ -16,23 +16,23 @@ use crate::statement::Statement;
 use rv_text::split_line;
 use std::alloc::{AllocError, Global};
 
-/// How many words a text may stand for.
+/// The most words that a text may have.
 const MAX_WORDS: u32 = 65536;
 
-/// What is known of the lines that were read.
+/// The state of the first pass after some lines.
 #[derive(Drop)]
-pub(crate) struct FirstLook {
-    /// Where their labels stand.
+pub(crate) struct FirstPass {
+    /// The labels of these lines, with their addresses.
     pub(crate) labels: Labels,
-    /// The number of the first line whose label stood before.
+    /// The number of the first line that repeats a label.
     pub(crate) repeated: Option<usize>,
-    /// How many lines they are.
+    /// The number of lines.
     pub(crate) lines: usize,
-    /// How many words they stand for.
+    /// The number of words that they assemble to.
     pub(crate) words: u32,
 }
 
-/// How many words the statement of a line stands for, if it has one.
+/// Returns how many words the statement of a line assembles to, 0 without a statement.
 fn optional_size(statement: &Option<Statement>) -> u32
     ensures value { result ≡ option_case statement.now 0 statement_size_of }
     ensures small { result ≤ 2 }
@@ -43,12 +43,12 @@ fn optional_size(statement: &Option<Statement>) -> u32
     }
 }
 
-impl FirstLook {
-    /// Before any line.
-    fn new(alloc: Global) -> FirstLook
+impl FirstPass {
+    /// Returns the state before the first line.
+    fn new(alloc: Global) -> FirstPass
         ensures { HasRead result [] }
     {
-        FirstLook {
+        FirstPass {
             labels: Labels::new(alloc),
             repeated: None,
             lines: 0,
@@ -56,7 +56,7 @@ impl FirstLook {
         }
     }
 
-    /// Adds the label of the next line, where it has not stood before.
+    /// Adds the label of the next line, unless it repeats one.
     ///
     /// # Errors
     ///
@@ -132,23 +132,23 @@ impl FirstLook {
         Ok(())
     }
 
-    /// Looks at all lines of a text.
+    /// Reads all lines of a text.
     ///
     /// # Errors
     ///
     /// The fault of the first line that has one of its own, or with which there are too many words, or `NoMemory` at the
     /// line in hand.
-    pub(crate) fn over(alloc: Global, text: &[u8]) -> Result<FirstLook, AsmFault>
-        ensures ok { IfOk result (λ look. HasRead look (readings text.now) × (first_line_fault own_fault [] (readings text.now) ≡ None)) }
+    pub(crate) fn over(alloc: Global, text: &[u8]) -> Result<FirstPass, AsmFault>
+        ensures ok { IfOk result (λ pass. HasRead pass (readings text.now) × (first_line_fault own_fault [] (readings text.now) ≡ None)) }
         ensures fault { IfErr result (λ fault. (first_line_fault own_fault [] (readings text.now) ≡ Some fault) ⊎ LacksForLabel (readings text.now) fault) }
         ensures line { IfErr result (λ fault. (1 ≤ fault.line) × (fault.line ≤ length (readings text.now))) }
     {
-        let mut look = FirstLook::new(alloc);
+        let mut pass = FirstPass::new(alloc);
         let mut rest = text;
         while let Some((line, after)) = split_line(rest) {
-            look.add_line(line)?;
+            pass.add_line(line)?;
             rest = after;
         }
-        Ok(look)
+        Ok(pass)
     }
 }

@@ -1,7 +1,7 @@
 use Rattle.std.proofs.Common.{◌∷◌, [], length-append, arith}
 use Rattle.rv_asm.specs.LineReading.{line_read}
-use Rattle.rv_asm.proofs.LookLemmas.{reads_on}
-use Rattle.rv_asm.proofs.first_look.FirstLook.over.Goals as goal
+use Rattle.rv_asm.proofs.PassLemmas.{reads_on}
+use Rattle.rv_asm.proofs.first_pass.FirstPass.over.Goals as goal
 
 pub loop-line-preserved : goal.loop-line-preserved
 loop-line-preserved c =
@@ -9,7 +9,7 @@ loop-line-preserved c =
     let more = c.in_ok-add_line.ensures.ok has.before has.read in
     record {
       read =
-          reads_on c.loop-line.look c.add_line.new.self c.args.text.now c.loop-line.rest.now c.in-Some.after.now c.in-Some.line.now has
+          reads_on c.loop-line.pass c.add_line.new.self c.args.text.now c.loop-line.rest.now c.in-Some.after.now c.in-Some.line.now has
           c.in-Some.ensures.lines more.0 more.1;
       count =
           omega (
