@@ -41,9 +41,9 @@ hidden_writes : (hidden : ℕ → Bool) (m n : List ℕ) (here there byte other 
     → write m here (byte ∷ []) ≡ Some m' → write n there (other ∷ []) ≡ Some n' → hidden here ≡ true → hidden there ≡ true
     → AgreeOutside hidden m' n'
 hidden_writes hidden m n here there byte other m' n' agree first second secret secret' =
-    turn (hidden_write hidden n m' there other n' (turn (hidden_write hidden m n here byte m' agree first secret)) second secret') where
-      turn : {a b : List ℕ} → AgreeOutside hidden a b → AgreeOutside hidden b a
-      turn agree = record { size = sym agree.size; bytes = λ i seen. sym (agree.bytes i seen) }
+    scheduled_step (hidden_write hidden n m' there other n' (scheduled_step (hidden_write hidden m n here byte m' agree first secret)) second secret') where
+      scheduled_step : {a b : List ℕ} → AgreeOutside hidden a b → AgreeOutside hidden b a
+      scheduled_step agree = record { size = sym agree.size; bytes = λ i seen. sym (agree.bytes i seen) }
 
 -- ---- the region
 

@@ -1,10 +1,10 @@
--- What is true in every state of a target is kept by what is done.
+-- Effects keep the invariant of a target.
 use Rattle.std.proofs.Common.{◌≡◌, ℕ, List, [], ◌∷◌, Option, Some, None, refl, sym, subst}
 use Rattle.rv_debug.specs.Prelude.{Bare, Command, IsKept, Monitored, State, Target, option_case, with_register, write}
-use Rattle.rv_debug.proofs.Prelude.{BenchState, Chosen, Deed, IsBare, KeepsMonitor, Nothing, OneByte, Register, Steps, TimerLine, answer}
-use Rattle.rv_debug.proofs.Prelude.{chosen_seat, deed, done, kept_by_size, length-write, no_turns, option_map, over_memory, sched_kept}
+use Rattle.rv_debug.proofs.Prelude.{BenchState, Chosen, Effect, IsBare, KeepsMonitor, Nothing, OneByte, Register, Steps, TimerLine, answer}
+use Rattle.rv_debug.proofs.Prelude.{chosen_seat, effect, done, kept_by_size, length-write, schedule_start, option_map, over_memory, sched_kept}
 use Rattle.rv_debug.proofs.Prelude.{written_kept}
-use Rattle.rv_debug.proofs.Turns.{by_bare, stays_bare, turned_bare, turns_are_sched}
+use Rattle.rv_debug.proofs.ScheduledSteps.{by_bare, stays_bare, step_scheduled_bare, schedule_is_sched}
 
 -- what is left where a byte is written, or is not in memory
 abbrev pub poke_of : Target → Option (List ℕ) → Target
@@ -16,8 +16,8 @@ bare_poked : (machine : State) (memory : Option (List ℕ)) → IsBare (poke_of 
 bare_poked machine None = tt
 bare_poked machine (Some memory) = tt
 
-pub bare_done : (machine : State) (d : Deed) → IsBare (done (Bare machine) d)
-bare_done machine (Steps harts chosen) = turned_bare chosen _ (stays_bare harts (no_turns (Bare machine)) tt)
+pub bare_done : (machine : State) (d : Effect) → IsBare (done (Bare machine) d)
+bare_done machine (Steps harts chosen) = step_scheduled_bare chosen _ (stays_bare harts (schedule_start (Bare machine)) tt)
 bare_done machine (OneByte address byte) = bare_poked machine (write machine.memory address (byte ∷ []))
 bare_done machine _ = tt
 
@@ -31,19 +31,19 @@ poke_keeps machine address byte (Some memory) is kept =
 
 -- ---- any target
 
-pub deed_keeps : (target : Target) (d : Deed) → KeepsMonitor target → KeepsMonitor (done target d)
-deed_keeps (Bare machine) d kept = by_bare KeepsMonitor (λ alone. tt) _ (bare_done machine d)
-deed_keeps (Monitored machine) Nothing kept = kept
-deed_keeps (Monitored machine) (Steps harts chosen) kept =
-    subst KeepsMonitor (sym (turns_are_sched harts machine _ chosen)) (sched_kept harts machine.state kept)
-deed_keeps (Monitored machine) (Register number value) kept =
+pub effect_keeps : (target : Target) (d : Effect) → KeepsMonitor target → KeepsMonitor (done target d)
+effect_keeps (Bare machine) d kept = by_bare KeepsMonitor (λ alone. tt) _ (bare_done machine d)
+effect_keeps (Monitored machine) Nothing kept = kept
+effect_keeps (Monitored machine) (Steps harts chosen) kept =
+    subst KeepsMonitor (sym (schedule_is_sched harts machine _ chosen)) (sched_kept harts machine.state kept)
+effect_keeps (Monitored machine) (Register number value) kept =
     let hart = (chosen_seat machine).hart in
     written_kept machine.hart (with_register hart.regs number value) hart.csrs.timer machine.state kept
-deed_keeps (Monitored machine) (TimerLine raised) kept = written_kept machine.hart (chosen_seat machine).hart.regs raised machine.state kept
-deed_keeps (Monitored machine) (OneByte address byte) kept =
+effect_keeps (Monitored machine) (TimerLine raised) kept = written_kept machine.hart (chosen_seat machine).hart.regs raised machine.state kept
+effect_keeps (Monitored machine) (OneByte address byte) kept =
     poke_keeps machine address byte (write machine.state.shared.memory address (byte ∷ [])) refl kept
 
 -- so each command keeps it
 pub keeps_monitor : (bench : BenchState) (command : Command) → KeepsMonitor bench.target → KeepsMonitor (answer bench command).state.target
 unfolding answer
-keeps_monitor bench command = deed_keeps bench.target (deed bench command)
+keeps_monitor bench command = effect_keeps bench.target (effect bench command)
