@@ -100,7 +100,7 @@ def of_registers():
 def operations():
     """How many operations rv_hart does at once."""
     variants = text_of("crates/rv_hart/src/decoded.rt").split("enum Operation {\n", 1)[1].split("\n}", 1)[0]
-    return len(set(re.findall(r"^    (\w+),$", variants, re.M)) - {"Fresh", "Other"})
+    return len(set(re.findall(r"^    (\w+),$", variants, re.M)) - {"Invalid", "Other"})
 
 
 def of_instructions():

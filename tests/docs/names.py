@@ -1,6 +1,6 @@
 #!/usr/bin/env python3
 """python3 -m docs.names --check: tells which public definitions have the name of another one, where no reason for it stands here, and
-which reasons are of names that stand once. What the code remembers (specs/Remembered) is not among them, since no manual has it.
+which reasons are of names that stand once. Definitions of caches (specs/Cache) are not among them, since no manual has them.
 """
 import collections
 import importlib.machinery
@@ -27,7 +27,7 @@ def twice():
     loader.exec_module(module)
     found = collections.defaultdict(list)
     for path, _, names in module.files():
-        if "/Remembered/" not in path:
+        if "/Cache/" not in path:
             for name in names:
                 found[name].append(path)
     return {name: paths for name, paths in found.items() if len(paths) > 1}

@@ -7,10 +7,10 @@ use Rattle.std.proofs.lemmas.List.Sums.{sum_by_push}
 use Rattle.rv_asm.specs.LabelMap.{places_of}
 use Rattle.rv_word.specs.Cases.{option_case}
 use Rattle.std.proofs.lemmas.Bool.Decides.{nat_tests}
-use Rattle.rv_asm.specs.Looks.{HasRead, AddsLabel, repeated_with, label_twice}
+use Rattle.rv_asm.specs.Passes.{HasRead, AddsLabel, repeated_with, label_twice}
 use Rattle.rv_asm.specs.Program.{Reading, line_size, words_in, has_label, is_label, place_from, place_in, first_line_fault, own_fault}
 use Rattle.rv_asm.specs.Program.{label_fault, repeated_name}
-use Rattle.rv_asm.specs.declared.first_look.FirstLook.{FirstLook}
+use Rattle.rv_asm.specs.declared.first_pass.FirstPass.{FirstPass}
 use Rattle.rv_asm.specs.declared.line.Line.{Line}
 use Rattle.rv_asm.specs.declared.fault.AsmFaultKind.TheVariants.{LabelTwice}
 use Rattle.rv_asm.specs.declared.fault.AsmFault.{AsmFault}
@@ -79,7 +79,7 @@ first_fault-push fault before (first ∷ lines) line =
     rw (others, append_assoc before (first ∷ []) lines)
     (fault_stays (fault before first) (fault_after (length before)) (first_line_fault fault (before ++ first ∷ []) lines) _)
 
--- ---- the first look goes on
+-- ---- the first pass reads one more line
 
 words_in-push : (lines : List Reading) (line : Reading) → words_in (lines ++ line ∷ []) ≡ words_in lines + line_size line
 words_in-push lines line = sum_by_push line_size lines line
@@ -92,15 +92,15 @@ twice-next true (Some line) count = refl
 twice-next false None count = refl
 twice-next false (Some line) count = refl
 
-repeated-next : (look : FirstLook) (before : List Reading) (label : Option (List ℕ)) → HasRead look before
+repeated-next : (pass : FirstPass) (before : List Reading) (label : Option (List ℕ)) → HasRead pass before
     → option_case (first_line_fault label_fault [] before) (option_map (fault_after (length before)) (repeated_name before label)) Some
-    ≡ option_map label_twice (repeated_with look label)
-repeated-next look before None has = option_case-some (first_line_fault label_fault [] before) ∙ has.repeated
-repeated-next look before (Some name) has =
-    let there : is_some (places_of look.labels name) ≡ is_some (place_in before name) = λ i. is_some (has.labels i name) in
-    rw (has.repeated, there, has.count) (twice-next (is_some (place_in before name)) look.repeated (length before))
+    ≡ option_map label_twice (repeated_with pass label)
+repeated-next pass before None has = option_case-some (first_line_fault label_fault [] before) ∙ has.repeated
+repeated-next pass before (Some name) has =
+    let there : is_some (places_of pass.labels name) ≡ is_some (place_in before name) = λ i. is_some (has.labels i name) in
+    rw (has.repeated, there, has.count) (twice-next (is_some (place_in before name)) pass.repeated (length before))
 
-pub reads_more : (old mid : FirstLook) (before : List Reading) (line : Line) → HasRead old before → AddsLabel old mid line.label
+pub reads_more : (old mid : FirstPass) (before : List Reading) (line : Line) → HasRead old before → AddsLabel old mid line.label
     → old.words + line_size (Ok line) ≤ 65536
     → HasRead (record mid { words = old.words + line_size (Ok line); lines = old.lines + 1 }) (before ++ Ok line ∷ [])
 reads_more old mid before line has adds few = record {
@@ -119,13 +119,13 @@ own_fault-none before line words is few =
     let fits : nat_lt 65536 (words_in before + line_size (Ok line)) ≡ false = grind (arith, nat_tests) in rw fits refl
 
 -- a line whose label has not stood before
-not_repeated : (look : FirstLook) (before : List Reading) (label : Option (List ℕ)) → HasRead look before
-    → option_case label false (λ name. is_some (places_of look.labels name)) ≡ false → repeated_name before label ≡ None
-not_repeated look before None has absent = refl
-not_repeated look before (Some name) has absent =
+not_repeated : (pass : FirstPass) (before : List Reading) (label : Option (List ℕ)) → HasRead pass before
+    → option_case label false (λ name. is_some (places_of pass.labels name)) ≡ false → repeated_name before label ≡ None
+not_repeated pass before None has absent = refl
+not_repeated pass before (Some name) has absent =
     let new : is_some (place_in before name) ≡ false = sym (ap (λ (places : List ℕ → Option ℕ). is_some (places name)) has.labels) ∙ absent in
     rw new refl
 
-pub label_fault-none : (look : FirstLook) (before : List Reading) (line : Line) → HasRead look before
-    → option_case line.label false (λ name. is_some (places_of look.labels name)) ≡ false → label_fault before (Ok line) ≡ None
-label_fault-none look before line has absent = not_repeated look before line.label has absent
+pub label_fault-none : (pass : FirstPass) (before : List Reading) (line : Line) → HasRead pass before
+    → option_case line.label false (λ name. is_some (places_of pass.labels name)) ≡ false → label_fault before (Ok line) ≡ None
+label_fault-none pass before line has absent = not_repeated pass before line.label has absent

@@ -1,8 +1,8 @@
 mod DenotesLemmas
 mod Found
 mod LabelLemmas
-mod LookLemmas
-mod Looked
+mod PassLemmas
+mod PassResults
 mod ManyOperands
 mod Numbered
 mod Plain

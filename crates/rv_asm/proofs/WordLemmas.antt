@@ -1,4 +1,4 @@
--- The second look, line after line.
+-- The second pass, line after line.
 use Rattle.std.proofs.Common.{◌≡◌, ◌⊎◌, inl, inr, ◌∙◌, sym, ap, refl, ℕ, ◌+◌, ◌≤◌, nat_lt, Bool, true, false, if◌then◌else◌, List, [], ◌∷◌, ◌++◌}
 use Rattle.std.proofs.Common.{length, length-append, take, Option, Some, None, Result, Ok, Err, IsOk, append_assoc, map, arith}
 use Rattle.std.proofs.lemmas.Bool.Decides.{nat_tests}

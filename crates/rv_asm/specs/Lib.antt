@@ -6,7 +6,7 @@ pub mod FenceSets
 pub mod LabelMap
 pub mod Lacking
 pub mod LineReading
-pub mod Looks
+pub mod Passes
 pub mod Mnemonics
 pub mod Numbers
 pub mod OperandRanges

@@ -7,8 +7,8 @@ ghost use Rattle.rv_asm.specs.Lacking.{FailsFor};
 ghost use Rattle.rv_asm.specs.Program.{assembled, fault_in, readings};
 
 use crate::fault::{AsmFault, AsmFaultKind};
-use crate::first_look::FirstLook;
-use crate::second_look::words_of;
+use crate::first_pass::FirstPass;
+use crate::second_pass::words_of;
 use std::alloc::Global;
 
 /// The words that an assembler text stands for.
@@ -19,7 +19,7 @@ use std::alloc::Global;
 /// `TooLong` where there are more than 65536 words with it); else `LabelTwice` at the first line whose label stood
 /// before; else `UnknownLabel` or `OutOfRange` at the first line that names a label which no line has or which is too
 /// far. `NoMemory` at the line in hand where memory was refused.
-#[tactic(auto, using(crate::proofs::Looked::own_fails, crate::proofs::Looked::twice_decides))]
+#[tactic(auto, using(crate::proofs::PassResults::own_fails, crate::proofs::PassResults::twice_decides))]
 pub fn assemble(alloc: Global, text: &[u8]) -> Result<Vec<u32>, AsmFault>
     ensures ok { IfOk result (λ words. assembled text.now ≡ Ok words.items) }
     ensures few { IfOk result (λ words. length words.items ≤ 65536) }
@@ -32,12 +32,12 @@ pub fn assemble(alloc: Global, text: &[u8]) -> Result<Vec<u32>, AsmFault>
     // .. and no others: where there is no fault, what the text denotes is what is answered.
     ensures only { (words : List ℕ) → Denotes text.now words → fault_in (readings text.now) ≡ None → assembled text.now ≡ Ok words }
 {
-    let look = FirstLook::over(alloc, text)?;
-    if let Some(line) = look.repeated {
+    let pass = FirstPass::over(alloc, text)?;
+    if let Some(line) = pass.repeated {
         return Err(AsmFault {
             line,
             kind: AsmFaultKind::LabelTwice,
         });
     }
-    words_of(alloc, text, &look.labels)
+    words_of(alloc, text, &pass.labels)
 }

@@ -15,7 +15,7 @@ mod csr_name;
 mod cuts;
 mod disassembler;
 mod fault;
-mod first_look;
+mod first_pass;
 mod format;
 mod line;
 mod mnemonic;
@@ -25,7 +25,7 @@ mod operand;
 mod operand_range;
 mod reading;
 mod register_name;
-mod second_look;
+mod second_pass;
 mod statement;
 mod tables;
 

@@ -8,7 +8,7 @@ use Rattle.rv_debug.specs.Isolation.{after_commands, IsSparedIn}
 use Rattle.rv_debug.specs.Targets.{KeepsMonitor}
 use Rattle.rv_script.specs.declared.command.Command.{Command}
 use Rattle.rv_script.specs.declared.command.CommandFault.{CommandFault}
-use Rattle.rv_debug.proofs.DeedsKept.{keeps_monitor}
+use Rattle.rv_debug.proofs.EffectsKept.{keeps_monitor}
 use Rattle.rv_debug.proofs.Isolation.{integrity}
 use Rattle.rv_command_line.specs.declared.setup.Setup.{Setup}
 use Rattle.rv_streams.specs.declared.fault.BenchFault.{BenchFault}

@@ -21,19 +21,19 @@ pub started_ok : (image : List ℕ) (setup : Setup) (plan : LoadPlan) (zeros mem
     → memory ≡ loaded_memory image plan.segments zeros → entry ≡ plan.entry
     → bench ≡ reset_over setup memory entry → started image setup ≡ Ok bench
 unfolding started
-started_ok image setup plan zeros memory entry bench lawful plans made loads enters is =
-    rw (lawful, plans, is, enters, loads, made) refl
+started_ok image setup plan zeros memory entry bench valid plans made loads enters is =
+    rw (valid, plans, is, enters, loads, made) refl
 
 -- an image that can not be loaded
 pub started_err : (image : List ℕ) (setup : Setup) (fault : ElfFault) → is_ram_size setup.ram ≡ true → planned image setup ≡ Err fault
     → started image setup ≡ Err (Image fault)
 unfolding started
-started_err image setup fault lawful faulty = rw (lawful, faulty) refl
+started_err image setup fault valid faulty = rw (valid, faulty) refl
 
--- a RAM of an unlawful size
+-- a RAM of an invalid size
 pub no_ram : (image : List ℕ) (setup : Setup) → is_ram_size setup.ram ≡ false → started image setup ≡ Err (Ram BadSize)
 unfolding started
-no_ram image setup unlawful = rw unlawful refl
+no_ram image setup invalid = rw invalid refl
 
 -- a bench that starts has a RAM
 pub has_ram : (image : List ℕ) (setup : Setup) (bench : BenchState) → started image setup ≡ Ok bench → is_ram_size setup.ram ≡ true
@@ -63,17 +63,17 @@ loaded_size image setup plan =
     length-map-range_with_len (byte_after image plan.segments zeros) ram_base (length zeros) ∙ length-replicate setup.ram 0
 
 reset_keeps : (setup : Setup) (memory : List ℕ) (entry : ℕ) → is_ram_size (length memory) ≡ true → KeepsMonitor (reset_over setup memory entry).target
-reset_keeps setup memory entry lawful = go setup.monitored where
+reset_keeps setup memory entry valid = go setup.monitored where
   go : (monitored : Bool) → KeepsMonitor (reset_over (record setup { monitored = monitored }) memory entry).target
   go false = tt
-  go true = start_kept memory entry setup.harts lawful
+  go true = start_kept memory entry setup.harts valid
 
 pub started_keeps : (image : List ℕ) (setup : Setup) → IfOk (started image setup) (λ state. KeepsMonitor state.target)
 unfolding started
 started_keeps image setup = go (is_ram_size setup.ram) refl (planned image setup) where
-  go : (lawful : Bool) → is_ram_size setup.ram ≡ lawful → (plan : Result LoadPlan ElfFault)
+  go : (valid : Bool) → is_ram_size setup.ram ≡ valid → (plan : Result LoadPlan ElfFault)
       → IfOk
-      (cond lawful (result_case plan (λ plan. Ok (reset_over setup (memory_loaded image setup plan) plan.entry)) (λ fault. Err (Image fault)))
+      (cond valid (result_case plan (λ plan. Ok (reset_over setup (memory_loaded image setup plan) plan.entry)) (λ fault. Err (Image fault)))
       (Err (Ram BadSize))) (λ state. KeepsMonitor state.target)
   go false is plan = tt
   go true is (Err fault) = tt

@@ -23,7 +23,7 @@ use Rattle.rv_debug.specs.declared.target.Target.{Target}
 use Rattle.rv_debug.specs.declared.target.Target.TheVariants.{Bare, Monitored}
 use Rattle.rv_debug.proofs.AtRest.{rest_law, scramble_rests}
 use Rattle.rv_debug.proofs.BothAlike.{both_alike}
-use Rattle.rv_debug.proofs.DeedsKept.{keeps_monitor}
+use Rattle.rv_debug.proofs.EffectsKept.{keeps_monitor}
 use Rattle.rv_debug.proofs.Isolation.{integrity}
 use Rattle.rv_command_line.specs.declared.setup.Setup.{Setup}
 use Rattle.rv_streams.specs.declared.fault.BenchFault.{BenchFault}

@@ -10,7 +10,7 @@ use Rattle.rv_command_line.proofs.Options.{taken_good}
 use Rattle.rv_command_line.proofs.Readable.{either_good, Good, kind_read, one_read}
 use Rattle.rv_command_line.specs.CommandLine.{faults_of, rvbench}
 use Rattle.rv_command_line.specs.Faults.{IsFaultOf}
-use Rattle.rv_command_line.specs.Job.{are_options_read, has_its_monitor, is_lawful_job, is_setup_read, is_slot, job_of, named_job, number_in_text}
+use Rattle.rv_command_line.specs.Job.{are_options_read, has_its_monitor, is_valid_job, is_setup_read, is_slot, job_of, named_job, number_in_text}
 use Rattle.rv_command_line.specs.Job.{run_of, twin_of}
 use Rattle.rv_command_line.specs.Refusals.{refusals_of}
 use Rattle.rv_command_line.specs.declared.job.Job.{Job}
@@ -45,19 +45,19 @@ slot_below (Some text) e = go (number_in_text 8 text) e
     go None e = refl
     go (Some n) e = e
 
-named_lawful : (met : Option (Text × List Row)) → Good (entered_rows met) → is_lawful_job (named_job met) ≡ true
-named_lawful None good = refl
-named_lawful (Some met) good = go (bytes_eq met.0 (codes "asm")) (bytes_eq met.0 (codes "dis")) (bytes_eq met.0 (codes "twin"))
+named_valid : (met : Option (Text × List Row)) → Good (entered_rows met) → is_valid_job (named_job met) ≡ true
+named_valid None good = refl
+named_valid (Some met) good = go (bytes_eq met.0 (codes "asm")) (bytes_eq met.0 (codes "dis")) (bytes_eq met.0 (codes "twin"))
   where
     go : (is_asm is_dis is_twin : Bool)
-        → is_lawful_job (cond is_asm job.Asm (cond is_dis job.Dis (cond is_twin (twin_of met.1) (run_of met.1)))) ≡ true
+        → is_valid_job (cond is_asm job.Asm (cond is_dis job.Dis (cond is_twin (twin_of met.1) (run_of met.1)))) ≡ true
     go true d t = refl
     go false true t = refl
     go false false true = slot_below (one_of (codes "slot") met.1) (one_read (codes "slot") met.1 good)
     go false false false = refl
 
-taken_lawful : (words : List Text) → faults_of words ≡ [] → is_lawful_job (job_of words) ≡ true
-taken_lawful words e = named_lawful (subcommand_of rvbench words) (taken_good words e)
+taken_valid : (words : List Text) → faults_of words ≡ [] → is_valid_job (job_of words) ≡ true
+taken_valid words e = named_valid (subcommand_of rvbench words) (taken_good words e)
 
 -- the clauses of `read_words`
 abbrev pub Answers : List Text → Result Job WordsFault → Type 0
@@ -65,7 +65,7 @@ Answers words r = record {
   taken : OnOk r (refusals_of words ≡ []);
   job : IfOk r (λ job. job ≡ job_of words);
   read : OnOk r (are_options_read words ≡ true);
-  lawful : IfOk r (λ job. is_lawful_job job ≡ true);
+  valid : IfOk r (λ job. is_valid_job job ≡ true);
   monitor : IfOk r (λ job. has_its_monitor job ≡ true);
   fault : IfErr r (IsFaultOf (refusals_of words));
 }
@@ -76,8 +76,8 @@ answers words taken true e = record {
   taken = rw (taken, e) refl;
   job = refl;
   read = taken_read words taken;
-  lawful = taken_lawful words taken;
+  valid = taken_valid words taken;
   monitor = e;
   fault = tt;
 }
-answers words taken false e = record { taken = tt; job = tt; read = tt; lawful = tt; monitor = tt; fault = rw (taken, e) refl }
+answers words taken false e = record { taken = tt; job = tt; read = tt; valid = tt; monitor = tt; fault = rw (taken, e) refl }

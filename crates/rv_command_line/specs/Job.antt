@@ -102,16 +102,16 @@ abbrev pub are_options_read : List Text → Bool
 are_options_read words = are_run_read (options_of (codes "run") words) && are_twin_read (options_of (codes "twin") words)
 
 -- a job that names a slot names one of the thirteen, and a bench with the monitor
-abbrev pub is_lawful_job : Job → Bool
-is_lawful_job (job.Twin setup slot) = setup.monitored && nat_lt slot 13
-is_lawful_job _ = true
+abbrev pub is_valid_job : Job → Bool
+is_valid_job (job.Twin setup slot) = setup.monitored && nat_lt slot 13
+is_valid_job _ = true
 
 -- a bench of two harts has the monitor
-abbrev pub has_lawful_harts : Setup → Bool
-has_lawful_harts setup = setup.monitored || number_of_harts setup.harts == 1
+abbrev pub has_valid_harts : Setup → Bool
+has_valid_harts setup = setup.monitored || number_of_harts setup.harts == 1
 
 -- and so it is in a job
 abbrev pub has_its_monitor : Job → Bool
-has_its_monitor (job.Run setup) = has_lawful_harts setup
-has_its_monitor (job.Twin setup slot) = has_lawful_harts setup
+has_its_monitor (job.Run setup) = has_valid_harts setup
+has_its_monitor (job.Twin setup slot) = has_valid_harts setup
 has_its_monitor _ = true

@@ -24,7 +24,7 @@ impl Job {
         ensures { result ≡ has_its_monitor self.now }
     {
         match self {
-            Job::Run(setup) | Job::Twin(setup, _) => setup.has_lawful_harts(),
+            Job::Run(setup) | Job::Twin(setup, _) => setup.has_valid_harts(),
             Job::Asm | Job::Dis => true,
         }
     }

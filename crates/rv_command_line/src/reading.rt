@@ -5,7 +5,7 @@ ghost use Rattle.clap.specs.Kinds.{HasKind, Kinds};
 ghost use Rattle.clap.specs.Walk.{texts};
 ghost use Rattle.clap.specs.Words.{first_of, found_of, one_of, rows_of, subcommand_rows_of};
 ghost use Rattle.rv_command_line.specs.Faults.{IsFaultOf};
-ghost use Rattle.rv_command_line.specs.Job.{are_options_read, harts_in_text, has_its_monitor, is_lawful_job, job_of, kind_of, named_job};
+ghost use Rattle.rv_command_line.specs.Job.{are_options_read, harts_in_text, has_its_monitor, is_valid_job, job_of, kind_of, named_job};
 ghost use Rattle.rv_command_line.specs.Job.{number_in_text, run_of, setup_of, truth_in_text, twin_of};
 ghost use Rattle.rv_command_line.specs.Refusals.{refusals_of};
 
@@ -133,7 +133,7 @@ pub fn read_words<'a>(alloc: Global, words: &'a [&'a str]) -> Result<Job, WordsF
     ensures taken { OnOk result (refusals_of (texts words.entry.now) ≡ []) }
     ensures job { IfOk result (λ job. job ≡ job_of (texts words.entry.now)) }
     ensures read { OnOk result (are_options_read (texts words.entry.now) ≡ true) }
-    ensures lawful { IfOk result (λ job. is_lawful_job job ≡ true) }
+    ensures valid { IfOk result (λ job. is_valid_job job ≡ true) }
     ensures monitor { IfOk result (λ job. has_its_monitor job ≡ true) }
     ensures fault { IfErr result (IsFaultOf (refusals_of (texts words.entry.now))) }
 {

@@ -20,11 +20,11 @@ pub struct Setup {
 
 impl Setup {
     ghost use Rattle.std.specs.Prelude.{◌≡◌};
-    ghost use Rattle.rv_command_line.specs.Job.{has_lawful_harts};
+    ghost use Rattle.rv_command_line.specs.Job.{has_valid_harts};
 
     /// Whether the bench has the monitor where it is to have two harts.
-    pub(crate) fn has_lawful_harts(&self) -> bool
-        ensures { result ≡ has_lawful_harts self.now }
+    pub(crate) fn has_valid_harts(&self) -> bool
+        ensures { result ≡ has_valid_harts self.now }
     {
         self.monitored || self.harts == Harts::One
     }

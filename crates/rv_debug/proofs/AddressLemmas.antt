@@ -1,4 +1,4 @@
--- Sets of addresses as lists that rise.
+-- Sets of addresses as sorted lists.
 use Rattle.std.proofs.Common.{◌≡◌, ◌≢◌, ℕ, zero, suc, ◌+◌, ◌-◌, ◌<◌, ◌≤◌, ◌==◌, ltb, Bool, true, false, cond, ◌||◌, List, [], ◌∷◌, ◌++◌}
 use Rattle.std.proofs.Common.{length, take, drop, filter, get_or, Option, Some, None, Result, Ok, Err, MatchResult, refl, sym, ◌∙◌, ap}
 use Rattle.std.proofs.Common.{arith, inl, inr, ap₂}
@@ -8,43 +8,43 @@ use Rattle.std.proofs.lemmas.List.Sorted.{searched}
 use Rattle.std.specs.List.Sorted.{IsBinarySearchResult}
 use Rattle.std.specs.Ordering.{nat_cmp}
 use Rattle.std.specs.Result.{is_ok}
-use Rattle.rv_debug.proofs.Prelude.{HasPlace, Rises, RisesAbove, cases_lt, find, insert, is_among, is_between, is_in, lower, lowest}
+use Rattle.rv_debug.proofs.Prelude.{HasPlace, IsSorted, IsSortedAbove, cases_lt, find, insert, is_among, is_between, is_in, lower, lowest}
 use Rattle.rv_debug.proofs.Prelude.{nat_tests, remove, with_address, with_room_for, without_address}
 
-pub rises_above-weaker : (a b : ℕ) (xs : List ℕ) → a ≤ b → RisesAbove b xs → RisesAbove a xs
-rises_above-weaker a b [] le all = tt
-rises_above-weaker a b (x ∷ xs) le all = let first : b < x = all.0 in (omega arith, all.1)
+pub sorted_above-weaker : (a b : ℕ) (xs : List ℕ) → a ≤ b → IsSortedAbove b xs → IsSortedAbove a xs
+sorted_above-weaker a b [] le all = tt
+sorted_above-weaker a b (x ∷ xs) le all = let first : b < x = all.0 in (omega arith, all.1)
 
-rises_above-is : (a : ℕ) (xs : List ℕ) → RisesAbove a xs → Rises xs
-rises_above-is a [] all = tt
-rises_above-is a (x ∷ xs) all = all.1
+sorted_above-is : (a : ℕ) (xs : List ℕ) → IsSortedAbove a xs → IsSorted xs
+sorted_above-is a [] all = tt
+sorted_above-is a (x ∷ xs) all = all.1
 
-rises_above-at : (a : ℕ) (xs : List ℕ) (k : ℕ) → RisesAbove a xs → k < length xs → a < get_or xs k 0
-rises_above-at a [] k all inside = absurd (omega arith)
-rises_above-at a (x ∷ xs) zero all inside = all.0
-rises_above-at a (x ∷ xs) (suc k) all inside =
+sorted_above-at : (a : ℕ) (xs : List ℕ) (k : ℕ) → IsSortedAbove a xs → k < length xs → a < get_or xs k 0
+sorted_above-at a [] k all inside = absurd (omega arith)
+sorted_above-at a (x ∷ xs) zero all inside = all.0
+sorted_above-at a (x ∷ xs) (suc k) all inside =
     let first : a < x = all.0 in
-    let more : x < get_or xs k 0 = rises_above-at x xs k all.1 (omega arith) in
+    let more : x < get_or xs k 0 = sorted_above-at x xs k all.1 (omega arith) in
     omega arith
 
 -- each is above those before it
-pub rises-at : (xs : List ℕ) → Rises xs → (i j : ℕ) → i < j → j < length xs → get_or xs i 0 < get_or xs j 0
-rises-at [] all i j lt inside = absurd (omega arith)
-rises-at (x ∷ xs) all i zero lt inside = absurd (omega arith)
-rises-at (x ∷ xs) all zero (suc j) lt inside = rises_above-at x xs j all (omega arith)
-rises-at (x ∷ xs) all (suc i) (suc j) lt inside = rises-at xs (rises_above-is x xs all) i j (omega arith) (omega arith)
+pub sorted-at : (xs : List ℕ) → IsSorted xs → (i j : ℕ) → i < j → j < length xs → get_or xs i 0 < get_or xs j 0
+sorted-at [] all i j lt inside = absurd (omega arith)
+sorted-at (x ∷ xs) all i zero lt inside = absurd (omega arith)
+sorted-at (x ∷ xs) all zero (suc j) lt inside = sorted_above-at x xs j all (omega arith)
+sorted-at (x ∷ xs) all (suc i) (suc j) lt inside = sorted-at xs (sorted_above-is x xs all) i j (omega arith) (omega arith)
 
 -- and so a binary search of them finds
-pub rises-le : (xs : List ℕ) → Rises xs → (i j : ℕ) → i ≤ j → j < length xs → get_or xs i 0 ≤ get_or xs j 0
-rises-le xs all i j le inside = elim (cases_lt i j) [
-  | inl lt ↦ let up : get_or xs i 0 < get_or xs j 0 = rises-at xs all i j lt inside in omega arith
+pub sorted-le : (xs : List ℕ) → IsSorted xs → (i j : ℕ) → i ≤ j → j < length xs → get_or xs i 0 ≤ get_or xs j 0
+sorted-le xs all i j le inside = elim (cases_lt i j) [
+  | inl lt ↦ let up : get_or xs i 0 < get_or xs j 0 = sorted-at xs all i j lt inside in omega arith
   | inr ge ↦ let same : i ≡ j = omega arith in let e : get_or xs i 0 ≡ get_or xs j 0 = ap (λ k. get_or xs k 0) same in omega arith
 ]
 
 -- what a binary search of them gives
-pub searched-place : (xs : List ℕ) (x : ℕ) (r : Result ℕ ℕ) → Rises xs → IsBinarySearchResult (λ y. nat_cmp y x) xs r
+pub searched-place : (xs : List ℕ) (x : ℕ) (r : Result ℕ ℕ) → IsSorted xs → IsBinarySearchResult (λ y. nat_cmp y x) xs r
     → MatchResult r (λ i. (i < length xs) × (get_or xs i 0 ≡ x)) (HasPlace xs x)
-searched-place xs x r all is = go r (searched xs x r is (rises-le xs all)) where
+searched-place xs x r all is = go r (searched xs x r is (sorted-le xs all)) where
   go : (r : Result ℕ ℕ)
       → MatchResult r (λ i. (i < length xs) × (get_or xs i 0 ≡ x))
       (λ i. (i ≤ length xs) × ((k : ℕ) → k < i → get_or xs k 0 < x) × ((k : ℕ) → i ≤ k → k < length xs → x < get_or xs k 0))
@@ -118,18 +118,18 @@ filters x (y ∷ ys) (suc i) place =
 pub insert-is : (x : ℕ) (xs : List ℕ) (i : ℕ) → HasPlace xs x i → insert xs i x ≡ with_address x xs
 insert-is x xs i place = let parts = filters x xs i place in ap₂ (λ (low high : List ℕ). low ++ x ∷ high) (sym parts.0) (sym parts.1)
 
-rises_above-insert : (low x : ℕ) (xs : List ℕ) (i : ℕ) → RisesAbove low xs → low < x → HasPlace xs x i → RisesAbove low (insert xs i x)
-rises_above-insert low x [] zero all up place = (up, tt)
-rises_above-insert low x [] (suc i) all up place = absurd (no_place x i place)
-rises_above-insert low x (y ∷ ys) zero all up place = (up, (place.above 0 (omega arith) (omega arith), all.1))
-rises_above-insert low x (y ∷ ys) (suc i) all up place =
-    (all.0, rises_above-insert y x ys i all.1 (place.below 0 (omega arith)) (place_after x y ys i place))
+sorted_above-insert : (low x : ℕ) (xs : List ℕ) (i : ℕ) → IsSortedAbove low xs → low < x → HasPlace xs x i → IsSortedAbove low (insert xs i x)
+sorted_above-insert low x [] zero all up place = (up, tt)
+sorted_above-insert low x [] (suc i) all up place = absurd (no_place x i place)
+sorted_above-insert low x (y ∷ ys) zero all up place = (up, (place.above 0 (omega arith) (omega arith), all.1))
+sorted_above-insert low x (y ∷ ys) (suc i) all up place =
+    (all.0, sorted_above-insert y x ys i all.1 (place.below 0 (omega arith)) (place_after x y ys i place))
 
-pub rises-insert : (x : ℕ) (xs : List ℕ) (i : ℕ) → Rises xs → HasPlace xs x i → Rises (insert xs i x)
-rises-insert x [] zero all place = tt
-rises-insert x [] (suc i) all place = absurd (no_place x i place)
-rises-insert x (y ∷ ys) zero all place = (place.above 0 (omega arith) (omega arith), all)
-rises-insert x (y ∷ ys) (suc i) all place = rises_above-insert y x ys i all (place.below 0 (omega arith)) (place_after x y ys i place)
+pub sorted-insert : (x : ℕ) (xs : List ℕ) (i : ℕ) → IsSorted xs → HasPlace xs x i → IsSorted (insert xs i x)
+sorted-insert x [] zero all place = tt
+sorted-insert x [] (suc i) all place = absurd (no_place x i place)
+sorted-insert x (y ∷ ys) zero all place = (place.above 0 (omega arith) (omega arith), all)
+sorted-insert x (y ∷ ys) (suc i) all place = sorted_above-insert y x ys i all (place.below 0 (omega arith)) (place_after x y ys i place)
 
 pub no_room : (x : ℕ) (xs : List ℕ) (i : ℕ) → HasPlace xs x i → length xs ≡ 32 → None ≡ with_room_for x xs
 unfolding with_room_for
@@ -147,35 +147,35 @@ without-absent x (y ∷ ys) none =
     let no : (y == x) ≡ false = let other = none 0 (omega arith) in grind arith in
     rw no (ap (λ t. y ∷ t) (without-absent x ys (λ k inside. none (suc k) (omega arith))))
 
-pub remove-is : (x : ℕ) (xs : List ℕ) (i : ℕ) → Rises xs → i < length xs → get_or xs i 0 ≡ x → remove xs i ≡ without_address x xs
+pub remove-is : (x : ℕ) (xs : List ℕ) (i : ℕ) → IsSorted xs → i < length xs → get_or xs i 0 ≡ x → remove xs i ≡ without_address x xs
 remove-is x [] i all inside is = absurd (omega arith)
 remove-is x (y ∷ ys) zero all inside is =
     let yes : (y == x) ≡ true = grind arith in
-    let others = λ (k : ℕ) (h : k < length ys) (same : get_or ys k 0 ≡ x). let up : y < get_or ys k 0 = rises_above-at y ys k all h in
+    let others = λ (k : ℕ) (h : k < length ys) (same : get_or ys k 0 ≡ x). let up : y < get_or ys k 0 = sorted_above-at y ys k all h in
     let e : y ≡ x = is in absurd (omega arith) in
     rw yes (sym (without-absent x ys others))
 remove-is x (y ∷ ys) (suc i) all inside is =
-    let up : y < get_or ys i 0 = rises_above-at y ys i all (omega arith) in
+    let up : y < get_or ys i 0 = sorted_above-at y ys i all (omega arith) in
     let at : get_or ys i 0 ≡ x = is in
     let no : (y == x) ≡ false = grind arith in
-    rw no (ap (λ t. y ∷ t) (remove-is x ys i (rises_above-is y ys all) (omega arith) at))
+    rw no (ap (λ t. y ∷ t) (remove-is x ys i (sorted_above-is y ys all) (omega arith) at))
 
 pub keep-is : (x : ℕ) (xs : List ℕ) (i : ℕ) → HasPlace xs x i → xs ≡ without_address x xs
 keep-is x xs i place = sym (without-absent x xs (not_there x xs i place))
 
-rises_above-filter : (p : ℕ → Bool) (low : ℕ) (xs : List ℕ) → RisesAbove low xs → RisesAbove low (filter p xs)
-rises_above-filter p low [] all = tt
-rises_above-filter p low (x ∷ xs) all = go (p x) (rises_above-filter p x xs all.1) where
-  go : (b : Bool) → RisesAbove x (filter p xs) → RisesAbove low (cond b (x ∷ filter p xs) (filter p xs))
+sorted_above-filter : (p : ℕ → Bool) (low : ℕ) (xs : List ℕ) → IsSortedAbove low xs → IsSortedAbove low (filter p xs)
+sorted_above-filter p low [] all = tt
+sorted_above-filter p low (x ∷ xs) all = go (p x) (sorted_above-filter p x xs all.1) where
+  go : (b : Bool) → IsSortedAbove x (filter p xs) → IsSortedAbove low (cond b (x ∷ filter p xs) (filter p xs))
   go true more = (all.0, more)
-  go false more = let first : low < x = all.0 in rises_above-weaker low x (filter p xs) (omega arith) more
+  go false more = let first : low < x = all.0 in sorted_above-weaker low x (filter p xs) (omega arith) more
 
-pub rises-filter : (p : ℕ → Bool) (xs : List ℕ) → Rises xs → Rises (filter p xs)
-rises-filter p [] all = tt
-rises-filter p (x ∷ xs) all = go (p x) (rises_above-filter p x xs all) where
-  go : (b : Bool) → RisesAbove x (filter p xs) → Rises (cond b (x ∷ filter p xs) (filter p xs))
+pub sorted-filter : (p : ℕ → Bool) (xs : List ℕ) → IsSorted xs → IsSorted (filter p xs)
+sorted-filter p [] all = tt
+sorted-filter p (x ∷ xs) all = go (p x) (sorted_above-filter p x xs all) where
+  go : (b : Bool) → IsSortedAbove x (filter p xs) → IsSorted (cond b (x ∷ filter p xs) (filter p xs))
   go true more = more
-  go false more = rises_above-is x (filter p xs) more
+  go false more = sorted_above-is x (filter p xs) more
 
 -- ---- the first address that passes a test
 
@@ -189,7 +189,7 @@ find-none : (p : ℕ → Bool) (xs : List ℕ) → ((k : ℕ) → k < length xs 
 find-none p [] none = refl
 find-none p (x ∷ xs) none = rw (none 0 (omega arith)) (find-none p xs (λ k inside. none (suc k) (omega arith)))
 
-find-above : (p : ℕ → Bool) (low : ℕ) (xs : List ℕ) (a : ℕ) → RisesAbove low xs → find p xs ≡ Some a → low < a
+find-above : (p : ℕ → Bool) (low : ℕ) (xs : List ℕ) (a : ℕ) → IsSortedAbove low xs → find p xs ≡ Some a → low < a
 find-above p low [] a all is = cc
 find-above p low (x ∷ xs) a all is = go (p x) is (find-above p x xs a all.1) where
   go : (b : Bool) → cond b (Some x) (find p xs) ≡ Some a → (find p xs ≡ Some a → x < a) → low < a
@@ -205,9 +205,9 @@ lower-after x None above = refl
 lower-after x (Some a) above = let up : x < a = above a refl in let e : min a x ≡ x = omega arith in ap Some e
 
 -- the first that passes either of two tests is the lower of the first of each
-pub find-either : (p q : ℕ → Bool) (xs : List ℕ) → Rises xs → lower (find p xs) (find q xs) ≡ find (λ x. p x || q x) xs
+pub find-either : (p q : ℕ → Bool) (xs : List ℕ) → IsSorted xs → lower (find p xs) (find q xs) ≡ find (λ x. p x || q x) xs
 find-either p q [] all = refl
-find-either p q (x ∷ xs) all = go (p x) (q x) (find-either p q xs (rises_above-is x xs all)) where
+find-either p q (x ∷ xs) all = go (p x) (q x) (find-either p q xs (sorted_above-is x xs all)) where
   go : (b c : Bool) → lower (find p xs) (find q xs) ≡ find (λ x. p x || q x) xs
       → lower (cond b (Some x) (find p xs)) (cond c (Some x) (find q xs)) ≡ cond (b || c) (Some x) (find (λ x. p x || q x) xs)
   go true true more = let e : min x x ≡ x = omega arith in ap Some e
@@ -216,19 +216,19 @@ find-either p q (x ∷ xs) all = go (p x) (q x) (find-either p q xs (rises_above
   go false false more = more
 
 -- the lowest that passes a test is the first
-pub lowest-is : (p : ℕ → Bool) (xs : List ℕ) → Rises xs → find p xs ≡ lowest (filter p xs)
+pub lowest-is : (p : ℕ → Bool) (xs : List ℕ) → IsSorted xs → find p xs ≡ lowest (filter p xs)
 lowest-is p [] all = refl
-lowest-is p (x ∷ xs) all = go (p x) (lowest-is p xs (rises_above-is x xs all)) where
+lowest-is p (x ∷ xs) all = go (p x) (lowest-is p xs (sorted_above-is x xs all)) where
   go : (b : Bool) → find p xs ≡ lowest (filter p xs) → cond b (Some x) (find p xs) ≡ lowest (cond b (x ∷ filter p xs) (filter p xs))
   go true more = sym (ap (lower (Some x)) (sym more) ∙ lower-before x (find p xs) (λ a. find-above p x xs a all))
   go false more = more
 
 -- the first of so many addresses from one on: that one,
-pub find-here : (x count : ℕ) (xs : List ℕ) (i : ℕ) → Rises xs → 0 < count → i < length xs → get_or xs i 0 ≡ x
+pub find-here : (x count : ℕ) (xs : List ℕ) (i : ℕ) → IsSorted xs → 0 < count → i < length xs → get_or xs i 0 ≡ x
     → Some x ≡ find (is_between x count) xs
 find-here x count xs i all some inside is =
     let yes : is_between x count (get_or xs i 0) ≡ true = grind (arith, nat_tests) in
-    let before = λ (k : ℕ) (lt : k < i). let down : get_or xs k 0 < get_or xs i 0 = rises-at xs all k i lt inside in
+    let before = λ (k : ℕ) (lt : k < i). let down : get_or xs k 0 < get_or xs i 0 = sorted-at xs all k i lt inside in
     let no : is_between x count (get_or xs k 0) ≡ false = grind (arith, nat_tests) in no in
     ap Some (sym is) ∙ sym (find-first (is_between x count) xs i before inside yes)
 
@@ -242,13 +242,13 @@ find-near x count xs i place inside near =
     let no : is_between x count (get_or xs k 0) ≡ false = grind (arith, nat_tests) in no in
     sym (find-first (is_between x count) xs i before inside yes)
 
-pub find-far : (x count : ℕ) (xs : List ℕ) (i : ℕ) → Rises xs → HasPlace xs x i → (i < length xs → x + count ≤ get_or xs i 0)
+pub find-far : (x count : ℕ) (xs : List ℕ) (i : ℕ) → IsSorted xs → HasPlace xs x i → (i < length xs → x + count ≤ get_or xs i 0)
     → None ≡ find (is_between x count) xs
 find-far x count xs i all place far = sym (find-none (is_between x count) xs each) where
   each : (k : ℕ) → k < length xs → is_between x count (get_or xs k 0) ≡ false
   each k inside = elim (cases_lt k i) [
     | inl lt ↦ let down : get_or xs k 0 < x = place.below k lt in grind (arith, nat_tests)
-    | inr ge ↦ let first : x + count ≤ get_or xs i 0 = far (omega arith) in let up : get_or xs i 0 ≤ get_or xs k 0 = rises-le xs all i k ge inside in
+    | inr ge ↦ let first : x + count ≤ get_or xs i 0 = far (omega arith) in let up : get_or xs i 0 ≤ get_or xs k 0 = sorted-le xs all i k ge inside in
         grind (arith, nat_tests)
   ]
 
@@ -257,17 +257,17 @@ pub find-no_span : (xs : List ℕ) → None ≡ find (is_in None) xs
 find-no_span xs = sym (find-none (is_in None) xs (λ k inside. refl))
 
 -- ---- the gap around a place: none of these is from past the one before it up to the one at it
-pub gap-free : (xs : List ℕ) (i from to x : ℕ) → Rises xs → i ≤ length xs → (0 < i → get_or xs (i - 1) 0 < from)
+pub gap-free : (xs : List ℕ) (i from to x : ℕ) → IsSorted xs → i ≤ length xs → (0 < i → get_or xs (i - 1) 0 < from)
     → (i < length xs → to ≤ get_or xs i 0) → from ≤ x → x < to → is_among x xs ≡ false
 gap-free xs i from to x all within below above low high = among-absent x xs each where
   each : (k : ℕ) → k < length xs → get_or xs k 0 ≢ x
   each k inside same = elim (cases_lt k i) [
     | inl lt ↦
         let last : get_or xs (i - 1) 0 < from = below (omega arith) in
-        let up : get_or xs k 0 ≤ get_or xs (i - 1) 0 = rises-le xs all k (i - 1) (omega arith) (omega arith) in
+        let up : get_or xs k 0 ≤ get_or xs (i - 1) 0 = sorted-le xs all k (i - 1) (omega arith) (omega arith) in
         absurd (omega arith)
     | inr ge ↦
         let first : to ≤ get_or xs i 0 = above (omega arith) in
-        let up : get_or xs i 0 ≤ get_or xs k 0 = rises-le xs all i k ge inside in
+        let up : get_or xs i 0 ≤ get_or xs k 0 = sorted-le xs all i k ge inside in
         absurd (omega arith)
   ]

@@ -17,19 +17,19 @@ use Rattle.rv_debug.specs.Prelude.{State, Step, Target, Timer, Width, bytes_in, 
 use Rattle.rv_debug.specs.Prelude.{number_of_bytes, option_case, ram_base, read, read_result, reg_set, region, register, result_case}
 use Rattle.rv_debug.specs.Prelude.{runs_on, seat_of, seat_timer_set, write, write_bytes}
 use Rattle.rv_debug.specs.EnclaveText.{table_text}
-use Rattle.rv_debug.proofs.Prelude.{AfterRun, AfterTurns, AgreeAgain, Answered, BenchState, BenchesAgreeBut, Chosen, ChosenAgreeBut}
-use Rattle.rv_debug.proofs.Prelude.{ConfidentialityLaw, Deed, IsBare, KeepsMonitor, Nothing, PassesBy, RestsIn, Steps, TargetsAgreeBut}
-use Rattle.rv_debug.proofs.Prelude.{access_reply, answer, cases_Bool, cases_eq, cases_lt, changed_agree, chosen_at, csr_text, deed}
+use Rattle.rv_debug.proofs.Prelude.{AfterRun, AfterSchedule, AgreeAgain, Answered, BenchState, BenchesAgreeBut, Chosen, ChosenAgreeBut}
+use Rattle.rv_debug.proofs.Prelude.{ConfidentialityLaw, Effect, IsBare, KeepsMonitor, Nothing, PassesBy, RestsIn, Steps, TargetsAgreeBut}
+use Rattle.rv_debug.proofs.Prelude.{access_reply, answer, cases_Bool, cases_eq, cases_lt, changed_agree, chosen_at, csr_text, effect}
 use Rattle.rv_debug.proofs.Prelude.{dis_text, done, entered_by, gone_equal, hart_text, hart_told, harts_told, is_blind, is_entered}
-use Rattle.rv_debug.proofs.Prelude.{memory_text, no_csr_text, no_hart_text, no_steps, no_turns, ok_text, option_map, outside_text}
+use Rattle.rv_debug.proofs.Prelude.{memory_text, no_csr_text, no_hart_text, no_steps, schedule_start, ok_text, option_map, outside_text}
 use Rattle.rv_debug.proofs.Prelude.{over_memory, own_kept, past_seat, pmp_text, ran_reply, ran_text, range_with_len, register_text}
-use Rattle.rv_debug.proofs.Prelude.{registers_text, run, run_deed, seen_block, shared_agree, steps_of, turns, with_chosen, world_name}
-use Rattle.rv_debug.proofs.DeedsKept.{bare_done, keeps_monitor, poke_of}
-use Rattle.rv_debug.proofs.RunTurns.{run_done, run_entered}
-use Rattle.rv_debug.proofs.SchedAlike.{BothPast, turns_alike}
+use Rattle.rv_debug.proofs.Prelude.{registers_text, run, run_effect, seen_block, shared_agree, steps_of, scheduled_steps, with_chosen, world_name}
+use Rattle.rv_debug.proofs.EffectsKept.{bare_done, keeps_monitor, poke_of}
+use Rattle.rv_debug.proofs.RunSchedules.{run_done, run_entered}
+use Rattle.rv_debug.proofs.SchedAlike.{BothPast, scheduled_steps_alike}
 use Rattle.rv_debug.proofs.StepsAlike.{RunAlike, run-alike}
 use Rattle.rv_debug.proofs.TargetRuns.{hart_pc, hart_stepped, target_of, run_monitored}
-use Rattle.rv_debug.proofs.Turns.{after_turns, by_bare}
+use Rattle.rv_debug.proofs.ScheduledSteps.{after_schedule, by_bare}
 
 -- ---- what is shown of both, before it is said that they are equal once the enclave is gone
 
@@ -65,23 +65,23 @@ same_line e hart ran one other agree rests =
     ap (λ (seat : Seat). hart_text hart seat.hart.pc seat.hart.mode (world_name seat.world) ran) (seats.same (rests hart))
 
 same_lines : (e : ℕ) (did : Scheduled) (one other : Chosen) → ChosenAgreeBut e one other → RestsIn e (Monitored one)
-    → harts_told (after_turns (Monitored one) did) ≡ harts_told (after_turns (Monitored other) did)
+    → harts_told (after_schedule (Monitored one) did) ≡ harts_told (after_schedule (Monitored other) did)
 same_lines e did one other agree rests =
     let state = agree.state in
     ap₂ (λ (line lines : List ℕ). line ++ lines) (same_line e 0 did.first one other agree rests)
     (ap₂ (λ (n : ℕ) (line : List ℕ). if nat_lt 1 n then line else []) state.harts (same_line e 1 did.second one other agree rests))
 
 -- the answer that tells of them
-abbrev told_turns : ℕ → List ℕ → List ℕ → AfterTurns → Answered
-told_turns hart breaks watches after =
+abbrev told_schedule : ℕ → List ℕ → List ℕ → AfterSchedule → Answered
+told_schedule hart breaks watches after =
     record { state = over (with_chosen hart after.state) breaks watches; reply = harts_told after; entered = after.did.entered }
 
 past_alike : (e hart : ℕ) (breaks watches : List ℕ) (did did' : Scheduled) (one other : Chosen) → did ≡ did' → ChosenAgreeBut e one other
     → RestsIn e (Monitored one)
-    → Alike e (told_turns hart breaks watches (after_turns (Monitored one) did)) (told_turns hart breaks watches (after_turns (Monitored other) did'))
+    → Alike e (told_schedule hart breaks watches (after_schedule (Monitored one) did)) (told_schedule hart breaks watches (after_schedule (Monitored other) did'))
 past_alike e hart breaks watches did did' one other same agree rests =
-    subst (λ (d : Scheduled). Alike e (told_turns hart breaks watches (after_turns (Monitored one) did))
-    (told_turns hart breaks watches (after_turns (Monitored other) d))) same
+    subst (λ (d : Scheduled). Alike e (told_schedule hart breaks watches (after_schedule (Monitored one) did))
+    (told_schedule hart breaks watches (after_schedule (Monitored other) d))) same
     (record {
       entered = refl;
       passed = λ none. record {
@@ -91,13 +91,13 @@ past_alike e hart breaks watches did did' one other same agree rests =
       };
     })
 
-both_past : (e hart : ℕ) (breaks watches : List ℕ) (one other : AfterTurns) → BothPast e one other
-    → Alike e (told_turns hart breaks watches one) (told_turns hart breaks watches other)
+both_past : (e hart : ℕ) (breaks watches : List ℕ) (one other : AfterSchedule) → BothPast e one other
+    → Alike e (told_schedule hart breaks watches one) (told_schedule hart breaks watches other)
 both_past e hart breaks watches one other past =
-    subst (λ (target : Target). Alike e (told_turns hart breaks watches (after_turns target one.did)) (told_turns hart breaks watches other))
+    subst (λ (target : Target). Alike e (told_schedule hart breaks watches (after_schedule target one.did)) (told_schedule hart breaks watches other))
     (sym past.here_is)
-    (subst (λ (target : Target). Alike e (told_turns hart breaks watches (after_turns (Monitored past.here) one.did))
-    (told_turns hart breaks watches (after_turns target other.did))) (sym past.there_is)
+    (subst (λ (target : Target). Alike e (told_schedule hart breaks watches (after_schedule (Monitored past.here) one.did))
+    (told_schedule hart breaks watches (after_schedule target other.did))) (sym past.there_is)
     (past_alike e hart breaks watches one.did other.did past.here past.there past.did past.state past.rests))
 
 -- ---- a run
@@ -107,7 +107,7 @@ steps_answer breaks watches after = record { state = over after.state breaks wat
 
 abbrev run_answer : Target → List ℕ → List ℕ → List ℕ → List ℕ → ℕ → Answered
 run_answer target breaks watches at_breaks at_watches count =
-    let d = run_deed target at_breaks at_watches count in
+    let d = run_effect target at_breaks at_watches count in
     record { state = over (done target d) breaks watches; reply = ran_reply (steps_of target at_breaks at_watches count); entered = entered_by target d }
 
 -- it is told of where the run ends
@@ -278,10 +278,10 @@ module _ (e hart : ℕ) (one other : Machine) (agree : AgreeBut e one other) (br
   hart-answers : (number : ℕ) (has has' : Bool) (reply : Bool → List ℕ) → has ≡ has'
       → (let answers : Machine → Bool → Answered =
       λ machine known.
-      let d : Deed = (if known then Steps [] number else Nothing) in
+      let d : Effect = (if known then Steps [] number else Nothing) in
       record { state = over (done (at machine) d) breaks watches; reply = reply known; entered = entered_by (at machine) d } in
       Alike e (answers one has) (answers other has'))
-  unfolding turns
+  unfolding scheduled_steps
   hart-answers number true true reply same =
       passes e _ _ breaks watches (reply true) (reply true) (record { hart = refl; state = agree }) refl
   hart-answers number false false reply same = shown (reply false) (reply false) refl
@@ -290,17 +290,17 @@ module _ (e hart : ℕ) (one other : Machine) (agree : AgreeBut e one other) (br
 
   abbrev sched-told : Machine → List ℕ → Bool → Answered
   sched-told machine harts has =
-      let d : Deed = (if has then Steps harts hart else Nothing) in
+      let d : Effect = (if has then Steps harts hart else Nothing) in
       record {
         state = over (done (at machine) d) breaks watches;
-        reply = if has then harts_told (turns harts (no_turns (at machine))) else no_hart_text;
+        reply = if has then harts_told (scheduled_steps harts (schedule_start (at machine))) else no_hart_text;
         entered = entered_by (at machine) d;
       }
 
   sched-answers : (harts : List ℕ) (has has' : Bool) → has ≡ has' → IsKept one → IsKept other → RestsIn e (at one)
       → Alike e (sched-told one harts has) (sched-told other harts has')
   sched-answers harts true true same kept kept' rests =
-      elim (turns_alike e harts (on one) (on other) _ kept kept' both rests) [
+      elim (scheduled_steps_alike e harts (on one) (on other) _ kept kept' both rests) [
         | inl both_in ↦ record {
           entered = both_in.here ∙ sym both_in.there;
           passed = λ none. let never : true ≡ false = sym both_in.here ∙ none in cc;
@@ -367,7 +367,7 @@ monitored-alike e one other breaks watches command kept kept' agree blind by =
 -- a machine alone stays one
 bare-stays : (machine : State) (breaks watches : List ℕ) (command : Command) → IsBare (answer (over (Bare machine) breaks watches) command).state.target
 unfolding answer
-bare-stays machine breaks watches command = bare_done machine (deed (over (Bare machine) breaks watches) command)
+bare-stays machine breaks watches command = bare_done machine (effect (over (Bare machine) breaks watches) command)
 
 -- what is said of itself
 alike-itself : (e : ℕ) (after : Answered) → IsBare after.state.target → Alike e after after

@@ -1,16 +1,17 @@
--- An enclave that runs on no hart: every command passes by it, and behind one that does not enter it, it runs on none.
+-- An enclave that runs on no hart: it is undisturbed by every command, and after a command that does not enter it, it still runs on no
+-- hart.
 use Rattle.std.proofs.Common.{◌≡◌, ℕ, true, false, List, [], ◌∷◌, Option, Some, None, refl, sym, ◌∙◌, ap, subst, inl, inr}
 use Rattle.rv_enclaves.proofs.Scrambled.{slot_rests}
 use Rattle.rv_monitor.proofs.Beside.{runs_among}
 use Rattle.rv_debug.specs.Prelude.{Bare, Command, Machine, Monitored, Poke, RunsOnNone, Seat, Target, changed, is_world_of, reg_set}
 use Rattle.rv_debug.specs.Prelude.{runs_on, slot_at, seat_timer_set, write}
-use Rattle.rv_debug.proofs.Prelude.{AllPassBy, BenchState, Chosen, ChosenAgreeBut, Deed, KeepsMonitor, Nothing, OneByte, PokesInto}
+use Rattle.rv_debug.proofs.Prelude.{AllPassBy, BenchState, Chosen, ChosenAgreeBut, Effect, KeepsMonitor, Nothing, OneByte, PokesInto}
 use Rattle.rv_debug.proofs.Prelude.{Register, RestLaw, RestsIn, RunsOnNoneIn, Steps, TimerLine, agrees_itself, answer, both_ways}
-use Rattle.rv_debug.proofs.Prelude.{can_scramble_in, cases_Bool, changed_of, chosen_at, deed, done, entered_by, harts_shown, is_entered}
-use Rattle.rv_debug.proofs.Prelude.{itself, no_turns, turns, with_chosen}
-use Rattle.rv_debug.proofs.DeedsKept.{bare_done, keeps_monitor, poke_of}
-use Rattle.rv_debug.proofs.SchedAlike.{turns_alike}
-use Rattle.rv_debug.proofs.Turns.{by_bare}
+use Rattle.rv_debug.proofs.Prelude.{can_scramble_in, cases_Bool, changed_of, chosen_at, effect, done, entered_by, harts_shown, is_entered}
+use Rattle.rv_debug.proofs.Prelude.{itself, schedule_start, scheduled_steps, with_chosen}
+use Rattle.rv_debug.proofs.EffectsKept.{bare_done, keeps_monitor, poke_of}
+use Rattle.rv_debug.proofs.SchedAlike.{scheduled_steps_alike}
+use Rattle.rv_debug.proofs.ScheduledSteps.{by_bare}
 
 -- ---- it is passed by
 
@@ -22,13 +23,13 @@ pub on_none_in : (e : ℕ) (harts : List ℕ) (target : Target) → RestsIn e ta
 on_none_in e harts (Bare machine) rests = tt
 on_none_in e harts (Monitored chosen) rests = on_none e harts chosen.state rests
 
--- ---- what is done enters it, or it runs on no hart again
+-- ---- the effect enters it, or it still runs on no hart
 
 steps_rest : (e chosen : ℕ) (harts : List ℕ) (machine : Chosen) → KeepsMonitor (Monitored machine) → RestsIn e (Monitored machine)
-    → is_entered e (turns harts (no_turns (Monitored machine))).did.entered ≡ false → RestsIn e (done (Monitored machine) (Steps harts chosen))
+    → is_entered e (scheduled_steps harts (schedule_start (Monitored machine))).did.entered ≡ false → RestsIn e (done (Monitored machine) (Steps harts chosen))
 steps_rest e chosen harts machine kept rests none =
     let same : ChosenAgreeBut e machine machine = record { hart = refl; state = agrees_itself e machine.state (itself e machine.state.shared) } in
-    elim (turns_alike e harts machine machine _ kept kept same rests) [
+    elim (scheduled_steps_alike e harts machine machine _ kept kept same rests) [
       | inl both ↦ absurd (let never : true ≡ false = sym both.here ∙ none in cc)
       | inr past ↦ chosen_rests _ (subst (RestsIn e) (sym past.here_is) past.rests)
     ] where
@@ -46,22 +47,22 @@ poke_rests : (e : ℕ) (machine : Chosen) (memory : Option (List ℕ)) → Rests
 poke_rests e machine None rests = rests
 poke_rests e machine (Some memory) rests = rests
 
-deed_rests : (e : ℕ) (target : Target) (d : Deed) → KeepsMonitor target → RestsIn e target → is_entered e (entered_by target d) ≡ false
+effect_rests : (e : ℕ) (target : Target) (d : Effect) → KeepsMonitor target → RestsIn e target → is_entered e (entered_by target d) ≡ false
     → RestsIn e (done target d)
-deed_rests e (Bare machine) d kept rests none = by_bare (RestsIn e) (λ alone. tt) _ (bare_done machine d)
-deed_rests e (Monitored machine) Nothing kept rests none = rests
-deed_rests e (Monitored machine) (Steps harts chosen) kept rests none = steps_rest e chosen harts machine kept rests none
-deed_rests e (Monitored machine) (Register number value) kept rests none =
+effect_rests e (Bare machine) d kept rests none = by_bare (RestsIn e) (λ alone. tt) _ (bare_done machine d)
+effect_rests e (Monitored machine) Nothing kept rests none = rests
+effect_rests e (Monitored machine) (Steps harts chosen) kept rests none = steps_rest e chosen harts machine kept rests none
+effect_rests e (Monitored machine) (Register number value) kept rests none =
     written_rests e machine (reg_set number value) (λ seat. refl) rests
-deed_rests e (Monitored machine) (TimerLine raised) kept rests none = written_rests e machine (seat_timer_set raised) (λ seat. refl) rests
-deed_rests e (Monitored machine) (OneByte address byte) kept rests none =
+effect_rests e (Monitored machine) (TimerLine raised) kept rests none = written_rests e machine (seat_timer_set raised) (λ seat. refl) rests
+effect_rests e (Monitored machine) (OneByte address byte) kept rests none =
     poke_rests e machine (write machine.state.shared.memory address (byte ∷ [])) rests
 
 pub rest_law : RestLaw
 unfolding answer
 rest_law e bench command kept rests = record {
   by = on_none_in e (harts_shown bench.target command) bench.target rests;
-  rests = λ none. deed_rests e bench.target (deed bench command) kept rests none;
+  rests = λ none. effect_rests e bench.target (effect bench command) kept rests none;
 }
 
 pub rest_all : (e : ℕ) (bench : BenchState) (commands : List Command) → KeepsMonitor bench.target → RestsIn e bench.target → AllPassBy e bench commands

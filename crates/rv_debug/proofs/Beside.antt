@@ -3,11 +3,11 @@ use Rattle.std.proofs.Common.{◌≡◌, ◌≢◌, ◌<◌, ℕ, ◌==◌, true
 use Rattle.rv_monitor.proofs.LastAct.{as_is}
 use Rattle.rv_debug.specs.Prelude.{Bare, Command, IsKept, Machine, Monitored, Seat, Target, changed, count_of, reg_set, sched}
 use Rattle.rv_debug.specs.Prelude.{seat_at_start, seat_of, seated, step_of, seat_timer_set, write}
-use Rattle.rv_debug.proofs.Prelude.{BenchState, Chosen, Deed, KeepsHart, KeepsMonitor, LeavesHart, Nothing, OneByte, Register, SparesHarts}
-use Rattle.rv_debug.proofs.Prelude.{Steps, TimerLine, and_parts, answer, chosen_at, deed, done, eq-eqb, get_or-set_other, harts_of}
+use Rattle.rv_debug.proofs.Prelude.{BenchState, Chosen, Effect, KeepsHart, KeepsMonitor, LeavesHart, Nothing, OneByte, Register, SparesHarts}
+use Rattle.rv_debug.proofs.Prelude.{Steps, TimerLine, and_parts, answer, chosen_at, effect, done, eq-eqb, get_or-set_other, harts_of}
 use Rattle.rv_debug.proofs.Prelude.{kept_law, list_all, step_count, step_laid}
-use Rattle.rv_debug.proofs.DeedsKept.{bare_done, poke_of}
-use Rattle.rv_debug.proofs.Turns.{by_bare, turns_are_sched}
+use Rattle.rv_debug.proofs.EffectsKept.{bare_done, poke_of}
+use Rattle.rv_debug.proofs.ScheduledSteps.{by_bare, schedule_is_sched}
 
 -- ---- steps of the others
 
@@ -43,12 +43,12 @@ write_leaves hart machine change kept has other =
     get_or-set_other machine.state.seats machine.hart hart (change (seat_of machine.hart machine.state)) (seat_at_start 0) other
     ∙ same_as_is hart machine.state kept has
 
-leaves : (hart : ℕ) (target : Target) (d : Deed) → KeepsMonitor target → hart < harts_of target → LeavesHart hart target d
+leaves : (hart : ℕ) (target : Target) (d : Effect) → KeepsMonitor target → hart < harts_of target → LeavesHart hart target d
     → KeepsHart hart target (done target d)
 leaves hart (Bare machine) d kept has none = by_bare (KeepsHart hart (Bare machine)) (λ alone. tt) _ (bare_done machine d)
 leaves hart (Monitored machine) Nothing kept has none = same_as_is hart machine.state kept has
 leaves hart (Monitored machine) (Steps harts chosen) kept has none =
-    subst (KeepsHart hart (Monitored machine)) (sym (turns_are_sched harts machine _ chosen))
+    subst (KeepsHart hart (Monitored machine)) (sym (schedule_is_sched harts machine _ chosen))
     (sched_leaves hart harts machine.state kept has none)
 leaves hart (Monitored machine) (Register number value) kept has none = write_leaves hart machine (reg_set number value) kept has none
 leaves hart (Monitored machine) (TimerLine raised) kept has none = write_leaves hart machine (seat_timer_set raised) kept has none
@@ -57,4 +57,4 @@ leaves hart (Monitored machine) (OneByte address byte) kept has none =
 
 pub spares_harts : (bench : BenchState) (command : Command) → KeepsMonitor bench.target → SparesHarts bench command (answer bench command).state
 unfolding answer
-spares_harts bench command kept hart has none = leaves hart bench.target (deed bench command) kept has none
+spares_harts bench command kept hart has none = leaves hart bench.target (effect bench command) kept has none

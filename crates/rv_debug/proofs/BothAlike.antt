@@ -7,7 +7,7 @@ use Rattle.rv_debug.proofs.Prelude.{AlikeBy, AllPassBy, AnswerAlike, BenchState,
 use Rattle.rv_debug.proofs.Prelude.{PassAll, PassBy, StayAlike, TargetsAgreeBut, after_commands, and_parts, answer, both_answer, both_do}
 use Rattle.rv_debug.proofs.Prelude.{both_run, cases_Bool, drop_all, drop_more, go_on, is_blind, is_entered, region_in}
 use Rattle.rv_debug.proofs.AnswersAlike.{agree_again, confidentiality}
-use Rattle.rv_debug.proofs.DeedsKept.{keeps_monitor}
+use Rattle.rv_debug.proofs.EffectsKept.{keeps_monitor}
 
 module _ (e : ℕ) where
   abbrev pub stopped : BenchState → BenchState → BothAnswered

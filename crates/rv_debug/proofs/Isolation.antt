@@ -5,12 +5,12 @@ use Rattle.rv_monitor.proofs.HartsSpare.{running_law, sched_changes, sched_spare
 use Rattle.rv_monitor.proofs.KeptReaches.{kept_reach}
 use Rattle.rv_debug.specs.Prelude.{Access, Bare, Command, IsKept, Monitored, RunsOnNone, State, Target, byte_at, has, read, region}
 use Rattle.rv_debug.specs.Prelude.{runs_on, seen_by, write}
-use Rattle.rv_debug.proofs.Prelude.{BenchState, ChangesMemory, Chosen, Deed, IntegrityLaw, IsLiveIn, IsMonitored, IsSparedIn, KeepsMonitor}
-use Rattle.rv_debug.proofs.Prelude.{MayChange, OneByte, PokesNone, RestsThroughDeed, RunningLaw, SparesResting, Steps, TellsReach}
-use Rattle.rv_debug.proofs.Prelude.{after_commands, answer, byte_at-write, cases_eq, cases_lt, chosen_of, deed, done, harts_of}
+use Rattle.rv_debug.proofs.Prelude.{BenchState, ChangesMemory, Chosen, Effect, IntegrityLaw, IsLiveIn, IsMonitored, IsSparedIn, KeepsMonitor}
+use Rattle.rv_debug.proofs.Prelude.{MayChange, OneByte, PokesNone, RestsThroughEffect, RunningLaw, SparesResting, Steps, TellsReach}
+use Rattle.rv_debug.proofs.Prelude.{after_commands, answer, byte_at-write, cases_eq, cases_lt, chosen_of, effect, done, harts_of}
 use Rattle.rv_debug.proofs.Prelude.{harts_stepped, memory_of, own_kept}
-use Rattle.rv_debug.proofs.DeedsKept.{keeps_monitor, poke_of}
-use Rattle.rv_debug.proofs.Turns.{turns_are_sched}
+use Rattle.rv_debug.proofs.EffectsKept.{keeps_monitor, poke_of}
+use Rattle.rv_debug.proofs.ScheduledSteps.{schedule_is_sched}
 
 -- ---- reach
 
@@ -44,15 +44,15 @@ poke_spares k address byte machine (Some memory) is apart =
     }
 
 -- a machine alone has no enclave that rests
-none_rests : (k : ℕ) (machine : State) (d : Deed) → RestsThroughDeed k (Bare machine) d → ⊥
+none_rests : (k : ℕ) (machine : State) (d : Effect) → RestsThroughEffect k (Bare machine) d → ⊥
 none_rests k machine (OneByte address byte) rests = rests.0
 none_rests k machine (Steps harts chosen) rests = rests
 none_rests k machine _ rests = rests
 
-spares : (target : Target) (d : Deed) → KeepsMonitor target → (k : ℕ) → RestsThroughDeed k target d → IsSparedIn k target (done target d)
+spares : (target : Target) (d : Effect) → KeepsMonitor target → (k : ℕ) → RestsThroughEffect k target d → IsSparedIn k target (done target d)
 spares (Bare machine) d kept k rests = absurd (none_rests k machine d rests)
 spares (Monitored machine) (Steps harts chosen) kept k rests =
-    subst (IsSparedIn k (Monitored machine)) (sym (turns_are_sched harts machine _ chosen))
+    subst (IsSparedIn k (Monitored machine)) (sym (schedule_is_sched harts machine _ chosen))
     (sched_spares k harts machine.state kept rests).spared
 spares (Monitored machine) (OneByte address byte) kept k rests =
     poke_spares k address byte machine (write machine.state.shared.memory address (byte ∷ [])) refl rests.1
@@ -60,24 +60,24 @@ spares (Monitored machine) _ kept k rests = itself k machine
 
 pub spares_resting : (bench : BenchState) (command : Command) → KeepsMonitor bench.target → SparesResting bench command (answer bench command).state
 unfolding answer
-spares_resting bench command kept = spares bench.target (deed bench command) kept
+spares_resting bench command kept = spares bench.target (effect bench command) kept
 
 -- ---- an enclave that runs on a hart which no step is of
 
-rests_by : (k own : ℕ) (chosen : Chosen) (d : Deed) → IsKept chosen.state → runs_on k own chosen.state ≡ true
-    → RunsOnNone k (harts_stepped d) chosen.state → PokesNone k (Monitored chosen) d → RestsThroughDeed k (Monitored chosen) d
+rests_by : (k own : ℕ) (chosen : Chosen) (d : Effect) → IsKept chosen.state → runs_on k own chosen.state ≡ true
+    → RunsOnNone k (harts_stepped d) chosen.state → PokesNone k (Monitored chosen) d → RestsThroughEffect k (Monitored chosen) d
 rests_by k own chosen d kept runs none pokes = by d none pokes where
   live : IsLiveIn k (Monitored chosen)
   live = running_law k own [] chosen.state kept runs tt
 
-  by : (d : Deed) → RunsOnNone k (harts_stepped d) chosen.state → PokesNone k (Monitored chosen) d → RestsThroughDeed k (Monitored chosen) d
+  by : (d : Effect) → RunsOnNone k (harts_stepped d) chosen.state → PokesNone k (Monitored chosen) d → RestsThroughEffect k (Monitored chosen) d
   by (Steps harts last) none pokes = running_law k own harts chosen.state kept runs none
   by (OneByte address byte) none pokes = (live, pokes)
   by _ none pokes = live
 
 pub running : RunningLaw
 running k own chosen breaks watches command kept runs none pokes =
-    rests_by k own chosen (deed (record { target = Monitored chosen; breaks = breaks; watches = watches }) command) kept runs none pokes
+    rests_by k own chosen (effect (record { target = Monitored chosen; breaks = breaks; watches = watches }) command) kept runs none pokes
 
 -- ---- the bytes that are changed
 
@@ -94,11 +94,11 @@ poke_changes address value byte machine (Some memory) is = elim (cases_eq byte a
   | inr other ↦ inl (byte_at-write machine.state.shared.memory address (value ∷ []) memory byte is (beside byte address other))
 ]
 
-changes : (target : Target) (d : Deed) → KeepsMonitor target → IsMonitored target → (byte : ℕ)
+changes : (target : Target) (d : Effect) → KeepsMonitor target → IsMonitored target → (byte : ℕ)
     → ByteIsOr byte target (done target d) (MayChange target d byte)
 changes (Bare machine) d kept is byte = absurd is
 changes (Monitored machine) (Steps harts chosen) kept is byte = elim (sched_changes harts machine.state byte kept) [
-  | inl same ↦ inl (ap (λ (target : Target). byte_at (memory_of target) byte) (turns_are_sched harts machine _ chosen) ∙ same)
+  | inl same ↦ inl (ap (λ (target : Target). byte_at (memory_of target) byte) (schedule_is_sched harts machine _ chosen) ∙ same)
   | inr change ↦ inr change
 ]
 changes (Monitored machine) (OneByte address value) kept is byte =
@@ -107,7 +107,7 @@ changes (Monitored machine) _ kept is byte = inl refl
 
 pub changes_memory : (bench : BenchState) (command : Command) → KeepsMonitor bench.target → ChangesMemory bench command (answer bench command).state
 unfolding answer
-changes_memory bench command kept = changes bench.target (deed bench command) kept
+changes_memory bench command kept = changes bench.target (effect bench command) kept
 
 -- ---- a list of commands
 

@@ -16,8 +16,8 @@ mod StepsAlike
 mod Stepping
 mod TargetRuns
 mod SchedAlike
-mod Turns
+mod ScheduledSteps
 mod Beside
 mod ScheduleLoop
-mod RunTurns
-pub mod DeedsKept
+mod RunSchedules
+pub mod EffectsKept

@@ -8,8 +8,8 @@ use Rattle.rv_enclaves.proofs.Agreement.{inside-is}
 use Rattle.rv_enclaves.specs.SharedButFor.{AgreeOutside}
 use Rattle.rv_enclaves.specs.SharedButFor.{is_private}
 use Rattle.rv_enclaves.proofs.Agreement.{write-some}
-use Rattle.rv_debug.specs.Prelude.{Bare, IsKept, IsLawfulSlot, Machine, Monitored, Poke, Slots, Target, has, is_block_size, is_inside}
-use Rattle.rv_debug.specs.Prelude.{is_lawful, ram_base, region, slot_at, with_memory, write, write_bytes}
+use Rattle.rv_debug.specs.Prelude.{Bare, IsKept, IsValidSlot, Machine, Monitored, Poke, Slots, Target, has, is_block_size, is_inside}
+use Rattle.rv_debug.specs.Prelude.{is_valid_block, ram_base, region, slot_at, with_memory, write, write_bytes}
 use Rattle.rv_debug.proofs.Prelude.{BenchState, BenchesAgreeBut, Chosen, ChosenAgreeBut, KeepsMonitor, PassAlike, PokeLaw, TargetsAgreeBut}
 use Rattle.rv_debug.proofs.Prelude.{agrees_itself, and_from, and_parts, answer, cases_lt, index-above, index-below, itself, le-leb}
 use Rattle.rv_debug.proofs.Prelude.{leb-true, length-write, ltb-true, region_in, shared_agree, write-is}
@@ -41,9 +41,9 @@ hidden_writes : (hidden : ℕ → Bool) (m n : List ℕ) (here there byte other 
     → write m here (byte ∷ []) ≡ Some m' → write n there (other ∷ []) ≡ Some n' → hidden here ≡ true → hidden there ≡ true
     → AgreeOutside hidden m' n'
 hidden_writes hidden m n here there byte other m' n' agree first second secret secret' =
-    turn (hidden_write hidden n m' there other n' (turn (hidden_write hidden m n here byte m' agree first secret)) second secret') where
-      turn : {a b : List ℕ} → AgreeOutside hidden a b → AgreeOutside hidden b a
-      turn agree = record { size = sym agree.size; bytes = λ i seen. sym (agree.bytes i seen) }
+    scheduled_step (hidden_write hidden n m' there other n' (scheduled_step (hidden_write hidden m n here byte m' agree first secret)) second secret') where
+      scheduled_step : {a b : List ℕ} → AgreeOutside hidden a b → AgreeOutside hidden b a
+      scheduled_step agree = record { size = sym agree.size; bytes = λ i seen. sym (agree.bytes i seen) }
 
 -- ---- the region
 
@@ -53,14 +53,14 @@ has_live None address is = let parts = and_parts (nat_le 0 address) (nat_lt addr
     absurd (omega (arith, never))
 has_live (Some info) address is = refl
 
-has_inside : (memory : List ℕ) (o : Option SlotInfo) (address : ℕ) → IfSome o (IsLawfulSlot memory) → has (region_of o) address ≡ true
+has_inside : (memory : List ℕ) (o : Option SlotInfo) (address : ℕ) → IfSome o (IsValidSlot memory) → has (region_of o) address ≡ true
     → is_inside memory address 1 ≡ true
-unfolding is_lawful
+unfolding is_valid_block
 has_inside memory None address law is = let never = has_live None address is in cc
 has_inside memory (Some info) address law is =
     let block = info.region in
-    let lawful = and_parts (is_block_size block.size) _ law.region in
-    let inside = inside-is memory block.base block.size (and_parts (block.base % block.size == 0) _ lawful.1).1 in
+    let well_formed = and_parts (is_block_size block.size) _ law.region in
+    let inside = inside-is memory block.base block.size (and_parts (block.base % block.size == 0) _ well_formed.1).1 in
     let at = and_parts (nat_le block.base address) (nat_lt address (block.base + block.size)) is in
     let low = leb-true _ _ at.0 in
     let high = ltb-true _ _ at.1 in
@@ -69,7 +69,7 @@ has_inside memory (Some info) address law is =
 written : (state : Machine) (e address byte : ℕ) → IsKept state → has (region state.shared.table e) address ≡ true
     → write state.shared.memory address (byte ∷ []) ≡ Some (write_bytes state.shared.memory (address - ram_base) (byte ∷ []))
 written state e address byte kept is =
-    write-some state.shared.memory address (byte ∷ []) (has_inside state.shared.memory (slot_at state.shared.table e) address (kept.shared.valid.lawful e) is)
+    write-some state.shared.memory address (byte ∷ []) (has_inside state.shared.memory (slot_at state.shared.table e) address (kept.shared.valid.well_formed e) is)
 
 -- ---- machines
 

@@ -1,5 +1,5 @@
 -- The names that the proofs cite beside those of specs/Prelude, passed on from one place. Declares nothing.
-pub use Rattle.rv_debug.specs.Addresses.{HasPlace, Rises, RisesAbove, is_among, with_address, without_address}
+pub use Rattle.rv_debug.specs.Addresses.{HasPlace, IsSorted, IsSortedAbove, is_among, with_address, without_address}
 unfoldable pub use Rattle.rv_debug.specs.Addresses.{with_room_for}
 pub use Rattle.rv_debug.specs.Answer.{Answered, access_reply, answer_or_fault, csr_reply, dis_reply, hart_told, harts_told, ran_reply}
 unfoldable pub use Rattle.rv_debug.specs.Answer.{answer, line_answer}
@@ -11,11 +11,11 @@ unfoldable pub use Rattle.rv_debug.specs.BothBenches.{both_answer, both_run, is_
 pub use Rattle.rv_debug.specs.Chosen.{Chosen}
 pub use Rattle.rv_debug.specs.Confidentiality.{AgreeAgain, AlikeBy, AllPassBy, AnswerAlike, ConfidentialityLaw, PassAlike, PassAll, PassBy}
 pub use Rattle.rv_debug.specs.Confidentiality.{PokeLaw, PokesInto, RestLaw, StayAlike}
-pub use Rattle.rv_debug.specs.Deeds.{Deed, Nothing, OneByte, Register, Steps, TimerLine, deed, done, entered_by, harts_stepped, run_deed}
-pub use Rattle.rv_debug.specs.Deeds.{steps_of}
+pub use Rattle.rv_debug.specs.Effects.{Effect, Nothing, OneByte, Register, Steps, TimerLine, effect, done, entered_by, harts_stepped, run_effect}
+pub use Rattle.rv_debug.specs.Effects.{steps_of}
 pub use Rattle.rv_debug.specs.FastSteps.{AreFreeOf, FastSteps, IsFast, IsFreeOf, and_on, fast_stop, so_far_in}
 pub use Rattle.rv_debug.specs.Isolation.{ChangesMemory, IntegrityLaw, IsLiveIn, IsMonitored, IsSparedIn, KeepsHart, LeavesHart, MayChange}
-pub use Rattle.rv_debug.specs.Isolation.{PokesNone, RestsThroughDeed, RunningLaw, SparesHarts, SparesResting, TellsReach, after_commands}
+pub use Rattle.rv_debug.specs.Isolation.{PokesNone, RestsThroughEffect, RunningLaw, SparesHarts, SparesResting, TellsReach, after_commands}
 unfoldable pub use Rattle.rv_debug.specs.ReplyText.{csr_text, denied_outside_text, dis_text, entry_text, full_text, hart_text, memory_text}
 unfoldable pub use Rattle.rv_debug.specs.ReplyText.{no_csr_text, no_hart_text, ok_text, outside_text, pc_text, pmp_text, ran_text}
 unfoldable pub use Rattle.rv_debug.specs.ReplyText.{register_text, registers_text, stop_text, trap_text, verdict_text}
@@ -25,8 +25,8 @@ pub use Rattle.rv_debug.specs.Stops.{is_accessed, is_between, is_in, lower, lowe
 unfoldable pub use Rattle.rv_debug.specs.Stops.{lowest_accessed}
 pub use Rattle.rv_debug.specs.Targets.{IsBare, KeepsMonitor, chosen_at, chosen_of, chosen_seat, chosen_stepped, harts_of, machine_stepped}
 pub use Rattle.rv_debug.specs.Targets.{memory_of, over_memory, pc_of, target_stepped, with_chosen, with_target, world_name}
-pub use Rattle.rv_debug.specs.Turns.{AfterTurns, no_turns, with_own, with_turn}
-unfoldable pub use Rattle.rv_debug.specs.Turns.{turns}
+pub use Rattle.rv_debug.specs.ScheduledSteps.{AfterSchedule, schedule_start, with_own, with_scheduled_step}
+unfoldable pub use Rattle.rv_debug.specs.ScheduledSteps.{scheduled_steps}
 pub use Rattle.rv_enclaves.proofs.Alike.{itself, seen_block}
 pub use Rattle.rv_memory.proofs.MemoryLaws.{byte_at-write, index-above, index-below, length-write, write-is}
 pub use Rattle.rv_monitor.proofs.Agreeing.{agrees_itself, changed_agree, shared_agree}

@@ -6,7 +6,7 @@ use Rattle.std.proofs.lemmas.Fmt.{decimal_digit, decimal_step}
 use Rattle.rv_state.specs.Bits.{kept_bits}
 use Rattle.rv_state.specs.CsrState.{CsrState, at_reset}
 use Rattle.rv_pmp.specs.Covers.{covers}
-use Rattle.rv_pmp.specs.Verdicts.{decider, verdict}
+use Rattle.rv_pmp.specs.Verdicts.{matching_entry, verdict}
 use Rattle.rv_pmp.specs.declared.access.Access.TheVariants.{Fetch, Read, Write}
 use Rattle.rv_pmp.specs.declared.verdict.Verdict.TheVariants.{Allowed, AllowedFree, Denied, DeniedPartial, DeniedFree}
 use Rattle.rv_word.specs.declared.width.Width.TheVariants.{Byte, Half, Word}
@@ -131,5 +131,5 @@ pub access_reply-examples :
     ++ access_reply (replicate 264 0) four_locked M Write 0x80000100 Word ≡
     codes "denied partial 0\nallowed entry 0\nallowed entry 0\ndenied entry 0\ndenied free\nallowed free\n"
     ++ codes "allowed free\ndenied outside\ndenied outside\ndenied outside\ndenied entry 0\n"
-unfolding read verdict decider covers verdict_text denied_outside_text
+unfolding read verdict matching_entry covers verdict_text denied_outside_text
 access_reply-examples = simp decimal-shown

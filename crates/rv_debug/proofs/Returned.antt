@@ -10,10 +10,10 @@ use Rattle.rv_debug.specs.Prelude.{Bare, Command, Machine, Monitored, MonitoredS
 use Rattle.rv_debug.specs.Prelude.{reg_set, sched, seen_by, step_of, seat_timer_set, write}
 use Rattle.rv_debug.specs.Returns.{EntersAndLeavesUnder, EntersUnder, IsStoredIn, LeavesUnder, ReturnLaw, ReturnWithinLaw, RunsUnder}
 use Rattle.rv_debug.specs.Returns.{RunsUnderAll}
-use Rattle.rv_debug.proofs.Prelude.{BenchState, Chosen, Deed, KeepsMonitor, Nothing, OneByte, Register, Steps, TimerLine, after_commands}
-use Rattle.rv_debug.proofs.Prelude.{answer, changed_of, chosen_at, deed, done, harts_stepped, sched_kept}
-use Rattle.rv_debug.proofs.DeedsKept.{keeps_monitor, poke_of}
-use Rattle.rv_debug.proofs.Turns.{turns_are_sched}
+use Rattle.rv_debug.proofs.Prelude.{BenchState, Chosen, Effect, KeepsMonitor, Nothing, OneByte, Register, Steps, TimerLine, after_commands}
+use Rattle.rv_debug.proofs.Prelude.{answer, changed_of, chosen_at, effect, done, harts_stepped, sched_kept}
+use Rattle.rv_debug.proofs.EffectsKept.{keeps_monitor, poke_of}
+use Rattle.rv_debug.proofs.ScheduledSteps.{schedule_is_sched}
 
 -- ---- steps of harts in their order
 
@@ -37,26 +37,26 @@ poke_host hart machine None = refl
 poke_host hart machine (Some memory) = refl
 
 -- what is kept behind it is what is kept behind its steps
-host_after : (hart : ℕ) (machine : Chosen) (d : Deed)
+host_after : (hart : ℕ) (machine : Chosen) (d : Effect)
     → host_in hart (done (Monitored machine) d) ≡ host_on hart (sched (harts_stepped d) machine.state).state
 host_after hart machine Nothing = refl
-host_after hart machine (Steps harts chosen) = ap (host_in hart) (turns_are_sched harts machine _ chosen)
+host_after hart machine (Steps harts chosen) = ap (host_in hart) (schedule_is_sched harts machine _ chosen)
 host_after hart machine (Register number value) = write_host hart machine (reg_set number value) (λ seat. refl)
 host_after hart machine (TimerLine raised) = write_host hart machine (seat_timer_set raised) (λ seat. refl)
 host_after hart machine (OneByte address byte) = poke_host hart machine (write machine.state.shared.memory address (byte ∷ []))
 
-deed_host : (hart : ℕ) (target : Target) (d : Deed) → RunsUnder hart (harts_stepped d) target
+effect_host : (hart : ℕ) (target : Target) (d : Effect) → RunsUnder hart (harts_stepped d) target
     → host_in hart (done target d) ≡ host_in hart target
-deed_host hart (Bare machine) d runs = absurd runs
-deed_host hart (Monitored machine) d runs = host_after hart machine d ∙ steps_keep hart (harts_stepped d) machine.state runs
+effect_host hart (Bare machine) d runs = absurd runs
+effect_host hart (Monitored machine) d runs = host_after hart machine d ∙ steps_keep hart (harts_stepped d) machine.state runs
 
 -- ---- commands
 
 command_keeps : (hart : ℕ) (bench : BenchState) (command : Command)
-    → RunsUnder hart (harts_stepped (deed bench command)) bench.target
+    → RunsUnder hart (harts_stepped (effect bench command)) bench.target
     → host_in hart (answer bench command).state.target ≡ host_in hart bench.target
 unfolding answer
-command_keeps hart bench command runs = deed_host hart bench.target (deed bench command) runs
+command_keeps hart bench command runs = effect_host hart bench.target (effect bench command) runs
 
 -- through all commands the host is kept as it was
 commands_keep : (hart : ℕ) (bench : BenchState) (commands : List Command) → KeepsMonitor bench.target → RunsUnderAll hart bench commands
@@ -71,7 +71,7 @@ commands_keep hart bench (command ∷ commands) kept runs =
 abbrev kept_at : MonitoredState → Option Context
 kept_at entry = Some (saved entry.seat.hart (past_ecall entry.seat.hart) S)
 
-enters_under : (hart : ℕ) (target : Target) (d : Deed) (entry : MonitoredState) → KeepsMonitor target
+enters_under : (hart : ℕ) (target : Target) (d : Effect) (entry : MonitoredState) → KeepsMonitor target
     → EntersUnder hart (harts_stepped d) target entry → host_in hart (done target d) ≡ kept_at entry
 enters_under hart (Bare machine) d entry kept enters = absurd enters
 enters_under hart (Monitored chosen) d entry kept enters =
@@ -85,9 +85,9 @@ enters_under hart (Monitored chosen) d entry kept enters =
     ∙ ap kept_at (sym enters.at)
 
 command_enters : (hart : ℕ) (bench : BenchState) (command : Command) (entry : MonitoredState) → KeepsMonitor bench.target
-    → EntersUnder hart (harts_stepped (deed bench command)) bench.target entry → host_in hart (answer bench command).state.target ≡ kept_at entry
+    → EntersUnder hart (harts_stepped (effect bench command)) bench.target entry → host_in hart (answer bench command).state.target ≡ kept_at entry
 unfolding answer
-command_enters hart bench command entry kept enters = enters_under hart bench.target (deed bench command) entry kept enters
+command_enters hart bench command entry kept enters = enters_under hart bench.target (effect bench command) entry kept enters
 
 leaves_under : (hart : ℕ) (harts : List ℕ) (target : Target) (entry exit : MonitoredState) → KeepsMonitor target
     → KeptStored (kept_at entry) → host_in hart target ≡ kept_at entry → LeavesUnder hart harts target exit
@@ -113,7 +113,7 @@ return_law hart bench first last commands entry exit kept enters stored_between 
     let stored : KeptStored (kept_at entry) = subst KeptStored entered (stored_on hart between.target stored_between) in
     let all = commands_keep hart between commands (keeps_monitor bench first kept) runs in
     let end = after_commands between commands in
-    leaves_under hart (harts_stepped (deed end last)) end.target entry exit all.0 stored (all.1 ∙ entered) leaves
+    leaves_under hart (harts_stepped (effect end last)) end.target entry exit all.0 stored (all.1 ∙ entered) leaves
 
 -- ---- within one command
 
@@ -130,4 +130,4 @@ goes_under hart harts (Monitored chosen) entry exit kept goes =
     (subst (λ (m : MonitoredState). HostComesBack (seen_by hart here) m (monitored_step m)) (sym goes.leaves) back)
 
 pub return_within : ReturnWithinLaw
-return_within hart bench command entry exit kept goes = goes_under hart (harts_stepped (deed bench command)) bench.target entry exit kept goes
+return_within hart bench command entry exit kept goes = goes_under hart (harts_stepped (effect bench command)) bench.target entry exit kept goes

@@ -4,30 +4,30 @@ use Rattle.std.proofs.Common.{◌≡◌, ℕ, true, List, [], ◌∷◌, ◌⊎�
 use Rattle.rv_monitor.proofs.HartsAlike.{entered_some, entry_law}
 use Rattle.rv_monitor.specs.declared.outcome.Outcome.{Outcome}
 use Rattle.rv_debug.specs.Prelude.{IsKept, Machine, Monitored, Scheduled, enters, step_of}
-use Rattle.rv_debug.proofs.Prelude.{AfterTurns, Chosen, ChosenAgreeBut, RestsIn, cases_Bool, confidentiality, is_entered, kept_law}
-use Rattle.rv_debug.proofs.Prelude.{target_stepped, turns, with_chosen, with_turn}
+use Rattle.rv_debug.proofs.Prelude.{AfterSchedule, Chosen, ChosenAgreeBut, RestsIn, cases_Bool, confidentiality, is_entered, kept_law}
+use Rattle.rv_debug.proofs.Prelude.{target_stepped, scheduled_steps, with_chosen, with_scheduled_step}
 use Rattle.rv_debug.proofs.StepsAlike.{enters-with, enters-now}
-use Rattle.rv_debug.proofs.Turns.{after_turns}
+use Rattle.rv_debug.proofs.ScheduledSteps.{after_schedule}
 
 -- ---- a slot that was entered stays so
 
-stays_entered : (e : ℕ) (harts : List ℕ) (before : AfterTurns) → is_entered e before.did.entered ≡ true
-    → is_entered e (turns harts before).did.entered ≡ true
-unfolding turns
+stays_entered : (e : ℕ) (harts : List ℕ) (before : AfterSchedule) → is_entered e before.did.entered ≡ true
+    → is_entered e (scheduled_steps harts before).did.entered ≡ true
+unfolding scheduled_steps
 stays_entered e [] before is = is
 stays_entered e (hart ∷ harts) before is =
     let last = target_stepped (with_chosen hart before.state) in
-    stays_entered e harts (with_turn hart before last) (enters-with e before.did.entered last.entered is)
+    stays_entered e harts (with_scheduled_step hart before last) (enters-with e before.did.entered last.entered is)
 
 -- ---- all steps
 
 -- both entered the slot
-pub record BothIn (e : ℕ) (one other : AfterTurns) : Type 0 where
+pub record BothIn (e : ℕ) (one other : AfterSchedule) : Type 0 where
   pub here : is_entered e one.did.entered ≡ true
   pub there : is_entered e other.did.entered ≡ true
 
 -- they did the same, and agree again, and the enclave runs on no hart
-pub record BothPast (e : ℕ) (one other : AfterTurns) : Type 0 where
+pub record BothPast (e : ℕ) (one other : AfterSchedule) : Type 0 where
   pub here : Chosen
   pub there : Chosen
   pub here_is : one.state ≡ Monitored here
@@ -36,27 +36,27 @@ pub record BothPast (e : ℕ) (one other : AfterTurns) : Type 0 where
   pub state : ChosenAgreeBut e here there
   pub rests : RestsIn e (Monitored here)
 
-abbrev pub TurnsAlike : ℕ → AfterTurns → AfterTurns → Type 0
-TurnsAlike e one other = BothIn e one other ⊎ BothPast e one other
+abbrev pub ScheduledStepsAlike : ℕ → AfterSchedule → AfterSchedule → Type 0
+ScheduledStepsAlike e one other = BothIn e one other ⊎ BothPast e one other
 
 -- the machines and what was done after one step of a hart, by what it left and showed
-abbrev next : ℕ → Scheduled → Machine → Outcome → AfterTurns
+abbrev next : ℕ → Scheduled → Machine → Outcome → AfterSchedule
 next hart did state outcome =
     let machine : Chosen = record { hart = hart; state = state } in
-    with_turn hart (after_turns (Monitored machine) did) (record { state = Monitored machine; outcome = outcome.step; entered = outcome.entered })
+    with_scheduled_step hart (after_schedule (Monitored machine) did) (record { state = Monitored machine; outcome = outcome.step; entered = outcome.entered })
 
 entered_next : (e hart : ℕ) (harts : List ℕ) (did : Scheduled) (state : Machine) (outcome : Outcome) → outcome.entered ≡ Some e
-    → is_entered e (turns harts (next hart did state outcome)).did.entered ≡ true
+    → is_entered e (scheduled_steps harts (next hart did state outcome)).did.entered ≡ true
 entered_next e hart harts did state outcome is =
     stays_entered e harts (next hart did state outcome) (enters-now e did.entered outcome.entered is)
 
-pub turns_alike : (e : ℕ) (harts : List ℕ) (one other : Chosen) (did : Scheduled) → IsKept one.state → IsKept other.state → ChosenAgreeBut e one other
+pub scheduled_steps_alike : (e : ℕ) (harts : List ℕ) (one other : Chosen) (did : Scheduled) → IsKept one.state → IsKept other.state → ChosenAgreeBut e one other
     → RestsIn e (Monitored one)
-    → TurnsAlike e (turns harts (after_turns (Monitored one) did)) (turns harts (after_turns (Monitored other) did))
-unfolding turns
-turns_alike e [] one other did kept kept' agree rests =
+    → ScheduledStepsAlike e (scheduled_steps harts (after_schedule (Monitored one) did)) (scheduled_steps harts (after_schedule (Monitored other) did))
+unfolding scheduled_steps
+scheduled_steps_alike e [] one other did kept kept' agree rests =
     inr (record { here = one; there = other; here_is = refl; there_is = refl; did = refl; state = agree; rests = rests })
-turns_alike e (hart ∷ harts) one other did kept kept' agree rests =
+scheduled_steps_alike e (hart ∷ harts) one other did kept kept' agree rests =
     let first = step_of hart one.state in
     let second = step_of hart other.state in
     let both = confidentiality hart one.state kept e other.state kept' agree.state (rests hart) in
@@ -72,9 +72,9 @@ turns_alike e (hart ∷ harts) one other did kept kept' agree rests =
           let b : Chosen = record { hart = hart; state = second.state } in
           let after = (next hart did first.state first.outcome).did in
           let still : RestsIn e (Monitored a) = λ own. entry_law e hart own one.state (rests own) passes in
-          let alike = turns_alike e harts a b after (kept_law hart one.state kept) (kept_law hart other.state kept')
+          let alike = scheduled_steps_alike e harts a b after (kept_law hart one.state kept) (kept_law hart other.state kept')
           (record { hart = refl; state = both.state }) still in
-          subst (λ (outcome : Outcome). TurnsAlike e (turns harts (next hart did first.state first.outcome))
-          (turns harts (next hart did second.state outcome)))
+          subst (λ (outcome : Outcome). ScheduledStepsAlike e (scheduled_steps harts (next hart did first.state first.outcome))
+          (scheduled_steps harts (next hart did second.state outcome)))
           both.outcome alike
     ]

@@ -8,10 +8,10 @@ use Rattle.rv_debug.specs.Prelude.{Pmp, Poke, Reg, Regs, Run, Sched, SetReg, Ste
 use Rattle.rv_debug.specs.Prelude.{has_all, number_of_bytes, option_case, parse_of, read, read_result, register, result_case}
 use Rattle.rv_debug.specs.Addresses.{with_room_for, without_address}
 use Rattle.rv_debug.specs.BenchState.{BenchState}
-use Rattle.rv_debug.specs.Deeds.{deed, done, entered_by, steps_of}
+use Rattle.rv_debug.specs.Effects.{effect, done, entered_by, steps_of}
 use Rattle.rv_debug.specs.ReplyText.{ran_text, register_text, registers_text, ok_text, csr_text, memory_text, dis_text, pmp_text, verdict_text}
 use Rattle.rv_debug.specs.ReplyText.{denied_outside_text, full_text, command_fault_text, hart_text, no_csr_text, no_hart_text, outside_text}
-use Rattle.rv_debug.specs.Turns.{AfterTurns, no_turns, turns}
+use Rattle.rv_debug.specs.ScheduledSteps.{AfterSchedule, schedule_start, scheduled_steps}
 use Rattle.rv_debug.specs.Steps.{AfterRun}
 use Rattle.rv_debug.specs.Targets.{chosen_of, hart_of, harts_of, memory_of, world_text, enclaves_text, pc_of, poked, with_chosen}
 
@@ -61,13 +61,13 @@ hart_told target hart ran =
     let seen = with_chosen hart target in hart_text hart (pc_of seen) (hart_of seen).mode (world_text seen) ran
 
 -- of each hart that there is
-abbrev pub harts_told : AfterTurns → List ℕ
+abbrev pub harts_told : AfterSchedule → List ℕ
 harts_told after =
     hart_told after.state 0 after.did.first ++ (if nat_lt 1 (harts_of after.state) then hart_told after.state 1 after.did.second else [])
 
 abbrev pub sched_reply : Target → List ℕ → List ℕ
 sched_reply target harts =
-    if has_all (harts_of target) harts then harts_told (turns harts (no_turns target)) else no_hart_text
+    if has_all (harts_of target) harts then harts_told (scheduled_steps harts (schedule_start target)) else no_hart_text
 
 -- bytes of memory are shown where all of them are in it
 abbrev pub memory_reply : List ℕ → ℕ → ℕ → List ℕ
@@ -130,12 +130,12 @@ pub record Answered : Type 0 where
 unfoldable pub answer : BenchState → Command → Answered
 answer bench command = record {
   state = record {
-    target = done bench.target (deed bench command);
+    target = done bench.target (effect bench command);
     breaks = breaks_after bench command;
     watches = watches_after bench command;
   };
   reply = reply_to bench command;
-  entered = entered_by bench.target (deed bench command);
+  entered = entered_by bench.target (effect bench command);
 }
 
 -- one line: a faulty one is told its fault, and changes nothing

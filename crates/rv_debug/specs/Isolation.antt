@@ -12,7 +12,7 @@ use Rattle.rv_debug.specs.Prelude.{seat_of, seated, seen_by}
 use Rattle.rv_debug.specs.Answer.{access_reply, answer}
 use Rattle.rv_debug.specs.BenchState.{BenchState}
 use Rattle.rv_debug.specs.Chosen.{Chosen}
-use Rattle.rv_debug.specs.Deeds.{Deed, Steps, Register, TimerLine, OneByte, deed, harts_stepped}
+use Rattle.rv_debug.specs.Effects.{Effect, Steps, Register, TimerLine, OneByte, effect, harts_stepped}
 use Rattle.rv_debug.specs.ReplyText.{verdict_text}
 use Rattle.rv_debug.specs.Targets.{KeepsMonitor, chosen_of, harts_of, memory_of}
 
@@ -49,9 +49,9 @@ IsApart k address (Bare machine) = ⊥
 IsApart k address (Monitored chosen) = has (region chosen.state.shared.table k) address ≡ false
 
 -- one step of these harts changed the byte, as a step of its hart may
-abbrev pub IsChangedInTurns : List ℕ → ℕ → Target → Type 0
-IsChangedInTurns harts byte (Bare machine) = ⊥
-IsChangedInTurns harts byte (Monitored chosen) = IsChangedInOrder harts chosen.state byte
+abbrev pub IsChangedInSchedule : List ℕ → ℕ → Target → Type 0
+IsChangedInSchedule harts byte (Bare machine) = ⊥
+IsChangedInSchedule harts byte (Monitored chosen) = IsChangedInOrder harts chosen.state byte
 
 -- the target is a monitored machine
 abbrev pub IsMonitored : Target → Type 0
@@ -60,13 +60,13 @@ IsMonitored (Monitored chosen) = Unit {0}
 
 -- it is live, and rests through what is done: the steps leave it alone, and no byte of its region is poked. It may run on the hart that
 -- does not step.
-abbrev pub RestsThroughDeed : ℕ → Target → Deed → Type 0
-RestsThroughDeed k target (Steps harts chosen) = IsLeftAloneIn k harts target
-RestsThroughDeed k target (OneByte address byte) = IsLiveIn k target × IsApart k address target
-RestsThroughDeed k target _ = IsLiveIn k target
+abbrev pub RestsThroughEffect : ℕ → Target → Effect → Type 0
+RestsThroughEffect k target (Steps harts chosen) = IsLeftAloneIn k harts target
+RestsThroughEffect k target (OneByte address byte) = IsLiveIn k target × IsApart k address target
+RestsThroughEffect k target _ = IsLiveIn k target
 
 abbrev pub RestsUnder : ℕ → BenchState → Command → Type 0
-RestsUnder k bench command = RestsThroughDeed k bench.target (deed bench command)
+RestsUnder k bench command = RestsThroughEffect k bench.target (effect bench command)
 
 -- its record, the bytes of its region and its kept context are as before
 abbrev pub IsSparedIn : ℕ → Target → Target → Type 0
@@ -74,7 +74,7 @@ IsSparedIn k (Monitored before) (Monitored after) = IsSpared k before.state.shar
 IsSparedIn k _ _ = ⊥
 
 -- no byte of its region is poked
-abbrev pub PokesNone : ℕ → Target → Deed → Type 0
+abbrev pub PokesNone : ℕ → Target → Effect → Type 0
 PokesNone k target (OneByte address byte) = IsApart k address target
 PokesNone k target _ = Unit {0}
 
@@ -83,7 +83,7 @@ abbrev pub RunningLaw : Type 0
 RunningLaw =
     (k own : ℕ) (chosen : Chosen) (breaks watches : List ℕ) (command : Command) → IsKept chosen.state → runs_on k own chosen.state ≡ true
     → (let bench : BenchState = record { target = Monitored chosen; breaks = breaks; watches = watches } in
-    let does = deed bench command in
+    let does = effect bench command in
     RunsOnNone k (harts_stepped does) chosen.state → PokesNone k bench.target does → RestsUnder k bench command)
 
 -- a command spares each enclave that rests through it
@@ -91,8 +91,8 @@ abbrev pub SparesResting : BenchState → Command → BenchState → Type 0
 SparesResting before command after = (k : ℕ) → RestsUnder k before command → IsSparedIn k before.target after.target
 
 -- a byte that may be changed by what is done: one that a step changes in reach, or that is poked
-abbrev pub MayChange : Target → Deed → ℕ → Type 0
-MayChange target (Steps harts chosen) byte = IsChangedInTurns harts byte target
+abbrev pub MayChange : Target → Effect → ℕ → Type 0
+MayChange target (Steps harts chosen) byte = IsChangedInSchedule harts byte target
 MayChange target (OneByte address value) byte = byte ≡ address
 MayChange target _ byte = ⊥
 
@@ -100,12 +100,12 @@ MayChange target _ byte = ⊥
 abbrev pub ChangesMemory : BenchState → Command → BenchState → Type 0
 ChangesMemory before command after =
     IsMonitored before.target → (byte : ℕ)
-    → byte_at (memory_of after.target) byte ≡ byte_at (memory_of before.target) byte ⊎ MayChange before.target (deed before command) byte
+    → byte_at (memory_of after.target) byte ≡ byte_at (memory_of before.target) byte ⊎ MayChange before.target (effect before command) byte
 
 -- ---- the other harts
 
 -- nothing is done to this hart: it makes no step, and has no register and no timer line set
-abbrev pub LeavesHart : ℕ → Target → Deed → Type 0
+abbrev pub LeavesHart : ℕ → Target → Effect → Type 0
 LeavesHart hart target (Steps harts chosen) = list_all (λ named. not (named == hart)) harts ≡ true
 LeavesHart hart target (Register number value) = hart ≢ chosen_of target
 LeavesHart hart target (TimerLine raised) = hart ≢ chosen_of target
@@ -119,7 +119,7 @@ KeepsHart hart _ _ = ⊥
 
 abbrev pub SparesHarts : BenchState → Command → BenchState → Type 0
 SparesHarts before command after =
-    (hart : ℕ) → hart < harts_of before.target → LeavesHart hart before.target (deed before command) → KeepsHart hart before.target after.target
+    (hart : ℕ) → hart < harts_of before.target → LeavesHart hart before.target (effect before command) → KeepsHart hart before.target after.target
 
 -- ---- lists of commands
 

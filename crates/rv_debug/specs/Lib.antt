@@ -4,7 +4,7 @@ pub mod Answer
 pub mod Chosen
 pub mod BenchState
 pub mod Confidentiality
-pub mod Deeds
+pub mod Effects
 pub mod EnclaveText
 pub mod FastSteps
 pub mod Isolation
@@ -14,4 +14,4 @@ pub mod Steps
 pub mod Stops
 pub mod Targets
 pub mod BothBenches
-pub mod Turns
+pub mod ScheduledSteps

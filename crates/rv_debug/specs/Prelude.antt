@@ -9,9 +9,9 @@ pub use Rattle.rv_debug.specs.declared.steps.Stop.TheVariants.{Break, Done, Watc
 pub use Rattle.rv_debug.specs.declared.target.Target.{Target}
 pub use Rattle.rv_debug.specs.declared.target.Target.TheVariants.{Bare, Monitored}
 pub use Rattle.rv_platform.specs.Blocks.{has, meets, no_block}
-pub use Rattle.rv_enclaves.specs.LawfulBlocks.{is_block_size}
-unfoldable pub use Rattle.rv_enclaves.specs.LawfulBlocks.{is_lawful}
-pub use Rattle.rv_enclaves.specs.Table.{IsLawfulSlot, Slots, is_host, is_live, is_world_of, region, slot_at}
+pub use Rattle.rv_enclaves.specs.ValidBlocks.{is_block_size}
+unfoldable pub use Rattle.rv_enclaves.specs.ValidBlocks.{is_valid_block}
+pub use Rattle.rv_enclaves.specs.Table.{IsValidSlot, Slots, is_host, is_live, is_world_of, region, slot_at}
 pub use Rattle.rv_platform.specs.declared.block.Block.{Block}
 pub use Rattle.rv_hart.specs.State.{State}
 pub use Rattle.rv_hart.specs.declared.limits.Limits.{Limits}

@@ -7,7 +7,7 @@ use Rattle.rv_debug.specs.Prelude.{AreStored, Bare, Command, HostIsStored, Machi
 use Rattle.rv_debug.specs.Prelude.{monitored_step, sched, seat_of, seen_by, step_of}
 use Rattle.rv_debug.specs.Answer.{answer}
 use Rattle.rv_debug.specs.BenchState.{BenchState}
-use Rattle.rv_debug.specs.Deeds.{deed, harts_stepped}
+use Rattle.rv_debug.specs.Effects.{effect, harts_stepped}
 use Rattle.rv_debug.specs.Isolation.{after_commands}
 use Rattle.rv_debug.specs.Targets.{KeepsMonitor}
 
@@ -76,21 +76,21 @@ IsStoredIn (Monitored chosen) = AreStored chosen.state
 abbrev pub RunsUnderAll : ℕ → BenchState → List Command → Type 0
 RunsUnderAll hart bench [] = RunsUnder hart [] bench.target
 RunsUnderAll hart bench (command ∷ commands) =
-    RunsUnder hart (harts_stepped (deed bench command)) bench.target × RunsUnderAll hart (answer bench command).state commands
+    RunsUnder hart (harts_stepped (effect bench command)) bench.target × RunsUnderAll hart (answer bench command).state commands
 
 -- A step of the first command enters an enclave on a hart, which runs there through all commands between, and a step of the last one
 -- leaves it. The commands between may step either hart, set registers, raise and lower the line, and poke any byte.
 abbrev pub ReturnLaw : Type 0
 ReturnLaw =
     (hart : ℕ) (bench : BenchState) (first last : Command) (commands : List Command) (entry exit : MonitoredState)
-    → KeepsMonitor bench.target → EntersUnder hart (harts_stepped (deed bench first)) bench.target entry
+    → KeepsMonitor bench.target → EntersUnder hart (harts_stepped (effect bench first)) bench.target entry
     → (let between = (answer bench first).state in
     let end = after_commands between commands in
-    IsStoredIn between.target → RunsUnderAll hart between commands → LeavesUnder hart (harts_stepped (deed end last)) end.target exit
+    IsStoredIn between.target → RunsUnderAll hart between commands → LeavesUnder hart (harts_stepped (effect end last)) end.target exit
     → HostComesBack entry exit (monitored_step exit))
 
 -- The same of a command that both enters and leaves it, as `sched` may, by steps of either hart in any order.
 abbrev pub ReturnWithinLaw : Type 0
 ReturnWithinLaw =
     (hart : ℕ) (bench : BenchState) (command : Command) (entry exit : MonitoredState) → KeepsMonitor bench.target
-    → EntersAndLeavesUnder hart (harts_stepped (deed bench command)) bench.target entry exit → HostComesBack entry exit (monitored_step exit)
+    → EntersAndLeavesUnder hart (harts_stepped (effect bench command)) bench.target entry exit → HostComesBack entry exit (monitored_step exit)

@@ -3,7 +3,7 @@
 ghost use Rattle.std.specs.Prelude.{◌≡◌};
 ghost use Rattle.arrayvec.specs.ArrayVec.{array_vec_len};
 ghost use Rattle.rv_debug.specs.Answer.{ran_reply, csr_reply, memory_reply, poke_reply, dis_reply, access_reply, hart_reply, harts_told, sched_reply};
-ghost use Rattle.rv_debug.specs.Deeds.{OneByte, done, entered_by, hart_deed, run_deed, sched_deed, steps_of};
+ghost use Rattle.rv_debug.specs.Effects.{OneByte, done, entered_by, hart_effect, run_effect, sched_effect, steps_of};
 ghost use Rattle.rv_script.specs.Schedules.{harts_in};
 ghost use Rattle.rv_debug.specs.Addresses.{without_address};
 ghost use Rattle.rv_debug.specs.ReplyText.{ok_text};
@@ -24,7 +24,7 @@ use rv_word::{Reg, Width, le_word};
 
 /// Does so many steps, or fewer, where a watch or a break ends them, and tells what they did. Returns the slots of the enclaves
 /// that they entered.
-#[tactic(auto, using(crate::proofs::RunTurns::run_done, crate::proofs::RunTurns::run_entered))]
+#[tactic(auto, using(crate::proofs::RunSchedules::run_done, crate::proofs::RunSchedules::run_entered))]
 pub(crate) fn answer_run(
     target: &mut Target,
     count: StepCount,
@@ -33,8 +33,8 @@ pub(crate) fn answer_run(
     reply: &mut Reply,
 ) -> u16
     requires { array_vec_len reply.old ≡ 0 }
-    ensures target { done target.old (run_deed target.old breaks.now watches.now count) ≡ target.new }
-    ensures entered { entered_by target.old (run_deed target.old breaks.now watches.now count) ≡ result }
+    ensures target { done target.old (run_effect target.old breaks.now watches.now count) ≡ target.new }
+    ensures entered { entered_by target.old (run_effect target.old breaks.now watches.now count) ≡ result }
     ensures reply { ran_reply (steps_of target.old breaks.now watches.now count) ≡ reply.new.items }
     ensures bare { IsBare target.old → result ≡ 0 }
     ensures monitor { KeepsMonitor target.old → KeepsMonitor target.new }
@@ -109,12 +109,12 @@ pub(crate) fn answer_csr(target: &Target, csr: CsrNumber, reply: &mut Reply)
 }
 
 /// Chooses a hart, where there is one of the number.
-#[tactic(auto, unfolding(crate::specs::Turns::turns))]
+#[tactic(auto, unfolding(crate::specs::ScheduledSteps::scheduled_steps))]
 pub(crate) fn answer_hart(target: &mut Target, hart: u8, reply: &mut Reply)
     requires { array_vec_len reply.old ≡ 0 }
-    ensures target { done target.old (hart_deed target.old hart) ≡ target.new }
+    ensures target { done target.old (hart_effect target.old hart) ≡ target.new }
     ensures reply { hart_reply target.old hart ≡ reply.new.items }
-    ensures entered { entered_by target.old (hart_deed target.old hart) ≡ 0 }
+    ensures entered { entered_by target.old (hart_effect target.old hart) ≡ 0 }
     ensures monitor { KeepsMonitor target.old → KeepsMonitor target.new }
 {
     if hart < target.harts() {
@@ -141,9 +141,9 @@ fn push_harts(reply: &mut Reply, target: &Target, did: &Scheduled)
 /// names, does nothing and tells that. The chosen hart stays. Returns the slots of the enclaves that the steps entered.
 pub(crate) fn answer_sched(target: &mut Target, schedule: &Schedule, reply: &mut Reply) -> u16
     requires { array_vec_len reply.old ≡ 0 }
-    ensures target { done target.old (sched_deed target.old (harts_in schedule.now)) ≡ target.new }
+    ensures target { done target.old (sched_effect target.old (harts_in schedule.now)) ≡ target.new }
     ensures reply { sched_reply target.old (harts_in schedule.now) ≡ reply.new.items }
-    ensures entered { entered_by target.old (sched_deed target.old (harts_in schedule.now)) ≡ result }
+    ensures entered { entered_by target.old (sched_effect target.old (harts_in schedule.now)) ≡ result }
     ensures bare { IsBare target.old → result ≡ 0 }
     ensures monitor { KeepsMonitor target.old → KeepsMonitor target.new }
 {

@@ -98,7 +98,7 @@ fn push_slots(out: &mut Reply, table: &Table, slots: &[Slot])
     }
 }
 
-/// Writes the records of the live enclaves, by rising slots.
+/// Writes the records of the live enclaves, sorted by slot.
 #[tactic(auto, unfolding(crate::specs::EnclaveText::table_text))]
 fn push_table(out: &mut Reply, table: &Table)
     requires room { array_vec_len out.old + 1781 ≤ 2048 }

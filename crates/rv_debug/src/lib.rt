@@ -14,13 +14,13 @@
 
 mod addresses;
 mod answer;
+mod backoff;
 mod bench;
 mod both;
 mod chosen;
 mod enclaves;
 mod free_limits;
 pub mod laws;
-mod pauses;
 mod reply;
 mod scheduled;
 mod steps;

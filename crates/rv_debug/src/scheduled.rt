@@ -1,7 +1,7 @@
-//! Steps of two harts, one after another, and what they did.
+//! Schedules: steps of two harts in a given order, and a summary of them.
 
 ghost use Rattle.std.specs.Prelude.{◌≡◌, ◌+◌, ◌<◌, ◌≤◌, ◌^◌, bit_or, true, []};
-ghost use Rattle.rv_debug.specs.Turns.{runs_told, with_turn, turns, no_turns};
+ghost use Rattle.rv_debug.specs.ScheduledSteps.{runs_told, with_scheduled_step, scheduled_steps, schedule_start};
 ghost use Rattle.rv_script.specs.Schedules.{harts_in, has_all};
 ghost use Rattle.rv_debug.specs.Targets.{harts_of, target_stepped, with_chosen, IsBare, KeepsMonitor};
 
@@ -12,27 +12,27 @@ use crate::target::Target;
 use rv_hart::{Limits, Trap};
 use rv_script::{Schedule, hart};
 
-/// What the steps of one hart did.
+/// A summary of the steps of one hart.
 #[derive(Clone, Copy)]
 pub(crate) struct HartRan {
-    /// How many they were.
+    /// The number of steps.
     pub(crate) steps: u32,
-    /// The last trap in them, an interrupt included.
+    /// The last trap, an interrupt included.
     pub(crate) trap: Option<Trap>,
 }
 
-/// What steps of two harts did.
+/// A summary of the steps of two harts.
 #[derive(Clone, Copy)]
 pub(crate) struct Scheduled {
-    /// Those of hart 0.
+    /// The steps of hart 0.
     pub(crate) first: HartRan,
-    /// Those of hart 1.
+    /// The steps of hart 1.
     pub(crate) second: HartRan,
-    /// The slots of the enclaves that they entered: bit k is set for slot k.
+    /// The slots of the enclaves that were entered: bit k is set for slot k.
     pub(crate) entered: u16,
 }
 
-/// What a run of each hart did.
+/// Returns the summary of a run of each hart.
 const fn told(first: &Ran, second: &Ran) -> Scheduled
     ensures { result ≡ runs_told first.now second.now }
 {
@@ -49,10 +49,9 @@ const fn told(first: &Ran, second: &Ran) -> Scheduled
     }
 }
 
-/// Does one step of a hart, and adds it to what the steps of that hart did, of which none is at a break or accesses a watched byte. The
-/// hart is chosen then.
+/// Executes one step of a hart, and adds it to the run of that hart. There are no breakpoints and no watchpoints. The hart is chosen then.
 #[inline(always)]
-fn turn(
+fn scheduled_step(
     target: &mut Target,
     hart: u8,
     first: &mut Ran,
@@ -65,7 +64,7 @@ fn turn(
     requires which { hart < 2 }
     requires first { first.old.steps < 2 ^ 31 }
     requires second { second.old.steps < 2 ^ 31 }
-    ensures turned { with_turn hart (record { state = target.old; did = runs_told first.old second.old })
+    ensures step_scheduled { with_scheduled_step hart (record { state = target.old; did = runs_told first.old second.old })
         (target_stepped (with_chosen hart target.old)) ≡ record { state = target.new; did = runs_told first.new second.new } }
     ensures first { first.new.steps ≤ first.old.steps + 1 }
     ensures second { second.new.steps ≤ second.old.steps + 1 }
@@ -79,10 +78,11 @@ fn turn(
     }
 }
 
-/// Does one step of each hart of a schedule, in its order, whatever is a break or watched. The hart of the last is chosen then.
+/// Executes one step of each hart of a schedule, in its order. Breakpoints and watchpoints do not matter. The hart of the last step is
+/// chosen then.
 pub(crate) fn run_schedule(target: &mut Target, schedule: &Schedule) -> Scheduled
     requires { has_all (harts_of target.old) (harts_in schedule.now) ≡ true }
-    ensures turns { turns (harts_in schedule.now) (no_turns target.old) ≡ record { state = target.new; did = result } }
+    ensures scheduled_steps { scheduled_steps (harts_in schedule.now) (schedule_start target.old) ≡ record { state = target.new; did = result } }
     ensures harts { harts_of target.new ≡ harts_of target.old }
     ensures bare { IsBare target.old → result.entered ≡ 0 }
     ensures monitor { KeepsMonitor target.old → KeepsMonitor target.new }
@@ -93,7 +93,7 @@ pub(crate) fn run_schedule(target: &mut Target, schedule: &Schedule) -> Schedule
     let mut second = NO_STEPS;
     let digits = schedule.digits();
     for digit in digits {
-        turn(
+        scheduled_step(
             target,
             hart(*digit),
             &mut first,

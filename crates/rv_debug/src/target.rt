@@ -95,7 +95,7 @@ impl Target {
     pub(crate) fn chosen(&self) -> u8
         ensures chosen { result ≡ chosen_of self.now }
         ensures has { result < harts_of self.now }
-        ensures turned { with_chosen result self.now ≡ self.now }
+        ensures step_scheduled { with_chosen result self.now ≡ self.now }
     {
         match self {
             Target::Bare(_) => 0,
@@ -106,7 +106,7 @@ impl Target {
     /// Chooses a hart.
     pub(crate) fn choose(&mut self, hart: u8)
         requires { hart < harts_of self.old }
-        ensures turned { self.new ≡ with_chosen hart self.old }
+        ensures step_scheduled { self.new ≡ with_chosen hart self.old }
         ensures harts { harts_of self.new ≡ harts_of self.old }
         ensures monitor { KeepsMonitor self.old → KeepsMonitor self.new }
     {

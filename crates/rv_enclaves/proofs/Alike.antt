@@ -10,8 +10,8 @@ use Rattle.rv_enclaves.specs.SharedButFor.{SameContexts}
 use Rattle.rv_enclaves.specs.Create.{with_enclave}
 use Rattle.rv_enclaves.specs.Destroy.{without}
 use Rattle.rv_enclaves.specs.declared.call.Call.TheVariants as calls
-use Rattle.rv_enclaves.proofs.Prelude.{AgreeOutside, Block, Context, Contexts, EnclaveState, IsLawfulSlot, IsValid, Proposal, Shared, SharedButFor, SlotInfo}
-use Rattle.rv_enclaves.proofs.Prelude.{Slots, context_at, created, destroyed, first_context, has, is_block_size, is_inside, is_lawful, is_live, is_private}
+use Rattle.rv_enclaves.proofs.Prelude.{AgreeOutside, Block, Context, Contexts, EnclaveState, IsValidSlot, IsValid, CreateArgs, Shared, SharedButFor, SlotInfo}
+use Rattle.rv_enclaves.proofs.Prelude.{Slots, context_at, created, destroyed, first_context, has, is_block_size, is_inside, is_valid_block, is_live, is_private}
 use Rattle.rv_enclaves.proofs.Prelude.{measured, measurement_at, measurement_of, meets, new_slot, option_case, recorded, region, region_of, slot_at}
 use Rattle.rv_enclaves.proofs.Prelude.{with_bytes_at, with_context, with_slot, with_state, zeroed}
 use Rattle.rv_enclaves.proofs.Agreement.{IsSeen, inside-is, same_read, read-none, write-alike, zeros-alike}
@@ -100,13 +100,13 @@ module _ (e : ℕ) (table : Slots) (m n : List ℕ) (cs ds : Contexts) (agree : 
 
   -- ---- create
 
-  measurement_alike : (new : Proposal) → meets new.region (region table e) ≡ false → measurement_of m new ≡ measurement_of n new
+  measurement_alike : (new : CreateArgs) → meets new.region (region table e) ≡ false → measurement_of m new ≡ measurement_of n new
   unfolding measurement_of
   measurement_alike new apart =
       let reads = read_alike (is_private table e) m n new.region.base new.region.size agree (seen_block new.region (region table e) apart) in
       rw reads refl
 
-  recorded_alike : (new : Proposal) → meets new.region (region table e) ≡ false → recorded m new ≡ recorded n new
+  recorded_alike : (new : CreateArgs) → meets new.region (region table e) ≡ false → recorded m new ≡ recorded n new
   recorded_alike new apart = let digests = measurement_alike new apart in rw digests refl
 
   not_free : (k : ℕ) → slot_at table k ≡ None → e ≢ k
@@ -119,7 +119,7 @@ module _ (e : ℕ) (table : Slots) (m n : List ℕ) (cs ds : Contexts) (agree : 
       still (with_slot table k (Some info)) m n (with_context cs k (Some (first_context info))) (with_context ds k (Some (first_context info)))
       (at_other table k e (Some info) (not_free k free)) agree (contexts_with e cs ds k (Some (first_context info)) saved)
 
-  pub created_alike : (new : Proposal) → MayCreate here new → SharedButFor e (created here new) (created there new)
+  pub created_alike : (new : CreateArgs) → MayCreate here new → SharedButFor e (created here new) (created there new)
   unfolding created
   created_alike new may =
       let same = recorded_alike new ((free_from table new may.apart).others e).regions in
@@ -152,14 +152,14 @@ module _ (e : ℕ) (table : Slots) (m n : List ℕ) (cs ds : Contexts) (agree : 
         (contexts_with e cs ds k None saved)
   ]
 
-  region_inside : (o : Option SlotInfo) → IfSome o (IsLawfulSlot m) → is_some o ≡ true → is_inside m (region_of o).base (region_of o).size ≡ true
-  unfolding is_lawful
+  region_inside : (o : Option SlotInfo) → IfSome o (IsValidSlot m) → is_some o ≡ true → is_inside m (region_of o).base (region_of o).size ≡ true
+  unfolding is_valid_block
   region_inside None law live = cc
   region_inside (Some info) law live = (and_parts _ _ (and_parts (is_block_size info.region.size) _ law.region).1).1
 
   pub destroyed_alike : (k : ℕ) → IsValid m table → IsTaken table calls.Destroy k → SharedButFor e (destroyed here k) (destroyed there k)
   unfolding destroyed
-  destroyed_alike k valid taken = without_alike k (region_inside (slot_at table k) (valid.lawful k) (ap (λ (o : Option SlotInfo). is_some o) taken.is))
+  destroyed_alike k valid taken = without_alike k (region_inside (slot_at table k) (valid.well_formed k) (ap (λ (o : Option SlotInfo). is_some o) taken.is))
 
   -- ---- measure
 

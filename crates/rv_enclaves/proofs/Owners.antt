@@ -12,8 +12,8 @@ use Rattle.rv_pmp.specs.Covers.{matches, napot_size, ones_at_end}
 use Rattle.rv_pmp.proofs.VerdictLemmas.{some_from_any}
 use Rattle.rv_platform.specs.Blocks.{no_block}
 use Rattle.rv_enclaves.specs.Layout.{Entry, napot, no_permission}
-use Rattle.rv_enclaves.proofs.Prelude.{Block, Enclave, Host, IsLawfulSlot, IsValid, SlotInfo, Slots, World, cfg_of, covers, entry_at, has, host_entry}
-use Rattle.rv_enclaves.proofs.Prelude.{is_block_size, is_host, is_lawful, is_window, is_world_of, layout, monitor_block, ram_base, region}
+use Rattle.rv_enclaves.proofs.Prelude.{Block, Enclave, Host, IsValidSlot, IsValid, SlotInfo, Slots, World, cfg_of, covers, entry_at, has, host_entry}
+use Rattle.rv_enclaves.proofs.Prelude.{is_block_size, is_host, is_valid_block, is_window, is_world_of, layout, monitor_block, ram_base, region}
 use Rattle.rv_enclaves.proofs.Prelude.{region_entry, region_of, slot_at, window, window_entry, window_entry_of, window_of}
 use Rattle.rv_platform.proofs.BlockLaws.{apart_at, apart_from}
 use Rattle.rv_enclaves.proofs.Napots.{napot_addr, napot_matches}
@@ -44,17 +44,17 @@ apart memory slots valid = record {
 
 -- ---- what an entry for a block covers
 
--- what a lawful block is
+-- what a valid block is
 pub record IsBlock (memory : List ℕ) (base size : ℕ) : Type 0 where
   pub power : (m : ℕ) × (12 ≤ m) × (m < 32) × (size ≡ 2 ^ m)
   pub aligned : base % size ≡ 0
   pub low : ram_base ≤ base
   pub high : base + size ≤ ram_base + length memory
 
-pub lawful_block : (memory : List ℕ) (block : Block) → is_lawful memory block ≡ true → IsBlock memory block.base block.size
-unfolding is_lawful
-lawful_block memory block lawful =
-    let parts = and_parts (is_block_size block.size) _ lawful in
+pub valid_block : (memory : List ℕ) (block : Block) → is_valid_block memory block ≡ true → IsBlock memory block.base block.size
+unfolding is_valid_block
+valid_block memory block well_formed =
+    let parts = and_parts (is_block_size block.size) _ well_formed in
     let rest = and_parts (block.base % block.size == 0) _ parts.1 in
     let inside = and_parts (nat_le ram_base block.base) _ rest.1 in
     let power = some_from_any (λ k. block.size == 2 ^ k) 12 20 parts.0 in
@@ -65,10 +65,10 @@ lawful_block memory block lawful =
       high = leb-true _ _ inside.1;
     }
 
-block_covers : (memory : List ℕ) (block : Block) (before b : ℕ) → length memory ≤ 0x1000000 → is_lawful memory block ≡ true
+block_covers : (memory : List ℕ) (block : Block) (before b : ℕ) → length memory ≤ 0x1000000 → is_valid_block memory block ≡ true
     → matches (matching_of 0x18) before (napot_addr block.base block.size) b ≡ has block b
-block_covers memory block before b ram_size lawful =
-    let is = lawful_block memory block lawful in
+block_covers memory block before b ram_size well_formed =
+    let is = valid_block memory block well_formed in
     let m = is.power.0 in
     let at_least : 12 ≤ m = is.power.1 in
     let below : m < 32 = is.power.2 in
@@ -77,30 +77,30 @@ block_covers memory block before b ram_size lawful =
     napot_matches block.base block.size (m - 3) before b (omega arith) power is.aligned (omega (arith, is.high))
 
 region_covers : (memory : List ℕ) (w : World) (k : ℕ) (o : Option SlotInfo) (before b : ℕ) → length memory ≤ 0x1000000
-    → IfSome o (IsLawfulSlot memory)
+    → IfSome o (IsValidSlot memory)
     → matches (matching_of (region_entry w k o).cfg) before (region_entry w k o).addr b ≡ has (region_of o) b
-region_covers memory w k None before b ram_size lawful = sym (has_nothing b)
-region_covers memory w k (Some info) before b ram_size lawful =
-    let covered = block_covers memory info.region before b ram_size lawful.region in
+region_covers memory w k None before b ram_size well_formed = sym (has_nothing b)
+region_covers memory w k (Some info) before b ram_size well_formed =
+    let covered = block_covers memory info.region before b ram_size well_formed.region in
     elim (cases_Bool (is_world_of k w)) [
       | inl runs ↦ rw runs covered
       | inr rests ↦ rw rests covered
     ]
 
--- a window with bytes is lawful
-some_window : (memory : List ℕ) (block : Block) → is_window memory block ≡ true → block.size ≢ 0 → is_lawful memory block ≡ true
+-- a window with bytes is a valid block
+some_window : (memory : List ℕ) (block : Block) → is_window memory block ≡ true → block.size ≢ 0 → is_valid_block memory block ≡ true
 unfolding is_window
 some_window memory block is some = elim (or_cases (block.base == 0 && block.size == 0) _ is) [
   | inl none ↦ absurd (some (eqb-true _ _ (and_parts (block.base == 0) _ none).1))
-  | inr lawful ↦ lawful
+  | inr well_formed ↦ well_formed
 ]
 
-window_covers : (memory : List ℕ) (o : Option SlotInfo) (before b : ℕ) → length memory ≤ 0x1000000 → IfSome o (IsLawfulSlot memory)
+window_covers : (memory : List ℕ) (o : Option SlotInfo) (before b : ℕ) → length memory ≤ 0x1000000 → IfSome o (IsValidSlot memory)
     → matches (matching_of (window_entry_of o).cfg) before (window_entry_of o).addr b ≡ has (window_of o) b
-window_covers memory None before b ram_size lawful = sym (has_nothing b)
-window_covers memory (Some info) before b ram_size lawful = elim (cases_eq info.window.size 0) [
+window_covers memory None before b ram_size well_formed = sym (has_nothing b)
+window_covers memory (Some info) before b ram_size well_formed = elim (cases_eq info.window.size 0) [
   | inl none ↦ rw (eq-eqb _ _ none) (sym (empty_has info.window.base info.window.size b none))
-  | inr some ↦ rw (ne_eqb _ _ some) (block_covers memory info.window before b ram_size (some_window memory info.window lawful.window some))
+  | inr some ↦ rw (ne_eqb _ _ some) (block_covers memory info.window before b ram_size (some_window memory info.window well_formed.window some))
 ]
 
 -- ---- what the layout holds at an entry
@@ -147,7 +147,7 @@ world_window t (Enclave k) = window t k
 window_owned : (memory : List ℕ) (t : Slots) (w : World) (before b : ℕ) → length memory ≤ 0x1000000 → IsValid memory t
     → matches (matching_of (window_entry t w).cfg) before (window_entry t w).addr b ≡ has (world_window t w) b
 window_owned memory t Host before b ram_size valid = sym (has_nothing b)
-window_owned memory t (Enclave k) before b ram_size valid = window_covers memory (slot_at t k) before b ram_size (valid.lawful k)
+window_owned memory t (Enclave k) before b ram_size valid = window_covers memory (slot_at t k) before b ram_size (valid.well_formed k)
 
 all_ones_size : napot_size 0xffffffff ≡ 2 ^ 35
 unfolding ones_at_end
@@ -172,7 +172,7 @@ module _ (memory : List ℕ) (t : Slots) (w : World) (ram_size : length memory �
 
   pub covers_slot : (k : ℕ) → k < 13 → covers (layout t w) (k + 1) b ≡ has (region t k) b
   covers_slot k in_range =
-      at_entry (k + 1) _ _ (omega arith) (entry_at-slot t w k in_range) (λ before. region_covers memory w k (slot_at t k) before b ram_size (valid.lawful k))
+      at_entry (k + 1) _ _ (omega arith) (entry_at-slot t w k in_range) (λ before. region_covers memory w k (slot_at t k) before b ram_size (valid.well_formed k))
 
   pub covers_window : covers (layout t w) 14 b ≡ has (world_window t w) b
   covers_window = at_entry 14 _ _ (lit< tt) (entry_at-window t w) (λ before. window_owned memory t w before b ram_size valid)

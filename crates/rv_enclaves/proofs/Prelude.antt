@@ -1,7 +1,7 @@
 -- The names that most proofs of this crate cite, passed on from one place. Declares nothing.
 pub use Rattle.rv_platform.specs.Blocks.{has, meets, monitor_block}
-pub use Rattle.rv_enclaves.specs.LawfulBlocks.{is_block_size}
-unfoldable pub use Rattle.rv_enclaves.specs.LawfulBlocks.{is_lawful}
+pub use Rattle.rv_enclaves.specs.ValidBlocks.{is_block_size}
+unfoldable pub use Rattle.rv_enclaves.specs.ValidBlocks.{is_valid_block}
 pub use Rattle.rv_enclaves.specs.Contexts.{can_go_on, context_at, Contexts, kept_context, with_context}
 unfoldable pub use Rattle.rv_enclaves.specs.Contexts.{first_context}
 pub use Rattle.rv_enclaves.specs.Create.{new_slot, recorded}
@@ -15,14 +15,14 @@ unfoldable pub use Rattle.rv_enclaves.specs.Measure.{measured}
 pub use Rattle.rv_enclaves.specs.Refusals.{first_refusal}
 pub use Rattle.rv_enclaves.specs.SharedButFor.{AgreeOutside, is_private, SharedButFor}
 pub use Rattle.rv_enclaves.specs.Sound.{AreApart, is_held, IsSound}
-pub use Rattle.rv_enclaves.specs.Table.{IsLawfulSlot, IsValid, Slots, is_host, is_live, is_running, is_world_of, region, region_of, runs, slot_at, window}
+pub use Rattle.rv_enclaves.specs.Table.{IsValidSlot, IsValid, Slots, is_host, is_live, is_running, is_world_of, region, region_of, runs, slot_at, window}
 pub use Rattle.rv_enclaves.specs.Table.{running_slot, window_of, with_slot, with_state}
 unfoldable pub use Rattle.rv_enclaves.specs.Table.{is_window}
 pub use Rattle.rv_platform.specs.declared.block.Block.{Block}
 pub use Rattle.rv_enclaves.specs.declared.call.Call.{Call}
 pub use Rattle.rv_enclaves.specs.declared.call.Call.TheVariants.{Destroy}
 pub use Rattle.rv_enclaves.specs.declared.context.Context.{Context}
-pub use Rattle.rv_enclaves.specs.declared.proposal.Proposal.{Proposal}
+pub use Rattle.rv_enclaves.specs.declared.create_args.CreateArgs.{CreateArgs}
 pub use Rattle.rv_enclaves.specs.declared.refusal.Refusal.{Refusal}
 pub use Rattle.rv_enclaves.specs.declared.shared.Shared.{Shared}
 pub use Rattle.rv_enclaves.specs.declared.slot_info.EnclaveState.{EnclaveState}

@@ -8,8 +8,8 @@ use Rattle.std.proofs.lemmas.Bool.{cases_lt, cases_eq, cases_Bool, eqb-true, eq-
 use Rattle.std.proofs.lemmas.Bool.{and_parts, not-true, le-leb, leb-true, ltb-true, false_from_ne_true}
 use Rattle.rv_pmp.specs.declared.mode.Mode.TheVariants.{U}
 use Rattle.rv_pmp.specs.Cfg.{has_permission, grants}
-use Rattle.rv_pmp.specs.Verdicts.{decided, undecided}
-use Rattle.rv_pmp.proofs.VerdictLemmas.{any_at, any_none, all_each, each_from_all, none_from_any, IsFirst, verdict_decided}
+use Rattle.rv_pmp.specs.Verdicts.{match_verdict, no_match_verdict}
+use Rattle.rv_pmp.proofs.VerdictLemmas.{any_at, any_none, all_each, each_from_all, none_from_any, IsFirst, verdict_of_match}
 use Rattle.rv_enclaves.proofs.Prelude.{Access, Enclave, Entries, Fetch, Host, IsValid, M, Mode, Read, S, SlotInfo, Slots, World, Write, bytes_from, bytes_in}
 use Rattle.rv_enclaves.proofs.Prelude.{cfg_of, covers, has, host_entry, is_host, is_inside, is_ram_size, is_world_of, layout, monitor_block, permits}
 use Rattle.rv_enclaves.proofs.Prelude.{ram_base, region, region_entry, region_of, slot_at, verdict, window, window_entry, window_entry_of, window_of}
@@ -25,21 +25,21 @@ use Rattle.rv_enclaves.proofs.Owners.{covers_slot, covers_window, covers_host, h
 
 -- ---- verdicts in S and U
 
-undecided_refuses : (mode : Mode) → mode ≢ M → permits (undecided mode) ≡ false
-undecided_refuses U below = refl
-undecided_refuses S below = refl
-undecided_refuses M below = absurd (below refl)
+no_match_refuses : (mode : Mode) → mode ≢ M → permits (no_match_verdict mode) ≡ false
+no_match_refuses U below = refl
+no_match_refuses S below = refl
+no_match_refuses M below = absurd (below refl)
 
 grants-below_M : (mode : Mode) (access : Access) (cfg : ℕ) → mode ≢ M → grants mode access cfg ≡ has_permission access cfg
 grants-below_M U access cfg below = refl
 grants-below_M S access cfg below = refl
 grants-below_M M access cfg below = absurd (below refl)
 
--- a decided verdict permits what is covered and granted, and only that
-permits-decided : (e : Entries) (mode : Mode) (access : Access) (i : ℕ) (covers_all : Bool)
-    → permits (decided e mode access i covers_all) ≡ (covers_all && grants mode access (cfg_of e i))
-permits-decided e mode access i false = refl
-permits-decided e mode access i true = elim (cases_Bool (grants mode access (cfg_of e i))) [
+-- the verdict of a matching entry permits what is covered and granted, and only that
+permits-match_verdict : (e : Entries) (mode : Mode) (access : Access) (i : ℕ) (covers_all : Bool)
+    → permits (match_verdict e mode access i covers_all) ≡ (covers_all && grants mode access (cfg_of e i))
+permits-match_verdict e mode access i false = refl
+permits-match_verdict e mode access i true = elim (cases_Bool (grants mode access (cfg_of e i))) [
   | inl granted ↦ rw granted refl
   | inr refused ↦ rw refused refl
 ]
@@ -287,9 +287,9 @@ module _ (memory : List ℕ) (t : Slots) (w : World) (mode : Mode) (access : Acc
         let all = list_all (covers entries i) bytes in
         let parts =
         and_parts all (grants mode access (cfg_of entries i))
-        (sym (permits-decided entries mode access i all) ∙ ap permits (sym found.1) ∙ permitted) in
+        (sym (permits-match_verdict entries mode access i all) ∙ ap permits (sym found.1) ∙ permitted) in
         reached_by i found.2 parts.0 parts.1
-    | inr nothing ↦ absurd (both_ways _ (undecided_refuses mode below) (ap permits (sym nothing) ∙ permitted))
+    | inr nothing ↦ absurd (both_ways _ (no_match_refuses mode below) (ap permits (sym nothing) ∙ permitted))
   ]
 
   -- an entry that covers all bytes, and none before it any, decides
@@ -297,8 +297,8 @@ module _ (memory : List ℕ) (t : Slots) (w : World) (mode : Mode) (access : Acc
       → ((j : ℕ) → j < i → list_any (covers entries j) bytes ≡ false) → permits (verdict entries mode access bytes) ≡ true
   done_by i in_range covered given first =
       let meets = any_at (covers entries i) a n a (omega arith) (omega arith) (each_from_all (covers entries i) a n covered a (omega arith) (omega arith)) in
-      ap permits (verdict_decided entries mode access bytes i in_range meets first)
-      ∙ permits-decided entries mode access i _
+      ap permits (verdict_of_match entries mode access bytes i in_range meets first)
+      ∙ permits-match_verdict entries mode access i _
       ∙ and_from _ _ covered given
 
   done_by_host : is_host w ≡ true → list_all (host_has memory t) bytes ≡ true → permits (verdict entries mode access bytes) ≡ true

@@ -9,9 +9,9 @@ use Rattle.rv_enclaves.specs.Measure.{measure_refusals, may_store_all}
 use Rattle.rv_enclaves.specs.Refusals.{state_refusals, has_state_for}
 use Rattle.rv_enclaves.specs.Table.{free_slot}
 use Rattle.rv_enclaves.specs.declared.slot_info.EnclaveState.TheVariants as states
-use Rattle.rv_enclaves.proofs.Prelude.{Call, Contexts, EnclaveState, Entries, Proposal, Refusal, Shared, SlotInfo, Slots}
-use Rattle.rv_enclaves.proofs.Prelude.{first_refusal, is_lawful, is_live, is_running, is_window, new_slot, option_case, overlaps, slot_at}
-use Rattle.rv_enclaves.proofs.Valid.{lawful_by_size, window_by_size}
+use Rattle.rv_enclaves.proofs.Prelude.{Call, Contexts, EnclaveState, Entries, CreateArgs, Refusal, Shared, SlotInfo, Slots}
+use Rattle.rv_enclaves.proofs.Prelude.{first_refusal, is_valid_block, is_live, is_running, is_window, new_slot, option_case, overlaps, slot_at}
+use Rattle.rv_enclaves.proofs.Valid.{well_formed_by_size, window_by_size}
 
 -- where no row holds, the first does not, nor one of the rest
 pub no_row : (condition : Bool) (refusal : Refusal) (rows : List (Bool × Refusal)) → first_refusal ((condition, refusal) ∷ rows) ≡ None
@@ -25,8 +25,8 @@ not_false false is = cc
 
 -- ---- create
 
-pub record MayCreate (shared : Shared) (new : Proposal) : Type 0 where
-  pub lawful : is_lawful shared.memory new.region ≡ true
+pub record MayCreate (shared : Shared) (new : CreateArgs) : Type 0 where
+  pub well_formed : is_valid_block shared.memory new.region ≡ true
   pub window : is_window shared.memory new.window ≡ true
   pub apart : overlaps shared.table new ≡ false
   pub entry : is_entry new ≡ true
@@ -36,7 +36,7 @@ is_slot : (o : Option ℕ) → is_none o ≡ false → o ≡ Some (option_case o
 is_slot None is = cc
 is_slot (Some k) is = refl
 
-pub may_create : (shared : Shared) (new : Proposal) → first_refusal (create_refusals shared new) ≡ None → MayCreate shared new
+pub may_create : (shared : Shared) (new : CreateArgs) → first_refusal (create_refusals shared new) ≡ None → MayCreate shared new
 unfolding create_refusals
 may_create shared new none =
     let region = no_row _ _ _ none in
@@ -45,7 +45,7 @@ may_create shared new none =
     let entry = no_row _ _ _ apart.1 in
     let slot = no_row _ _ _ entry.1 in
     record {
-      lawful = not_false _ region.0;
+      well_formed = not_false _ region.0;
       window = not_false _ window.0;
       apart = apart.0;
       entry = not_false _ entry.0;
@@ -102,12 +102,12 @@ module _ (table : Slots) (m n : List ℕ) (cs ds : Contexts) where
   abbrev there : Shared
   there = record { memory = n; table = table; contexts = ds }
 
-  pub same_create_refusals : (new : Proposal) → length m ≡ length n → create_refusals here new ≡ create_refusals there new
+  pub same_create_refusals : (new : CreateArgs) → length m ≡ length n → create_refusals here new ≡ create_refusals there new
   unfolding create_refusals
   same_create_refusals new size =
-      let lawful = lawful_by_size m n new.region size in
+      let well_formed = well_formed_by_size m n new.region size in
       let window = window_by_size m n new.window size in
-      rw (← lawful, ← window) refl
+      rw (← well_formed, ← window) refl
 
   same_stores : (entries : Entries) (address : ℕ) → length m ≡ length n → may_store_all m entries address ≡ may_store_all n entries address
   unfolding may_store_all

@@ -1,7 +1,7 @@
--- Tests that agree, and the verdict by its decider. (What rv_pmp's VerdictLemmas lacks.)
+-- Tests that agree, and the verdict by its matching entry. (What rv_pmp's VerdictLemmas lacks.)
 use Rattle.std.proofs.Common.{◌≡◌, ℕ, zero, suc, ◌+◌, ◌-◌, ◌<◌, ◌≤◌, ◌⊎◌, Bool, ◌||◌, ◌&&◌, List, refl, ap, ap₂, inl, inr, arith}
 use Rattle.std.specs.List.{range_with_len, list_any, list_all}
-use Rattle.rv_pmp.specs.Verdicts.{decider, verdict_by, decided, undecided}
+use Rattle.rv_pmp.specs.Verdicts.{matching_entry, verdict_by, match_verdict, no_match_verdict}
 use Rattle.rv_pmp.proofs.VerdictLemmas.{IsFirst, find_cases}
 use Rattle.rv_enclaves.proofs.Prelude.{Access, Entries, Mode, covers, verdict}
 
@@ -20,9 +20,9 @@ same_all p q a (suc n) same =
     (same_all p q (a + 1) n (λ b low high. same b (omega arith) (omega arith)))
 
 pub verdict_cases : (e : Entries) (mode : Mode) (access : Access) (bytes : List ℕ)
-    → ((i : ℕ) × (verdict e mode access bytes ≡ decided e mode access i (list_all (covers e i) bytes))
-    × IsFirst (λ j. list_any (covers e j) bytes) 0 16 i) ⊎ (verdict e mode access bytes ≡ undecided mode)
-unfolding verdict decider
+    → ((i : ℕ) × (verdict e mode access bytes ≡ match_verdict e mode access i (list_all (covers e i) bytes))
+    × IsFirst (λ j. list_any (covers e j) bytes) 0 16 i) ⊎ (verdict e mode access bytes ≡ no_match_verdict mode)
+unfolding verdict matching_entry
 verdict_cases e mode access bytes = elim (find_cases (λ j. list_any (covers e j) bytes) 0 16) [
   | inl found ↦ inl (found.0, ap (verdict_by e mode access bytes) found.1, found.2)
   | inr nothing ↦ inr (ap (verdict_by e mode access bytes) nothing.0)

@@ -1,4 +1,4 @@
--- What a table holds after a change of one slot, and what create asks of the blocks of its proposal.
+-- A table after a change of one slot, and what create checks of the blocks of its arguments.
 use Rattle.std.proofs.Common.{◌≡◌, ◌≢◌, ℕ, zero, suc, ◌<◌, Bool, true, false, List, [], ◌∷◌, Option, Some, None, length, refl, inl, inr, arith}
 use Rattle.std.proofs.Common.{get_or-set_same, get_or-set_other}
 use Rattle.std.proofs.lemmas.Bool.{cases_lt, lt-ltb}
@@ -9,7 +9,7 @@ use Rattle.rv_platform.proofs.BlockLaws.{meets_nothing}
 use Rattle.rv_enclaves.specs.Create.{collides}
 use Rattle.rv_enclaves.specs.SlotNumbers.{slot_count, slot_numbered}
 use Rattle.rv_enclaves.proofs.Prelude.{Context, Contexts, EnclaveState, with_context, with_state}
-use Rattle.rv_enclaves.proofs.Prelude.{Proposal, SlotInfo, Slots, meets, monitor_block, overlaps, region_of, slot_at, window_of}
+use Rattle.rv_enclaves.proofs.Prelude.{CreateArgs, SlotInfo, Slots, meets, monitor_block, overlaps, region_of, slot_at, window_of}
 
 -- ---- lists of options
 
@@ -52,12 +52,12 @@ none_at p (x ∷ xs) (suc k) nothing none = none_at p xs k nothing (or-second (p
 
 -- ---- what create asks
 
-pub record AreApart (new : Proposal) (o : Option SlotInfo) : Type 0 where
+pub record AreApart (new : CreateArgs) (o : Option SlotInfo) : Type 0 where
   pub regions : meets new.region (region_of o) ≡ false
   pub window : meets new.region (window_of o) ≡ false
   pub own : meets new.window (region_of o) ≡ false
 
-pub apart_from : (new : Proposal) (o : Option SlotInfo) → collides new o ≡ false → AreApart new o
+pub apart_from : (new : CreateArgs) (o : Option SlotInfo) → collides new o ≡ false → AreApart new o
 apart_from new None none = record { regions = meets_nothing new.region; window = meets_nothing new.region; own = meets_nothing new.window }
 apart_from new (Some info) none =
     let a = meets new.region info.region in
@@ -65,13 +65,13 @@ apart_from new (Some info) none =
     let c = meets new.window info.region in
     record { regions = or-first a (b || c) none; window = or-first b c (or-second a (b || c) none); own = or-second b c (or-second a (b || c) none) }
 
-pub record IsFree (slots : Slots) (new : Proposal) : Type 0 where
+pub record IsFree (slots : Slots) (new : CreateArgs) : Type 0 where
   pub region : meets monitor_block new.region ≡ false
   pub window : meets monitor_block new.window ≡ false
   pub own : meets new.region new.window ≡ false
   pub others : (k : ℕ) → AreApart new (slot_at slots k)
 
-pub free_from : (slots : Slots) (new : Proposal) → overlaps slots new ≡ false → IsFree slots new
+pub free_from : (slots : Slots) (new : CreateArgs) → overlaps slots new ≡ false → IsFree slots new
 unfolding overlaps
 free_from slots new none =
     let a = meets monitor_block new.region in

@@ -12,8 +12,8 @@ use Rattle.sha2.proofs.Facts256.{length-sha256}
 use Rattle.rv_enclaves.specs.Destroy.{without}
 use Rattle.rv_enclaves.specs.Table.{free_slot}
 use Rattle.rv_enclaves.specs.declared.call.Call.TheVariants as calls
-use Rattle.rv_enclaves.proofs.Prelude.{AreApart, Block, Context, Enclave, EnclaveState, Host, IsSound, Proposal, Running, Shared, SlotInfo, Slots, World}
-use Rattle.rv_enclaves.proofs.Prelude.{can_go_on, context_at, created, destroyed, first_context, has, is_held, is_lawful, is_running, is_window, is_world_of}
+use Rattle.rv_enclaves.proofs.Prelude.{AreApart, Block, Context, Enclave, EnclaveState, Host, IsSound, CreateArgs, Running, Shared, SlotInfo, Slots, World}
+use Rattle.rv_enclaves.proofs.Prelude.{can_go_on, context_at, created, destroyed, first_context, has, is_held, is_valid_block, is_running, is_window, is_world_of}
 use Rattle.rv_enclaves.proofs.Prelude.{length-write, measured, measurement_at, measurement_of, new_slot, option_case, overlaps, recorded}
 use Rattle.rv_enclaves.proofs.Prelude.{region, running_slot, runs}
 use Rattle.rv_enclaves.proofs.Prelude.{slot_at, window, with_bytes_at, with_context, with_slot, with_state, write, zeroed}
@@ -113,23 +113,23 @@ free_slot_from slots k is =
     let found = found-by (λ j. is_none (slot_at slots j)) 0 13 k is in
     record { in_range = omega arith; free = none_from (slot_at slots k) found.1 }
 
-length_measurement : (memory : List ℕ) (new : Proposal) → length (measurement_of memory new) ≡ 32
+length_measurement : (memory : List ℕ) (new : CreateArgs) → length (measurement_of memory new) ≡ 32
 unfolding measurement_of
 length_measurement memory new = length-sha256 (measured_bytes memory new)
 
-entry_aligned : (new : Proposal) → is_entry new ≡ true → new.entry % 4 ≡ 0
+entry_aligned : (new : CreateArgs) → is_entry new ≡ true → new.entry % 4 ≡ 0
 unfolding is_entry
 entry_aligned new is = let test : (new.entry % 4 == 0) ≡ true = (and_parts (new.entry % 4 == 0) (has new.region new.entry) is).0 in grind (arith, nat_tests)
 
-entry_inside : (new : Proposal) → is_entry new ≡ true → has new.region new.entry ≡ true
+entry_inside : (new : CreateArgs) → is_entry new ≡ true → has new.region new.entry ≡ true
 unfolding is_entry
 entry_inside new is = (and_parts (new.entry % 4 == 0) (has new.region new.entry) is).1
 
-new_fits : (shared : Shared) (new : Proposal) (k : ℕ) → is_lawful shared.memory new.region ≡ true → is_window shared.memory new.window ≡ true
+new_fits : (shared : Shared) (new : CreateArgs) (k : ℕ) → is_valid_block shared.memory new.region ≡ true → is_window shared.memory new.window ≡ true
     → is_entry new ≡ true → IsFree shared.table new → Fits shared.memory shared.table k (Some (recorded shared.memory new))
-new_fits shared new k lawful window entry free = record {
-  lawful = record {
-    region = lawful;
+new_fits shared new k well_formed window entry free = record {
+  well_formed = record {
+    region = well_formed;
     window = window;
     aligned = entry_aligned new entry;
     entry = entry_inside new entry;
@@ -147,23 +147,23 @@ first_goes_on : (info : SlotInfo) → info.entry % 4 ≡ 0 → can_go_on (first_
 unfolding first_context
 first_goes_on info aligned = rw aligned refl
 
-created_done : (shared : Shared) (worlds : List World) (new : Proposal) (k : ℕ) → IsSound shared worlds
-    → is_lawful shared.memory new.region ≡ true → is_window shared.memory new.window ≡ true → overlaps shared.table new ≡ false
+created_done : (shared : Shared) (worlds : List World) (new : CreateArgs) (k : ℕ) → IsSound shared worlds
+    → is_valid_block shared.memory new.region ≡ true → is_window shared.memory new.window ≡ true → overlaps shared.table new ≡ false
     → is_entry new ≡ true → free_slot shared.table ≡ Some k
     → IsSound (with_enclave shared k (recorded shared.memory new)) worlds
-created_done shared worlds new k sound lawful window apart entry is =
+created_done shared worlds new k sound well_formed window apart entry is =
     let slot = free_slot_from shared.table k is in
     let info = recorded shared.memory new in
     let before : false ≡ list_any (is_world_of k) worlds = sym (ap running_in slot.free) ∙ sound.running k in
     sound_with shared worlds worlds k (Some info) (Some (first_context info)) shared.memory sound slot.in_range refl
-    (new_fits shared new k lawful window entry (free_from shared.table new apart)) refl (first_goes_on info (entry_aligned new entry)) before
+    (new_fits shared new k well_formed window entry (free_from shared.table new apart)) refl (first_goes_on info (entry_aligned new entry)) before
     (λ j other. refl) sound.apart
 
-pub created_sound : (shared : Shared) (worlds : List World) (new : Proposal) → MayCreate shared new → IsSound shared worlds
+pub created_sound : (shared : Shared) (worlds : List World) (new : CreateArgs) → MayCreate shared new → IsSound shared worlds
     → IsSound (created shared new) worlds
 unfolding created
 created_sound shared worlds new may sound =
-    created_done shared worlds new (new_slot shared.table) sound may.lawful may.window may.apart may.entry may.free
+    created_done shared worlds new (new_slot shared.table) sound may.well_formed may.window may.apart may.entry may.free
 
 -- ---- a live slot
 

@@ -7,7 +7,7 @@ use Rattle.std.proofs.lemmas.Bool.{cases_lt}
 use Rattle.rv_enclaves.specs.Contexts.{no_contexts}
 use Rattle.rv_enclaves.specs.Sound.{shared_at_start}
 use Rattle.rv_enclaves.specs.Table.{no_slots}
-use Rattle.rv_enclaves.proofs.Prelude.{AreApart, Context, IsLawfulSlot, IsSound, IsValid, SlotInfo, World, can_go_on, context_at, is_held, is_ram_size}
+use Rattle.rv_enclaves.proofs.Prelude.{AreApart, Context, IsValidSlot, IsSound, IsValid, SlotInfo, World, can_go_on, context_at, is_held, is_ram_size}
 use Rattle.rv_enclaves.proofs.Prelude.{is_running, is_world_of, meets, monitor_block, option_case, region, region_of, slot_at, window, window_of}
 use Rattle.rv_platform.proofs.BlockLaws.{meets_nothing}
 
@@ -33,7 +33,7 @@ pub no_slots_valid : (memory : List ℕ) → is_ram_size (length memory) ≡ tru
 no_slots_valid memory ram = record {
   ram = ram;
   count = refl;
-  lawful = λ k. let P : Option SlotInfo → Type 0 = λ o. IfSome o (IsLawfulSlot memory) in subst P (sym (no_slot k)) tt;
+  well_formed = λ k. let P : Option SlotInfo → Type 0 = λ o. IfSome o (IsValidSlot memory) in subst P (sym (no_slot k)) tt;
   regions_apart = λ j k apart. ap (λ b. meets b (region no_slots k)) (no_region j);
   windows_apart = λ j k. ap (λ b. meets b (window no_slots k)) (no_region j);
   regions_free = λ k. ap (meets monitor_block) (no_region k) ∙ meets_nothing monitor_block;

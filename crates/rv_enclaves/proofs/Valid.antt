@@ -2,14 +2,14 @@
 use Rattle.std.proofs.Common.{◌≡◌, ◌≢◌, ℕ, ◌+◌, ◌<◌, false, List, Option, Some, None, IfSome, length, refl, sym, ap, ◌∙◌, subst, inl, inr, arith, length-set}
 use Rattle.std.specs.Prelude.{◌&&◌, nat_le, ◌==◌, ◌%◌, ◌||◌}
 use Rattle.std.proofs.lemmas.Bool.{cases_eq}
-use Rattle.rv_enclaves.proofs.Prelude.{Block, EnclaveState, IsLawfulSlot, IsValid, SlotInfo, Slots, is_block_size, is_lawful, is_ram_size, is_window, meets}
+use Rattle.rv_enclaves.proofs.Prelude.{Block, EnclaveState, IsValidSlot, IsValid, SlotInfo, Slots, is_block_size, is_valid_block, is_ram_size, is_window, meets}
 use Rattle.rv_enclaves.proofs.Prelude.{monitor_block, ram_base, region, region_of, slot_at, window, window_of, with_slot}
 use Rattle.rv_platform.proofs.BlockLaws.{meets_symmetric, meets_nothing, nothing_meets}
 use Rattle.rv_enclaves.proofs.Slots.{at_same, at_other}
 
 -- what may stand in slot k
 pub record Fits (memory : List ℕ) (slots : Slots) (k : ℕ) (o : Option SlotInfo) : Type 0 where
-  pub lawful : IfSome o (IsLawfulSlot memory)
+  pub well_formed : IfSome o (IsValidSlot memory)
   pub regions : (j : ℕ) → j ≢ k → meets (region_of o) (region slots j) ≡ false
   pub windows : (j : ℕ) → j ≢ k → meets (region_of o) (window slots j) ≡ false
   pub window : (j : ℕ) → j ≢ k → meets (window_of o) (region slots j) ≡ false
@@ -40,10 +40,10 @@ module _ (memory : List ℕ) (slots : Slots) (k : ℕ) (o : Option SlotInfo) (va
   window_there : (j : ℕ) → j ≢ k → window after j ≡ window slots j
   window_there j other = ap window_of (there j other)
 
-  lawful_after : (j : ℕ) → IfSome (slot_at after j) (IsLawfulSlot memory)
-  lawful_after j = elim (cases_eq j k) [
-    | inl at ↦ let P : Option SlotInfo → Type 0 = λ x. IfSome x (IsLawfulSlot memory) in rw at (subst P (sym here) fits.lawful)
-    | inr other ↦ let P : Option SlotInfo → Type 0 = λ x. IfSome x (IsLawfulSlot memory) in subst P (sym (there j other)) (valid.lawful j)
+  well_formed_after : (j : ℕ) → IfSome (slot_at after j) (IsValidSlot memory)
+  well_formed_after j = elim (cases_eq j k) [
+    | inl at ↦ let P : Option SlotInfo → Type 0 = λ x. IfSome x (IsValidSlot memory) in rw at (subst P (sym here) fits.well_formed)
+    | inr other ↦ let P : Option SlotInfo → Type 0 = λ x. IfSome x (IsValidSlot memory) in subst P (sym (there j other)) (valid.well_formed j)
   ]
 
   regions_after : (i j : ℕ) → i ≢ j → meets (region after i) (region after j) ≡ false
@@ -94,7 +94,7 @@ module _ (memory : List ℕ) (slots : Slots) (k : ℕ) (o : Option SlotInfo) (va
   valid_with = record {
     ram = valid.ram;
     count = length-set slots k o ∙ valid.count;
-    lawful = lawful_after;
+    well_formed = well_formed_after;
     regions_apart = regions_after;
     windows_apart = windows_after;
     regions_free = free_after;
@@ -104,7 +104,7 @@ module _ (memory : List ℕ) (slots : Slots) (k : ℕ) (o : Option SlotInfo) (va
 -- nothing fits everywhere
 pub nothing_fits : (memory : List ℕ) (slots : Slots) (k : ℕ) → Fits memory slots k None
 nothing_fits memory slots k = record {
-  lawful = tt;
+  well_formed = tt;
   regions = λ j other. nothing_meets (region slots j);
   windows = λ j other. nothing_meets (window slots j);
   window = λ j other. nothing_meets (region slots j);
@@ -119,10 +119,10 @@ pub own_fits : (memory : List ℕ) (slots : Slots) (k : ℕ) (info : SlotInfo) (
 own_fits memory slots k info state valid is =
     let region_is : region slots k ≡ info.region = ap region_of is in
     let window_is : window slots k ≡ info.window = ap window_of is in
-    let P : Option SlotInfo → Type 0 = λ x. IfSome x (IsLawfulSlot memory) in
-    let law = subst P is (valid.lawful k) in
+    let P : Option SlotInfo → Type 0 = λ x. IfSome x (IsValidSlot memory) in
+    let law = subst P is (valid.well_formed k) in
     record {
-      lawful = record { region = law.region; window = law.window; aligned = law.aligned; entry = law.entry; measured = law.measured };
+      well_formed = record { region = law.region; window = law.window; aligned = law.aligned; entry = law.entry; measured = law.measured };
       regions = λ j other. ap (λ b. meets b (region slots j)) (sym region_is) ∙ valid.regions_apart k j (λ same. other (sym same));
       windows = λ j other. ap (λ b. meets b (window slots j)) (sym region_is) ∙ valid.windows_apart k j;
       window =
@@ -134,19 +134,19 @@ own_fits memory slots k info state valid is =
 
 -- ---- memory of the same size
 
-pub lawful_by_size : (m n : List ℕ) (b : Block) → length m ≡ length n → is_lawful m b ≡ is_lawful n b
-unfolding is_lawful
-lawful_by_size m n b size =
+pub well_formed_by_size : (m n : List ℕ) (b : Block) → length m ≡ length n → is_valid_block m b ≡ is_valid_block n b
+unfolding is_valid_block
+well_formed_by_size m n b size =
     ap (λ l. is_block_size b.size && (b.base % b.size == 0 && (nat_le ram_base b.base && nat_le (b.base + b.size) (ram_base + l)))) size
 
 pub window_by_size : (m n : List ℕ) (b : Block) → length m ≡ length n → is_window m b ≡ is_window n b
 unfolding is_window
-window_by_size m n b size = ap (λ t. b.base == 0 && b.size == 0 || t) (lawful_by_size m n b size)
+window_by_size m n b size = ap (λ t. b.base == 0 && b.size == 0 || t) (well_formed_by_size m n b size)
 
-slot_by_size : (m n : List ℕ) (o : Option SlotInfo) → length m ≡ length n → IfSome o (IsLawfulSlot m) → IfSome o (IsLawfulSlot n)
+slot_by_size : (m n : List ℕ) (o : Option SlotInfo) → length m ≡ length n → IfSome o (IsValidSlot m) → IfSome o (IsValidSlot n)
 slot_by_size m n None size law = tt
 slot_by_size m n (Some info) size law = record {
-  region = sym (lawful_by_size m n info.region size) ∙ law.region;
+  region = sym (well_formed_by_size m n info.region size) ∙ law.region;
   window = sym (window_by_size m n info.window size) ∙ law.window;
   aligned = law.aligned;
   entry = law.entry;
@@ -157,7 +157,7 @@ pub valid_by_size : (m n : List ℕ) (slots : Slots) → length m ≡ length n �
 valid_by_size m n slots size valid = record {
   ram = sym (ap is_ram_size size) ∙ valid.ram;
   count = valid.count;
-  lawful = λ k. slot_by_size m n (slot_at slots k) size (valid.lawful k);
+  well_formed = λ k. slot_by_size m n (slot_at slots k) size (valid.well_formed k);
   regions_apart = valid.regions_apart;
   windows_apart = valid.windows_apart;
   regions_free = valid.regions_free;

@@ -3,7 +3,7 @@ use Rattle.std.proofs.Common.{◌≡◌, ◌≢◌, ℕ, true, List, Option, ref
 use Rattle.std.proofs.lemmas.Bool.{cases_Bool}
 use Rattle.rv_enclaves.specs.CallLaws.{CallsAlikeLaw}
 use Rattle.rv_enclaves.specs.SharedButFor.{SameContexts}
-use Rattle.rv_enclaves.proofs.Prelude.{AgreeOutside, Context, Contexts, Destroy, EnclaveState, IsSound, Proposal, Shared, SharedButFor, Slots, World, created}
+use Rattle.rv_enclaves.proofs.Prelude.{AgreeOutside, Context, Contexts, Destroy, EnclaveState, IsSound, CreateArgs, Shared, SharedButFor, Slots, World, created}
 use Rattle.rv_enclaves.proofs.Prelude.{destroyed, is_live, is_private, kept_context, measured, with_context, with_state}
 use Rattle.rv_enclaves.proofs.Alike.{itself, as_before, created_alike, destroyed_alike, measured_alike, switched_alike}
 use Rattle.rv_enclaves.proofs.Refusals.{MayCreate, IsTaken, may_create, may_take}
@@ -16,7 +16,7 @@ switched shared k state c = record shared { table = with_state shared.table k st
 
 pub record WorksAlike (e : ℕ) (one other : Shared) : Type 0 where
   pub before : SharedButFor e one other
-  pub creates : (new : Proposal) → MayCreate one new → SharedButFor e (created one new) (created other new)
+  pub creates : (new : CreateArgs) → MayCreate one new → SharedButFor e (created one new) (created other new)
   pub destroys : (k : ℕ) → IsTaken one.table Destroy k → SharedButFor e (destroyed one k) (destroyed other k)
   pub measures : (k address : ℕ) → SharedButFor e (measured one k address) (measured other k address)
   pub contexts : (k : ℕ) → k ≢ e → kept_context one.contexts k ≡ kept_context other.contexts k

@@ -11,13 +11,13 @@ use Rattle.rv_enclaves.specs.SharedButFor.{SharedButFor}
 use Rattle.rv_enclaves.specs.Sound.{IsSound}
 use Rattle.rv_enclaves.specs.Table.{runs}
 use Rattle.rv_enclaves.specs.declared.call.Call.TheVariants.{Destroy}
-use Rattle.rv_enclaves.specs.declared.proposal.Proposal.{Proposal}
+use Rattle.rv_enclaves.specs.declared.create_args.CreateArgs.{CreateArgs}
 use Rattle.rv_enclaves.specs.declared.shared.Shared.{Shared}
 use Rattle.rv_enclaves.specs.declared.world.World.{World}
 
 -- what is true in every state stays so after a call that is not refused
 pub record CallsKeep (shared : Shared) (worlds : List World) : Type 0 where
-  pub creates : (new : Proposal) → first_refusal (create_refusals shared new) ≡ None → IsSound (created shared new) worlds
+  pub creates : (new : CreateArgs) → first_refusal (create_refusals shared new) ≡ None → IsSound (created shared new) worlds
   pub destroys : (k : ℕ) → first_refusal (state_refusals shared.table Destroy k) ≡ None → IsSound (destroyed shared k) worlds
   pub measures : (k address : ℕ) → IsSound (measured shared k address) worlds
 
@@ -26,7 +26,7 @@ CallsKeepLaw = (shared : Shared) (worlds : List World) → IsSound shared worlds
 
 -- nothing that a call leaves depends on what is private to slot e
 pub record CallsAlike (e : ℕ) (one other : Shared) : Type 0 where
-  pub creates : (new : Proposal) → first_refusal (create_refusals one new) ≡ None → SharedButFor e (created one new) (created other new)
+  pub creates : (new : CreateArgs) → first_refusal (create_refusals one new) ≡ None → SharedButFor e (created one new) (created other new)
   pub destroys : (k : ℕ) → first_refusal (state_refusals one.table Destroy k) ≡ None → SharedButFor e (destroyed one k) (destroyed other k)
   pub measures : (k address : ℕ) → SharedButFor e (measured one k address) (measured other k address)
 

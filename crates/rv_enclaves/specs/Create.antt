@@ -1,4 +1,4 @@
--- create: the host gives a region, a window and an entry, and is answered the lowest free slot, or the first refusal that applies.
+-- The call create: the host passes a region, a window and an entry point. It gets the lowest free slot, or the first refusal that applies.
 -- (Keystone, EuroSys 2020, in this project's profile; the measurement is SHA-256 of FIPS 180-4.)
 use Rattle.std.specs.Prelude.{ℕ, ◌%◌, ◌==◌, Bool, false, not, ◌&&◌, ◌||◌, List, [], ◌∷◌, ◌++◌, if◌then◌else◌, Option, Some, None}
 use Rattle.std.specs.List.{list_any}
@@ -8,57 +8,58 @@ use Rattle.rv_word.specs.Cases.{option_case}
 use Rattle.rv_memory.specs.Memory.{read, bytes_of}
 use Rattle.rv_state.specs.Registers.{register}
 use Rattle.rv_platform.specs.Blocks.{has, meets, no_block, monitor_block}
-use Rattle.rv_enclaves.specs.LawfulBlocks.{is_lawful}
+use Rattle.rv_enclaves.specs.ValidBlocks.{is_valid_block}
 use Rattle.rv_enclaves.specs.Contexts.{first_context, with_context}
 use Rattle.rv_enclaves.specs.SlotNumbers.{slot_count}
 use Rattle.rv_enclaves.specs.Table.{Slots, free_slot, with_slot, is_window}
 use Rattle.rv_platform.specs.declared.block.Block.{Block}
-use Rattle.rv_enclaves.specs.declared.proposal.Proposal.{Proposal}
+use Rattle.rv_enclaves.specs.declared.create_args.CreateArgs.{CreateArgs}
 use Rattle.rv_enclaves.specs.declared.refusal.Refusal.{Refusal}
 use Rattle.rv_enclaves.specs.declared.refusal.Refusal.TheVariants.{BadRegion, BadWindow, Overlap, BadEntry, NoSlot}
 use Rattle.rv_enclaves.specs.declared.shared.Shared.{Shared}
 use Rattle.rv_enclaves.specs.declared.slot_info.SlotInfo.{SlotInfo}
 use Rattle.rv_enclaves.specs.declared.slot_info.EnclaveState.TheVariants.{Fresh}
 
--- a0 and a1 are the region, a2 and a3 the window, of which a size of 0 means that there is none, and a4 is the entry
-abbrev pub proposed : List ℕ → Proposal
-proposed regs = record {
+-- the arguments: a0 and a1 are the region, a2 and a3 the window (a size of 0 means none), and a4 is the entry point
+abbrev pub create_args_of : List ℕ → CreateArgs
+create_args_of regs = record {
   region = record { base = register regs 10; size = register regs 11 };
   window = if register regs 13 == 0 then no_block else record { base = register regs 12; size = register regs 13 };
   entry = register regs 14;
 }
 
--- the new enclave would share bytes that it may not share with a live one
-abbrev pub collides : Proposal → Option SlotInfo → Bool
+-- the new enclave would overlap a live one in bytes that the two may not share
+abbrev pub collides : CreateArgs → Option SlotInfo → Bool
 collides new None = false
 collides new (Some info) =
     meets new.region info.region || (meets new.region info.window || meets new.window info.region)
 
-unfoldable pub overlaps : Slots → Proposal → Bool
+unfoldable pub overlaps : Slots → CreateArgs → Bool
 overlaps slots new =
     meets monitor_block new.region || (meets monitor_block new.window || (meets new.region new.window
     || list_any (collides new) slots))
 
-unfoldable pub is_entry : Proposal → Bool
+unfoldable pub is_entry : CreateArgs → Bool
 is_entry new = new.entry % 4 == 0 && has new.region new.entry
 
--- the bytes of a block; [] where it is not inside, which BadRegion refuses
+-- the bytes of a block; [] if it is not inside memory, which BadRegion refuses
 abbrev pub bytes_of_block : List ℕ → Block → List ℕ
 bytes_of_block memory block = option_case (read memory block.base block.size) [] (λ bytes. bytes)
 
--- what is measured: base, size, window base, window size and entry, four bytes each, the lowest first, and the region's bytes
-abbrev pub heading : Proposal → List ℕ
+-- the bytes that are measured: base, size, window base, window size and entry point, four bytes each, the lowest first, and the region's
+-- bytes
+abbrev pub heading : CreateArgs → List ℕ
 heading new =
     bytes_of 4 new.region.base ++ bytes_of 4 new.region.size ++ bytes_of 4 new.window.base ++ bytes_of 4 new.window.size ++ bytes_of 4 new.entry
 
-abbrev pub measured_bytes : List ℕ → Proposal → List ℕ
+abbrev pub measured_bytes : List ℕ → CreateArgs → List ℕ
 measured_bytes memory new = heading new ++ bytes_of_block memory new.region
 
-unfoldable pub measurement_of : List ℕ → Proposal → List ℕ
+unfoldable pub measurement_of : List ℕ → CreateArgs → List ℕ
 measurement_of memory new = sha256 (measured_bytes memory new)
 
 -- the record of a new enclave
-abbrev pub recorded : List ℕ → Proposal → SlotInfo
+abbrev pub recorded : List ℕ → CreateArgs → SlotInfo
 recorded memory new = record {
   region = new.region;
   window = new.window;
@@ -74,19 +75,19 @@ with_enclave shared k info = record shared {
   contexts = with_context shared.contexts k (Some (first_context info));
 }
 
-unfoldable pub create_refusals : Shared → Proposal → List (Bool × Refusal)
+unfoldable pub create_refusals : Shared → CreateArgs → List (Bool × Refusal)
 create_refusals shared new =
-    (not (is_lawful shared.memory new.region), BadRegion)
+    (not (is_valid_block shared.memory new.region), BadRegion)
     ∷ (not (is_window shared.memory new.window), BadWindow)
     ∷ (overlaps shared.table new, Overlap)
     ∷ (not (is_entry new), BadEntry)
     ∷ (is_none (free_slot shared.table), NoSlot)
     ∷ []
 
--- the lowest free slot; past the last where there is none, which NoSlot refuses
+-- the lowest free slot; the number of slots if there is none, which NoSlot refuses
 abbrev pub new_slot : Slots → ℕ
 new_slot slots = option_case (free_slot slots) slot_count (λ k. k)
 
--- what is shared after a create that is not refused. No byte of memory changes.
-unfoldable pub created : Shared → Proposal → Shared
+-- the shared state after a create that is not refused; no byte of memory changes
+unfoldable pub created : Shared → CreateArgs → Shared
 created shared new = with_enclave shared (new_slot shared.table) (recorded shared.memory new)

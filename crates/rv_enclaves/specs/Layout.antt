@@ -18,7 +18,7 @@ pub record Entry : Type 0 where
 abbrev pub unused : Entry
 unused = record { cfg = 0x00; addr = 0x00000000 }
 
--- a NAPOT entry for a lawful block
+-- a NAPOT entry for a valid block
 abbrev pub napot : ℕ → Block → Entry
 napot cfg block = record { cfg = cfg; addr = block.base / 4 + (block.size / 8 - 1) }
 

@@ -1,4 +1,4 @@
-pub mod LawfulBlocks
+pub mod ValidBlocks
 pub mod SlotNumbers
 pub mod Table
 pub mod Calls

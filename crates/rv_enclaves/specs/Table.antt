@@ -7,7 +7,7 @@ use Rattle.std.specs.List.{range_with_len, find, list_any}
 use Rattle.rv_word.specs.Cases.{option_case}
 use Rattle.rv_memory.specs.Memory.{is_ram_size}
 use Rattle.rv_platform.specs.Blocks.{has, meets, monitor_block, no_block}
-use Rattle.rv_enclaves.specs.LawfulBlocks.{is_lawful}
+use Rattle.rv_enclaves.specs.ValidBlocks.{is_valid_block}
 use Rattle.rv_enclaves.specs.SlotNumbers.{slot_count}
 use Rattle.rv_platform.specs.declared.block.Block.{Block}
 use Rattle.rv_enclaves.specs.declared.slot_info.EnclaveState.{EnclaveState}
@@ -86,14 +86,14 @@ running_slot (Enclave k) = k
 
 -- ---- what is true in every state
 
--- a window is lawful, or there is none
+-- a window is a valid block, or there is none
 unfoldable pub is_window : List ℕ → Block → Bool
-is_window memory block = block.base == 0 && block.size == 0 || is_lawful memory block
+is_window memory block = block.base == 0 && block.size == 0 || is_valid_block memory block
 
--- a live enclave has a lawful region, a window or none, an entry in its region that is a multiple of 4, and the 32 bytes of a SHA-256
+-- a live enclave has a valid region, a window or none, an entry in its region that is a multiple of 4, and the 32 bytes of a SHA-256
 -- digest
-pub record IsLawfulSlot (memory : List ℕ) (info : SlotInfo) : Type 0 where
-  pub region : is_lawful memory info.region ≡ true
+pub record IsValidSlot (memory : List ℕ) (info : SlotInfo) : Type 0 where
+  pub region : is_valid_block memory info.region ≡ true
   pub window : is_window memory info.window ≡ true
   pub aligned : info.entry % 4 ≡ 0
   pub entry : has info.region info.entry ≡ true
@@ -103,7 +103,7 @@ pub record IsLawfulSlot (memory : List ℕ) (info : SlotInfo) : Type 0 where
 pub record IsValid (memory : List ℕ) (slots : Slots) : Type 0 where
   pub ram : is_ram_size (length memory) ≡ true
   pub count : length slots ≡ slot_count
-  pub lawful : (k : ℕ) → IfSome (slot_at slots k) (IsLawfulSlot memory)
+  pub well_formed : (k : ℕ) → IfSome (slot_at slots k) (IsValidSlot memory)
   pub regions_apart : (j k : ℕ) → j ≢ k → meets (region slots j) (region slots k) ≡ false
   pub windows_apart : (j k : ℕ) → meets (region slots j) (window slots k) ≡ false
   pub regions_free : (k : ℕ) → meets monitor_block (region slots k) ≡ false

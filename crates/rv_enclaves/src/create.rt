@@ -1,4 +1,4 @@
-//! create.
+//! The call `create`.
 
 ghost use Rattle.std.specs.Prelude.{◌≡◌, true, None, Some, IfOk, MatchResult};
 ghost use Rattle.rv_memory.specs.Memory.{is_inside, bytes_of};
@@ -6,22 +6,22 @@ ghost use Rattle.rv_enclaves.specs.Create.{created, create_refusals, new_slot, m
 ghost use Rattle.rv_enclaves.specs.Refusals.{first_refusal};
 
 use crate::context::{first_context, set_context};
-use crate::lawful_block::is_lawful;
-use crate::proposal::Proposal;
+use crate::create_args::CreateArgs;
 use crate::refusal::Refusal;
 use crate::shared::Shared;
 use crate::slot::Slot;
 use crate::slot_info::{EnclaveState, SlotInfo};
+use crate::valid_block::is_valid_block;
 use rv_memory::Ram;
 use rv_platform::Block;
 use rv_word::le_bytes;
 use sha2::{Digest, Sha256};
 
 impl Shared {
-    /// Records a new enclave, as Fresh, in the lowest free slot, and answers the slot. It is refused, by the first that applies, as
-    /// `BadRegion`, `BadWindow`, `Overlap`, `BadEntry` or `NoSlot`, with nothing changed. No byte of memory changes.
+    /// Records a new enclave, as Fresh, in the lowest free slot, and returns the slot. The first refusal that applies is one of
+    /// `BadRegion`, `BadWindow`, `Overlap`, `BadEntry` and `NoSlot`; nothing changes then. No byte of memory changes.
     #[tactic(auto, unfolding(crate::specs::Create::created))]
-    pub fn create(&mut self, new: &Proposal) -> Result<u32, Refusal>
+    pub fn create(&mut self, new: &CreateArgs) -> Result<u32, Refusal>
         ensures { MatchResult result
             (λ slot. (first_refusal (create_refusals self.old new.now) ≡ None) × (slot ≡ new_slot self.old.table) × (self.new ≡ created self.old new.now))
             (λ refusal. (first_refusal (create_refusals self.old new.now) ≡ Some refusal) × (self.new ≡ self.old)) }
@@ -33,18 +33,18 @@ impl Shared {
     }
 }
 
-/// The slot of a new enclave, or the first refusal that applies.
+/// Returns the slot of a new enclave, or the first refusal that applies.
 #[tactic(auto, unfolding(crate::specs::Create::create_refusals))]
-fn check_create(shared: &Shared, new: &Proposal) -> Result<Slot, Refusal>
+fn check_create(shared: &Shared, new: &CreateArgs) -> Result<Slot, Refusal>
     ensures asked { MatchResult result
         (λ slot. (first_refusal (create_refusals shared.now new.now) ≡ None) × (slot ≡ new_slot shared.now.table))
         (λ refusal. first_refusal (create_refusals shared.now new.now) ≡ Some refusal) }
     ensures inside { IfOk result (λ _. is_inside shared.now.memory new.now.region.base new.now.region.size ≡ true) }
 {
-    if !is_lawful(new.region, &shared.memory) {
+    if !is_valid_block(new.region, &shared.memory) {
         return Err(Refusal::BadRegion);
     }
-    if !new.has_lawful_window(&shared.memory) {
+    if !new.has_valid_window(&shared.memory) {
         return Err(Refusal::BadWindow);
     }
     if shared.table.overlaps(new) {
@@ -56,8 +56,8 @@ fn check_create(shared: &Shared, new: &Proposal) -> Result<Slot, Refusal>
     shared.table.free_slot().ok_or(Refusal::NoSlot)
 }
 
-/// The record of a new enclave.
-fn record(memory: &Ram, new: &Proposal) -> SlotInfo
+/// Returns the record of a new enclave.
+fn record(memory: &Ram, new: &CreateArgs) -> SlotInfo
     requires { is_inside memory.now new.now.region.base new.now.region.size ≡ true }
     ensures { result ≡ recorded memory.now new.now }
 {
@@ -78,9 +78,9 @@ fn put_enclave(shared: &mut Shared, slot: Slot, info: &SlotInfo)
     set_context(&mut shared.contexts, slot, Some(first_context(info)));
 }
 
-/// The measurement of a new enclave.
+/// Returns the measurement of a new enclave.
 #[tactic(auto, unfolding(crate::specs::Create::measurement_of))]
-fn measurement(memory: &Ram, new: &Proposal) -> [u8; 32]
+fn measurement(memory: &Ram, new: &CreateArgs) -> [u8; 32]
     requires { is_inside memory.now new.now.region.base new.now.region.size ≡ true }
     ensures { result ≡ measurement_of memory.now new.now }
 {
@@ -94,14 +94,14 @@ fn measurement(memory: &Ram, new: &Proposal) -> [u8; 32]
     hasher.finalize()
 }
 
-/// The bytes of a word, the lowest first.
+/// Returns the bytes of a word, the lowest first.
 fn word_bytes(word: u32) -> [u8; 4]
     ensures { result ≡ bytes_of 4 word }
 {
     le_bytes(word)
 }
 
-/// The bytes of a block.
+/// Returns the bytes of a block.
 fn block_bytes(memory: &Ram, block: Block) -> &[u8]
     requires { is_inside memory.now block.base block.size ≡ true }
     ensures { result.now ≡ bytes_of_block memory.now block }

@@ -37,7 +37,7 @@ fn forget(shared: &mut Shared, slot: Slot, region: Block)
 }
 
 /// Makes the bytes of a block 0.
-#[tactic(auto, unfolding(crate::specs::LawfulBlocks::is_lawful, rv_memory::specs::Memory::write))]
+#[tactic(auto, unfolding(crate::specs::ValidBlocks::is_valid_block, rv_memory::specs::Memory::write))]
 fn zero(memory: &mut Ram, block: Block)
     ensures { memory.new ≡ zeroed memory.old block }
 {

@@ -25,7 +25,7 @@ struct Entry {
     addr: u32,
 }
 
-/// A NAPOT entry for a lawful block.
+/// Returns a NAPOT entry for a valid block.
 fn napot(cfg: u8, block: Block) -> Entry
     ensures cfg { result.cfg ≡ (napot_of cfg block).cfg }
     ensures addr { result.addr ≡ (napot_of cfg block).addr }

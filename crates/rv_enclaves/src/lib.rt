@@ -8,26 +8,26 @@
 mod call;
 mod context;
 mod create;
+mod create_args;
 mod destroy;
-mod lawful_block;
 pub mod laws;
 mod layout;
 mod measure;
-mod proposal;
 mod refusal;
 mod scramble;
 mod shared;
 mod slot;
 mod slot_info;
 mod table;
+mod valid_block;
 mod world;
 
 pub use call::{Call, asked_call};
 pub use context::{
     Context, Contexts, exited_context, keep_running, kept_context, set_answer, set_context,
 };
+pub use create_args::CreateArgs;
 pub use layout::write_layout;
-pub use proposal::Proposal;
 pub use refusal::Refusal;
 pub use rv_platform::Block;
 pub use shared::Shared;

@@ -8,9 +8,10 @@ ghost use Rattle.rv_enclaves.specs.Calls.{status_of};
 pub enum Refusal {
     /// a7 or a6 names no call, or the call belongs to the other world.
     NotSupported,
-    /// The region is not lawful: its size is no power of two from 4096 up, or its base no multiple of it, or it is not inside RAM.
+    /// The region is not a valid block: its size is no power of two from 4096 up, its base is no multiple of the size, or it is not inside
+    /// RAM.
     BadRegion,
-    /// There is to be a window, and it is not lawful.
+    /// There is to be a window, and it is not a valid block.
     BadWindow,
     /// The region or the window meets what it must not meet.
     Overlap,

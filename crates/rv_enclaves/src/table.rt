@@ -8,7 +8,7 @@ ghost use Rattle.rv_enclaves.specs.SlotNumbers.{slot_count};
 ghost use Rattle.rv_enclaves.specs.Table.{slot_at as slot_at_of, free_slot as free_slot_of, running_slot, with_slot, with_state};
 
 use crate::call::Call;
-use crate::proposal::Proposal;
+use crate::create_args::CreateArgs;
 use crate::refusal::Refusal;
 use crate::slot::{SLOT_COUNT, Slot};
 use crate::slot_info::{EnclaveState, SlotInfo};
@@ -120,7 +120,7 @@ impl Table {
 
     /// Whether the new enclave would share bytes that it may not share.
     #[tactic(auto, unfolding(crate::specs::Create::overlaps))]
-    pub(crate) fn overlaps(&self, new: &Proposal) -> bool
+    pub(crate) fn overlaps(&self, new: &CreateArgs) -> bool
         ensures { result ≡ overlaps_of self.now new.now }
     {
         monitor_block().meets(new.region)
@@ -130,7 +130,7 @@ impl Table {
     }
 
     /// Whether the new enclave would share bytes that it may not share with some live one.
-    fn collides(&self, new: &Proposal) -> bool
+    fn collides(&self, new: &CreateArgs) -> bool
         ensures { result ≡ list_any (collides new.now) self.now }
     {
         self.slots.iter().any(|slot| new.collides(slot))

@@ -1,11 +1,11 @@
 pub mod Confined
 pub mod DecodedMeans
 pub mod InstructionCases
-pub mod QuickLemmas
+pub mod FastOpLemmas
 pub mod RunLemmas
 pub mod FastLemmas
-pub mod LineLemmas
+pub mod DecodeCacheLemmas
 pub mod StepCases
 pub mod StepLaws
-pub mod WindowLemmas
+pub mod PermittedRangeLemmas
 mod StepExamples

@@ -4,7 +4,7 @@ use Rattle.std.specs.Prelude.{replicate}
 use Rattle.rv_encoding.specs.Decoding.{decoded}
 use Rattle.rv_word.specs.Logic.{by_bits}
 use Rattle.rv_pmp.specs.Covers.{covers}
-use Rattle.rv_pmp.specs.Verdicts.{decider, verdict}
+use Rattle.rv_pmp.specs.Verdicts.{matching_entry, verdict}
 use Rattle.rv_memory.specs.Memory.{ram_base, read}
 use Rattle.rv_hart.specs.Hart.{at_reset}
 use Rattle.rv_hart.specs.HartState.{Hart}
@@ -43,7 +43,7 @@ step-addi : step (over_bytes (0x93 ∷ 0x00 ∷ 0xf0 ∷ 0xff ∷ []) reset) ≡
   });
   outcome = record { trap = None; touched = fetch_of reset };
 }
-unfolding step request executed retired_or_trapped written_csr decoded by_bits read verdict decider covers
+unfolding step request executed retired_or_trapped written_csr decoded by_bits read verdict matching_entry covers
 step-addi = refl
 
 -- csrrw x0, mepc, x0, which reads nothing
@@ -52,7 +52,7 @@ step-csrrw : step (over_bytes (0x73 ∷ 0x10 ∷ 0x10 ∷ 0x34 ∷ []) reset) �
   outcome = record { trap = None; touched = fetch_of reset };
 }
 unfolding step request executed retired_or_trapped written_csr csr_changed write_result csr_numbered csr_listing
-    csr_of decoded by_bits read verdict decider covers
+    csr_of decoded by_bits read verdict matching_entry covers
 step-csrrw = refl
 
 -- jal x1, 2: rd is not written
@@ -60,7 +60,7 @@ step-jal_misaligned : step (over_bytes (0xef ∷ 0x00 ∷ 0x20 ∷ 0x00 ∷ []) 
   state = over_bytes (0xef ∷ 0x00 ∷ 0x20 ∷ 0x00 ∷ []) (trapped_once 0 0x80000002);
   outcome = record { trap = Some (misaligned 0x80000002); touched = fetch_of reset };
 }
-unfolding step request executed retired_or_trapped decoded by_bits read verdict decider covers
+unfolding step request executed retired_or_trapped decoded by_bits read verdict matching_entry covers
 step-jal_misaligned = refl
 
 -- no row spells the word 0
@@ -68,5 +68,5 @@ step-illegal : step (over_bytes (0 ∷ 0 ∷ 0 ∷ 0 ∷ []) reset) ≡ record {
   state = over_bytes (0 ∷ 0 ∷ 0 ∷ 0 ∷ []) (trapped_once 2 0);
   outcome = record { trap = Some (illegal 0); touched = fetch_of reset };
 }
-unfolding step request executed retired_or_trapped decoded by_bits read verdict decider covers
+unfolding step request executed retired_or_trapped decoded by_bits read verdict matching_entry covers
 step-illegal = refl

@@ -54,16 +54,16 @@ spp-below : (spp : Bool) → is_machine (mode_of_spp spp) ≡ false
 spp-below true = refl
 spp-below false = refl
 
-sret-keeps-parts : (hart : Hart) → hart.csrs.mstatus.mprv ≡ false → StaysBelow hart (returned_from_supervisor hart)
+sret-has_word-parts : (hart : Hart) → hart.csrs.mstatus.mprv ≡ false → StaysBelow hart (returned_from_supervisor hart)
 unfolding machine_parts
-sret-keeps-parts hart clear = (rw clear refl, spp-below hart.csrs.mstatus.spp)
+sret-has_word-parts hart clear = (rw clear refl, spp-below hart.csrs.mstatus.spp)
 
 changes-keep-parts : (hart : Hart) → is_machine hart.mode ≡ false → hart.csrs.mstatus.mprv ≡ false → Changes hart (StaysBelow hart)
 changes-keep-parts hart below clear = record {
   computes = λ regs pc. (refl, below);
   writes = λ csr word csrs regs pc is. (write_keeps_parts _ _ _ _ _ below is, below);
   mret = λ machine. absurd (false≢true (sym below ∙ machine));
-  sret = sret-keeps-parts hart clear;
+  sret = sret-has_word-parts hart clear;
 }
 
 pub keeps_machine_parts : (state : State) → KeepsMachineParts state (step state)

@@ -1,7 +1,7 @@
 pub mod Arithmetic
 pub mod Confinement
 pub mod CsrInstructions
-pub mod Remembered
+pub mod Cache
 pub mod Exceptions
 pub mod FastSteps
 pub mod Hart

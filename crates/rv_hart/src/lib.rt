@@ -17,21 +17,21 @@
 
 mod arithmetic;
 mod csr_instructions;
+mod decode_cache;
 mod decoded;
 mod destination;
 mod fast;
+mod fast_ops;
 mod hart;
 mod limits;
 mod machine;
-mod memo;
-mod quick;
+mod permitted_ranges;
 mod request;
 mod returns;
 mod trap;
-mod windows;
 
+pub use decode_cache::DecodeCache;
 pub use hart::Hart;
 pub use limits::{Interval, Limits};
 pub use machine::Machine;
-pub use memo::Memo;
 pub use trap::{StepOutcome, Trap};

@@ -4,11 +4,11 @@ use Rattle.std.proofs.Common.{subst, inl, inr, arith}
 use Rattle.std.specs.Prelude.{map, not, slice_index, slice_index_or, slice_set}
 use Rattle.rv_enclaves.proofs.Agreement.{or_same, write-alike}
 use Rattle.rv_enclaves.proofs.SavedLists.{same_after_set}
-use Rattle.rv_enclaves.specs.declared.proposal.Proposal.{Proposal}
+use Rattle.rv_enclaves.specs.declared.create_args.CreateArgs.{CreateArgs}
 use Rattle.rv_monitor.specs.Prelude.{AgreeOutside, Call, Cause, Context, Contexts, Create, Outcome, Running, Seat, Shared, Slots}
 use Rattle.rv_monitor.specs.Prelude.{StepOutcome, Trap, bytes_of_block, context_at, created, destroyed, exited_context, first_context}
 use Rattle.rv_monitor.specs.Prelude.{kept_context, measured, measured_slot, measurement_at, measurement_of, new_slot, option_case}
-use Rattle.rv_monitor.specs.Prelude.{proposed, ram_base, recorded, region, running_slot, step, with_context, with_slot, with_state, write}
+use Rattle.rv_monitor.specs.Prelude.{create_args_of, ram_base, recorded, region, running_slot, step, with_context, with_slot, with_state, write}
 use Rattle.rv_monitor.specs.declared.next.Next.{Next}
 use Rattle.rv_monitor.proofs.Prelude.{AskedLaw, AskedStepLaw, Handled, Machine, MonitoredState, MonitoredStepped, SameAsked, SameWhereSame}
 use Rattle.rv_monitor.proofs.Prelude.{SameWork, a0, a1, answered, asked_by, bare_state, both_ways, cases_eq, entered_slot, eq-eqb, handled}
@@ -56,11 +56,11 @@ module _ (table : Slots) (m n : List ℕ) (cs ds : Contexts) (size : length m �
   with_kept : (after : Slots) (j : ℕ) (c : Option Context) → Same (over after m (with_context cs j c)) (over after n (with_context ds j c))
   with_kept after j c = record { table = refl; bytes = λ i same. same; contexts = λ k same. same_after_set cs ds j k c None slots same }
 
-  same_record : (new : Proposal) → bytes_of_block m new.region ≡ bytes_of_block n new.region → recorded m new ≡ recorded n new
+  same_record : (new : CreateArgs) → bytes_of_block m new.region ≡ bytes_of_block n new.region → recorded m new ≡ recorded n new
   unfolding measurement_of
   same_record new bytes = rw bytes refl
 
-  created_same : (new : Proposal) → bytes_of_block m new.region ≡ bytes_of_block n new.region → Same (created here new) (created there new)
+  created_same : (new : CreateArgs) → bytes_of_block m new.region ≡ bytes_of_block n new.region → Same (created here new) (created there new)
   unfolding created
   created_same new bytes =
       let info = same_record new bytes in
@@ -105,7 +105,7 @@ module _ (table : Slots) (m n : List ℕ) (cs ds : Contexts) (size : length m �
     unfolding left
     handled_same = by_work_of_both seat trap table m n cs ds Works (record {
       answers = λ status result. answered_same here there status result untouched;
-      creates = λ asks may. answered_same _ _ 0 (new_slot table) (created_same (proposed seat.hart.regs) (asked.measured (asks_for Create asks)));
+      creates = λ asks may. answered_same _ _ 0 (new_slot table) (created_same (create_args_of seat.hart.regs) (asked.measured (asks_for Create asks)));
       destroys = λ asks taken. answered_same _ _ 0 0 (destroyed_same (a0 seat));
       measures = λ asks may. answered_same _ _ 0 0 (measured_same (measured_slot seat.world (a0 seat)) (a1 seat));
       enters = λ call asks enters host taken. enters_same (asked.entered (entering_call call enters asks));

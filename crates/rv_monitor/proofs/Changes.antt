@@ -5,7 +5,7 @@ use Rattle.std.specs.Prelude.{is_some}
 use Rattle.rv_pmp.proofs.VerdictLemmas.{each_from_all}
 use Rattle.rv_memory.proofs.MemoryLaws.{byte_at-write}
 use Rattle.rv_platform.specs.declared.block.Block.{Block}
-use Rattle.rv_monitor.specs.Prelude.{Byte, Call, Destroy, IsLawfulSlot, IsValid, Measure, S, Seat, Shared, Span, Stepped, Trap, World}
+use Rattle.rv_monitor.specs.Prelude.{Byte, Call, Destroy, IsValidSlot, IsValid, Measure, S, Seat, Shared, Span, Stepped, Trap, World}
 use Rattle.rv_monitor.specs.Prelude.{Write, asked_in, byte_at, bytes_from, bytes_in, created, data_mode, destroyed, first_refusal, has}
 use Rattle.rv_monitor.specs.Prelude.{is_inside, is_live, layout, may_store, may_store_all, measure_refusals, measured, measured_slot}
 use Rattle.rv_monitor.specs.Prelude.{option_case, permits, region, slot_at, step, verdict, with_bytes_at, with_slot, write, zeroed}
@@ -87,25 +87,25 @@ module _ (seat : Seat) (shared : Shared) (valid : IsValid shared.memory shared.t
           reach = sym (reach_law shared.memory shared.table seat.world S Write byte Byte valid (below_M S refl) parts.0) ∙ parts.1;
         }
 
-    put_changes : (o : Option SlotInfo) → IfSome o (IsLawfulSlot shared.memory) → is_some o ≡ true
+    put_changes : (o : Option SlotInfo) → IfSome o (IsValidSlot shared.memory) → is_some o ≡ true
         → Changes seat.world seat.hart.regs shared byte (record shared {
           memory =
               with_bytes_at shared.memory (a1 seat) (option_case o [] (λ info. info.measurement));
         })
-    put_changes None lawful is_there = cc
-    put_changes (Some info) lawful is_there = elim (cases_lt byte (a1 seat)) [
+    put_changes None well_formed is_there = cc
+    put_changes (Some info) well_formed is_there = elim (cases_lt byte (a1 seat)) [
       | inl below ↦ inl (put_by shared.memory (a1 seat) info.measurement byte (write shared.memory (a1 seat) info.measurement) refl (inl below))
       | inr low ↦ elim (cases_lt byte (a1 seat + 32)) [
         | inl high ↦ inr (inr (in_reach_of low high))
         | inr past ↦
-            let long = lawful.measured in
+            let long = well_formed.measured in
             inl (put_by shared.memory (a1 seat) info.measurement byte (write shared.memory (a1 seat) info.measurement) refl (inr (rw long past)))
       ]
     ]
 
     measured_changes : Changes seat.world seat.hart.regs shared byte (measured shared slot (a1 seat))
     unfolding measured
-    measured_changes = put_changes (slot_at shared.table slot) (valid.lawful slot) live
+    measured_changes = put_changes (slot_at shared.table slot) (valid.well_formed slot) live
 
 module _ (seat : Seat) (shared : Shared) (valid : IsValid shared.memory shared.table) (laid : seat.hart.csrs.pmp ≡ layout shared.table seat.world) (byte : ℕ)
     (trap : Trap) where

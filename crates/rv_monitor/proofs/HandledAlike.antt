@@ -4,7 +4,7 @@ use Rattle.std.proofs.Common.{◌≡◌, ℕ, List, length, Some, None, refl, sy
 use Rattle.rv_enclaves.specs.declared.slot_info.EnclaveState.TheVariants as states
 use Rattle.rv_enclaves.proofs.WorksAlike.{WorksAlike, works_alike}
 use Rattle.rv_monitor.specs.Prelude.{Contexts, Running, Seat, Shared, SharedButFor, Slots, Trap}
-use Rattle.rv_monitor.specs.Prelude.{measured_slot, new_slot, proposed, running_slot}
+use Rattle.rv_monitor.specs.Prelude.{measured_slot, new_slot, create_args_of, running_slot}
 use Rattle.rv_monitor.proofs.Prelude.{HandledAlike, HandlerLaw, a0, a1, answered, both_ways, cases_eq, enclave_state_after, entered_slot}
 use Rattle.rv_monitor.proofs.Prelude.{eq-eqb, going_on_from, handled, left, with_layout}
 use Rattle.rv_monitor.proofs.Works.{by_work_of_both, entering, kept_by, leaving, over}
@@ -65,7 +65,7 @@ module _ (e : ℕ) (table : Slots) (m n : List ℕ) (cs ds : Contexts) (works : 
   handled_alike : length m ≡ length n → HandledAlike e (handled seat here trap) (handled seat there trap)
   handled_alike = by_work_of_both seat trap table m n cs ds (HandledAlike e) (record {
     answers = λ status result. answered_alike here there status result works.before;
-    creates = λ asks may. answered_alike _ _ 0 (new_slot table) (works.creates (proposed seat.hart.regs) may);
+    creates = λ asks may. answered_alike _ _ 0 (new_slot table) (works.creates (create_args_of seat.hart.regs) may);
     destroys = λ asks taken. answered_alike _ _ 0 0 (works.destroys (a0 seat) taken);
     measures = λ asks may. answered_alike _ _ 0 0 (works.measures (measured_slot seat.world (a0 seat)) (a1 seat));
     enters = λ call asks enters host taken. enters_alike;

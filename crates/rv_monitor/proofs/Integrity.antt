@@ -2,10 +2,10 @@
 use Rattle.std.proofs.Common.{◌≡◌, ◌≢◌, ◌<◌, ℕ, ◌==◌, true, false, Option, Some, None, refl, sym, ap, inl, inr, arith}
 use Rattle.std.specs.Prelude.{is_some}
 use Rattle.rv_platform.proofs.BlockLaws.{apart_at}
-use Rattle.rv_enclaves.specs.declared.proposal.Proposal.{Proposal}
+use Rattle.rv_enclaves.specs.declared.create_args.CreateArgs.{CreateArgs}
 use Rattle.rv_monitor.specs.Prelude.{Context, Destroy, Enclave, EnclaveState, Host, IsValid, Running, Seat, Shared, Slots, Trap, Write, byte_at, bytes_in}
 use Rattle.rv_monitor.specs.Prelude.{context_at, created, destroyed, first_context, has, is_live, is_world_of, measured, new_slot}
-use Rattle.rv_monitor.specs.Prelude.{World, option_case, proposed, recorded, region, register, running_slot, slot_at, with_context, with_slot}
+use Rattle.rv_monitor.specs.Prelude.{World, option_case, create_args_of, recorded, region, register, running_slot, slot_at, with_context, with_slot}
 use Rattle.rv_monitor.specs.Prelude.{with_state}
 use Rattle.rv_monitor.proofs.Prelude.{Handled, IntegrityLaw, IsOwn, IsSpared, IsTaken, MayCreate, MonitoredState, SlotInfo, a0, at_other}
 use Rattle.rv_monitor.proofs.Prelude.{at_same, both_ways, cases_eq, entered_slot, enters, eq-eqb, free_slot_from, handled, left}
@@ -49,7 +49,7 @@ module _ (k : ℕ) (seat : Seat) (shared : Shared) (valid : IsValid shared.memor
   live_below None is lives = cc
   live_below (Some info) is lives = live_in_range shared.table k info valid.count is
 
-  created_keeps : (new : Proposal) → MayCreate shared new → KeepsSlot k shared (created shared new)
+  created_keeps : (new : CreateArgs) → MayCreate shared new → KeepsSlot k shared (created shared new)
   unfolding created
   created_keeps new may =
       let free = (free_slot_from shared.table (new_slot shared.table) may.free).free in
@@ -74,7 +74,7 @@ module _ (k : ℕ) (seat : Seat) (shared : Shared) (valid : IsValid shared.memor
   unfolding measured entered_slot left
   handled_keeps trap = by_work seat trap shared (Keeps k shared) (record {
     answers = λ status result passes stays. record { slot = refl; context = refl };
-    creates = λ asks may passes stays. created_keeps (proposed seat.hart.regs) may;
+    creates = λ asks may passes stays. created_keeps (create_args_of seat.hart.regs) may;
     destroys = λ asks taken passes stays. destroyed_keeps (a0 seat) taken stays;
     measures = λ asks may passes stays. record { slot = refl; context = refl };
     enters = λ call asks enters host taken passes stays. other_state k (a0 seat) shared Running None passes;

@@ -6,7 +6,7 @@ use Rattle.rv_state.specs.declared.cause.Cause.TheVariants as causes
 use Rattle.rv_monitor.specs.Prelude.{Call, Cause, Context, Contexts, Create, Destroy, Enclave, EnvironmentCallFromS, Exception, Exit, Host}
 use Rattle.rv_monitor.specs.Prelude.{Measure, NotSupported, Refusal, Resume, Run, Seat, Shared, Slots, Stop, Trap, World, asked_call}
 use Rattle.rv_monitor.specs.Prelude.{asked_in, call_key, call_number, calls, created, destroyed, exited_context, first_refusal, is_offered}
-use Rattle.rv_monitor.specs.Prelude.{kept_context, measured, measured_slot, new_slot, option_case, proposed, register, status_of}
+use Rattle.rv_monitor.specs.Prelude.{kept_context, measured, measured_slot, new_slot, option_case, create_args_of, register, status_of}
 use Rattle.rv_monitor.specs.declared.leave.Leave.{Leave}
 use Rattle.rv_monitor.proofs.Prelude.{Handled, IsTaken, MayCreate, MayMeasure, a0, a1, and_parts, answered, call_handled, call_refusals}
 use Rattle.rv_monitor.proofs.Prelude.{called, cases_Bool, cond-false, cond-true, entered_slot, find, forwarded, handled, handled_cause}
@@ -102,8 +102,8 @@ module _ (seat : Seat) (trap : Trap) (table : Slots) (m n : List ℕ) (cs ds : C
   pub record Pieces : Type 0 where
     -- a refusal, or a call that changes nothing that is shared
     pub answers : (status result : ℕ) → Both (λ shared. answered seat shared status result)
-    pub creates : AsksFor seat trap.cause Create → MayCreate here (proposed seat.hart.regs)
-        → Both (λ shared. answered seat (created shared (proposed seat.hart.regs)) 0 (new_slot shared.table))
+    pub creates : AsksFor seat trap.cause Create → MayCreate here (create_args_of seat.hart.regs)
+        → Both (λ shared. answered seat (created shared (create_args_of seat.hart.regs)) 0 (new_slot shared.table))
     pub destroys : AsksFor seat trap.cause Destroy → IsTaken table Destroy (a0 seat) → Both (λ shared. answered seat (destroyed shared (a0 seat)) 0 0)
     pub measures : AsksFor seat trap.cause Measure → MayMeasure here seat.hart.csrs.pmp (measured_slot seat.world (a0 seat)) (a1 seat)
         → Both (λ shared. answered seat (measured shared (measured_slot seat.world (a0 seat)) (a1 seat)) 0 0)
@@ -119,7 +119,7 @@ module _ (seat : Seat) (trap : Trap) (table : Slots) (m n : List ℕ) (cs ds : C
     by-asked : (call : Call) → AsksFor seat trap.cause call → first_refusal (call_refusals seat here call) ≡ None
         → Both (λ shared. performed seat shared call)
     unfolding performed
-    by-asked Create asks none = pieces.creates asks (may_create here (proposed seat.hart.regs) none)
+    by-asked Create asks none = pieces.creates asks (may_create here (create_args_of seat.hart.regs) none)
     by-asked Destroy asks none = pieces.destroys asks (may_take table Destroy (a0 seat) none)
     by-asked Run asks none =
         let asked = asked-is seat.world seat.hart.regs Run asks.asked in
@@ -137,7 +137,7 @@ module _ (seat : Seat) (trap : Trap) (table : Slots) (m n : List ℕ) (cs ds : C
         rw test at (by-leaving (causes.Exception EnvironmentCallFromS) asks.is_call)
 
     same-rows : (call : Call) → call_refusals seat here call ≡ call_refusals seat there call
-    same-rows Create = same_create_refusals table m n cs ds (proposed seat.hart.regs) size
+    same-rows Create = same_create_refusals table m n cs ds (create_args_of seat.hart.regs) size
     same-rows Measure = same_measure_refusals table m n cs ds seat.hart.csrs.pmp (measured_slot seat.world (a0 seat)) (a1 seat) size
     same-rows _ = refl
 

@@ -4,7 +4,7 @@
 use Rattle.std.specs.Prelude.{◌≡◌, ℕ, Bool, true, false, length, slice_index, Option, Some, None, if◌then◌else◌}
 use Rattle.rv_state.specs.declared.cause.Cause.TheVariants as causes
 use Rattle.rv_monitor.specs.Prelude.{Call, Cause, Create, EnvironmentCallFromS, Resume, Run, Seat, Shared, Trap, asked_in, bytes_of_block}
-use Rattle.rv_monitor.specs.Prelude.{context_at, proposed}
+use Rattle.rv_monitor.specs.Prelude.{context_at, create_args_of}
 use Rattle.rv_monitor.specs.CallRefusals.{a0}
 use Rattle.rv_monitor.specs.State.{Machine, seat_of}
 use Rattle.rv_monitor.specs.Step.{MachineStepped, handled, step_of}
@@ -31,7 +31,7 @@ pub record SameAsked (seat : Seat) (cause : Cause) (one other : Shared) : Type 0
   pub size : length one.memory ≡ length other.memory
   pub slots : length one.contexts ≡ length other.contexts
   pub measured : asked_by cause seat ≡ Some Create
-      → bytes_of_block one.memory (proposed seat.hart.regs).region ≡ bytes_of_block other.memory (proposed seat.hart.regs).region
+      → bytes_of_block one.memory (create_args_of seat.hart.regs).region ≡ bytes_of_block other.memory (create_args_of seat.hart.regs).region
   pub entered : is_entering (asked_by cause seat) ≡ true → context_at one.contexts (a0 seat) ≡ context_at other.contexts (a0 seat)
 
 -- the table is the same after it, and each byte and each context is where it was the same before

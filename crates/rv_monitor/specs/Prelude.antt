@@ -5,7 +5,7 @@ unfoldable pub use Rattle.rv_enclaves.specs.Calls.{asked_call}
 pub use Rattle.rv_enclaves.specs.Contexts.{Contexts, IsStored, can_go_on, context_at, exited_context, kept_context, with_answer}
 pub use Rattle.rv_enclaves.specs.Contexts.{with_context}
 unfoldable pub use Rattle.rv_enclaves.specs.Contexts.{first_context}
-pub use Rattle.rv_enclaves.specs.Create.{bytes_of_block, new_slot, proposed, recorded}
+pub use Rattle.rv_enclaves.specs.Create.{bytes_of_block, new_slot, create_args_of, recorded}
 unfoldable pub use Rattle.rv_enclaves.specs.Create.{create_refusals, created, measurement_of}
 pub use Rattle.rv_enclaves.specs.Destroy.{zeroed}
 unfoldable pub use Rattle.rv_enclaves.specs.Destroy.{destroyed}
@@ -18,7 +18,7 @@ pub use Rattle.rv_enclaves.specs.Refusals.{first_refusal}
 unfoldable pub use Rattle.rv_enclaves.specs.Refusals.{state_refusals}
 pub use Rattle.rv_enclaves.specs.SharedButFor.{AgreeOutside, SharedButFor, is_private}
 pub use Rattle.rv_enclaves.specs.Sound.{AreApart, IsSound, shared_at_start}
-pub use Rattle.rv_enclaves.specs.Table.{IsLawfulSlot, IsValid, Slots, is_host, is_live, is_running, is_world_of, no_slots, region}
+pub use Rattle.rv_enclaves.specs.Table.{IsValidSlot, IsValid, Slots, is_host, is_live, is_running, is_world_of, no_slots, region}
 pub use Rattle.rv_enclaves.specs.Table.{region_of, running_slot, slot_at, with_slot, with_state}
 pub use Rattle.rv_enclaves.specs.declared.call.Call.{Call}
 pub use Rattle.rv_enclaves.specs.declared.call.Call.TheVariants.{Create, Destroy, Exit, Measure, Resume, Run, Stop}

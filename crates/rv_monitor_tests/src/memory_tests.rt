@@ -20,7 +20,7 @@ fn size_of_new(rt: HostRuntime, size: u32) -> Result<u32, RamFault> {
 }
 
 #[test]
-fn makes_lawful_sizes_alone(rt: HostRuntime) {
+fn makes_valid_sizes_alone(rt: HostRuntime) {
     for size in [65_536, 131_072, 1_048_576, 16_777_216] {
         assert_eq!(rt; size_of_new(rt, size), Ok(size));
     }

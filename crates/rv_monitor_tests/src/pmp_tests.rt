@@ -40,7 +40,7 @@ fn index(number: u8) -> PmpIndex {
     PmpIndex::new(number.min(15))
 }
 
-/// A verdict on an access, which the remembered entries give too, twice. The assertions stand here alone: in each test they would
+/// A verdict on an access, which the cache gives too, twice. The assertions stand here alone: in each test they would
 /// make its proof long.
 fn expect_verdict(rt: &impl Abort, pmp: &mut Pmp, row: &Row) {
     let (mode, access, addr, width, expected) = *row;
@@ -124,7 +124,7 @@ fn sixteen_apart(rt: HostRuntime) {
     agrees(&rt, &SIXTEEN_APART_ENTRIES, &SIXTEEN_APART);
 }
 
-/// Whether a word may be read in mode U, by the verdict and by what is remembered.
+/// Whether a word may be read in mode U, by the verdict and by the cache.
 fn expect_open(rt: &impl Abort, pmp: &mut Pmp, addr: u32, open: bool) {
     let judged = pmp
         .judge(Mode::U, Access::Read, addr, Width::Word)
@@ -231,28 +231,28 @@ fn set_entry(rt: HostRuntime) {
     assert!(rt; numbered(across) == Expected::DeniedPartial(7));
 }
 
-/// What accesses leave remembered is told for their mode alone, and until an entry is written.
+/// A cached range is returned for its mode only, and until an entry is written.
 #[test]
-fn remembered_segments(rt: HostRuntime) {
+fn cached_segments(rt: HostRuntime) {
     let mut pmp = Pmp::new();
     pmp.set_entry(PmpIndex::new(0), 0x1b, 0x2000_01ff);
     expect_open(&rt, &mut pmp, 0x8000_0000, true);
     assert!(rt; pmp.check(Mode::S, Access::Write, 0x8000_0000, Width::Byte));
-    assert_eq!(rt; pmp.remembered_reads(Mode::U), (0x8000_0000, 0x8000_1000));
-    assert_eq!(rt; pmp.remembered_reads(Mode::S), (0, 0));
-    assert_eq!(rt; pmp.remembered_writes(Mode::S), (0x8000_0000, 0x8000_1000));
+    assert_eq!(rt; pmp.cached_reads(Mode::U), (0x8000_0000, 0x8000_1000));
+    assert_eq!(rt; pmp.cached_reads(Mode::S), (0, 0));
+    assert_eq!(rt; pmp.cached_writes(Mode::S), (0x8000_0000, 0x8000_1000));
     pmp.write_addr(index(15), 1);
-    assert_eq!(rt; pmp.remembered_reads(Mode::U), (0, 0));
+    assert_eq!(rt; pmp.cached_reads(Mode::U), (0, 0));
 }
 
-/// In mode M all addresses are remembered for fetches where no entry is locked, of aligned words alone.
+/// In mode M all addresses are cached for fetches of aligned words, if no entry is locked.
 #[test]
-fn remembered_fetches(rt: HostRuntime) {
+fn cached_fetches(rt: HostRuntime) {
     let mut pmp = Pmp::new();
     pmp.write_addr(index(0), 0x2000_01ff);
     pmp.write_cfg(index(0), 0x18);
     assert!(rt; pmp.check(Mode::M, Access::Fetch, 0x8000_0ffc, Width::Word));
-    assert_eq!(rt; pmp.remembered_fetches(Mode::M), (0, 1 << 35));
+    assert_eq!(rt; pmp.cached_fetches(Mode::M), (0, 1 << 35));
     assert!(rt; !pmp.check(Mode::M, Access::Fetch, 0x8000_0ffe, Width::Word));
     pmp.write_cfg(index(0), 0x98);
     assert!(rt; !pmp.check(Mode::M, Access::Fetch, 0x8000_0ffc, Width::Word));

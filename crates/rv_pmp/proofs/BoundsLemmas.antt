@@ -6,7 +6,7 @@ use Rattle.std.proofs.lemmas.Bool.{cases_eq}
 use Rattle.std.proofs.lemmas.List.{get_or-take, length-take-le}
 use Rattle.std.proofs.lemmas.Grind.{get_or_default_zero}
 use Rattle.rv_pmp.specs.declared.entry_ranges.EntryRanges.{EntryRanges}
-use Rattle.rv_pmp.specs.Remembered.Segments.{is_within, AreBounds}
+use Rattle.rv_pmp.specs.Cache.Segments.{is_within, AreBounds}
 use Rattle.rv_pmp.specs.Covers.{covers}
 use Rattle.rv_pmp.specs.Entries.{Entries}
 

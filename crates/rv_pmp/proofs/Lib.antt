@@ -4,8 +4,8 @@ pub mod CoversLemmas
 pub mod CfgLemmas
 pub mod JustifiedLemmas
 pub mod OpenRangeLemmas
-pub mod OwnerLemmas
-pub mod OwnedVerdicts
+pub mod ByteMatchLemmas
+pub mod MatchedVerdicts
 pub mod BoundsLemmas
 pub mod SegmentLemmas
 pub mod LockLemmas

@@ -1,4 +1,4 @@
--- Segments that follow one another: one goes on, or one more begins; and bounds between which no range begins or ends.
+-- Consecutive segments: the last one grows, or one is added; and bounds between which no range begins or ends.
 use Rattle.std.proofs.Common.{◌≡◌, ◌≢◌, ℕ, zero, suc, ◌+◌, ◌-◌, ◌<◌, ◌≤◌, ◌^◌, ◌⊎◌, ◌==◌, ◌&&◌, nat_le, nat_lt, if◌then◌else◌, Bool, true, false, List}
 use Rattle.std.proofs.Common.{length, Option, None, refl, sym, ◌∙◌, ap, inl, inr, arith, slice_index, slice_index_or, slice_set, take, leb}
 use Rattle.std.proofs.Common.{get_or-set_same, get_or-set_other}
@@ -10,10 +10,10 @@ use Rattle.std.proofs.lemmas.List.{length-take-le, get_or-take}
 use Rattle.std.proofs.lemmas.List.Sorted.{Contains-permutation, IsNonDecreasingBy-from_default}
 use Rattle.rv_pmp.specs.declared.entry_ranges.EntryRanges.{EntryRanges}
 use Rattle.rv_pmp.specs.declared.segments.Segments.{Segments}
-use Rattle.rv_pmp.specs.Remembered.Segments.{owner, is_within, start_of, reach_of, AreBounds, AreInOrder, AreOwned}
-use Rattle.rv_pmp.proofs.OwnerLemmas.{bool_same, owner_alike}
+use Rattle.rv_pmp.specs.Cache.Segments.{byte_match, is_within, start_of, reach_of, AreBounds, AreInOrder, AreMatched}
+use Rattle.rv_pmp.proofs.ByteMatchLemmas.{bool_same, byte_match_alike}
 
--- ---- one segment goes on, or one more begins
+-- ---- the last segment grows, or one is added
 
 -- where a segment begins, by the list of ends
 abbrev begin : List ℕ → ℕ → ℕ
@@ -22,7 +22,7 @@ begin ends k = if k == 0 then 0 else slice_index ends (k - 1)
 begin_after : (ends : List ℕ) (k : ℕ) → 0 < k → begin ends k ≡ slice_index ends (k - 1)
 begin_after ends k some = cond-false (k == 0) 0 (slice_index ends (k - 1)) (ne_eqb k 0 (λ same. omega (arith, some)))
 
--- the segments up to a place keep their beginnings where the end there is set
+-- the segments up to one keep their starts if the end there is set
 begin_kept : (ends : List ℕ) (at end k : ℕ) → k ≤ at → begin (slice_set ends at end) k ≡ begin ends k
 begin_kept ends at end k before = elim (cases_eq k 0) [
   | inl first ↦ rw first refl
@@ -33,25 +33,25 @@ begin_kept ends at end k before = elim (cases_eq k 0) [
       ∙ sym (begin_after ends k some)
 ]
 
--- segments in order up to an end, each byte of which has its owner
+-- segments in order up to an end, with their matching entries
 pub record Reaches (covering : ℕ → ℕ → Bool) (s : Segments) (end : ℕ) : Type 0 where
   pub reach : reach_of s ≡ end
   pub order : AreInOrder s
-  pub owned : AreOwned covering s
+  pub matched : AreMatched covering s
 
--- up to a byte before which all have one owner: with the last segment, or with one more
-module _ (covering : ℕ → ℕ → Bool) (old : Segments) (start end : ℕ) (own : Option ℕ) (order : AreInOrder old) (owned : AreOwned covering old)
-    (is_reach : start ≡ reach_of old) (some : start < end) (alike : (byte : ℕ) → start ≤ byte → byte < end → owner covering byte ≡ own) where
+-- up to an end before which all bytes have the same matching entry: the last segment grows, or one is added
+module _ (covering : ℕ → ℕ → Bool) (old : Segments) (start end : ℕ) (matched_entry : Option ℕ) (order : AreInOrder old) (matched : AreMatched covering old)
+    (is_reach : start ≡ reach_of old) (some : start < end) (alike : (byte : ℕ) → start ≤ byte → byte < end → byte_match covering byte ≡ matched_entry) where
   abbrev n : ℕ
   n = old.count
 
   abbrev longer : Segments
-  longer = record { ends = slice_set old.ends (n - 1) end; owners = old.owners; count = n }
+  longer = record { ends = slice_set old.ends (n - 1) end; byte_matches = old.byte_matches; count = n }
 
   abbrev more : Segments
-  more = record { ends = slice_set old.ends n end; owners = slice_set old.owners n own; count = n + 1 }
+  more = record { ends = slice_set old.ends n end; byte_matches = slice_set old.byte_matches n matched_entry; count = n + 1 }
 
-  pub goes_on : 0 < n → n ≤ length old.ends → slice_index_or old.owners (n - 1) None ≡ own → Reaches covering longer end
+  pub goes_on : 0 < n → n ≤ length old.ends → slice_index_or old.byte_matches (n - 1) None ≡ matched_entry → Reaches covering longer end
   goes_on used_some long same =
       let last : ℕ = n - 1 in
       let is_end : slice_index longer.ends last ≡ end = get_or-set_same old.ends last end 0 (omega arith) in
@@ -62,26 +62,26 @@ module _ (covering : ℕ → ℕ → Bool) (old : Segments) (start end : ℕ) (o
         reach = begin_after longer.ends n used_some ∙ is_end;
         order = record {
           at_most = order.at_most;
-          rising = λ k used. elim (cases_eq k last) [
-            | inl at ↦ rw at (omega (arith, began last (omega arith), is_end, some, order.rising last (omega arith), was_end))
-            | inr before ↦ omega (arith, began k used, kept k before, order.rising k used)
+          ascending = λ k used. elim (cases_eq k last) [
+            | inl at ↦ rw at (omega (arith, began last (omega arith), is_end, some, order.ascending last (omega arith), was_end))
+            | inr before ↦ omega (arith, began k used, kept k before, order.ascending k used)
           ];
         };
-        owned = λ k byte used low high. elim (cases_eq k last) [
+        matched = λ k byte used low high. elim (cases_eq k last) [
           | inl at ↦ elim (cases_lt byte start) [
-            | inl early ↦ owned k byte used (omega (arith, began k used)) (rw at (omega (arith, was_end)))
+            | inl early ↦ matched k byte used (omega (arith, began k used)) (rw at (omega (arith, was_end)))
             | inr late ↦
                 let past = rw at at high in
                 alike byte (omega arith) (omega (arith, is_end)) ∙ rw at (sym same)
           ]
-          | inr before ↦ owned k byte used (omega (arith, began k used)) (omega (arith, high, kept k before))
+          | inr before ↦ matched k byte used (omega (arith, began k used)) (omega (arith, high, kept k before))
         ];
       }
 
-  pub one_more : n < 33 → n < length old.ends → n < length old.owners → Reaches covering more end
-  one_more room long own_long =
+  pub one_more : n < 33 → n < length old.ends → n < length old.byte_matches → Reaches covering more end
+  one_more room long matches_long =
       let is_end : slice_index more.ends n ≡ end = get_or-set_same old.ends n end 0 long in
-      let is_own : slice_index_or more.owners n None ≡ own = get_or-set_same old.owners n own None own_long in
+      let is_matched_entry : slice_index_or more.byte_matches n None ≡ matched_entry = get_or-set_same old.byte_matches n matched_entry None matches_long in
       let began : (k : ℕ) → k ≤ n → start_of more k ≡ start_of old k = λ k used. begin_kept old.ends n end k used in
       let kept : (k : ℕ) → k ≢ n → slice_index more.ends k ≡ slice_index old.ends k = λ k before. get_or-set_other old.ends n k end 0 before in
       let same : n + 1 - 1 ≡ n = omega arith in
@@ -89,19 +89,19 @@ module _ (covering : ℕ → ℕ → Bool) (old : Segments) (start end : ℕ) (o
         reach = begin_after more.ends (n + 1) (omega arith) ∙ ap (slice_index more.ends) same ∙ is_end;
         order = record {
           at_most = omega arith;
-          rising = λ k used. elim (cases_eq k n) [
+          ascending = λ k used. elim (cases_eq k n) [
             | inl at ↦ rw at (omega (arith, began n (omega arith), is_end, some, is_reach))
-            | inr before ↦ omega (arith, began k (omega arith), kept k before, order.rising k (omega arith))
+            | inr before ↦ omega (arith, began k (omega arith), kept k before, order.ascending k (omega arith))
           ];
         };
-        owned = λ k byte used low high. elim (cases_eq k n) [
+        matched = λ k byte used low high. elim (cases_eq k n) [
           | inl at ↦
               let from = rw at at low in
               let to = rw at at high in
-              alike byte (omega (arith, from, began n (omega arith), is_reach)) (omega (arith, to, is_end)) ∙ rw at (sym is_own)
+              alike byte (omega (arith, from, began n (omega arith), is_reach)) (omega (arith, to, is_end)) ∙ rw at (sym is_matched_entry)
           | inr before ↦
-              owned k byte (omega arith) (omega (arith, began k (omega arith))) (omega (arith, high, kept k before))
-              ∙ sym (get_or-set_other old.owners n k own None before)
+              matched k byte (omega arith) (omega (arith, began k (omega arith))) (omega (arith, high, kept k before))
+              ∙ sym (get_or-set_other old.byte_matches n k matched_entry None before)
         ];
       }
 
@@ -142,7 +142,7 @@ both_or_neither from to start end byte low high from_apart to_apart =
       | inr past ↦ and_from _ _ (le-leb from byte (omega arith)) (lt-ltb byte to (omega arith))
     ])
 
--- bounds of which the first k are not above start, and the others not below end: between the two the owner is one
+-- bounds of which the first k are not above start, and the others not below end: the bytes between the two have the same matching entry
 module _ (ranges : EntryRanges) (bounds : List ℕ) (start end k : ℕ) (all : AreBounds ranges bounds)
     (before : (m : ℕ) → m < k → slice_index bounds m ≤ start) (after : (m : ℕ) → k ≤ m → m < length bounds → end ≤ slice_index bounds m) where
   apart : (x : ℕ) → Contains bounds x → (x ≤ start) ⊎ (end ≤ x)
@@ -154,8 +154,8 @@ module _ (ranges : EntryRanges) (bounds : List ℕ) (start end k : ℕ) (all : A
         | inr late ↦ inr (omega (arith, is, after m (omega arith) found.1))
       ]
 
-  pub one_owner : (byte : ℕ) → start ≤ byte → byte < end → owner (is_within ranges) byte ≡ owner (is_within ranges) start
-  one_owner byte low high = owner_alike (is_within ranges) (is_within ranges) byte start (λ i in_range.
+  pub one_match : (byte : ℕ) → start ≤ byte → byte < end → byte_match (is_within ranges) byte ≡ byte_match (is_within ranges) start
+  one_match byte low high = byte_match_alike (is_within ranges) (is_within ranges) byte start (λ i in_range.
       both_or_neither (slice_index ranges.from i) (slice_index ranges.to i) start end byte low high
       (λ some. apart (slice_index ranges.from i) (all.from i in_range some))
       (λ some. apart (slice_index ranges.to i) (all.to i in_range some)))
@@ -177,36 +177,36 @@ module _ (s : Segments) (order : AreInOrder s) where
     | inr other ↦
         let one_before : suc j - 1 ≡ j = omega arith in
         let began : start_of s (suc j) ≡ slice_index s.ends j = begin_after s.ends (suc j) (omega arith) ∙ ap (slice_index s.ends) one_before in
-        omega (arith, rise i j (omega arith) (omega arith), order.rising (suc j) used, began)
+        omega (arith, rise i j (omega arith) (omega arith), order.ascending (suc j) used, began)
   ]
 
-  -- the ends of those that are used rise
+  -- the ends of the used segments are in ascending order
   pub used_rise : s.count ≤ length s.ends → IsNonDecreasingBy (λ end. end) (take s.count s.ends)
   used_rise fits = IsNonDecreasingBy-from_default (λ end. end) (take s.count s.ends) 0 (λ i j before used.
       let below : j < s.count = omega (arith, used, length-take-le s.count s.ends fits) in
       rw (get_or-take s.count s.ends i 0 (omega (arith, before, below)), get_or-take s.count s.ends j 0 below) (rise i j before below))
 
--- where a byte is
-pub record IsPlace (s : Segments) (byte place : ℕ) : Type 0 where
-  pub used : place < s.count
-  pub from : start_of s place ≤ byte
-  pub to : byte < slice_index s.ends place
+-- the segment of a byte
+pub record IsSegment (s : Segments) (byte segment : ℕ) : Type 0 where
+  pub used : segment < s.count
+  pub from : start_of s segment ≤ byte
+  pub to : byte < slice_index s.ends segment
 
 -- the first segment whose end is past a byte has the byte
-pub at_place : (s : Segments) (byte place : ℕ) → s.count ≤ length s.ends → byte < reach_of s → place ≤ length (take s.count s.ends)
-    → IsPartitionPoint (λ end. leb end byte ≡ true) (λ end. leb end byte ≡ false) (take s.count s.ends) place → IsPlace s byte place
-at_place s byte place fits inside bound point =
+pub at_segment : (s : Segments) (byte segment : ℕ) → s.count ≤ length s.ends → byte < reach_of s → segment ≤ length (take s.count s.ends)
+    → IsPartitionPoint (λ end. leb end byte ≡ true) (λ end. leb end byte ≡ false) (take s.count s.ends) segment → IsSegment s byte segment
+at_segment s byte segment fits inside bound point =
     let long = length-take-le s.count s.ends fits in
-    let ended : (k : ℕ) → k < place → slice_index s.ends k ≤ byte
+    let ended : (k : ℕ) → k < segment → slice_index s.ends k ≤ byte
     = λ k below. leb-true _ _ (rw (get_or-take s.count s.ends k 0 (omega (arith, below, bound, long))) at (point.0 k 0 (omega arith) below)) in
-    let began : start_of s place ≤ byte = elim (cases_eq place 0) [
+    let began : start_of s segment ≤ byte = elim (cases_eq segment 0) [
       | inl first ↦ rw first (omega arith)
-      | inr later ↦ let some : 0 < place = omega arith in omega (arith, begin_after s.ends place some, ended (place - 1) (omega (arith, some)))
+      | inr later ↦ let some : 0 < segment = omega arith in omega (arith, begin_after s.ends segment some, ended (segment - 1) (omega (arith, some)))
     ] in
-    let used : place < s.count = elim (cases_lt place s.count) [
+    let used : segment < s.count = elim (cases_lt segment s.count) [
       | inl below ↦ below
-      | inr past ↦ let at : place ≡ s.count = omega (arith, past, bound, long) in absurd (omega (arith, inside, rw at at began))
+      | inr past ↦ let at : segment ≡ s.count = omega (arith, past, bound, long) in absurd (omega (arith, inside, rw at at began))
     ] in
-    let above : leb (slice_index s.ends place) byte ≡ false =
-    rw (get_or-take s.count s.ends place 0 used) at (point.1 place 0 (omega arith) (omega (arith, used, long))) in
+    let above : leb (slice_index s.ends segment) byte ≡ false =
+    rw (get_or-take s.count s.ends segment 0 used) at (point.1 segment 0 (omega arith) (omega (arith, used, long))) in
     record { used = used; from = began; to = leb-false _ _ above }

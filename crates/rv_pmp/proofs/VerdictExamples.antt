@@ -5,7 +5,7 @@ use Rattle.rv_pmp.specs.declared.access.Access.TheVariants.{Fetch, Read, Write}
 use Rattle.rv_pmp.specs.declared.verdict.Verdict.TheVariants.{Allowed, AllowedFree, Denied, DeniedPartial, DeniedFree}
 use Rattle.rv_pmp.specs.Entries.{Entries}
 use Rattle.rv_pmp.specs.Covers.{covers, ones_at_end}
-use Rattle.rv_pmp.specs.Verdicts.{bytes_from, decider, verdict}
+use Rattle.rv_pmp.specs.Verdicts.{bytes_from, matching_entry, verdict}
 
 -- NA4 for U to read and write at 80000100; NAPOT for all from 80000000 to 80000FFF; a locked TOR from there to 80002000
 -- for reading
@@ -16,35 +16,35 @@ entries = record {
 }
 
 word_of_na4 : verdict entries U Write (bytes_from 0x80000100 4) ≡ Allowed 0
-unfolding verdict decider covers entries ones_at_end
+unfolding verdict matching_entry covers entries ones_at_end
 word_of_na4 = refl
 
 fetch_of_na4 : verdict entries S Fetch (bytes_from 0x80000102 2) ≡ Denied 0
-unfolding verdict decider covers entries ones_at_end
+unfolding verdict matching_entry covers entries ones_at_end
 fetch_of_na4 = refl
 
 half_in_na4 : verdict entries M Read (bytes_from 0x800000fe 4) ≡ DeniedPartial 0
-unfolding verdict decider covers entries ones_at_end
+unfolding verdict matching_entry covers entries ones_at_end
 half_in_na4 = refl
 
 last_of_napot : verdict entries U Fetch (bytes_from 0x80000ffc 4) ≡ Allowed 1
-unfolding verdict decider covers entries ones_at_end
+unfolding verdict matching_entry covers entries ones_at_end
 last_of_napot = refl
 
 past_napot : verdict entries U Fetch (bytes_from 0x80000ffd 4) ≡ DeniedPartial 1
-unfolding verdict decider covers entries ones_at_end
+unfolding verdict matching_entry covers entries ones_at_end
 past_napot = refl
 
 locked_binds_m : verdict entries M Write (bytes_from 0x80001000 4) ≡ Denied 3
-unfolding verdict decider covers entries ones_at_end
+unfolding verdict matching_entry covers entries ones_at_end
 locked_binds_m = refl
 
 none_for_u : verdict entries U Read (bytes_from 0x80002000 1) ≡ DeniedFree
-unfolding verdict decider covers entries ones_at_end
+unfolding verdict matching_entry covers entries ones_at_end
 none_for_u = refl
 
 none_for_m : verdict entries M Read (bytes_from 0x80002000 1) ≡ AllowedFree
-unfolding verdict decider covers entries ones_at_end
+unfolding verdict matching_entry covers entries ones_at_end
 none_for_m = refl
 
 -- NAPOT of all ones covers the 2^35 bytes from 0 on

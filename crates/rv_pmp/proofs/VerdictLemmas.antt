@@ -7,7 +7,7 @@ use Rattle.rv_pmp.specs.declared.mode.Mode.{Mode}
 use Rattle.rv_pmp.specs.declared.access.Access.{Access}
 use Rattle.rv_pmp.specs.Entries.{Entries}
 use Rattle.rv_pmp.specs.Covers.{covers}
-use Rattle.rv_pmp.specs.Verdicts.{decider, verdict, verdict_by, decided, undecided}
+use Rattle.rv_pmp.specs.Verdicts.{matching_entry, verdict, verdict_by, match_verdict, no_match_verdict}
 
 -- ---- tests of any and of all
 
@@ -141,16 +141,16 @@ find_cases p a (suc n) = elim (cases_Bool (p a)) [
 
 -- ---- the verdict
 
--- the least entry that covers some byte decides
-pub verdict_decided : (e : Entries) (mode : Mode) (access : Access) (bytes : List ℕ) (i : ℕ) → i < 16 → list_any (covers e i) bytes ≡ true
-    → ((j : ℕ) → j < i → list_any (covers e j) bytes ≡ false) → verdict e mode access bytes ≡ decided e mode access i (list_all (covers e i) bytes)
-unfolding verdict decider
-verdict_decided e mode access bytes i in_range meets first =
+-- the lowest entry that covers some byte matches
+pub verdict_of_match : (e : Entries) (mode : Mode) (access : Access) (bytes : List ℕ) (i : ℕ) → i < 16 → list_any (covers e i) bytes ≡ true
+    → ((j : ℕ) → j < i → list_any (covers e j) bytes ≡ false) → verdict e mode access bytes ≡ match_verdict e mode access i (list_all (covers e i) bytes)
+unfolding verdict matching_entry
+verdict_of_match e mode access bytes i in_range meets first =
     ap (verdict_by e mode access bytes) (find_at (λ j. list_any (covers e j) bytes) 0 16 i (omega arith) (omega arith) meets (λ j low high. first j high))
 
--- where no entry covers a byte, none decides
-pub verdict_undecided : (e : Entries) (mode : Mode) (access : Access) (bytes : List ℕ) → ((j : ℕ) → j < 16 → list_any (covers e j) bytes ≡ false)
-    → verdict e mode access bytes ≡ undecided mode
-unfolding verdict decider
-verdict_undecided e mode access bytes none =
+-- if no entry covers a byte, none matches
+pub verdict_of_no_match : (e : Entries) (mode : Mode) (access : Access) (bytes : List ℕ) → ((j : ℕ) → j < 16 → list_any (covers e j) bytes ≡ false)
+    → verdict e mode access bytes ≡ no_match_verdict mode
+unfolding verdict matching_entry
+verdict_of_no_match e mode access bytes none =
     ap (verdict_by e mode access bytes) (find_none (λ j. list_any (covers e j) bytes) 0 16 (λ j low high. none j high))

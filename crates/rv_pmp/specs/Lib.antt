@@ -5,4 +5,4 @@ pub mod Covers
 pub mod Locks
 pub mod Verdicts
 pub mod Justified
-pub mod Remembered
+pub mod Cache

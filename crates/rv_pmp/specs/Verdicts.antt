@@ -1,5 +1,4 @@
--- The verdict of the entries on an access, judged by its single byte addresses: RISC-V Privileged Architecture 20211203,
--- section 3.7.1, Priority and Matching Logic.
+-- The verdict of the PMP entries on an access, by the addresses of its bytes (Privileged 3.7.1, Priority and Matching Logic).
 use Rattle.std.specs.Prelude.{ℕ, Bool, true, false, if◌then◌else◌, List, Option, Some, None}
 use Rattle.std.specs.List.{range_with_len, list_any, list_all, find}
 use Rattle.rv_pmp.specs.declared.mode.Mode.{Mode}
@@ -11,36 +10,36 @@ use Rattle.rv_pmp.specs.Cfg.{grants}
 use Rattle.rv_pmp.specs.Entries.{Entries, cfg_of}
 use Rattle.rv_pmp.specs.Covers.{covers}
 
--- the addresses of so many bytes from one on; they do not wrap
+-- the addresses of `count` bytes from one on; they do not wrap
 abbrev pub bytes_from : ℕ → ℕ → List ℕ
 bytes_from address count = range_with_len address count
 
--- The least entry that covers some byte of the access, or none.
-unfoldable pub decider : Entries → List ℕ → Option ℕ
-decider entries bytes = find (λ i. list_any (covers entries i) bytes) (range_with_len 0 16)
+-- The matching entry: the lowest that covers some byte of the access, or none.
+unfoldable pub matching_entry : Entries → List ℕ → Option ℕ
+matching_entry entries bytes = find (λ i. list_any (covers entries i) bytes) (range_with_len 0 16)
 
--- the verdict where entry i decides, which covers all bytes or not
-abbrev pub decided : Entries → Mode → Access → ℕ → Bool → Verdict
-decided entries mode access i covers_all =
+-- the verdict if entry i is the matching entry, which covers all bytes or not
+abbrev pub match_verdict : Entries → Mode → Access → ℕ → Bool → Verdict
+match_verdict entries mode access i covers_all =
     if covers_all
     then (if grants mode access (cfg_of entries i) then Allowed i else Denied i)
     else DeniedPartial i
 
--- the verdict where no entry covers a byte
-abbrev pub undecided : Mode → Verdict
-undecided M = AllowedFree
-undecided S = DeniedFree
-undecided U = DeniedFree
+-- the verdict if no entry matches
+abbrev pub no_match_verdict : Mode → Verdict
+no_match_verdict M = AllowedFree
+no_match_verdict S = DeniedFree
+no_match_verdict U = DeniedFree
 
 abbrev pub verdict_by : Entries → Mode → Access → List ℕ → Option ℕ → Verdict
-verdict_by entries mode access bytes None = undecided mode
-verdict_by entries mode access bytes (Some i) = decided entries mode access i (list_all (covers entries i) bytes)
+verdict_by entries mode access bytes None = no_match_verdict mode
+verdict_by entries mode access bytes (Some i) = match_verdict entries mode access i (list_all (covers entries i) bytes)
 
 -- The verdict on an access to these bytes.
 unfoldable pub verdict : Entries → Mode → Access → List ℕ → Verdict
-verdict entries mode access bytes = verdict_by entries mode access bytes (decider entries bytes)
+verdict entries mode access bytes = verdict_by entries mode access bytes (matching_entry entries bytes)
 
--- whether an access with this verdict is done
+-- whether an access with this verdict is permitted
 abbrev pub permits : Verdict → Bool
 permits (Allowed i) = true
 permits AllowedFree = true

@@ -1,24 +1,24 @@
-//! What is kept beside the entries, so that an access need not go through them.
+//! The cache of the PMP entries, so that an access need not search them.
 
-ghost use Rattle.rv_pmp.specs.Remembered.Cache.{IsCacheOf};
+ghost use Rattle.rv_pmp.specs.Cache.Coherence.{IsCacheOf};
 ghost use Rattle.rv_pmp.specs.Entries.{Entries, HasSixteen};
 
 use crate::open_range::{NONE_OPEN, OpenRanges};
 use crate::segments::Segments;
 
-/// What is kept of the entries as they stand.
+/// The cache of sixteen entries.
 #[derive(Clone, Copy)]
 pub(crate) struct Cache {
-    /// The addresses in segments, each with the least entry over it.
+    /// The address space in segments, each with the matching entry of its bytes.
     pub(crate) segments: Segments,
-    /// Whether an entry was written since the segments were made: they tell nothing then.
+    /// Whether an entry was written since the segments were built. They are invalid then.
     pub(crate) is_stale: bool,
-    /// For each kind of access the last range in which all was permitted.
-    pub(crate) remembered: OpenRanges,
+    /// For each kind of access a range in which every access is permitted.
+    pub(crate) ranges: OpenRanges,
 }
 
 impl Cache {
-    /// Nothing is kept yet, of whatever entries.
+    /// Returns an empty cache, which is coherent with any entries.
     #[tactic(auto, using(crate::proofs::OpenRangeLemmas::empty_open, crate::proofs::OpenRangeLemmas::empty_open_to_words))]
     pub(crate) const fn new() -> Cache
         ensures { (entries : Entries) → HasSixteen entries → IsCacheOf entries result }
@@ -26,27 +26,27 @@ impl Cache {
         Cache {
             segments: Segments::new(),
             is_stale: true,
-            remembered: NONE_OPEN,
+            ranges: NONE_OPEN,
         }
     }
 
-    /// Makes the segments those of the entries with these cfg bytes and pmpaddr values, and forgets what is remembered.
+    /// Builds the segments of the entries with these cfg bytes and pmpaddr values, and invalidates the ranges.
     #[tactic(auto, using(crate::proofs::OpenRangeLemmas::empty_open, crate::proofs::OpenRangeLemmas::empty_open_to_words))]
     pub(crate) fn rebuild(&mut self, cfgs: &[u8; 16], addrs: &[u32; 16])
         ensures { IsCacheOf (record { cfgs = cfgs.now; addrs = addrs.now }) self.new }
     {
         self.segments.rebuild(cfgs, addrs);
         self.is_stale = false;
-        self.remembered = NONE_OPEN;
+        self.ranges = NONE_OPEN;
     }
 
-    /// Forgets all, since an entry was written. The segments are made when they are asked for, as code that writes entries writes
-    /// several.
+    /// Invalidates the cache after a write of an entry. The segments are built at the next access that needs them, since code usually
+    /// writes several entries.
     #[tactic(auto, using(crate::proofs::OpenRangeLemmas::empty_open, crate::proofs::OpenRangeLemmas::empty_open_to_words))]
-    pub(crate) fn forget(&mut self)
+    pub(crate) fn invalidate(&mut self)
         ensures { (entries : Entries) → HasSixteen entries → IsCacheOf entries self.new }
     {
         self.is_stale = true;
-        self.remembered = NONE_OPEN;
+        self.ranges = NONE_OPEN;
     }
 }

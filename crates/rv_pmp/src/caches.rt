@@ -1,24 +1,24 @@
-//! What is kept beside the entries as they stand, and beside those that stood before.
+//! The caches of the current PMP entries and of the previous ones.
 
 ghost use Rattle.std.specs.Prelude.{◌≡◌};
-ghost use Rattle.rv_pmp.specs.Remembered.Cache.{IsCacheOf, cache_before, cache_now, with_fetch, with_read, with_write};
+ghost use Rattle.rv_pmp.specs.Cache.Coherence.{IsCacheOf, cache_before, cache_now, with_fetch, with_read, with_write};
 ghost use Rattle.rv_pmp.specs.Entries.{Entries, HasSixteen};
 
 use crate::cache::Cache;
 use crate::open_range::OpenRange;
 
-/// What is kept of the entries as they stand, and of those that stood before. The two change places without being moved.
+/// The caches of the current entries and of the previous ones. A swap moves neither.
 #[derive(Drop)]
 pub(crate) struct Caches {
     first: Cache,
     second: Cache,
-    /// Whether the second is that of the entries as they stand.
+    /// Whether the second one is the cache of the current entries.
     is_second: bool,
 }
 
 impl Caches {
-    /// Nothing is kept yet, of whatever entries.
-    #[tactic(auto, unfolding(crate::specs::Remembered::Cache::cache_now, crate::specs::Remembered::Cache::cache_before))]
+    /// Returns two empty caches, which are coherent with any entries.
+    #[tactic(auto, unfolding(crate::specs::Cache::Coherence::cache_now, crate::specs::Cache::Coherence::cache_before))]
     pub(crate) const fn new() -> Caches
         ensures now { (entries : Entries) → HasSixteen entries → IsCacheOf entries (cache_now result) }
         ensures before { (entries : Entries) → HasSixteen entries → IsCacheOf entries (cache_before result) }
@@ -30,9 +30,9 @@ impl Caches {
         }
     }
 
-    /// What is kept of the entries as they stand.
+    /// Returns the cache of the current entries.
     #[inline(always)]
-    #[tactic(auto, unfolding(crate::specs::Remembered::Cache::cache_now))]
+    #[tactic(auto, unfolding(crate::specs::Cache::Coherence::cache_now))]
     pub(crate) fn now(&self) -> &Cache
         ensures { result.now ≡ cache_now self.now }
     {
@@ -43,31 +43,31 @@ impl Caches {
         }
     }
 
-    /// The two change places.
+    /// Swaps the two caches.
     #[inline(always)]
-    #[tactic(auto, unfolding(crate::specs::Remembered::Cache::cache_now, crate::specs::Remembered::Cache::cache_before))]
-    pub(crate) fn turn(&mut self)
+    #[tactic(auto, unfolding(crate::specs::Cache::Coherence::cache_now, crate::specs::Cache::Coherence::cache_before))]
+    pub(crate) fn swap(&mut self)
         ensures now { cache_now self.new ≡ cache_before self.old }
         ensures before { cache_before self.new ≡ cache_now self.old }
     {
         self.is_second = !self.is_second;
     }
 
-    /// Forgets what is kept of the entries as they stand, as [`Cache::forget`].
-    #[tactic(auto, unfolding(crate::specs::Remembered::Cache::cache_now, crate::specs::Remembered::Cache::cache_before))]
-    pub(crate) fn forget(&mut self)
+    /// Invalidates the cache of the current entries, as [`Cache::invalidate`].
+    #[tactic(auto, unfolding(crate::specs::Cache::Coherence::cache_now, crate::specs::Cache::Coherence::cache_before))]
+    pub(crate) fn invalidate(&mut self)
         ensures now { (entries : Entries) → HasSixteen entries → IsCacheOf entries (cache_now self.new) }
         ensures before { cache_before self.new ≡ cache_before self.old }
     {
         if self.is_second {
-            self.second.forget();
+            self.second.invalidate();
         } else {
-            self.first.forget();
+            self.first.invalidate();
         }
     }
 
-    /// Makes the segments of the entries as they stand, as [`Cache::rebuild`].
-    #[tactic(auto, unfolding(crate::specs::Remembered::Cache::cache_now, crate::specs::Remembered::Cache::cache_before))]
+    /// Builds the segments of the current entries, as [`Cache::rebuild`].
+    #[tactic(auto, unfolding(crate::specs::Cache::Coherence::cache_now, crate::specs::Cache::Coherence::cache_before))]
     pub(crate) fn rebuild(&mut self, cfgs: &[u8; 16], addrs: &[u32; 16])
         ensures now { IsCacheOf (record { cfgs = cfgs.now; addrs = addrs.now }) (cache_now self.new) }
         ensures before { cache_before self.new ≡ cache_before self.old }
@@ -79,42 +79,42 @@ impl Caches {
         }
     }
 
-    /// Remembers where fetches are permitted by the entries as they stand.
-    #[tactic(auto, unfolding(crate::specs::Remembered::Cache::cache_now, crate::specs::Remembered::Cache::cache_before))]
-    pub(crate) fn remember_fetch(&mut self, range: OpenRange)
+    /// Fills the range in which the current entries permit fetches.
+    #[tactic(auto, unfolding(crate::specs::Cache::Coherence::cache_now, crate::specs::Cache::Coherence::cache_before))]
+    pub(crate) fn fill_fetch(&mut self, range: OpenRange)
         ensures now { cache_now self.new ≡ with_fetch (cache_now self.old) range }
         ensures before { cache_before self.new ≡ cache_before self.old }
     {
         if self.is_second {
-            self.second.remembered.fetch = range;
+            self.second.ranges.fetch = range;
         } else {
-            self.first.remembered.fetch = range;
+            self.first.ranges.fetch = range;
         }
     }
 
-    /// Remembers where reads are permitted by the entries as they stand.
-    #[tactic(auto, unfolding(crate::specs::Remembered::Cache::cache_now, crate::specs::Remembered::Cache::cache_before))]
-    pub(crate) fn remember_read(&mut self, range: OpenRange)
+    /// Fills the range in which the current entries permit reads.
+    #[tactic(auto, unfolding(crate::specs::Cache::Coherence::cache_now, crate::specs::Cache::Coherence::cache_before))]
+    pub(crate) fn fill_read(&mut self, range: OpenRange)
         ensures now { cache_now self.new ≡ with_read (cache_now self.old) range }
         ensures before { cache_before self.new ≡ cache_before self.old }
     {
         if self.is_second {
-            self.second.remembered.read = range;
+            self.second.ranges.read = range;
         } else {
-            self.first.remembered.read = range;
+            self.first.ranges.read = range;
         }
     }
 
-    /// Remembers where writes are permitted by the entries as they stand.
-    #[tactic(auto, unfolding(crate::specs::Remembered::Cache::cache_now, crate::specs::Remembered::Cache::cache_before))]
-    pub(crate) fn remember_write(&mut self, range: OpenRange)
+    /// Fills the range in which the current entries permit writes.
+    #[tactic(auto, unfolding(crate::specs::Cache::Coherence::cache_now, crate::specs::Cache::Coherence::cache_before))]
+    pub(crate) fn fill_write(&mut self, range: OpenRange)
         ensures now { cache_now self.new ≡ with_write (cache_now self.old) range }
         ensures before { cache_before self.new ≡ cache_before self.old }
     {
         if self.is_second {
-            self.second.remembered.write = range;
+            self.second.ranges.write = range;
         } else {
-            self.first.remembered.write = range;
+            self.first.ranges.write = range;
         }
     }
 }

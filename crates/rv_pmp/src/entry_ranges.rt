@@ -1,24 +1,24 @@
-//! The bytes that each of the sixteen entries covers, as intervals (Privileged Architecture, section 3.7.1).
+//! The bytes that each of the sixteen entries covers, as intervals (Privileged 3.7.1).
 
 ghost use Rattle.std.specs.Prelude.{◌≡◌, ◌+◌, ◌<◌, ◌≤◌, ◌^◌, ℕ, Option, IfSome, IfNone, take, slice_index, nat_le, nat_lt, ◌&&◌};
 ghost use Rattle.rv_pmp.specs.Covers.{covers, CoversRange, CoversNothing};
-ghost use Rattle.rv_pmp.specs.Remembered.Segments.{owner, is_within, AreRanges, AreBounds};
+ghost use Rattle.rv_pmp.specs.Cache.Segments.{byte_match, is_within, AreRanges, AreBounds};
 
 use crate::address_matching::AddressMatching;
 use crate::matched_range::matched_range;
 use crate::pmp_index::PmpIndex;
 
-/// How many entries there are.
+/// Entries of a hart.
 const ENTRIES: u8 = 16;
 
-/// The ranges of the entries: of each the first byte that it covers and the first past them, both 0 where it covers none.
+/// The range of each entry: the first byte that it covers and the first one after them, both 0 if it covers none.
 #[derive(Clone, Copy)]
 pub(crate) struct EntryRanges {
     pub(crate) from: [u64; 16],
     pub(crate) to: [u64; 16],
 }
 
-/// The first byte that an entry covers and the first past them; None where it covers no byte.
+/// Returns the first byte that an entry covers and the first one after them, or None if it covers none.
 #[tactic(auto, unfolding(crate::specs::Covers::covers))]
 pub(crate) fn entry_range(cfgs: &[u8; 16], addrs: &[u32; 16], index: PmpIndex) -> Option<(u64, u64)>
     ensures range { IfSome result (λ range. CoversRange (record { cfgs = cfgs.now; addrs = addrs.now }) index range.0 range.1) }
@@ -31,7 +31,7 @@ pub(crate) fn entry_range(cfgs: &[u8; 16], addrs: &[u32; 16], index: PmpIndex) -
     matched_range(AddressMatching::of(cfgs[at]), before, addrs[at])
 }
 
-/// The same, with equal ends where it covers no byte.
+/// Returns the range of an entry, with equal ends if it covers no byte.
 fn range_or_none(cfgs: &[u8; 16], addrs: &[u32; 16], index: PmpIndex) -> (u64, u64)
     ensures { (byte : ℕ) → covers (record { cfgs = cfgs.now; addrs = addrs.now }) index byte ≡ (nat_le result.0 byte && nat_lt byte result.1) }
 {
@@ -41,18 +41,18 @@ fn range_or_none(cfgs: &[u8; 16], addrs: &[u32; 16], index: PmpIndex) -> (u64, u
     }
 }
 
-/// The least entry that covers a byte, by the entries alone.
+/// Returns the matching entry of a byte, without the cache.
 #[cold]
 #[inline(never)]
-#[tactic(auto, using(crate::proofs::OwnerLemmas::owner_by_ranges))]
+#[tactic(auto, using(crate::proofs::ByteMatchLemmas::byte_match_by_ranges))]
 pub(crate) fn entry_over(cfgs: &[u8; 16], addrs: &[u32; 16], byte: u64) -> Option<PmpIndex>
-    ensures { result ≡ owner (covers (record { cfgs = cfgs.now; addrs = addrs.now })) byte }
+    ensures { result ≡ byte_match (covers (record { cfgs = cfgs.now; addrs = addrs.now })) byte }
 {
-    EntryRanges::of(cfgs, addrs).owner(byte)
+    EntryRanges::of(cfgs, addrs).byte_match(byte)
 }
 
 impl EntryRanges {
-    /// The ranges of the entries with these cfg bytes and pmpaddr values.
+    /// Returns the ranges of the entries with these cfg bytes and pmpaddr values.
     pub(crate) fn of(cfgs: &[u8; 16], addrs: &[u32; 16]) -> EntryRanges
         ensures { AreRanges (record { cfgs = cfgs.now; addrs = addrs.now }) result }
     {
@@ -68,7 +68,7 @@ impl EntryRanges {
         ranges
     }
 
-    /// Whether the range of an entry has a byte.
+    /// Returns whether the range of an entry has a byte.
     fn has(&self, index: PmpIndex, byte: u64) -> bool
         ensures { result ≡ is_within self.now index byte }
     {
@@ -76,10 +76,10 @@ impl EntryRanges {
         self.from[at] <= byte && byte < self.to[at]
     }
 
-    /// The least entry whose range has a byte.
-    #[tactic(auto, using(crate::proofs::OwnerLemmas::owner_none))]
-    pub(crate) fn owner(&self, byte: u64) -> Option<PmpIndex>
-        ensures { result ≡ owner (is_within self.now) byte }
+    /// Returns the lowest entry whose range has a byte.
+    #[tactic(auto, using(crate::proofs::ByteMatchLemmas::byte_match_none))]
+    pub(crate) fn byte_match(&self, byte: u64) -> Option<PmpIndex>
+        ensures { result ≡ byte_match (is_within self.now) byte }
     {
         for number in 0..ENTRIES {
             let index = PmpIndex::new(number);
@@ -90,7 +90,7 @@ impl EntryRanges {
         None
     }
 
-    /// Writes both ends of each range that has a byte after the first of the bounds, and answers how many bounds there are.
+    /// Writes both ends of each nonempty range after the first of the bounds, and returns the number of bounds.
     pub(crate) fn write_bounds(&self, bounds: &mut [u64; 33]) -> usize
         requires { slice_index bounds.old 0 ≡ 2 ^ 35 }
         ensures count { result ≤ 33 }

@@ -16,13 +16,13 @@ mod cache;
 mod caches;
 mod cfg_byte;
 mod entry_ranges;
-mod kept_entries;
 mod matched_range;
 mod mode;
 mod open_range;
 mod pmp;
 mod pmp_index;
 mod pmp_register;
+mod previous_entries;
 mod segments;
 mod verdict;
 

@@ -2,7 +2,7 @@
 use Rattle.std.proofs.Common.{◌≡◌, ℕ, ◌+◌, ◌/◌, ◌%◌, ◌^◌, Bool, true, false, refl, arith}
 use Rattle.rv_word.specs.BitFields.{is_set, flag}
 use Rattle.rv_state.specs.Interrupts.{software_pending_of}
-use Rattle.rv_state.specs.Remembered.Kept.{mip_of, raised_in}
+use Rattle.rv_state.specs.Cache.Kept.{mip_of, raised_in}
 use Rattle.rv_state.proofs.MaskLemmas.{software_of, software_again}
 
 -- the bits of one word that software writes, with the timer line

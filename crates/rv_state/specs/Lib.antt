@@ -6,7 +6,7 @@ pub mod Mstatus
 pub mod CsrState
 pub mod Counters
 pub mod Interrupts
-pub mod Remembered
+pub mod Cache
 pub mod Traps
 pub mod CsrRows
 pub mod CsrTable

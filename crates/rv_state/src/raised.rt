@@ -1,7 +1,7 @@
 //! The interrupts that are raised.
 
 ghost use Rattle.std.specs.Prelude.{◌≡◌};
-ghost use Rattle.rv_state.specs.Remembered.Kept.{RaisedState};
+ghost use Rattle.rv_state.specs.Cache.Kept.{RaisedState};
 
 use crate::bits::{flag, is_set};
 use crate::kept_bits::software_pending_of;
@@ -16,7 +16,7 @@ pub(crate) struct Raised {
 
 impl Model for Raised {
     ghost use Rattle.std.specs.Prelude.{◌≡◌};
-    ghost use Rattle.rv_state.specs.Remembered.Kept.{RaisedState, mip_of, raised_in};
+    ghost use Rattle.rv_state.specs.Cache.Kept.{RaisedState, mip_of, raised_in};
 
     ghost Value = { RaisedState };
 
@@ -28,7 +28,7 @@ impl Model for Raised {
 impl Raised {
     ghost use Rattle.std.specs.Prelude.{◌≡◌, false};
     ghost use Rattle.rv_state.specs.Interrupts.{software_pending_of};
-    ghost use Rattle.rv_state.specs.Remembered.Kept.{mip_of};
+    ghost use Rattle.rv_state.specs.Cache.Kept.{mip_of};
 
     /// Nothing is raised.
     #[tactic(auto, unfolding(crate::specs::Bits::kept_bits))]

@@ -1,6 +1,6 @@
 //! What a test does with a memory and a table of enclaves, as lines.
 
-use rv_enclaves::{EnclaveState, Proposal, Shared, Slot, Table, World, write_layout};
+use rv_enclaves::{CreateArgs, EnclaveState, Shared, Slot, Table, World, write_layout};
 use rv_memory::Ram;
 use rv_pmp::{Pmp, PmpIndex};
 use rv_state::Regs;
@@ -81,7 +81,7 @@ fn create(shared: &mut Shared, arguments: &[u32; 5]) -> Result<u32, u32> {
     regs.set(Reg::new(13), arguments[3]);
     regs.set(Reg::new(14), arguments[4]);
     shared
-        .create(&Proposal::new(&regs))
+        .create(&CreateArgs::new(&regs))
         .map_err(|refusal| refusal.status())
 }
 

@@ -1,27 +1,27 @@
 use Rattle.std.proofs.lemmas.Result.{IfOk-weaker}
-use Rattle.rv_asm.specs.Looks.{HasRead}
+use Rattle.rv_asm.specs.Passes.{HasRead}
 use Rattle.rv_asm.specs.Program.{readings}
 use Rattle.rv_asm.proofs.DenotesLemmas.{denotes_assembled, assembled_denoted}
-use Rattle.rv_asm.proofs.Looked.{name_fails_if, twice_line, words_decide_if}
+use Rattle.rv_asm.proofs.PassResults.{name_fails_if, twice_line, words_decide_if}
 use Rattle.rv_asm.proofs.assembler.assemble.Goals as goal
 
-pub returns-in_err-look-clause-only : goal.returns-in_err-look-clause-only
-returns-in_err-look-clause-only c = assembled_denoted c.args.text.now
+pub returns-in_err-pass-clause-only : goal.returns-in_err-pass-clause-only
+returns-in_err-pass-clause-only c = assembled_denoted c.args.text.now
 
 pub returns-in-Some-clause-line : goal.returns-in-Some-clause-line
 returns-in-Some-clause-line c =
-    let has : HasRead c.in_ok-look.look (readings c.args.text.now) = c.in_ok-look.ensures.ok.0 in
-    twice_line c.args.text.now c.in_ok-look.look c.in-Some.line has c.in-Some.is
+    let has : HasRead c.in_ok-pass.pass (readings c.args.text.now) = c.in_ok-pass.ensures.ok.0 in
+    twice_line c.args.text.now c.in_ok-pass.pass c.in-Some.line has c.in-Some.is
 
 pub returns-clause-ok : goal.returns-clause-ok
 returns-clause-ok c =
-    let found = c.in_ok-look.ensures.ok in
-    words_decide_if c.args.text.now c.in_ok-look.look c.words_of.result found.0 found.1 c.in_default.is c.words_of.ensures.ok
+    let found = c.in_ok-pass.ensures.ok in
+    words_decide_if c.args.text.now c.in_ok-pass.pass c.words_of.result found.0 found.1 c.in_default.is c.words_of.ensures.ok
 
 pub returns-clause-fault : goal.returns-clause-fault
 returns-clause-fault c =
-    let found = c.in_ok-look.ensures.ok in
-    name_fails_if c.args.text.now c.in_ok-look.look c.words_of.result found.0 found.1 c.in_default.is c.words_of.ensures.fault
+    let found = c.in_ok-pass.ensures.ok in
+    name_fails_if c.args.text.now c.in_ok-pass.pass c.words_of.result found.0 found.1 c.in_default.is c.words_of.ensures.fault
 
 pub returns-clause-denotes : goal.returns-clause-denotes
 returns-clause-denotes c = IfOk-weaker c.words_of.result _ _ (λ words. denotes_assembled c.args.text.now words.items) (returns-clause-ok c)

@@ -1,15 +1,15 @@
 use Rattle.std.proofs.Common.{◌≡◌, ◌≤◌, bit_or, true}
 use Rattle.rv_debug.specs.Prelude.{has_all}
-use Rattle.rv_debug.proofs.Prelude.{IsBare, KeepsMonitor, harts_of, no_turns, turns}
+use Rattle.rv_debug.proofs.Prelude.{IsBare, KeepsMonitor, harts_of, schedule_start, scheduled_steps}
 use Rattle.rv_debug.proofs.ScheduleLoop.{rest}
-use Rattle.rv_debug.specs.Turns.{runs_told}
-use Rattle.rv_debug.proofs.Turns.{after_turns}
+use Rattle.rv_debug.specs.ScheduledSteps.{runs_told}
+use Rattle.rv_debug.proofs.ScheduledSteps.{after_schedule}
 use Rattle.rv_debug.proofs.scheduled.run_schedule.Given as goal
 
--- the turns so far, and those that are left
+-- the scheduled steps so far, and those that are left
 abbrev pub invariant-loop-digit : goal.invariant-loop-digit
 invariant-loop-digit l = record {
-  turns : turns (rest 0 l.digits) (no_turns l.fn.target) ≡ turns (rest l.digit-index l.digits) (after_turns l.target (runs_told l.first l.second));
+  scheduled_steps : scheduled_steps (rest 0 l.digits) (schedule_start l.fn.target) ≡ scheduled_steps (rest l.digit-index l.digits) (after_schedule l.target (runs_told l.first l.second));
   has : has_all (harts_of l.target) (rest l.digit-index l.digits) ≡ true;
   harts : harts_of l.target ≡ harts_of l.fn.target;
   first : l.first.steps ≤ l.digit-index;

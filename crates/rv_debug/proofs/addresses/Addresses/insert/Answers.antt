@@ -1,9 +1,9 @@
 use Rattle.std.proofs.Common.{arith}
-use Rattle.rv_debug.proofs.AddressLemmas.{rises-insert, no_room, room}
+use Rattle.rv_debug.proofs.AddressLemmas.{sorted-insert, no_room, room}
 use Rattle.rv_debug.proofs.addresses.Addresses.insert.Goals as goal
 
 pub invariant_of-self : goal.invariant_of-self
-invariant_of-self c = rw c.insert.ensures.items (rises-insert _ _ _ c.self.invariant (rw c.as_slice.ensures.value at c.in-Err.ensures))
+invariant_of-self c = rw c.insert.ensures.items (sorted-insert _ _ _ c.self.invariant (rw c.as_slice.ensures.value at c.in-Err.ensures))
 
 pub returns-then-is_full-clause-set : goal.returns-then-is_full-clause-set
 returns-then-is_full-clause-set c = rw (← c.self.view_is) (no_room _ _ _ (rw c.as_slice.ensures.value at c.in-Err.ensures) (grind arith))

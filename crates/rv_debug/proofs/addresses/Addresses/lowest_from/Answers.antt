@@ -15,14 +15,14 @@ returns-then-place-len c =
 pub returns-then-found-address : goal.returns-then-found-address
 returns-then-found-address c =
     let same = ap (λ xs. get_or xs c.in-Err.place 0) c.as_slice-2.ensures.value in
-    let far : c.args.address + c.args.count ≤ get_or c.self.inside.rising.items c.in-Err.place 0 = omega (arith, same) in
+    let far : c.args.address + c.args.count ≤ get_or c.self.inside.sorted.items c.in-Err.place 0 = omega (arith, same) in
     rw (← c.self.view_is) (find-far _ _ _ _ c.self.invariant (rw c.as_slice.ensures.value at c.in-Err.ensures) (λ _. far))
 
 pub returns : goal.returns
 returns c =
-    let place : HasPlace c.self.inside.rising.items c.args.address c.in-Err.place = rw c.as_slice.ensures.value at c.in-Err.ensures in
+    let place : HasPlace c.self.inside.sorted.items c.args.address c.in-Err.place = rw c.as_slice.ensures.value at c.in-Err.ensures in
     let same = ap (λ xs. get_or xs c.in-Err.place 0) c.as_slice-2.ensures.value in
-    let within : c.in-Err.place ≤ length c.self.inside.rising.items = place.within in
-    let inside : c.in-Err.place < length c.self.inside.rising.items = omega (arith, within) in
-    let near : get_or c.self.inside.rising.items c.in-Err.place 0 < c.args.address + c.args.count = omega (arith, same) in
+    let within : c.in-Err.place ≤ length c.self.inside.sorted.items = place.within in
+    let inside : c.in-Err.place < length c.self.inside.sorted.items = omega (arith, within) in
+    let near : get_or c.self.inside.sorted.items c.in-Err.place 0 < c.args.address + c.args.count = omega (arith, same) in
     rw (c.as_slice-2.ensures.value, ← c.self.view_is) (find-near _ _ _ _ place inside near)

@@ -1,10 +1,10 @@
-use Rattle.rv_debug.proofs.AddressLemmas.{remove-is, keep-is, rises-filter}
+use Rattle.rv_debug.proofs.AddressLemmas.{remove-is, keep-is, sorted-filter}
 use Rattle.rv_debug.proofs.addresses.Addresses.remove.Goals as goal
 
 pub invariant_of-self : goal.invariant_of-self
 invariant_of-self c =
     let found = rw c.as_slice.ensures.value at c.in-Ok.ensures in
-    rw (c.remove.ensures.items, remove-is _ _ _ c.self.invariant found.0 found.1) (rises-filter _ _ c.self.invariant)
+    rw (c.remove.ensures.items, remove-is _ _ _ c.self.invariant found.0 found.1) (sorted-filter _ _ c.self.invariant)
 
 pub returns-in-Ok : goal.returns-in-Ok
 returns-in-Ok c =

@@ -1,6 +1,6 @@
 use Rattle.std.proofs.Common.{◌≡◌, ℕ, ◌<◌, length}
 use Rattle.rv_pmp.specs.Covers.{covers}
-use Rattle.rv_pmp.specs.Remembered.Segments.{is_within}
+use Rattle.rv_pmp.specs.Cache.Segments.{is_within}
 use Rattle.rv_pmp.proofs.entry_ranges.EntryRanges.of.Given as goal
 
 -- the ranges so far are those of their entries

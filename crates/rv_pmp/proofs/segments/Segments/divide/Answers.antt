@@ -1,7 +1,7 @@
 use Rattle.std.proofs.Common.{arith, sym, inl, inr, ◌≤◌, slice_index}
 use Rattle.std.proofs.lemmas.List.Sorted.{IsNonDecreasingBy-from_sort}
 use Rattle.std.proofs.lemmas.Bool.{cases_eq}
-use Rattle.rv_pmp.proofs.SegmentLemmas.{bounds_in_order, one_owner, last_before}
+use Rattle.rv_pmp.proofs.SegmentLemmas.{bounds_in_order, one_match, last_before}
 use Rattle.rv_pmp.proofs.segments.Segments.divide.Goals as goal
 use Rattle.rv_pmp.proofs.segments.Segments.divide.Goals.{then-start-end, else-start-end}
 
@@ -10,11 +10,11 @@ pub extend-requires-clause-alike : goal.extend-requires-clause-alike
 extend-requires-clause-alike c =
     let bounds = c.sort_unstable.new.self in
     let loop = c.loop-k in
-    let rising = IsNonDecreasingBy-from_sort (λ x. x) bounds c.sort_unstable.ensures.sorted in
-    one_owner c.args.ranges.now bounds loop.start (slice_index bounds loop.k) loop.k
+    let ascending = IsNonDecreasingBy-from_sort (λ x. x) bounds c.sort_unstable.ensures.sorted in
+    one_match c.args.ranges.now bounds loop.start (slice_index bounds loop.k) loop.k
     (bounds_in_order c.args.ranges.now c.args.bounds.now bounds c.sort_unstable.ensures.permutation c.requires.all)
     loop.invariant.before
-    (λ m from used. rising loop.k m 0 from used)
+    (λ m from used. ascending loop.k m 0 from used)
 
 -- the segments go up to the next bound
 pub loop-k-preserved : goal.loop-k-preserved
@@ -22,7 +22,7 @@ loop-k-preserved c =
     let bounds = c.sort_unstable.new.self in
     let loop = c.loop-k in
     let kept = loop.invariant in
-    let rising = IsNonDecreasingBy-from_sort (λ x. x) bounds c.sort_unstable.ensures.sorted in
+    let ascending = IsNonDecreasingBy-from_sort (λ x. x) bounds c.sort_unstable.ensures.sorted in
     elim c.if-start-end.branch [
       | then-start-end w ↦
           let new = w.extend.ensures in
@@ -30,9 +30,9 @@ loop-k-preserved c =
             room = omega (arith, new.room, kept.room);
             reach = sym new.reach;
             order = new.order;
-            owned = new.owned;
-            before = λ m below. rising m loop.k 0 (omega (arith, below)) c.loop-k-test.true;
-            after = λ m from used. rising loop.k m 0 (omega (arith, from)) used;
+            matched = new.matched;
+            before = λ m below. ascending m loop.k 0 (omega (arith, below)) c.loop-k-test.true;
+            after = λ m from used. ascending loop.k m 0 (omega (arith, from)) used;
           })
       | else-start-end w ↦
           let past : slice_index bounds loop.k ≤ loop.start = omega (arith, w.if-start-end.false) in
@@ -40,7 +40,7 @@ loop-k-preserved c =
             room = omega (arith, kept.room);
             reach = kept.reach;
             order = kept.order;
-            owned = kept.owned;
+            matched = kept.matched;
             before = λ m below. elim (cases_eq m loop.k) [ inl at ↦ rw at past | inr early ↦ kept.before m (omega (arith, below, early)) ];
             after = λ m from used. kept.after m (omega (arith, from)) used;
           })

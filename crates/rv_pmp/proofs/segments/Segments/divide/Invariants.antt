@@ -1,5 +1,5 @@
 use Rattle.std.proofs.Common.{◌≡◌, ℕ, ◌<◌, ◌≤◌, length, slice_index}
-use Rattle.rv_pmp.specs.Remembered.Segments.{is_within, reach_of, AreInOrder, AreOwned}
+use Rattle.rv_pmp.specs.Cache.Segments.{is_within, reach_of, AreInOrder, AreMatched}
 use Rattle.rv_pmp.proofs.segments.Segments.divide.Given as goal
 
 -- the segments go up to start, which the bounds so far have reached
@@ -8,7 +8,7 @@ invariant-loop-k l = record {
   room : l.self.count ≤ l.k;
   reach : l.start ≡ reach_of l.self;
   order : AreInOrder l.self;
-  owned : AreOwned (is_within l.ranges) l.self;
+  matched : AreMatched (is_within l.ranges) l.self;
   before : (m : ℕ) → m < l.k → slice_index l.bounds m ≤ l.start;
   after : (m : ℕ) → l.k ≤ m → m < length l.bounds → l.start ≤ slice_index l.bounds m;
 }

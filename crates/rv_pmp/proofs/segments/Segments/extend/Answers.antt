@@ -1,7 +1,7 @@
 use Rattle.std.proofs.Common.{arith, sym, ◌∙◌, ◌-◌, slice_index_or, None}
 use Rattle.std.proofs.lemmas.List.{get_or_default}
-use Rattle.rv_pmp.specs.Remembered.Segments.{is_within, owner}
-use Rattle.rv_pmp.proofs.OwnerLemmas.{option_same}
+use Rattle.rv_pmp.specs.Cache.Segments.{is_within, byte_match}
+use Rattle.rv_pmp.proofs.ByteMatchLemmas.{option_same}
 use Rattle.rv_pmp.proofs.SegmentLemmas.{goes_on, one_more}
 use Rattle.rv_pmp.proofs.segments.Segments.extend.Goals as goal
 
@@ -13,12 +13,12 @@ returns-then-eq c =
     let covering = is_within a.ranges.now in
     let found = c.index-self-count.result in
     let last = a.self.now.count - 1 in
-    let is = get_or_default a.self.now.owners last None found (omega (arith, c.if-count-gt0.true)) in
-    let same = option_same (slice_index_or a.self.now.owners last found) c.owner-owner.result (sym c.eq.ensures ∙ c.if-eq.true) in
+    let is = get_or_default a.self.now.byte_matches last None found (omega (arith, c.if-count-gt0.true)) in
+    let same = option_same (slice_index_or a.self.now.byte_matches last found) c.byte_match-byte_match.result (sym c.eq.ensures ∙ c.if-eq.true) in
     let new =
-    goes_on covering a.self.now a.start a.end (owner covering a.start) r.order r.owned r.start r.some r.alike
-    c.if-count-gt0.true (omega arith) (is ∙ same ∙ c.owner-owner.ensures) in
-    record { room = omega arith; reach = new.reach; order = new.order; owned = new.owned }
+    goes_on covering a.self.now a.start a.end (byte_match covering a.start) r.order r.matched r.start r.some r.alike
+    c.if-count-gt0.true (omega arith) (is ∙ same ∙ c.byte_match-byte_match.ensures) in
+    record { room = omega arith; reach = new.reach; order = new.order; matched = new.matched }
 
 -- one more begins
 pub returns-else-count-gt0 : goal.returns-else-count-gt0
@@ -26,6 +26,6 @@ returns-else-count-gt0 c =
     let a = c.args in
     let r = c.requires in
     let new =
-    one_more (is_within a.ranges.now) a.self.now a.start a.end c.owner-owner.result r.order r.owned r.start r.some
-    (λ byte low high. r.alike byte low high ∙ sym c.owner-owner.ensures) r.room (omega arith) (omega arith) in
-    record { room = omega arith; reach = new.reach; order = new.order; owned = new.owned }
+    one_more (is_within a.ranges.now) a.self.now a.start a.end c.byte_match-byte_match.result r.order r.matched r.start r.some
+    (λ byte low high. r.alike byte low high ∙ sym c.byte_match-byte_match.ensures) r.room (omega arith) (omega arith) in
+    record { room = omega arith; reach = new.reach; order = new.order; matched = new.matched }

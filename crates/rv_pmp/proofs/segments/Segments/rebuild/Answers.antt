@@ -1,8 +1,8 @@
 use Rattle.std.proofs.Common.{◌∙◌}
 use Rattle.rv_pmp.specs.Covers.{covers}
-use Rattle.rv_pmp.specs.Remembered.Segments.{is_within, AreSegments}
+use Rattle.rv_pmp.specs.Cache.Segments.{is_within, AreSegments}
 use Rattle.rv_pmp.specs.Entries.{Entries}
-use Rattle.rv_pmp.proofs.OwnerLemmas.{owner_alike}
+use Rattle.rv_pmp.proofs.ByteMatchLemmas.{byte_match_alike}
 use Rattle.rv_pmp.proofs.segments.Segments.rebuild.Goals as goal
 
 -- the ranges are those of the entries
@@ -15,6 +15,6 @@ returns c =
       made.order,
       made.whole,
       λ k byte used low high.
-          owner_alike (covers e) (is_within ranges) byte byte (λ i in_range. c.of-ranges.ensures i byte in_range)
-          ∙ made.owned k byte used low high,
+          byte_match_alike (covers e) (is_within ranges) byte byte (λ i in_range. c.of-ranges.ensures i byte in_range)
+          ∙ made.matched k byte used low high,
     )

@@ -1,0 +1,35 @@
+-- The first pass, line after line.
+use Rattle.std.proofs.Common.{◌≡◌, ◌∙◌, refl, sym, ap, ℕ, ◌+◌, ◌≤◌, List, [], ◌∷◌, ◌++◌, length, length-append}
+use Rattle.std.proofs.Common.{None, append_assoc, map, arith}
+use Rattle.rv_asm.specs.LineReading.{line_read}
+use Rattle.rv_text.specs.Lines.{lines_of}
+use Rattle.rv_asm.specs.Passes.{HasRead}
+use Rattle.rv_asm.specs.Program.{Reading, readings, own_fault, first_line_fault}
+use Rattle.rv_asm.specs.declared.first_pass.FirstPass.{FirstPass}
+use Rattle.rv_asm.proofs.LabelLemmas.{fault_later, first_fault-push}
+
+-- Lines were read, none of them faulty by itself, and the rest is still to be read.
+pub record HasReadUpTo (pass : FirstPass) (text rest : List ℕ) : Type 0 where
+  pub before : List Reading
+  pub read : HasRead pass before
+  pub split : readings text ≡ before ++ readings rest
+  pub sound : first_line_fault own_fault [] (readings text) ≡ first_line_fault own_fault before (readings rest)
+  pub none : first_line_fault own_fault [] before ≡ None
+
+pub reads_on : (pass new : FirstPass) (text rest after line : List ℕ) → (has : HasReadUpTo pass text rest) → lines_of rest ≡ line ∷ lines_of after
+    → HasRead new (has.before ++ line_read line ∷ []) → own_fault has.before (line_read line) ≡ None → HasReadUpTo new text after
+reads_on pass new text rest after line has is read sound = record {
+  before = has.before ++ line_read line ∷ [];
+  read = read;
+  split = has.split ∙ ap (λ lines. has.before ++ map line_read lines) is ∙ sym (append_assoc has.before (line_read line ∷ []) (readings after));
+  sound =
+      has.sound ∙ ap (λ lines. first_line_fault own_fault has.before (map line_read lines)) is
+      ∙ fault_later own_fault has.before (readings after) (line_read line) sound;
+  none = first_fault-push own_fault [] has.before (line_read line) ∙ rw (has.none, sound) refl;
+}
+
+pub is_line_of : (pass : FirstPass) (text rest after line : List ℕ) → (has : HasReadUpTo pass text rest) → lines_of rest ≡ line ∷ lines_of after
+    → length has.before + 1 ≤ length (readings text)
+is_line_of pass text rest after line has is =
+    let whole : readings text ≡ has.before ++ line_read line ∷ readings after = has.split ∙ ap (λ lines. has.before ++ map line_read lines) is in
+    rw whole (omega (arith, length-append has.before (line_read line ∷ readings after)))

@@ -1,0 +1,113 @@
+-- The results of both passes.
+use Rattle.std.proofs.Common.{◌≡◌, ◌⊎◌, inl, inr, ◌∙◌, sym, ap, ℕ, ◌+◌, ◌≤◌, List, [], ◌∷◌, ◌++◌, length, length-append, Option, Some, None}
+use Rattle.std.proofs.Common.{Result, Ok, Err, IfOk, IfErr, Vec, option_map, arith, refl, take}
+use Rattle.std.proofs.lemmas.List.{length-map}
+use Rattle.rv_word.specs.Cases.{option_case}
+use Rattle.rv_asm.specs.LabelMap.{places_of}
+use Rattle.rv_asm.specs.Lacking.{FailsFor, LacksForLabel}
+use Rattle.rv_asm.specs.LineReading.{line_read}
+use Rattle.rv_text.specs.Lines.{lines_of}
+use Rattle.rv_asm.specs.Passes.{HasRead, label_twice}
+use Rattle.rv_asm.specs.Program.{Reading, readings, own_fault, label_fault, name_fault, first_line_fault, place_in, words_from, words_of_lines, assembled}
+use Rattle.rv_asm.specs.declared.first_pass.FirstPass.{FirstPass}
+use Rattle.rv_asm.specs.declared.fault.AsmFault.{AsmFault}
+use Rattle.rv_asm.specs.declared.fault.AsmFaultKind.{AsmFaultKind}
+use Rattle.rv_asm.specs.declared.fault.AsmFaultKind.TheVariants.{NoMemory}
+use Rattle.rv_asm.proofs.LabelLemmas.{fault_after}
+
+pub length-readings : (text : List ℕ) → length (readings text) ≡ length (lines_of text)
+length-readings text = length-map (lines_of text) line_read
+
+-- the line of a fault is one of the lines
+abbrev IsWithin : ℕ → ℕ → AsmFault → Type 0
+IsWithin before count fault = (before + 1 ≤ fault.line) × (fault.line ≤ before + count)
+
+later_or_here : (before count longer : ℕ) (o : Option AsmFaultKind) (rest : Option AsmFault) (found : AsmFault) → longer ≡ before + 1
+    → (rest ≡ Some found → IsWithin longer count found) → option_case o rest (λ kind. Some (fault_after before kind)) ≡ Some found
+    → IsWithin before (count + 1) found
+later_or_here before count longer None rest found more later is =
+    let bounds = later is in
+    (omega (arith, bounds.0, more), omega (arith, bounds.1, more))
+later_or_here before count longer (Some kind) rest found more later is =
+    let same : fault_after before kind ≡ found = cc in
+    let number : before + 1 ≡ found.line = ap (λ f. f.line) same in
+    (omega (arith, number), omega (arith, number))
+
+fault_line : (fault : List Reading → Reading → Option AsmFaultKind) (before lines : List Reading) (found : AsmFault)
+    → first_line_fault fault before lines ≡ Some found → IsWithin (length before) (length lines) found
+fault_line fault before [] found is = cc
+fault_line fault before (line ∷ lines) found is =
+    let bounds =
+    later_or_here (length before) (length lines) (length (before ++ line ∷ [])) (fault before line)
+    (first_line_fault fault (before ++ line ∷ []) lines) found (length-append before (line ∷ [])) (fault_line fault (before ++ line ∷ []) lines found) is in
+    (bounds.0, omega (arith, bounds.1))
+
+-- a fault of its own
+pub own_decides : (text : List ℕ) (fault : AsmFault) → first_line_fault own_fault [] (readings text) ≡ Some fault → assembled text ≡ Err fault
+unfolding assembled
+own_decides text fault is = rw is refl
+
+-- a label that stood before
+pub twice_decides : (text : List ℕ) (pass : FirstPass) (line : ℕ) → HasRead pass (readings text) → first_line_fault own_fault [] (readings text) ≡ None
+    → pass.repeated ≡ Some line → assembled text ≡ Err (label_twice line)
+unfolding assembled
+twice_decides text pass line has none is =
+    let twice : first_line_fault label_fault [] (readings text) ≡ Some (label_twice line) = has.repeated ∙ ap (option_map label_twice) is in
+    rw (none, twice) refl
+
+pub twice_line : (text : List ℕ) (pass : FirstPass) (line : ℕ) → HasRead pass (readings text) → pass.repeated ≡ Some line
+    → (1 ≤ line) × (line ≤ length (lines_of text))
+twice_line text pass line has is =
+    let bounds = fault_line label_fault [] (readings text) (label_twice line) (has.repeated ∙ ap (option_map label_twice) is) in
+    (omega (arith, bounds.0), omega (arith, bounds.1, length-readings text))
+
+-- a name, or the words
+not_twice : (text : List ℕ) (pass : FirstPass) → HasRead pass (readings text) → pass.repeated ≡ None → first_line_fault label_fault [] (readings text) ≡ None
+not_twice text pass has is = has.repeated ∙ ap (option_map label_twice) is
+
+pub name_decides : (text : List ℕ) (pass : FirstPass) (fault : AsmFault) → HasRead pass (readings text)
+    → first_line_fault own_fault [] (readings text) ≡ None → pass.repeated ≡ None
+    → first_line_fault (name_fault (places_of pass.labels)) [] (readings text) ≡ Some fault → assembled text ≡ Err fault
+unfolding assembled
+name_decides text pass fault has none once is =
+    let named : first_line_fault (name_fault (place_in (readings text))) [] (readings text) ≡ Some fault =
+    ap (λ labels. first_line_fault (name_fault labels) [] (readings text)) (sym has.labels) ∙ is in
+    rw (none, not_twice text pass has once, named) refl
+
+pub words_decide : (text : List ℕ) (pass : FirstPass) (words : List ℕ) → HasRead pass (readings text)
+    → first_line_fault own_fault [] (readings text) ≡ None → pass.repeated ≡ None
+    → first_line_fault (name_fault (places_of pass.labels)) [] (readings text) ≡ None → words ≡ words_from (places_of pass.labels) [] (readings text)
+    → assembled text ≡ Ok words
+unfolding assembled
+words_decide text pass words has none once named is =
+    let labelled : first_line_fault (name_fault (place_in (readings text))) [] (readings text) ≡ None =
+    ap (λ labels. first_line_fault (name_fault labels) [] (readings text)) (sym has.labels) ∙ named in
+    let made : words_of_lines (readings text) ≡ words = ap (λ labels. words_from labels [] (readings text)) (sym has.labels) ∙ sym is in
+    rw (none, not_twice text pass has once, labelled) (ap Ok made)
+
+pub words_decide_if : {Z : Type 0} (text : List ℕ) (pass : FirstPass) (r : Result (Vec ℕ Z) AsmFault) → HasRead pass (readings text)
+    → first_line_fault own_fault [] (readings text) ≡ None → pass.repeated ≡ None
+    → IfOk r (λ words. (words.items ≡ words_from (places_of pass.labels) [] (readings text))
+    × (first_line_fault (name_fault (places_of pass.labels)) [] (readings text) ≡ None)) → IfOk r (λ words. assembled text ≡ Ok words.items)
+words_decide_if text pass (Ok words) has none once found = words_decide text pass words.items has none once found.1 found.0
+words_decide_if text pass (Err fault) has none once found = tt
+
+-- the first pass fails for an error of a line's own, or for memory
+pub own_fails : (text : List ℕ) (fault : AsmFault) → (first_line_fault own_fault [] (readings text) ≡ Some fault) ⊎ LacksForLabel (readings text) fault
+    → FailsFor text fault
+own_fails text fault (inl own) = inl (own_decides text fault own)
+own_fails text fault (inr lacks) = inr (inl lacks)
+
+-- the second for a name, or for memory
+pub name_fails_if : {A : Type 0} (text : List ℕ) (pass : FirstPass) (r : Result A AsmFault) → HasRead pass (readings text)
+    → first_line_fault own_fault [] (readings text) ≡ None → pass.repeated ≡ None
+    → IfErr r (λ fault. (first_line_fault (name_fault (places_of pass.labels)) [] (readings text) ≡ Some fault)
+    ⊎ ((fault.kind ≡ NoMemory) × (first_line_fault (name_fault (places_of pass.labels)) [] (take fault.line (readings text)) ≡ None))) → IfErr r (FailsFor text)
+name_fails_if text pass (Ok words) has none once found = tt
+name_fails_if text pass (Err fault) has none once (inl named) = inl (name_decides text pass fault has none once named)
+name_fails_if text pass (Err fault) has none once (inr lacks) = inr (inr (record {
+  memory = lacks.0;
+  own = none;
+  labels = not_twice text pass has once;
+  names = ap (λ labels. first_line_fault (name_fault labels) [] (take fault.line (readings text))) (sym has.labels) ∙ lacks.1;
+}))

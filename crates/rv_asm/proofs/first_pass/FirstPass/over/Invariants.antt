@@ -1,0 +1,12 @@
+use Rattle.std.proofs.Common.{◌+◌, ◌≤◌, length}
+use Rattle.rv_asm.proofs.PassLemmas.{HasReadUpTo}
+use Rattle.rv_asm.proofs.first_pass.FirstPass.over.Given as goal
+
+abbrev pub invariant-loop-line : goal.invariant-loop-line
+invariant-loop-line l = record {
+  read : HasReadUpTo l.pass l.text l.rest;
+  count : l.pass.lines + length l.rest ≤ length l.text;
+}
+
+abbrev pub decreases-loop-line : goal.decreases-loop-line
+decreases-loop-line l = length l.rest

@@ -1,0 +1,17 @@
+use Rattle.std.proofs.Common.{arith}
+use Rattle.rv_asm.proofs.WordLemmas.{fails_or_lacks, writes_on}
+use Rattle.rv_asm.proofs.second_pass.words_of.Goals as goal
+
+pub returns-in-Err-clause-fault : goal.returns-in-Err-clause-fault
+returns-in-Err-clause-fault c =
+    fails_or_lacks _ c.loop-line.words.items c.loop-line.lines c.args.text.now c.loop-line.rest.now c.in-Some.after.now c.in-Some.line.now c.in-Err.kind
+    c.loop-line.invariant.written c.in-Some.ensures.lines c.in-Err.ensures.fault
+
+pub loop-line-preserved : goal.loop-line-preserved
+loop-line-preserved c =
+    let (added, gives, made) = c.in_default-add_words.ensures.ok in record {
+      written =
+          writes_on _ c.loop-line.words.items c.add_words.new.words.items added c.loop-line.lines c.args.text.now c.loop-line.rest.now
+          c.in-Some.after.now c.in-Some.line.now c.loop-line.invariant.written c.in-Some.ensures.lines gives made c.in_default-add_words.ensures.len;
+      count = omega (arith, c.in-Some.ensures.shorter, c.loop-line.invariant.count);
+    }

@@ -1,0 +1,33 @@
+-- The state of the first pass over the lines of an assembler text. (This project's own assembler.)
+use Rattle.std.specs.Prelude.{◌≡◌, ℕ, ◌+◌, ◌≤◌, [], List, length, Option, Some, None, is_some, option_map, if◌then◌else◌}
+use Rattle.rv_word.specs.Cases.{option_case}
+use Rattle.rv_asm.specs.LabelMap.{places_of}
+use Rattle.rv_asm.specs.Program.{Reading, is_label, words_in, place_in, first_line_fault, label_fault}
+use Rattle.rv_asm.specs.declared.first_pass.FirstPass.{FirstPass}
+use Rattle.rv_asm.specs.declared.fault.AsmFault.{AsmFault}
+use Rattle.rv_asm.specs.declared.fault.AsmFaultKind.TheVariants.{LabelTwice}
+
+abbrev pub label_twice : ℕ → AsmFault
+label_twice line = record { line = line; kind = LabelTwice }
+
+-- The state after just these lines: their number and that of their words, the addresses of their labels, and the first line that repeats a
+-- label.
+pub record HasRead (pass : FirstPass) (lines : List Reading) : Type 0 where
+  pub count : pass.lines ≡ length lines
+  pub words : pass.words ≡ words_in lines
+  pub few : words_in lines ≤ 65536
+  pub labels : places_of pass.labels ≡ place_in lines
+  pub repeated : first_line_fault label_fault [] lines ≡ option_map label_twice pass.repeated
+
+-- the first line that repeats a label, after one more line with this label
+abbrev pub repeated_with : FirstPass → Option (List ℕ) → Option ℕ
+repeated_with pass None = pass.repeated
+repeated_with pass (Some name) =
+    if is_some (places_of pass.labels name) then option_case pass.repeated (Some (pass.lines + 1)) Some else pass.repeated
+
+-- the next line has this label, or none
+pub record AddsLabel (old new : FirstPass) (label : Option (List ℕ)) : Type 0 where
+  pub count : new.lines ≡ old.lines
+  pub words : new.words ≡ old.words
+  pub labels : (name : List ℕ) → places_of new.labels name ≡ option_case (places_of old.labels name) (if is_label name label then Some old.words else None) Some
+  pub repeated : new.repeated ≡ repeated_with old label

@@ -1,0 +1,63 @@
+-- The effects of commands on the target, of five kinds, and the target after each. (This project's own commands.)
+use Rattle.std.specs.Prelude.{ℕ, Bool, nat_lt, List, [], replicate, if◌then◌else◌}
+use Rattle.rv_debug.specs.Prelude.{Command, Hart, Poke, Run, Sched, SetReg, Step, Target, Timer, harts_in, has_all, option_case}
+use Rattle.rv_debug.specs.BenchState.{BenchState}
+use Rattle.rv_debug.specs.ScheduledSteps.{schedule_start, scheduled_steps}
+use Rattle.rv_debug.specs.Steps.{AfterRun, no_steps, run}
+use Rattle.rv_debug.specs.Targets.{chosen_of, harts_of, pc_of, target_stepped, register_set, timer_set, poked, with_chosen}
+
+-- no effect; steps of these harts in this order, after which the given hart is chosen; a write of a register of the chosen hart; a change
+-- of its timer line; a write of a byte, if its address is in memory
+pub data Effect : Type 0 where
+  Nothing : Effect
+  Steps : (harts : List ℕ) (chosen : ℕ) → Effect
+  Register : (number value : ℕ) → Effect
+  TimerLine : (raised : Bool) → Effect
+  OneByte : (address byte : ℕ) → Effect
+
+-- ---- the target after an effect
+
+abbrev pub done : Target → Effect → Target
+done target Nothing = target
+done target (Steps harts chosen) = with_chosen chosen (scheduled_steps harts (schedule_start target)).state
+done target (Register number value) = register_set target number value
+done target (TimerLine raised) = timer_set target raised
+done target (OneByte address byte) = option_case (poked target address byte) target (λ after. after)
+
+-- the slots of the enclaves that the effect enters, as bits
+abbrev pub entered_by : Target → Effect → ℕ
+entered_by target (Steps harts chosen) = (scheduled_steps harts (schedule_start target)).did.entered
+entered_by target _ = 0
+
+-- the harts whose steps the effect executes, one for each step, in order
+abbrev pub harts_stepped : Effect → List ℕ
+harts_stepped (Steps harts chosen) = harts
+harts_stepped _ = []
+
+-- ---- the effect of a command
+
+-- at most `count` steps of the chosen hart; a watchpoint or a breakpoint may end them
+abbrev pub steps_of : Target → List ℕ → List ℕ → ℕ → AfterRun Target
+steps_of target breaks watches count = run target_stepped pc_of breaks watches count (no_steps target)
+
+abbrev pub run_effect : Target → List ℕ → List ℕ → ℕ → Effect
+run_effect target breaks watches count =
+    Steps (replicate (steps_of target breaks watches count).ran.steps (chosen_of target)) (chosen_of target)
+
+-- a hart is chosen, if there is one with this number
+abbrev pub hart_effect : Target → ℕ → Effect
+hart_effect target hart = if nat_lt hart (harts_of target) then Steps [] hart else Nothing
+
+-- the steps of a schedule do not change the chosen hart; if the schedule names a hart that does not exist, no step is executed
+abbrev pub sched_effect : Target → List ℕ → Effect
+sched_effect target harts = if has_all (harts_of target) harts then Steps harts (chosen_of target) else Nothing
+
+abbrev pub effect : BenchState → Command → Effect
+effect bench (Step count) = run_effect bench.target [] [] count
+effect bench (Run count) = run_effect bench.target bench.breaks bench.watches count
+effect bench (SetReg number value) = Register number value
+effect bench (Poke address byte) = OneByte address byte
+effect bench (Timer raised) = TimerLine raised
+effect bench (Hart hart) = hart_effect bench.target hart
+effect bench (Sched schedule) = sched_effect bench.target (harts_in schedule)
+effect bench _ = Nothing

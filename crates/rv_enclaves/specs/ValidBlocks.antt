@@ -1,0 +1,15 @@
+-- Valid blocks of memory: those in RAM that one NAPOT entry can cover (Privileged 3.7.1). The least size of 4096 bytes is this project's
+-- profile of Keystone, EuroSys 2020.
+use Rattle.std.specs.Prelude.{ℕ, ◌%◌, ◌^◌, ◌==◌, Bool, ◌&&◌, List}
+use Rattle.std.specs.List.{range_with_len, list_any}
+use Rattle.rv_platform.specs.declared.block.Block.{Block}
+use Rattle.rv_memory.specs.Memory.{is_inside}
+
+-- the sizes of valid blocks: the powers of two from 4096 up
+abbrev pub is_block_size : ℕ → Bool
+is_block_size size = list_any (λ k. size == 2 ^ k) (range_with_len 12 20)
+
+-- a valid block has such a size, a base that is a multiple of it, and is in the memory
+unfoldable pub is_valid_block : List ℕ → Block → Bool
+is_valid_block memory block =
+    is_block_size block.size && (block.base % block.size == 0 && is_inside memory block.base block.size)

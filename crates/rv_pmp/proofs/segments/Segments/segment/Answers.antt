@@ -1,0 +1,14 @@
+use Rattle.std.proofs.Common.{leb, arith, rules, length, ◌≤◌}
+use Rattle.std.proofs.lemmas.List.Sorted.{IsPartitionPoint-from_clause, IsPartitionedBy-leb}
+use Rattle.rv_pmp.proofs.SegmentLemmas.{used_rise, at_segment}
+use Rattle.rv_pmp.proofs.segments.Segments.segment.Goals as goal
+
+pub returns : goal.returns
+returns c =
+    let s = c.args.self.now in
+    let byte = c.args.byte in
+    let fits : s.count ≤ length s.ends = omega (arith, c.requires.order.at_most) in
+    let parted = IsPartitionedBy-leb (λ end. end) _ byte (used_rise s c.requires.order fits) in
+    let point = IsPartitionPoint-from_clause (λ end. leb end byte) _ _ c.partition_point.ensures.partitioned parted (λ a r q k. search rules) in
+    let is = at_segment s byte c.partition_point.result fits c.requires.inside c.partition_point.ensures.bound point in
+    record { used = is.used; in_range = omega (arith, is.used, c.requires.order.at_most); from = is.from; to = is.to }

@@ -1,0 +1,32 @@
+-- Coherence of the cache with the PMP entries. (Not defined by the manual. No public contract names it.)
+use Rattle.std.specs.Prelude.{◌≡◌, if◌then◌else◌, false}
+use Rattle.rv_pmp.specs.declared.cache.Cache.{Cache}
+use Rattle.rv_pmp.specs.declared.caches.Caches.{Caches}
+use Rattle.rv_pmp.specs.declared.open_range.OpenRange.{OpenRange}
+use Rattle.rv_pmp.specs.Entries.{Entries, HasSixteen}
+use Rattle.rv_pmp.specs.Cache.OpenRanges.{AreOpen}
+use Rattle.rv_pmp.specs.Cache.Segments.{AreSegments}
+
+-- there are sixteen entries, the segments are theirs unless they are stale, and the cached ranges are open
+abbrev pub IsCacheOf : Entries → Cache → Type 0
+IsCacheOf entries cache =
+    HasSixteen entries
+    × (cache.is_stale ≡ false → AreSegments entries cache.segments)
+    × AreOpen entries cache.ranges
+
+-- the cache with another range for a kind of access
+abbrev pub with_fetch : Cache → OpenRange → Cache
+with_fetch cache range = record cache { ranges = record cache.ranges { fetch = range } }
+
+abbrev pub with_read : Cache → OpenRange → Cache
+with_read cache range = record cache { ranges = record cache.ranges { read = range } }
+
+abbrev pub with_write : Cache → OpenRange → Cache
+with_write cache range = record cache { ranges = record cache.ranges { write = range } }
+
+-- the cache of the current entries, and that of the previous ones
+unfoldable pub cache_now : Caches → Cache
+cache_now caches = if caches.is_second then caches.second else caches.first
+
+unfoldable pub cache_before : Caches → Cache
+cache_before caches = if caches.is_second then caches.first else caches.second

@@ -1,0 +1,67 @@
+-- The address space in segments, each with the matching entry of its bytes. (Not defined by the manual. No public contract names it.)
+use Rattle.std.specs.Prelude.{ℕ, ◌-◌, ◌<◌, ◌≤◌, ◌^◌, ◌≡◌, ◌==◌, ◌&&◌, nat_le, nat_lt, Bool, true, if◌then◌else◌}
+use Rattle.std.specs.Prelude.{List, Option, Some, None, min, slice_index, slice_index_or}
+use Rattle.std.specs.List.{range_with_len, find, Contains}
+use Rattle.rv_pmp.specs.declared.entry_ranges.EntryRanges.{EntryRanges}
+use Rattle.rv_pmp.specs.declared.segments.Segments.{Segments}
+use Rattle.rv_pmp.specs.Entries.{Entries}
+use Rattle.rv_pmp.specs.Covers.{covers}
+use Rattle.rv_pmp.specs.Verdicts.{match_verdict, no_match_verdict}
+use Rattle.rv_pmp.specs.declared.mode.Mode.{Mode}
+use Rattle.rv_pmp.specs.declared.access.Access.{Access}
+use Rattle.rv_pmp.specs.declared.verdict.Verdict.{Verdict}
+use Rattle.rv_pmp.specs.declared.verdict.Verdict.TheVariants.{DeniedPartial}
+
+-- the matching entry of a byte: the lowest of the sixteen that covers it, or none
+unfoldable pub byte_match : (ℕ → ℕ → Bool) → ℕ → Option ℕ
+byte_match covering byte = find (λ i. covering i byte) (range_with_len 0 16)
+
+-- whether range i has a byte
+abbrev pub is_within : EntryRanges → ℕ → ℕ → Bool
+is_within ranges i byte = nat_le (slice_index ranges.from i) byte && nat_lt byte (slice_index ranges.to i)
+
+-- the ranges are those of the entries
+abbrev pub AreRanges : Entries → EntryRanges → Type 0
+AreRanges entries ranges = (i byte : ℕ) → i < 16 → covers entries i byte ≡ is_within ranges i byte
+
+-- both ends of each nonempty range are among the bounds, and so is 2^35
+pub record AreBounds (ranges : EntryRanges) (bounds : List ℕ) : Type 0 where
+  pub from : (i : ℕ) → i < 16 → slice_index ranges.from i < slice_index ranges.to i → Contains bounds (slice_index ranges.from i)
+  pub to : (i : ℕ) → i < 16 → slice_index ranges.from i < slice_index ranges.to i → Contains bounds (slice_index ranges.to i)
+  pub last : Contains bounds (2 ^ 35)
+
+-- the start of segment k: the end of the one before it, or 0
+abbrev pub start_of : Segments → ℕ → ℕ
+start_of segments k = if k == 0 then 0 else slice_index segments.ends (k - 1)
+
+-- the end of the last segment
+abbrev pub reach_of : Segments → ℕ
+reach_of segments = start_of segments segments.count
+
+-- there are at most 33 segments, and none is empty
+pub record AreInOrder (segments : Segments) : Type 0 where
+  pub at_most : segments.count ≤ 33
+  pub ascending : (k : ℕ) → k < segments.count → start_of segments k < slice_index segments.ends k
+
+-- each byte of a segment has the matching entry of the segment
+abbrev pub AreMatched : (ℕ → ℕ → Bool) → Segments → Type 0
+AreMatched covering segments =
+    (k byte : ℕ) → k < segments.count → start_of segments k ≤ byte → byte < slice_index segments.ends k →
+    byte_match covering byte ≡ slice_index_or segments.byte_matches k None
+
+-- The segments are those of the entries, and have every address below 2^35.
+unfoldable pub AreSegments : Entries → Segments → Type 0
+AreSegments entries segments =
+    AreInOrder segments × (2 ^ 35 ≤ reach_of segments) × AreMatched (covers entries) segments
+
+-- the verdict on an access all of whose bytes have the same matching entry
+abbrev pub verdict_of_one : Entries → Mode → Access → Option ℕ → Verdict
+verdict_of_one entries mode access None = no_match_verdict mode
+verdict_of_one entries mode access (Some i) = match_verdict entries mode access i true
+
+-- the verdict on an access of at most four bytes, by the matching entries of its first and its last byte
+abbrev pub verdict_of_two : Entries → Mode → Access → Option ℕ → Option ℕ → Verdict
+verdict_of_two entries mode access None None = no_match_verdict mode
+verdict_of_two entries mode access (Some i) None = DeniedPartial i
+verdict_of_two entries mode access None (Some j) = DeniedPartial j
+verdict_of_two entries mode access (Some i) (Some j) = match_verdict entries mode access (min i j) (i == j)

@@ -1,0 +1,41 @@
+-- The representation of the counters and of the pending interrupts: both counters share one count of steps, and mip is one word. (Not
+-- defined by the manual. No public contract names it.)
+use Rattle.std.specs.Prelude.{ℕ, zero, suc, ◌+◌, ◌%◌, ◌^◌, Bool, if◌then◌else◌}
+use Rattle.rv_word.specs.BitFields.{is_set, flag}
+use Rattle.rv_state.specs.Counters.{incremented}
+use Rattle.rv_state.specs.Interrupts.{software_pending_of}
+
+-- both counters, and mcountinhibit
+pub record CountersState : Type 0 where
+  pub mcycle : ℕ
+  pub minstret : ℕ
+  pub inhibit : ℕ
+
+-- the value of a counter: the stored value if it is inhibited, and else the sum of that and the count
+abbrev pub running : Bool → ℕ → ℕ → ℕ
+running is_held kept count = if is_held then kept else (kept + count) % 2 ^ 64
+
+-- a counter, inhibited or not, after `steps` steps
+abbrev pub later : Bool → ℕ → ℕ → ℕ
+later is_held counter zero = counter
+later is_held counter (suc steps) = incremented (later is_held counter steps) is_held
+
+-- both counters after `steps` steps, each of which retired and wrote no counter
+abbrev pub counted_on : ℕ → CountersState → CountersState
+counted_on steps c = record c {
+  mcycle = later (is_set c.inhibit 0) c.mcycle steps;
+  minstret = later (is_set c.inhibit 2) c.minstret steps;
+}
+
+-- the software interrupts that are pending, and the timer line
+pub record RaisedState : Type 0 where
+  pub software : ℕ
+  pub timer : Bool
+
+-- both, of one word
+abbrev pub raised_in : ℕ → RaisedState
+raised_in word = record { software = software_pending_of word; timer = is_set word 7 }
+
+-- the word that mip reads
+abbrev pub mip_of : RaisedState → ℕ
+mip_of raised = software_pending_of raised.software + flag 7 raised.timer
