@@ -90,7 +90,7 @@ class Cases:
         return {
             "--forbid CONDITION": self.counted("--forbid", "80011000 == 2"),
             "--forbid is not": self.counted("--forbid", "80011000 == 99", "--seconds", "0"),
-            "--seconds ends races": self.counted("--seconds", "0"), "not all was": ("races", files.loop, "--steps", "99"),
+            "races was cut by": self.counted("--seconds", "0"), "not all was": ("races", files.loop, "--steps", "99"),
             "--forbid is NAME": self.counted("--forbid", "80011000"), "--forbid compares": self.counted("--forbid", "80011000 == many"),
             "--outcome is": self.counted("--outcome", "nowhere"), "--outcome PLACE": self.counted("--outcome", "80011000:0x4"),
             "the step at ADDRESS reads": ("races", files.cycle), "DIR: WHY": self.counted("--scripts", files.text)}

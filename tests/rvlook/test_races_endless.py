@@ -231,3 +231,11 @@ def test_bound_of_preemptions_keeps_the_final_states_that_need_none(final_states
     whole, bounded = (reported(final_states(model.image_of(program), *WATCHED, **bounds)[1]) for bounds in ({}, {"preemptions": 0}))
     assert bounded <= whole
     assert {it[2][0] for it in bounded} == {0, 16, 800}  # to leave a hart in its endless loop is no preemption
+
+
+def test_search_without_a_time_limit_is_bounded(final_states, monkeypatch):
+    from rvlook.finders.races import search as races
+    monkeypatch.setattr(races, "MOST_PLACES", 3)
+    search, _ = final_states(model.image_of(model.linked(VICTIMS["one load"], VALUES + [NOP, *STORES, ("jal", 3)])), *WATCHED)
+    assert search.why_cut == "the bound of 3 places"
+    assert not search.is_whole()

@@ -19,6 +19,7 @@ if TYPE_CHECKING:
     from rvlook.finders.races.machine import Context, Look, Machine, Outcome, Piece, Way
     from rvlook.finders.races.loop import Loop
 
+MOST_PLACES = 500000  # states with the hart that stepped last; the search ends there, and is not whole
 MOST_ALONE = 10000  # moves of one hart in succession; then it is reported as not ended, and the search is not whole
 SEARCH_SHARE = 0.85  # of the time limit; the rest is for the analysis of the graph and for the replays
 
@@ -253,6 +254,9 @@ class Search:
             self.waiting = len(heap)
             if self.progress:
                 self.progress(self)
+            if len(self.done) >= MOST_PLACES:
+                self.why_cut = "the bound of %d places" % MOST_PLACES
+                return True
             for following in self.next_nodes(node):
                 heapq.heappush(heap, (following.cost, next(order), following))
         self.earlier = None

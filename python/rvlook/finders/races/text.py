@@ -282,7 +282,7 @@ def note_cut(findings: Findings, stories: Sequence[Story], search: Search, found
     elif long:
         findings.cut_short("not all was searched: " + long[0].heading())
     else:
-        findings.cut_short("--seconds ends races: not all was searched")
+        findings.cut_short("races was cut by %s: not all was searched" % (search.why_cut or "--seconds"))
 
 
 def note_forbidden(findings: Findings, stories: Sequence[Story], bad: Sequence[tuple[Condition, End]], conditions: Sequence[Condition]) -> None:
