@@ -87,7 +87,7 @@ class Runs:
         return found
 
     def stopped(self, words):
-        """Runs it, and sends SIGINT after a second; later if it had not yet begun."""
+        """Runs it, and sends SIGINT after a second; later if it had not yet begun, or if Python dropped the signal in a finalizer."""
         for pause in (1, 2, 4):
             with subprocess.Popen([self.look, *map(str, words)], cwd=self.root, stdin=subprocess.PIPE, stdout=subprocess.DEVNULL,
                                   stderr=subprocess.PIPE, text=True, env=self.environment,
@@ -95,7 +95,7 @@ class Runs:
                 time.sleep(pause)
                 process.send_signal(signal.SIGINT)
                 _, told = process.communicate(timeout=60)
-            if process.returncode != -signal.SIGINT:
+            if process.returncode != -signal.SIGINT and "Exception ignored" not in told:
                 break
         return process.returncode, told.splitlines()
 
