@@ -3,6 +3,12 @@ import pytest
 from support.mutants import Mutant, check_noticed, id_of
 
 MUTANTS = (
+    Mutant("frames_below_a_stack_are_not_seen", "access/stack.py", "    frame = FRAME.match(instruction.text)\n", "    frame = None\n",
+           "test_stack.py::test_a_frame_below_the_stack_is_found"),
+    Mutant("any_address_is_inside_a_stack", "access/stack.py", "if not any(it.bottom <= address and last < it.top for", "if not any(it.top for",
+           "test_stack.py::test_a_frame_below_the_stack_is_found"),
+    Mutant("a_stack_overflow_is_no_finding", "cli/subcommands.py", "        arguments.findings.add(\"stack\", overflow_text(it, symbols))\n", "",
+           "test_stack.py::test_a_frame_below_the_stack_is_found"),
     Mutant("values are dropped if a hart goes on", "finders/races/ends.py", "if LEFT not in harts and (LONG not in harts or OVER in harts):",
            "if GOES_ON not in harts and LONG not in harts:",
            "test_races_endless.py::test_final_states_beside_one_endless_loop_are_those_of_all_orders"),
