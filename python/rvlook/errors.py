@@ -3,7 +3,7 @@ from __future__ import annotations
 
 import sys
 
-FOUND, REFUSED, UNFINISHED = 1, 2, 3  # statuses (docs/LOOK.md, How it ends); 2 as argparse and the bench have it
+FOUND, REFUSED, UNFINISHED = 1, 2, 3  # statuses (docs/LOOK.md, Exit statuses); 2 as argparse and the bench have it
 
 
 class Fault(Exception):

@@ -34,10 +34,10 @@ def faults():
     read = set(re.findall(r'\("(\w+)", Keyword::', text(READ)))
     rows = re.search(r"^\| command \| operands \| reply \|\n\|[-|]+\n((?:\|.*\n)+)", text(PAGE), re.M)[1]
     page = of_page("".join(row.split("|")[1] for row in rows.splitlines()))
-    meant = of_page(re.search(r"^\| of the chosen hart \|.*\n\|[-|]+\n(.*)", text(PAGE), re.M)[1])
+    meant = of_page(re.search(r"^\| of the selected hart \|.*\n\|[-|]+\n(.*)", text(PAGE), re.M)[1])
     told = re.search(r'const FIRST_SCRIPT: &str =.*?Commands of a script(.*?)";', text(HELP), re.S)[1]
     helped = {word for line in told.splitlines()[1:] for word in re.findall(r"(?:^|, )([a-z]+)", re.split(" {2}", line.strip())[0])}
-    has = {PAGE: set(page), PAGE + ": the chosen hart": set(meant) | {"hart"}, HELP: helped,
+    has = {PAGE: set(page), PAGE + ": the selected hart": set(meant) | {"hart"}, HELP: helped,
            "tests/models/monitor_bench.py": set(FORMS), "python/rvlook/protocol/commands.py": set(COMMANDS),
            "tests/generators/twin_command_cases.py": {it.split()[0] for it in EVERY} | OF_HARTS}
     for place, names in has.items():

@@ -21,10 +21,13 @@ LIMIT = 60  # seconds of a session
 
 
 def sessions_of(text):
-    """The sessions of a page: the file, the options of the server, and the commands, each with its debugger and what it prints."""
+    """The sessions of a page: the file, the options of the server, and the commands, each with its debugger and what it prints. A command
+    line without a session below it is left out."""
     heads = list(HEAD.finditer(text))
     for head, end in zip(heads, [it.start() for it in heads[1:]] + [len(text)]):
-        yield head[2], head[1].strip(), STEP.findall(text[head.end():end])
+        steps = STEP.findall(text[head.end():end])
+        if steps:
+            yield head[2], head[1].strip(), steps
 
 
 SESSIONS = list(sessions_of(PAGE))

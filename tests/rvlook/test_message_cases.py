@@ -11,7 +11,7 @@ from conftest import EXAMPLES, PROGRAMS, ROOT, RVLOOK
 
 ROW = re.compile(r"^\| (\d+) \| `(.*)` \| .*\|$", re.M)
 ROWS = [(int(status), line.replace("\\|", "|")) for status, line in
-        ROW.findall((ROOT / "docs" / "LOOK.md").read_text(encoding="utf-8").split("## How it ends")[1])]
+        ROW.findall((ROOT / "docs" / "LOOK.md").read_text(encoding="utf-8").split("## Exit statuses")[1])]
 KEPT = ("RVBENCH",)  # in capitals, but no placeholder
 ADDS, LISTING, SUM = EXAMPLES / "enclaves" / "adds" / "image", EXAMPLES / "enclaves" / "adds" / "symbols", EXAMPLES / "programs" / "sum" / "stdin"
 LEAKS, OVERFLOW = IMAGES + "/leak/image", PROGRAMS / "stack_overflow"

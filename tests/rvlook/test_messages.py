@@ -19,7 +19,7 @@ ELSEWHERE = {  # functions whose texts are no line of `rvlook: `: they are print
 
 
 def rows():
-    text = (ROOT / "docs" / "LOOK.md").read_text(encoding="utf-8").split("## How it ends")[1]
+    text = (ROOT / "docs" / "LOOK.md").read_text(encoding="utf-8").split("## Exit statuses")[1]
     found = [row.replace("\\|", "|") for _, row in ROW.findall(text)]
     return found + [row.split(PREFIX)[1] for row in found if PREFIX in row]
 
