@@ -1,12 +1,12 @@
 //! Laws of the monitored machine over every state, for any crate above to cite. Each is proved of the definitions in `specs/`; those
-//! of a step are clauses of `Monitored::step` too.
+//! of a step are clauses of `MonitoredMachine::step` too.
 
-ghost use Rattle.rv_monitor.specs.Access.{KeptReachLaw};
-ghost use Rattle.rv_monitor.specs.Asked.{AskedLaw, AskedStepLaw};
+ghost use Rattle.rv_monitor.specs.AccessControl.{AccessControlLaw};
+ghost use Rattle.rv_monitor.specs.HandlerReads.{HandlerReadsLaw, StepReadsLaw};
 ghost use Rattle.rv_monitor.specs.Changes.{ChangeLaw};
-ghost use Rattle.rv_monitor.specs.Confidentiality.{BareLaw, ConfidentialityLaw, HandlerLaw};
-ghost use Rattle.rv_monitor.specs.HartLaws.{EntryLaw, KeptLaw, NotOwnLaw, RunningLaw, SchedChangeLaw, SchedKeptLaw, SchedLaw, SchedSparesLaw};
-ghost use Rattle.rv_monitor.specs.Integrity.{GoOnLaw, IntegrityLaw};
+ghost use Rattle.rv_monitor.specs.Noninterference.{BareLaw, NoninterferenceLaw, HandlerLaw};
+ghost use Rattle.rv_monitor.specs.HartLaws.{EntryLaw, InvariantLaw, LowStepsLaw, RunningLaw, SchedChangeLaw, SchedInvariantLaw, SchedLaw, SchedIntegrityLaw};
+ghost use Rattle.rv_monitor.specs.Integrity.{KeepsRunningLaw, IntegrityLaw};
 ghost use Rattle.rv_monitor.specs.Leaving.{LeaveLaw};
 ghost use Rattle.rv_monitor.specs.Refused.{RefusalLaw};
 ghost use Rattle.rv_monitor.specs.Returns.{ReturnLaw};
@@ -15,9 +15,9 @@ ghost use Rattle.rv_monitor.specs.SwitchLaws.{SwitchLaw};
 ghost use Rattle.rv_monitor.specs.Touches.{TouchLaw};
 
 /// Reach: in every state of the machine, S and U do an access to bytes in RAM exactly where it is in reach.
-#[tactic(auto, using(crate::proofs::KeptReaches::kept_reach))]
-pub const fn reach_kept()
-    ensures { KeptReachLaw }
+#[tactic(auto, using(crate::proofs::AccessControlLemmas::kept_reach))]
+pub const fn access_control()
+    ensures { AccessControlLaw }
 {}
 
 /// What the instruction of a step touches lies in its world's reach: the word at pc, which it fetches, and what it loads or stores.
@@ -28,7 +28,7 @@ pub const fn touches()
 
 /// What is true in every state is true after a step.
 pub const fn kept()
-    ensures { KeptLaw }
+    ensures { InvariantLaw }
 {}
 
 /// Integrity: a step leaves the record, the region and the context of each live enclave that is not the world of its hart, and that it
@@ -39,8 +39,8 @@ pub const fn integrity()
 {}
 
 /// An enclave that runs on one hart is neither entered nor ended by a step of another.
-pub const fn goes_on()
-    ensures { GoOnLaw }
+pub const fn continues()
+    ensures { KeepsRunningLaw }
 {}
 
 /// A step changes no byte of memory but those that its instruction stored, in its world's reach, the region of the enclave that a destroy
@@ -51,19 +51,19 @@ pub const fn changes()
 {}
 
 /// The hart's own step depends on no byte of the region of an enclave that is not its world.
-#[tactic(auto, using(crate::proofs::BlindSteps::bare_law))]
-pub const fn bare_step_is_blind()
+#[tactic(auto, using(crate::proofs::BareStepNoninterference::bare_law))]
+pub const fn bare_step_noninterference()
     ensures { BareLaw }
 {}
 
 /// Nor does the monitor's work after a trap depend on anything that is private to it, also where it enters it.
-pub const fn handler_is_blind()
+pub const fn handler_noninterference()
     ensures { HandlerLaw }
 {}
 
 /// Confidentiality: nor does a step of the monitored machine, wherever the enclave runs, also the one that enters it.
-pub const fn confidentiality()
-    ensures { ConfidentialityLaw }
+pub const fn noninterference()
+    ensures { NoninterferenceLaw }
 {}
 
 /// A call that is refused changes nothing but a0, a1, pc, and what every trap and return change.
@@ -87,21 +87,21 @@ pub const fn leaves()
 /// From the step with which the host of a hart enters an enclave to the one with which the enclave leaves, whatever steps of the harts lie
 /// between: the host goes on as it was before the first, past its ecall, but for a0 and a1.
 #[tactic(auto, using(crate::proofs::Returned::return_law))]
-pub const fn host_comes_back()
+pub const fn host_is_restored()
     ensures { ReturnLaw }
 {}
 
 /// The monitor's work after a trap asks of memory the bytes of the region that create measures, and of the kept contexts the one that
 /// run or resume enters; of measure's addresses it asks only whether they may be stored to.
-#[tactic(auto, using(crate::proofs::Asked::asked_law))]
-pub const fn handler_asks()
-    ensures { AskedLaw }
+#[tactic(auto, using(crate::proofs::HandlerReads::handler_reads_law))]
+pub const fn handler_reads()
+    ensures { HandlerReadsLaw }
 {}
 
 /// So does a step that traps.
-#[tactic(auto, using(crate::proofs::Asked::asked_step_law))]
-pub const fn trapping_step_asks()
-    ensures { AskedStepLaw }
+#[tactic(auto, using(crate::proofs::HandlerReads::step_reads_law))]
+pub const fn trapping_step_reads()
+    ensures { StepReadsLaw }
 {}
 
 /// What is private to an enclave, scrambled twice, is as it was.
@@ -112,22 +112,22 @@ pub const fn scrambled_twice()
 
 /// What is true in every state is true after steps of two harts in any order.
 pub const fn any_order_keeps()
-    ensures { SchedKeptLaw }
+    ensures { SchedInvariantLaw }
 {}
 
 /// Integrity in any order: steps of two harts spare each enclave that they leave alone, also while it runs on the hart that does not
 /// step.
-pub const fn any_order_spares()
-    ensures { SchedSparesLaw }
+pub const fn any_order_integrity()
+    ensures { SchedIntegrityLaw }
 {}
 
 /// An enclave that runs on one hart is left alone by steps of the others in any order.
-pub const fn runs_beside()
+pub const fn running_is_undisturbed()
     ensures { RunningLaw }
 {}
 
 /// Confidentiality in any order: two machines that agree but for an enclave show and leave the same in steps of which none is its own.
-pub const fn any_order_is_blind()
+pub const fn any_order_noninterference()
     ensures { SchedLaw }
 {}
 
@@ -137,13 +137,13 @@ pub const fn only_entry_runs()
 {}
 
 /// So steps of harts on which an enclave does not run are not its own, up to and with the one that enters it.
-#[tactic(auto, using(crate::proofs::HartsAlike::not_own))]
-pub const fn not_own_up_to_entry()
-    ensures { NotOwnLaw }
+#[tactic(auto, using(crate::proofs::SchedNoninterference::low_steps))]
+pub const fn low_steps_up_to_entry()
+    ensures { LowStepsLaw }
 {}
 
 /// Steps of two harts in any order change no byte but those that one of them changes, as a step of its hart may.
-#[tactic(auto, using(crate::proofs::HartsSpare::sched_changes))]
+#[tactic(auto, using(crate::proofs::SchedIntegrity::sched_changes))]
 pub const fn any_order_changes()
     ensures { SchedChangeLaw }
 {}

@@ -1,5 +1,5 @@
 use Rattle.std.proofs.Common.{arith}
-use Rattle.rv_enclaves.proofs.Kept.{layout_from_each}
+use Rattle.rv_enclaves.proofs.InvariantLemmas.{layout_from_each}
 use Rattle.rv_enclaves.proofs.layout.write_layout.Goals as goal
 
 -- all sixteen are

@@ -1,4 +1,4 @@
-use Rattle.rv_monitor.proofs.Kept.{kept_law}
+use Rattle.rv_monitor.proofs.InvariantLemmas.{kept_law}
 use Rattle.rv_monitor.proofs.laws.kept.Goals as goal
 
 pub returns : goal.returns
