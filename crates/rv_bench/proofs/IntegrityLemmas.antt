@@ -1,7 +1,7 @@
 -- Every script spares each enclave that rests through a part of it, by the law of one command.
 use Rattle.std.proofs.Common.{◌≡◌, ℕ, List, [], ◌∷◌, Result, Ok, Err, IfOk, refl, sym, ◌∙◌, subst}
 use Rattle.rv_word.specs.Cases.{result_case}
-use Rattle.rv_debug.specs.Execute.{respond, execute_or_fault, execute_line}
+use Rattle.rv_debug.specs.Execute.{execute, execute_or_fault, execute_line}
 use Rattle.rv_debug.specs.BenchState.{BenchState}
 use Rattle.rv_script.specs.Command.{parse_of}
 use Rattle.rv_debug.specs.Isolation.{after_commands, IsPreservedIn}
@@ -28,7 +28,7 @@ after_lines bench (line ∷ lines) = go (λ next. after_lines next lines) (parse
   go : ((next : BenchState) → state_after bench_line next lines ≡ after_commands next (commands_of lines)) → (parsed : Result Command CommandFault)
       → state_after bench_line (execute_or_fault bench parsed).state lines
       ≡ after_commands bench (result_case parsed (λ command. command ∷ commands_of lines) (λ _. commands_of lines))
-  go later (Ok command) = later (respond bench command).state
+  go later (Ok command) = later (execute bench command).state
   go later (Err fault) = later bench
 
 pub keeps_line : (bench : BenchState) (line : List ℕ) → TargetInvariant bench.target → TargetInvariant (execute_line bench line).state.target

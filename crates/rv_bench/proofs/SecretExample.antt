@@ -9,7 +9,7 @@ use Rattle.rv_text.specs.Words.{words_of}
 use Rattle.rv_script.specs.Command.{keyword_of, meaning_of, parse_of}
 use Rattle.rv_script.specs.Numbers.{hexadecimal_of, byte_of_text}
 use Rattle.rv_script.specs.declared.command.Command.TheVariants.{Poke}
-use Rattle.rv_debug.specs.Execute.{respond}
+use Rattle.rv_debug.specs.Execute.{execute}
 use Rattle.rv_debug.specs.BenchState.{BenchState}
 use Rattle.rv_debug.specs.BothBenches.{can_scramble, is_blind, region_in}
 use Rattle.rv_command_line.specs.declared.setup.Setup.{Setup}
@@ -37,15 +37,15 @@ pub record HasEnclave (bench : BenchState) : Type 0 where
   pub second : has (region_in 0 bench.target) 0x80020ffc ≡ true
 
 comment_passes : (bench : BenchState) → LineAvoidsEnclave 0 bench (codes "# that was the key")
-unfolding parse_of is_text meaning_of words_of is_blind respond
+unfolding parse_of is_text meaning_of words_of is_blind execute
 comment_passes bench = record { blind = refl; past = refl }
 
 enclaves_pass : (bench : BenchState) → LineAvoidsEnclave 0 bench (codes "enclaves")
-unfolding parse_of is_text meaning_of words_of keyword_of is_blind respond
+unfolding parse_of is_text meaning_of words_of keyword_of is_blind execute
 enclaves_pass bench = record { blind = refl; past = refl }
 
 regs_pass : (bench : BenchState) → LineAvoidsEnclave 0 bench (codes "regs")
-unfolding parse_of is_text meaning_of words_of keyword_of is_blind respond
+unfolding parse_of is_text meaning_of words_of keyword_of is_blind execute
 regs_pass bench = record { blind = refl; past = refl }
 
 first_poke : parse_of (codes "poke 80020000 41") ≡ Ok (Poke 0x80020000 0x41)

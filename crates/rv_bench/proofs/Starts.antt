@@ -2,7 +2,7 @@
 use Rattle.std.proofs.Common.{◌≡◌, ℕ, Bool, true, false, cond, List, length, replicate, Result, Ok, Err, IfOk, refl, ◌∙◌}
 use Rattle.rv_word.specs.Cases.{result_case}
 use Rattle.rv_memory.specs.Memory.{is_ram_size, ram_base}
-use Rattle.rv_monitor.proofs.Start.{start_kept}
+use Rattle.rv_monitor.proofs.Start.{start_invariant}
 use Rattle.rv_debug.specs.BenchState.{BenchState}
 use Rattle.rv_debug.specs.Targets.{TargetInvariant}
 use Rattle.rv_elf.specs.Loaded.{byte_after, loaded_memory}
@@ -66,7 +66,7 @@ reset_keeps : (setup : Setup) (memory : List ℕ) (entry : ℕ) → is_ram_size 
 reset_keeps setup memory entry valid = go setup.monitored where
   go : (monitored : Bool) → TargetInvariant (reset_over (record setup { monitored = monitored }) memory entry).target
   go false = tt
-  go true = start_kept memory entry setup.harts valid
+  go true = start_invariant memory entry setup.harts valid
 
 pub started_keeps : (image : List ℕ) (setup : Setup) → IfOk (started image setup) (λ state. TargetInvariant state.target)
 unfolding started

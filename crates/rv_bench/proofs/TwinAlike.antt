@@ -3,8 +3,8 @@ use Rattle.std.proofs.Common.{◌≡◌, ℕ, Bool, true, false, List, [], ◌�
 use Rattle.std.proofs.Common.{◌∙◌, ap, subst}
 use Rattle.std.specs.Prelude.{◌&&◌, ◌||◌, if◌then◌else◌}
 use Rattle.rv_word.specs.Cases.{result_case}
-use Rattle.rv_monitor.proofs.Scrambled.{scramble_equiv, scramble_kept}
-use Rattle.rv_debug.specs.Execute.{respond}
+use Rattle.rv_monitor.proofs.Scrambled.{scramble_equiv, scramble_invariant}
+use Rattle.rv_debug.specs.Execute.{execute}
 use Rattle.rv_debug.specs.BenchState.{BenchState}
 use Rattle.rv_script.specs.Command.{parse_of}
 use Rattle.rv_debug.specs.Noninterference.{AlikeBy, StayAlike}
@@ -48,7 +48,7 @@ module _ (slot : ℕ) where
   -- ---- one command
 
   abbrev done : BenchState → BenchState → Command → BothExecuted
-  done a b c = both_do slot (respond a c) (respond b c)
+  done a b c = both_do slot (execute a c) (execute b c)
 
   -- done by both, where it is blind in both, and else by neither
   abbrev after_if : Bool → BenchState → BenchState → Command → BothExecuted
@@ -67,7 +67,7 @@ module _ (slot : ℕ) where
     pub first : after.first ≡ after_commands a (done_by_both after.why c)
     pub second : after.second ≡ after_commands b (done_by_both after.why c)
 
-  ended : (x : Bool) (a : BenchState) (c : Command) → (respond a c).state ≡ after_commands a (done_by_both (if x then Entered else All) c)
+  ended : (x : Bool) (a : BenchState) (c : Command) → (execute a c).state ≡ after_commands a (done_by_both (if x then Entered else All) c)
   ended true a c = refl
   ended false a c = refl
 
@@ -200,7 +200,7 @@ module _ (slot : ℕ) where
 
   commands-append : (bench : BenchState) (xs ys : List Command) → after_commands bench (xs ++ ys) ≡ after_commands (after_commands bench xs) ys
   commands-append bench [] ys = refl
-  commands-append bench (x ∷ xs) ys = commands-append (respond bench x).state xs ys
+  commands-append bench (x ∷ xs) ys = commands-append (execute bench x).state xs ys
 
   lines_follow : (pair : Pair) (lines : List (List ℕ)) → Going pair
       → Follows pair (commands_done slot pair lines) (state_after (pair_line slot) pair lines)
@@ -236,7 +236,7 @@ module _ (slot : ℕ) where
       → TargetsEquivExcept slot target (scrambled_in slot target) × TargetInvariant (scrambled_in slot target)
   targets_pair (Bare machine) kept may = cc
   targets_pair (Monitored selected) kept may =
-      (record { hart = refl; state = scramble_equiv selected.state slot kept may }, scramble_kept selected.state slot kept may)
+      (record { hart = refl; state = scramble_equiv selected.state slot kept may }, scramble_invariant selected.state slot kept may)
 
   start_going : (bench : BenchState) → TargetInvariant bench.target → IfSome (make_pair slot bench) Going
   start_going bench kept = go (can_scramble slot bench) refl where

@@ -25,8 +25,8 @@ impl Responder for EqualBenches {
     ghost responding = { λ _. one_bench };
 
     fn respond_to_line(&mut self, line: &[u8], out: &mut Reply) {
-        self.second.respond_to_line(line, out);
-        self.first.respond_to_line(line, out);
+        self.second.execute_line(line, out);
+        self.first.execute_line(line, out);
     }
 
     fn is_over(&self) -> bool {

@@ -44,7 +44,7 @@ impl Responder for Bench {
     ghost responding = { λ _. one_bench };
 
     fn respond_to_line(&mut self, line: &[u8], out: &mut Reply) {
-        Bench::respond_to_line(self, line, out);
+        Bench::execute_line(self, line, out);
     }
 
     fn is_over(&self) -> bool {

@@ -2,8 +2,8 @@
 use Rattle.std.proofs.Common.{◌≡◌, ℕ, List, [], ◌∷◌, Option, Some, None, refl, sym, subst}
 use Rattle.rv_debug.specs.Prelude.{Bare, Command, Invariant, Monitored, Machine, Target, option_case, with_register, write}
 use Rattle.rv_debug.proofs.Prelude.{BenchState, Selected, Effect, IsBare, TargetInvariant, Nothing, OneByte, Register, Steps, TimerLine, execute}
-use Rattle.rv_debug.proofs.Prelude.{selected_hart_state, effect, done, kept_by_size, length-write, schedule_start, option_map, over_memory, sched_kept}
-use Rattle.rv_debug.proofs.Prelude.{written_kept}
+use Rattle.rv_debug.proofs.Prelude.{selected_hart_state, effect, done, invariant_by_size, length-write, schedule_start, option_map, over_memory, sched_invariant}
+use Rattle.rv_debug.proofs.Prelude.{written_invariant}
 use Rattle.rv_debug.proofs.ScheduledSteps.{by_bare, stays_bare, step_scheduled_bare, schedule_is_sched}
 
 -- what is left where a byte is written, or is not in memory
@@ -27,7 +27,7 @@ poke_keeps : (machine : Selected) (address byte : ℕ) (memory : Option (List �
     → Invariant machine.state → TargetInvariant (poke_of (Monitored machine) memory)
 poke_keeps machine address byte None is kept = kept
 poke_keeps machine address byte (Some memory) is kept =
-    kept_by_size machine.state memory kept (sym (length-write machine.state.shared.memory address (byte ∷ []) memory is))
+    invariant_by_size machine.state memory kept (sym (length-write machine.state.shared.memory address (byte ∷ []) memory is))
 
 -- ---- any target
 
@@ -35,11 +35,11 @@ pub effect_keeps : (target : Target) (d : Effect) → TargetInvariant target →
 effect_keeps (Bare machine) d kept = by_bare TargetInvariant (λ alone. tt) _ (bare_done machine d)
 effect_keeps (Monitored machine) Nothing kept = kept
 effect_keeps (Monitored machine) (Steps harts selected) kept =
-    subst TargetInvariant (sym (schedule_is_sched harts machine _ selected)) (sched_kept harts machine.state kept)
+    subst TargetInvariant (sym (schedule_is_sched harts machine _ selected)) (sched_invariant harts machine.state kept)
 effect_keeps (Monitored machine) (Register number value) kept =
     let hart = (selected_hart_state machine).hart in
-    written_kept machine.hart (with_register hart.regs number value) hart.csrs.timer machine.state kept
-effect_keeps (Monitored machine) (TimerLine raised) kept = written_kept machine.hart (selected_hart_state machine).hart.regs raised machine.state kept
+    written_invariant machine.hart (with_register hart.regs number value) hart.csrs.timer machine.state kept
+effect_keeps (Monitored machine) (TimerLine raised) kept = written_invariant machine.hart (selected_hart_state machine).hart.regs raised machine.state kept
 effect_keeps (Monitored machine) (OneByte address byte) kept =
     poke_keeps machine address byte (write machine.state.shared.memory address (byte ∷ [])) refl kept
 

@@ -22,7 +22,7 @@ use Rattle.rv_debug.proofs.Prelude.{NoninterferenceLaw, Effect, IsBare, TargetIn
 use Rattle.rv_debug.proofs.Prelude.{access_reply, execute, cases_Bool, cases_eq, cases_lt, changed_equiv, selected_at, csr_text, effect}
 use Rattle.rv_debug.proofs.Prelude.{dis_text, done, entered_by, gone_equal, hart_text, hart_summary_text, harts_summary_text, is_blind, is_entered}
 use Rattle.rv_debug.proofs.Prelude.{memory_text, no_csr_text, no_hart_text, no_steps, schedule_start, ok_text, option_map, outside_text}
-use Rattle.rv_debug.proofs.Prelude.{over_memory, own_kept, past_hart_state, pmp_text, ran_reply, ran_text, range_with_len, register_text}
+use Rattle.rv_debug.proofs.Prelude.{over_memory, hart_view_invariant, past_hart_state, pmp_text, ran_reply, ran_text, range_with_len, register_text}
 use Rattle.rv_debug.proofs.Prelude.{registers_text, run, run_effect, seen_block, shared_equiv, steps_of, scheduled_steps, with_selected, world_name}
 use Rattle.rv_debug.proofs.EffectsInvariant.{bare_done, keeps_monitor, poke_of}
 use Rattle.rv_debug.proofs.RunSchedules.{run_done, run_entered}
@@ -171,8 +171,8 @@ module _ (e hart : ℕ) (one other : MonitoredMachine) (equiv : EquivExcept e on
         | inl has ↦
             let tables = (let shared = equiv.shared in shared.table) in
             let of : Slots → World → Entries = λ slots world. layout slots world in
-            let mine = (own_kept hart one kept has).layout.entries in
-            let theirs = (own_kept hart other kept' (omega (arith, size, has))).layout.entries in
+            let mine = (hart_view_invariant hart one kept has).hart.layout.entries in
+            let theirs = (hart_view_invariant hart other kept' (omega (arith, size, has))).hart.layout.entries in
             mine ∙ ap₂ of tables own.world ∙ sym theirs
       ]
 

@@ -2,13 +2,13 @@
 use Rattle.std.proofs.Common.{◌≡◌, ◌≢◌, ℕ, ◌+◌, ◌<◌, ◌≤◌, ◌⊎◌, true, false, List, [], ◌∷◌, Option, Some, None, refl}
 use Rattle.std.proofs.Common.{sym, ◌∙◌, subst, inl, inr, arith, ap}
 use Rattle.rv_monitor.proofs.SchedIntegrity.{running_law, sched_changes, sched_integrity, preserved_twice}
-use Rattle.rv_monitor.proofs.AccessControlLemmas.{kept_reach}
+use Rattle.rv_monitor.proofs.AccessControlLemmas.{access_control_law}
 use Rattle.rv_debug.specs.Prelude.{Access, Bare, Command, Invariant, Monitored, RunsOnNone, Machine, Target, byte_at, has, read, region}
 use Rattle.rv_debug.specs.Prelude.{runs_on, hart_view, write}
 use Rattle.rv_debug.proofs.Prelude.{BenchState, ChangesMemory, Selected, Effect, IntegrityLaw, IsLiveIn, IsMonitored, IsPreservedIn, TargetInvariant}
 use Rattle.rv_debug.proofs.Prelude.{MayChange, OneByte, PokesNone, UndisturbedByEffect, RunningLaw, PreservesUndisturbed, Steps, ReportsAccess}
 use Rattle.rv_debug.proofs.Prelude.{after_commands, execute, byte_at-write, cases_eq, cases_lt, selected_of, effect, done, harts_of}
-use Rattle.rv_debug.proofs.Prelude.{harts_stepped, memory_of, own_kept}
+use Rattle.rv_debug.proofs.Prelude.{harts_stepped, memory_of, hart_view_invariant}
 use Rattle.rv_debug.proofs.EffectsInvariant.{keeps_monitor, poke_of}
 use Rattle.rv_debug.proofs.ScheduledSteps.{schedule_is_sched}
 
@@ -18,7 +18,7 @@ pub tells_reach : (target : Target) (command : Command) → TargetInvariant targ
 unfolding read
 tells_reach (Monitored selected) (Access mode access address width) kept has = λ below inside. record {
   told = rw inside refl;
-  exact = kept_reach (hart_view selected.hart selected.state) mode access address width (own_kept selected.hart selected.state kept has) below inside;
+  exact = access_control_law (hart_view selected.hart selected.state) mode access address width (hart_view_invariant selected.hart selected.state kept has) below inside;
 }
 tells_reach _ _ kept has = tt
 
@@ -49,18 +49,18 @@ none_rests k machine (OneByte address byte) not_running = not_running.0
 none_rests k machine (Steps harts selected) not_running = not_running
 none_rests k machine _ not_running = not_running
 
-integrity : (target : Target) (d : Effect) → TargetInvariant target → (k : ℕ) → UndisturbedByEffect k target d → IsPreservedIn k target (done target d)
-integrity (Bare machine) d kept k not_running = absurd (none_rests k machine d not_running)
-integrity (Monitored machine) (Steps harts selected) kept k not_running =
+preserves : (target : Target) (d : Effect) → TargetInvariant target → (k : ℕ) → UndisturbedByEffect k target d → IsPreservedIn k target (done target d)
+preserves (Bare machine) d kept k not_running = absurd (none_rests k machine d not_running)
+preserves (Monitored machine) (Steps harts selected) kept k not_running =
     subst (IsPreservedIn k (Monitored machine)) (sym (schedule_is_sched harts machine _ selected))
     (sched_integrity k harts machine.state kept not_running).preserved
-integrity (Monitored machine) (OneByte address byte) kept k not_running =
+preserves (Monitored machine) (OneByte address byte) kept k not_running =
     poke_integrity k address byte machine (write machine.state.shared.memory address (byte ∷ [])) refl not_running.1
-integrity (Monitored machine) _ kept k not_running = itself k machine
+preserves (Monitored machine) _ kept k not_running = itself k machine
 
 pub integrity_resting : (bench : BenchState) (command : Command) → TargetInvariant bench.target → PreservesUndisturbed bench command (execute bench command).state
 unfolding execute
-integrity_resting bench command kept = integrity bench.target (effect bench command) kept
+integrity_resting bench command kept = preserves bench.target (effect bench command) kept
 
 -- ---- an enclave that runs on a hart which no step is of
 

@@ -5,7 +5,7 @@ use Rattle.rv_debug.specs.Prelude.{Bare, Command, Invariant, MonitoredMachine, M
 use Rattle.rv_debug.specs.Prelude.{hart_state_at_start, hart_state_of, reprogrammed, step_of, timer_line_set, write}
 use Rattle.rv_debug.proofs.Prelude.{BenchState, Selected, Effect, KeepsHart, TargetInvariant, LeavesHart, Nothing, OneByte, Register, PreservesHarts}
 use Rattle.rv_debug.proofs.Prelude.{Steps, TimerLine, and_parts, execute, selected_at, effect, done, eq-eqb, get_or-set_other, harts_of}
-use Rattle.rv_debug.proofs.Prelude.{kept_law, list_all, step_count, step_programmed}
+use Rattle.rv_debug.proofs.Prelude.{invariant_law, list_all, step_count, step_programmed}
 use Rattle.rv_debug.proofs.EffectsInvariant.{bare_done, poke_of}
 use Rattle.rv_debug.proofs.ScheduledSteps.{by_bare, schedule_is_sched}
 
@@ -26,7 +26,7 @@ sched_leaves hart (named ∷ harts) machine kept has all =
     let both = and_parts (not (named == hart)) (list_all (λ n. not (n == hart)) harts) all in
     let next = (step_of named machine).state in
     let last = (sched harts next).state.shared.table in
-    sched_leaves hart harts next (kept_law named machine kept) (subst (λ (n : ℕ). hart < n) (sym (step_count named machine)) has) both.1
+    sched_leaves hart harts next (invariant_law named machine kept) (subst (λ (n : ℕ). hart < n) (sym (step_count named machine)) has) both.1
     ∙ ap (reprogrammed last) (step_programmed named hart machine kept (not_named named hart both.0) has)
 
 -- ---- a command

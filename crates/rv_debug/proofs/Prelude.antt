@@ -30,7 +30,7 @@ unfoldable pub use Rattle.rv_debug.specs.ScheduledSteps.{scheduled_steps}
 pub use Rattle.rv_enclaves.proofs.Alike.{itself, seen_block}
 pub use Rattle.rv_memory.proofs.MemoryLaws.{byte_at-write, index-above, index-below, length-write, write-is}
 pub use Rattle.rv_monitor.proofs.EquivLemmas.{equiv_itself, changed_equiv, shared_equiv}
-pub use Rattle.rv_monitor.proofs.InvariantLemmas.{changed_of, kept_by_size, kept_law, own_kept, sched_kept, written_kept}
+pub use Rattle.rv_monitor.proofs.InvariantLemmas.{changed_of, invariant_by_size, invariant_law, hart_view_invariant, sched_invariant, written_invariant}
 pub use Rattle.rv_monitor.proofs.MonitoredAlike.{noninterference, gone_equal}
 pub use Rattle.rv_monitor.proofs.HartCases.{by_hart, past_hart_state, step_count, step_programmed}
 pub use Rattle.std.proofs.lemmas.Bool.{and_from, and_parts, both_ways, cases_Bool, cases_eq, cases_lt, eq-eqb, le-leb, leb-true, ltb-true}

@@ -11,7 +11,7 @@ use Rattle.rv_debug.specs.Prelude.{reg_set, sched, hart_view, step_of, timer_lin
 use Rattle.rv_debug.specs.Returns.{EntersAndLeavesUnder, EntersUnder, HostContextsAreLegalIn, LeavesUnder, ReturnLaw, ReturnWithinLaw, RunsUnder}
 use Rattle.rv_debug.specs.Returns.{RunsUnderAll}
 use Rattle.rv_debug.proofs.Prelude.{BenchState, Selected, Effect, TargetInvariant, Nothing, OneByte, Register, Steps, TimerLine, after_commands}
-use Rattle.rv_debug.proofs.Prelude.{execute, changed_of, selected_at, effect, done, harts_stepped, sched_kept}
+use Rattle.rv_debug.proofs.Prelude.{execute, changed_of, selected_at, effect, done, harts_stepped, sched_invariant}
 use Rattle.rv_debug.proofs.EffectsInvariant.{keeps_monitor, poke_of}
 use Rattle.rv_debug.proofs.ScheduledSteps.{schedule_is_sched}
 
@@ -81,7 +81,7 @@ enters_under hart (Monitored selected) d entry kept enters =
     host_after hart selected d ∙ ap (λ (hs : List ℕ). host_on hart (sched hs machine).state) enters.is
     ∙ ap (host_on hart) (sched_on enters.before (hart ∷ enters.rest) machine)
     ∙ steps_keep hart enters.rest (step_of hart here).state enters.runs
-    ∙ entered_is hart here (sched_kept enters.before machine kept) host (first_runs hart enters.rest (step_of hart here).state enters.runs)
+    ∙ entered_is hart here (sched_invariant enters.before machine kept) host (first_runs hart enters.rest (step_of hart here).state enters.runs)
     ∙ ap kept_at (sym enters.at)
 
 command_enters : (hart : ℕ) (bench : BenchState) (command : Command) (entry : HartView) → TargetInvariant bench.target
@@ -99,7 +99,7 @@ leaves_under hart harts (Monitored selected) entry exit kept stored is leaves =
     let same : host_on hart here ≡ kept_at entry = steps_keep hart leaves.before machine leaves.runs ∙ is in
     let host = ap (λ (m : HartView). is_host (monitored_step m).state.hart_state.world) (sym leaves.at) ∙ leaves.host in
     subst (λ (m : HartView). HostIsRestored entry m (monitored_step m)) (sym leaves.at)
-    (comes_back hart entry here (sched_kept leaves.before machine kept) (subst KeptStored (sym same) stored) same
+    (comes_back hart entry here (sched_invariant leaves.before machine kept) (subst KeptStored (sym same) stored) same
     (last_runs hart leaves.before machine leaves.runs) host)
 
 stored_on : (hart : ℕ) (target : Target) → HostContextsAreLegalIn target → KeptStored (host_in hart target)
@@ -125,7 +125,7 @@ goes_under hart harts (Monitored selected) entry exit kept goes =
     let last = hart_view hart (sched goes.between (step_of hart here).state).state in
     let host = ap (λ (m : HartView). is_host m.hart_state.world) (sym goes.at) ∙ goes.host in
     let again = ap (λ (m : HartView). is_host (monitored_step m).state.hart_state.world) (sym goes.leaves) ∙ goes.again in
-    let back = schedule_law hart goes.between here (sched_kept goes.before selected.state kept) goes.stored host goes.runs again in
+    let back = schedule_law hart goes.between here (sched_invariant goes.before selected.state kept) goes.stored host goes.runs again in
     subst (λ (m : HartView). HostIsRestored m exit (monitored_step exit)) (sym goes.at)
     (subst (λ (m : HartView). HostIsRestored (hart_view hart here) m (monitored_step m)) (sym goes.leaves) back)
 

@@ -4,7 +4,7 @@ use Rattle.std.proofs.Common.{◌≡◌, ℕ, true, List, [], ◌∷◌, ◌⊎�
 use Rattle.rv_monitor.proofs.SchedNoninterference.{entered_some, entry_law}
 use Rattle.rv_monitor.specs.declared.outcome.Outcome.{Outcome}
 use Rattle.rv_debug.specs.Prelude.{Invariant, MonitoredMachine, Monitored, Scheduled, enters, step_of}
-use Rattle.rv_debug.proofs.Prelude.{AfterSchedule, Selected, SelectedEquivExcept, RunsOnNoHart, cases_Bool, noninterference, is_entered, kept_law}
+use Rattle.rv_debug.proofs.Prelude.{AfterSchedule, Selected, SelectedEquivExcept, RunsOnNoHart, cases_Bool, noninterference, is_entered, invariant_law}
 use Rattle.rv_debug.proofs.Prelude.{target_stepped, scheduled_steps, with_selected, with_scheduled_step}
 use Rattle.rv_debug.proofs.StepsAlike.{enters-with, enters-now}
 use Rattle.rv_debug.proofs.ScheduledSteps.{after_schedule}
@@ -72,7 +72,7 @@ scheduled_steps_alike e (hart ∷ harts) one other did kept kept' equiv not_runn
           let b : Selected = record { hart = hart; state = second.state } in
           let after = (next hart did first.state first.outcome).did in
           let still : RunsOnNoHart e (Monitored a) = λ own. entry_law e hart own one.state (not_running own) passes in
-          let alike = scheduled_steps_alike e harts a b after (kept_law hart one.state kept) (kept_law hart other.state kept')
+          let alike = scheduled_steps_alike e harts a b after (invariant_law hart one.state kept) (invariant_law hart other.state kept')
           (record { hart = refl; state = both.state }) still in
           subst (λ (outcome : Outcome). ScheduledStepsAlike e (scheduled_steps harts (next hart did first.state first.outcome))
           (scheduled_steps harts (next hart did second.state outcome)))

@@ -8,7 +8,7 @@ use Rattle.std.proofs.lemmas.Bool.{eqb-true}
 use Rattle.rv_monitor.proofs.SchedNoninterference.{entered_some, entry_law}
 use Rattle.rv_monitor.specs.declared.outcome.Outcome.{Outcome}
 use Rattle.rv_debug.specs.Prelude.{EquivExcept, Invariant, MonitoredMachine, HartState, Stop, enters, runs_on, step_of}
-use Rattle.rv_debug.proofs.Prelude.{AfterRun, AfterSteps, cases_Bool, noninterference, eq-eqb, is_among, is_entered, kept_law}
+use Rattle.rv_debug.proofs.Prelude.{AfterRun, AfterSteps, cases_Bool, noninterference, eq-eqb, is_among, is_entered, invariant_law}
 use Rattle.rv_debug.proofs.Prelude.{lowest_accessed, run, slots_with, with_step}
 use Rattle.rv_debug.proofs.TargetRuns.{hart_pc, hart_stepped}
 use Rattle.rv_debug.proofs.Stepping.{next_cases, run_induction, next_of}
@@ -101,7 +101,7 @@ module _ (e hart : ℕ) (breaks watches : List ℕ) where
             })
         | inr passes ↦
             let still = entry_law e hart hart before.state not_running passes in
-            let more = run-alike left after two.state (kept_law hart before.state kept) (kept_law hart other kept') both.state still in
+            let more = run-alike left after two.state (invariant_law hart before.state kept) (invariant_law hart other kept') both.state still in
             let stops = λ (stop : Stop). inr (record { ran = refl; state = both.state; not_running = still }) in
             let alike = next_cases (RunAlike e hart) after (with_state after two.state) _ _ hit (left == 0)
             (is_among (hart_pc hart one.state) breaks) stops more in

@@ -108,7 +108,7 @@ impl Bench {
     pub fn command(&mut self, command: &Command, out: &mut Reply) -> u16
         ensures execute { execute self.old command.now ≡ record { state = self.new; reply = out.new.items; entered = result } }
         ensures bare { IsBare self.old.target → result ≡ 0 }
-        ensures invariant { TargetInvariant self.new.target }
+        ensures monitor { TargetInvariant self.new.target }
         ensures accessible { ReportsAccess self.old.target command.now }
         ensures changes { ChangesMemory self.old command.now self.new }
         ensures integrity { PreservesUndisturbed self.old command.now self.new }
@@ -127,7 +127,7 @@ impl Bench {
     fn execute(&mut self, command: &Command, out: &mut Reply) -> u16
         ensures execute { execute self.old command.now ≡ record { state = self.new; reply = out.new.items; entered = result } }
         ensures bare { IsBare self.old.target → result ≡ 0 }
-        ensures invariant { TargetInvariant self.new.target }
+        ensures monitor { TargetInvariant self.new.target }
     {
         out.clear();
         match *command {
@@ -194,7 +194,7 @@ impl Bench {
         ensures same { result ≡ false → self.new ≡ self.old }
         ensures equivalent { result ≡ true → BenchesEquivExcept slot self.old self.new }
         ensures not_running { result ≡ true → RunsOnNoHart slot self.old.target }
-        ensures invariant { TargetInvariant self.new.target }
+        ensures monitor { TargetInvariant self.new.target }
     {
         self.invariant();
         self.target.scramble(slot)
@@ -208,7 +208,7 @@ impl Bench {
         ensures execute { execute_line self.old line.now ≡ record { state = self.new; reply = out.new.items; entered = result } }
         ensures prefix { (other : List ℕ) → take 121 other ≡ take 121 line.now → execute_line self.old other ≡ execute_line self.old line.now }
         ensures bare { IsBare self.old.target → result ≡ 0 }
-        ensures invariant { TargetInvariant self.new.target }
+        ensures monitor { TargetInvariant self.new.target }
     {
         match parse(line) {
             Ok(command) => self.command(&command, out),

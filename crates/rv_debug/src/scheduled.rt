@@ -69,7 +69,7 @@ fn scheduled_step(
     ensures first { first.new.steps ≤ first.old.steps + 1 }
     ensures second { second.new.steps ≤ second.old.steps + 1 }
     ensures bare { IsBare target.old → bit_or first.old.entered second.old.entered ≡ bit_or first.new.entered second.new.entered }
-    ensures invariant { TargetInvariant target.old → TargetInvariant target.new }
+    ensures monitor { TargetInvariant target.old → TargetInvariant target.new }
 {
     if hart == 0 {
         target.step_on(0, first, none, limits);
@@ -85,7 +85,7 @@ pub(crate) fn run_schedule(target: &mut Target, schedule: &Schedule) -> Schedule
     ensures scheduled_steps { scheduled_steps (harts_in schedule.now) (schedule_start target.old) ≡ record { state = target.new; did = result } }
     ensures harts { harts_of target.new ≡ harts_of target.old }
     ensures bare { IsBare target.old → result.entered ≡ 0 }
-    ensures invariant { TargetInvariant target.old → TargetInvariant target.new }
+    ensures monitor { TargetInvariant target.old → TargetInvariant target.new }
 {
     let none = Addresses::new();
     let mut limits = nowhere();

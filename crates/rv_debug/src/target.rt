@@ -112,7 +112,7 @@ impl Target {
         requires { hart < harts_of self.old }
         ensures step_scheduled { self.new ≡ with_selected hart self.old }
         ensures harts { harts_of self.new ≡ harts_of self.old }
-        ensures invariant { TargetInvariant self.old → TargetInvariant self.new }
+        ensures monitor { TargetInvariant self.old → TargetInvariant self.new }
     {
         match self {
             Target::Bare(_) => {}
@@ -145,7 +145,7 @@ impl Target {
     /// Puts a word into a register.
     pub(crate) fn set_reg(&mut self, reg: Reg, value: u32)
         ensures meaning { self.new ≡ register_set self.old reg value }
-        ensures invariant { TargetInvariant self.old → TargetInvariant self.new }
+        ensures monitor { TargetInvariant self.old → TargetInvariant self.new }
     {
         match self {
             Target::Bare(machine) => machine.regs_mut().set(reg, value),
@@ -156,7 +156,7 @@ impl Target {
     /// Raises the timer line, or lowers it.
     pub(crate) fn set_timer(&mut self, raised: bool)
         ensures meaning { self.new ≡ timer_set self.old raised }
-        ensures invariant { TargetInvariant self.old → TargetInvariant self.new }
+        ensures monitor { TargetInvariant self.old → TargetInvariant self.new }
     {
         match self {
             Target::Bare(machine) => machine.csrs_mut().set_timer(raised),
@@ -169,7 +169,7 @@ impl Target {
         ensures done { OnTrue result (poked self.old address byte ≡ Some self.new) }
         ensures outside { OnFalse result (poked self.old address byte ≡ None) }
         ensures kept { OnFalse result (self.new ≡ self.old) }
-        ensures invariant { TargetInvariant self.old → TargetInvariant self.new }
+        ensures monitor { TargetInvariant self.old → TargetInvariant self.new }
     {
         match self {
             Target::Bare(machine) => machine.ram_mut().poke(address, byte),
@@ -184,7 +184,7 @@ impl Target {
         ensures meaning { OnTrue result (self.new ≡ scrambled_in slot self.old) }
         ensures same { OnFalse result (self.new ≡ self.old) }
         ensures equivalent { OnTrue result (TargetsEquivExcept slot self.old self.new) }
-        ensures invariant { TargetInvariant self.old → TargetInvariant self.new }
+        ensures monitor { TargetInvariant self.old → TargetInvariant self.new }
     {
         match self {
             Target::Bare(_) => false,
@@ -202,7 +202,7 @@ impl Target {
         ensures step { ended (with_step (so_far_in (with_selected hart self.old) ran.old) (target_stepped (with_selected hart self.old))) Stop.Done
             ≡ record { state = self.new; ran = ran.new } }
         ensures bare { IsBare self.old → ran.new.entered ≡ ran.old.entered }
-        ensures invariant { TargetInvariant self.old → TargetInvariant self.new }
+        ensures monitor { TargetInvariant self.old → TargetInvariant self.new }
     {
         match self {
             Target::Bare(machine) => step_bare(machine, ran, none, limits),
@@ -218,7 +218,7 @@ impl Target {
     pub(crate) fn run(&mut self, count: u32, breaks: &Addresses, watches: &Addresses) -> Ran
         ensures run { run target_stepped pc_of breaks.now watches.now count (no_steps self.old) ≡ record { state = self.new; ran = result } }
         ensures bare { IsBare self.old → result.entered ≡ 0 }
-        ensures invariant { TargetInvariant self.old → TargetInvariant self.new }
+        ensures monitor { TargetInvariant self.old → TargetInvariant self.new }
     {
         match self {
             Target::Bare(machine) => run_bare(machine, count, breaks, watches),
@@ -244,8 +244,8 @@ fn step_bare(machine: &mut Machine, ran: &mut Ran, none: &Addresses, limits: &mu
 fn step_monitored(selected: &mut SelectedHart, ran: &mut Ran, none: &Addresses, limits: &mut Limits)
     requires few { ran.old.steps < 2 ^ 31 }
     requires none { none.now ≡ [] }
-    ensures step { ended (with_step (so_far_in (Target.MonitoredMachine selected.old) ran.old) (target_stepped (Target.MonitoredMachine selected.old))) Stop.Done
-        ≡ record { state = Target.MonitoredMachine selected.new; ran = ran.new } }
+    ensures step { ended (with_step (so_far_in (Target.Monitored selected.old) ran.old) (target_stepped (Target.Monitored selected.old))) Stop.Done
+        ≡ record { state = Target.Monitored selected.new; ran = ran.new } }
     ensures invariant { Invariant selected.new.state }
 {
     one_more(selected, ran, none, limits);
@@ -267,7 +267,7 @@ fn run_monitored(
     breaks: &Addresses,
     watches: &Addresses,
 ) -> Ran
-    ensures run { run target_stepped pc_of breaks.now watches.now count (no_steps (Target.MonitoredMachine selected.old)) ≡ record { state = Target.MonitoredMachine selected.new; ran = result } }
+    ensures run { run target_stepped pc_of breaks.now watches.now count (no_steps (Target.Monitored selected.old)) ≡ record { state = Target.Monitored selected.new; ran = result } }
     ensures invariant { Invariant selected.new.state }
 {
     let ran = run_steps(selected, count, breaks, watches);

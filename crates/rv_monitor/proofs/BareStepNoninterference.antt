@@ -19,7 +19,7 @@ module _ (e : ℕ) (state : HartView) (kept : HartViewInvariant state) (other : 
   seen : (mode : Mode) (access : Access) (span : Span) → is_machine mode ≡ false → MayTouch before mode access (Some span)
       → IsSeen hidden span.addr (bytes_in span.len)
   seen mode access span below may byte low high =
-      let entries = kept.layout.entries in
+      let entries = kept.hart.layout.entries in
       let apart = permitted_apart state.shared.memory state.shared.table state.hart_state.world mode access span.addr (bytes_in span.len)
       (small_ram state.shared.memory kept.valid.ram) kept.valid (below_M mode below) (some_bytes span.len)
       (inside_is state.shared.memory span.addr (bytes_in span.len) may.0) in
@@ -34,7 +34,7 @@ module _ (e : ℕ) (state : HartView) (kept : HartViewInvariant state) (other : 
   equiv_on : (touched : Touched) (n : List ℕ) → MayTouchAll before touched → EqualOutside hidden before.memory n → EqualOn before.memory n touched
   equiv_on touched n may equiv = record {
     size = equiv.size;
-    fetched = same_in before.hart.mode Fetch touched.fetched n kept.layout.mode may.fetched equiv;
+    fetched = same_in before.hart.mode Fetch touched.fetched n kept.hart.layout.mode may.fetched equiv;
     loaded = same_in (data_mode before.hart) Read touched.loaded n (data_below state kept) may.loaded equiv;
   }
 

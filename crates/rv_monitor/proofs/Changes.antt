@@ -13,7 +13,7 @@ use Rattle.rv_monitor.proofs.Prelude.{ByMonitor, ChangeLaw, Entries, IsChanged, 
 use Rattle.rv_monitor.proofs.Prelude.{MayTouch, HartView, SlotInfo, Stores, TouchesPermitted, a0, a1, and_from, and_parts, at_same}
 use Rattle.rv_monitor.proofs.Prelude.{bare_machine, both_ways, cases_Bool, cases_lt, confined, entered_slot, handled, is_call, le-leb, left}
 use Rattle.rv_monitor.proofs.Prelude.{length-replicate, live_in_range, lt-ltb, reach_law, touches_permitted}
-use Rattle.rv_monitor.proofs.AccessControlLemmas.{below_M, data_below, kept_reach}
+use Rattle.rv_monitor.proofs.AccessControlLemmas.{below_M, data_below, access_control_law}
 use Rattle.rv_monitor.proofs.StepInvariant.{equiv_itself}
 use Rattle.rv_monitor.proofs.TrapSteps.{step_cases, hart_state_after}
 use Rattle.rv_monitor.proofs.HandlerCases.{Requests, handler_cases}
@@ -155,7 +155,7 @@ module _ (state : HartView) (kept : HartViewInvariant state) (byte : ℕ) where
                 is = refl;
                 low = low;
                 high = high;
-                accessible = sym (kept_reach state (data_mode state.hart_state.hart) Write span.addr span.len kept below may.0) ∙ may.1;
+                accessible = sym (access_control_law state (data_mode state.hart_state.hart) Write span.addr span.len kept below may.0) ∙ may.1;
               })
           | inr past ↦ inl (byte_at-write state.shared.memory span.addr bytes after byte stores.1 (inr (rw count past)))
         ]
@@ -173,7 +173,7 @@ changes state kept byte = step_cases state (λ after. byte_at after.state.shared
       | inl same ↦ inl same
       | inr stored ↦ inr (inl stored)
     ])
-    (λ trap is. elim (handled_changes (hart_state_after state.hart_state trap) state.shared kept.valid kept.layout.entries byte trap) [
+    (λ trap is. elim (handled_changes (hart_state_after state.hart_state trap) state.shared kept.valid kept.hart.layout.entries byte trap) [
       | inl same ↦ inl same
       | inr changed ↦ inr (inr (record { trap = trap; trapped = is; is = changed.0; change = changed.1 }))
     ])

@@ -12,7 +12,7 @@ use Rattle.rv_monitor.proofs.Prelude.{at_same, both_ways, cases_eq, entered_slot
 use Rattle.rv_monitor.proofs.Prelude.{live_in_range, monitored_step, ne_eqb, accessible_apart, hart_view, enclave_state_after}
 use Rattle.rv_monitor.proofs.Beside.{hart_state_preserved}
 use Rattle.rv_monitor.proofs.Changes.{changes}
-use Rattle.rv_monitor.proofs.InvariantLemmas.{own_kept}
+use Rattle.rv_monitor.proofs.InvariantLemmas.{hart_view_invariant}
 use Rattle.rv_monitor.proofs.HartCases.{by_hart}
 use Rattle.rv_monitor.proofs.TrapSteps.{step_cases, hart_state_after}
 use Rattle.rv_monitor.proofs.HandlerCases.{handler_cases, saved_by}
@@ -130,6 +130,6 @@ integrity hart machine kept k not_running live passes stays = record {
   preserved = by_hart hart machine
       (λ after. enters k after.outcome.entered ≡ false → is_live after.state.shared.table k ≡ true → IsPreserved k machine.shared after.state.shared)
       (λ passes stays. record { slot = refl; bytes = λ byte own. refl; context = refl })
-      (λ has. integrity_in (hart_view hart machine) (own_kept hart machine kept has) k not_running live) passes stays;
+      (λ has. integrity_in (hart_view hart machine) (hart_view_invariant hart machine kept has) k not_running live) passes stays;
   hart_state = hart_state_preserved k hart machine kept not_running;
 }

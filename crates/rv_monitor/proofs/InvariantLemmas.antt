@@ -9,7 +9,7 @@ use Rattle.rv_monitor.proofs.Prelude.{hart_state_of, reprogrammed, hart_states_r
 use Rattle.rv_monitor.proofs.Prelude.{with_hart_state, worlds}
 use Rattle.rv_monitor.proofs.Others.{sound_back, sound_prefix, without}
 use Rattle.rv_monitor.proofs.HartCases.{behind_seated, by_hart, hart_cases, count_behind, other_hart_state, own_hart_state}
-use Rattle.rv_monitor.proofs.StepInvariant.{KeptBeside, laid_seated, own_of, reprogrammed_by, step_kept}
+use Rattle.rv_monitor.proofs.StepInvariant.{KeptBeside, laid_seated, hart_view_of, reprogrammed_by, step_invariant}
 
 -- ---- who runs on a hart, and beside it
 
@@ -37,13 +37,13 @@ own_sound hart machine kept has =
     sound_prefix machine.shared (worlds machine) hart (hart_state_of hart machine).world (has_world hart machine has)
     (subst (SharedInvariant machine.shared) (sym (worlds_are hart machine has)) kept.shared)
 
-pub own_kept : (hart : ℕ) (machine : MonitoredMachine) → Invariant machine → hart < count_of machine → HartViewInvariant (hart_view hart machine)
-own_kept hart machine kept has = own_of (hart_state_of hart machine) machine.shared (worlds machine) kept.shared (kept.hart_states hart has)
+pub hart_view_invariant : (hart : ℕ) (machine : MonitoredMachine) → Invariant machine → hart < count_of machine → HartViewInvariant (hart_view hart machine)
+hart_view_invariant hart machine kept has = hart_view_of (hart_state_of hart machine) machine.shared (worlds machine) kept.shared (kept.hart_states hart has)
 
-pub kept_beside : (hart : ℕ) (machine : MonitoredMachine) → Invariant machine → hart < count_of machine
+pub invariant_of_others : (hart : ℕ) (machine : MonitoredMachine) → Invariant machine → hart < count_of machine
     → KeptBeside (beside hart machine) (monitored_step (hart_view hart machine))
-kept_beside hart machine kept has =
-    step_kept (beside hart machine) (hart_state_of hart machine) machine.shared (own_sound hart machine kept has) (kept.hart_states hart has)
+invariant_of_others hart machine kept has =
+    step_invariant (beside hart machine) (hart_state_of hart machine) machine.shared (own_sound hart machine kept has) (kept.hart_states hart has)
 
 -- ---- the machine
 
@@ -57,7 +57,7 @@ stepped_kept hart machine kept has =
     let after = monitored_step (hart_view hart machine) in
     let slots = after.state.shared.table in
     let o = after.outcome.step.trap in
-    let own = kept_beside hart machine kept has in
+    let own = invariant_of_others hart machine kept has in
     let size = count_behind hart machine after in
     record {
       shared = subst (SharedInvariant after.state.shared)
@@ -74,12 +74,12 @@ stepped_kept hart machine kept has =
           ];
     }
 
-pub kept_law : InvariantLaw
-kept_law hart machine kept = by_hart hart machine (λ after. Invariant after.state) kept (stepped_kept hart machine kept)
+pub invariant_law : InvariantLaw
+invariant_law hart machine kept = by_hart hart machine (λ after. Invariant after.state) kept (stepped_kept hart machine kept)
 
-pub sched_kept : SchedInvariantLaw
-sched_kept [] machine kept = kept
-sched_kept (hart ∷ harts) machine kept = sched_kept harts (step_of hart machine).state (kept_law hart machine kept)
+pub sched_invariant : SchedInvariantLaw
+sched_invariant [] machine kept = kept
+sched_invariant (hart ∷ harts) machine kept = sched_invariant harts (step_of hart machine).state (invariant_law hart machine kept)
 
 -- ---- a debugger's changes
 
@@ -110,9 +110,9 @@ pub past_as_is : (hart : ℕ) (hart_state : HartState) (machine : MonitoredMachi
 past_as_is hart hart_state machine past =
     ap (λ (hart_states : List HartState). let after : MonitoredMachine = record { hart_states = hart_states; shared = machine.shared } in after) (set_past machine.hart_states hart hart_state past)
 
-pub written_kept : (hart : ℕ) (regs : List ℕ) (raised : Bool) (machine : MonitoredMachine) → Invariant machine
+pub written_invariant : (hart : ℕ) (regs : List ℕ) (raised : Bool) (machine : MonitoredMachine) → Invariant machine
     → Invariant (with_hart_state hart (written regs raised (hart_state_of hart machine)) machine)
-written_kept hart regs raised machine kept = elim (cases_lt hart (count_of machine)) [
+written_invariant hart regs raised machine kept = elim (cases_lt hart (count_of machine)) [
   | inl has ↦ written_in hart regs raised machine kept has
   | inr past ↦ subst Invariant (sym (past_as_is hart (written regs raised (hart_state_of hart machine)) machine past)) kept
 ]
@@ -133,7 +133,7 @@ changed_of of change same hart j machine = elim (cases_lt hart (count_of machine
 ]
 
 -- of memory
-pub kept_by_size : (machine : MonitoredMachine) (memory : List ℕ) → Invariant machine → length machine.shared.memory ≡ length memory
+pub invariant_by_size : (machine : MonitoredMachine) (memory : List ℕ) → Invariant machine → length machine.shared.memory ≡ length memory
     → Invariant (record machine { shared = record machine.shared { memory = memory } })
-kept_by_size machine memory kept size =
+invariant_by_size machine memory kept size =
     record { shared = sound_by_size machine.shared (worlds machine) memory kept.shared size; hart_states = kept.hart_states }

@@ -5,7 +5,7 @@ use Rattle.rv_state.specs.declared.cause.Cause.TheVariants as causes
 use Rattle.rv_monitor.specs.Prelude.{Cause, Context, Enclave, Host, Outcome, HartState, StepOutcome, Trap, can_go_on, is_set, step}
 use Rattle.rv_monitor.proofs.Prelude.{Handled, HartViewInvariant, LeaveLaw, HartView, HartViewStepped, bare_machine, handled, saved_after, left_hart}
 use Rattle.rv_monitor.proofs.Prelude.{left, left_shared, monitored_step, returned, hart_view, with_reprogrammed_hart}
-use Rattle.rv_monitor.proofs.InvariantLemmas.{own_kept}
+use Rattle.rv_monitor.proofs.InvariantLemmas.{hart_view_invariant}
 use Rattle.rv_monitor.proofs.HartCases.{is_trapping, programmed_by, step_seen}
 use Rattle.rv_monitor.proofs.Switched.{aligned_again}
 use Rattle.rv_monitor.proofs.TrapSteps.{hart_state_after, trapped_step}
@@ -62,8 +62,8 @@ module _ (before : HartView) (k : ℕ) (host : Context) (runs : before.hart_stat
   unfolding left
   returned_left outcome all =
       let P : Option Context → Type 0 = λ o. IfSome o (λ c. can_go_on c ≡ true) in
-      let aligned = aligned_again host.mode host.pc (subst P kept all.host.held) in
-      let mprv = all.layout.mprv in
+      let aligned = aligned_again host.mode host.pc (subst P kept all.hart.host.held) in
+      let mprv = all.hart.layout.mprv in
       (rw (runs, kept, aligned, or-false (is_set before.hart_state.hart.csrs.mcountinhibit 0), mprv) refl, refl)
 
   left_or_not : (outcome : StepOutcome) (h : Handled) → HartViewInvariant before → Goes h → h.hart_state.world ≡ Host → Left (returned outcome h)
@@ -81,5 +81,5 @@ pub leave_law : LeaveLaw
 leave_law hart machine kept k host trap runs saved_host is gone =
     let trapping = is_trapping hart machine trap is in
     let there = sym (ap (λ (after : HartViewStepped). after.state.hart_state.world) (step_seen hart machine trapping.has)) ∙ gone in
-    let one = left_one (hart_view hart machine) k host runs saved_host trap (own_kept hart machine kept trapping.has) trapping.trapped there in
+    let one = left_one (hart_view hart machine) k host runs saved_host trap (hart_view_invariant hart machine kept trapping.has) trapping.trapped there in
     (trapping.state ∙ ap (programmed_by hart machine) one.0, ap (λ (outcome : Outcome). outcome.entered) trapping.outcome ∙ one.1)

@@ -10,7 +10,7 @@ use Rattle.rv_monitor.proofs.EquivLemmas.{same_hart_states, hart_states_equiv}
 use Rattle.rv_monitor.proofs.Beside.{running_is_live}
 use Rattle.rv_monitor.proofs.BareStepNoninterference.{bare_law}
 use Rattle.rv_monitor.proofs.HandledAlike.{handler_law}
-use Rattle.rv_monitor.proofs.InvariantLemmas.{own_kept}
+use Rattle.rv_monitor.proofs.InvariantLemmas.{hart_view_invariant}
 use Rattle.rv_monitor.proofs.HartCases.{count_behind, inside, other_hart_state, outside, own_hart_state, past_hart_state, hart_state_reprogrammed}
 use Rattle.rv_monitor.proofs.StepInvariant.{step_size}
 
@@ -93,7 +93,7 @@ own_equiv e hart one other here there equiv has not_running =
     let hart_states = equiv.hart_states hart in
     let sound = subst (SharedInvariant other.shared) (sym (same_worlds e one other equiv)) there.shared in
     subst (λ (s : HartState). Agree e (monitored_step (hart_view hart one)) (monitored_step (on s other.shared))) (hart_states.same not_running)
-    (step_equiv e (hart_state_of hart one) (worlds one) one.shared other.shared (own_kept hart one here has) here.shared sound not_running equiv.shared)
+    (step_equiv e (hart_state_of hart one) (worlds one) one.shared other.shared (hart_view_invariant hart one here has) here.shared sound not_running equiv.shared)
 
 behind_equiv : (e : ℕ) (o : Option Trap) (slots : Slots) (a b : HartState) → HartStatesEquivExcept e a b → HartStatesEquivExcept e (hart_state_reprogrammed o slots a) (hart_state_reprogrammed o slots b)
 behind_equiv e None slots a b equiv = equiv

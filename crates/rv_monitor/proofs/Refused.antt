@@ -7,7 +7,7 @@ use Rattle.rv_monitor.specs.Prelude.{aligned_to_4, requested_call, first_refusal
 use Rattle.rv_monitor.specs.Refused.{refusal_of, refused_hart, RefusalLaw}
 use Rattle.rv_monitor.proofs.Prelude.{HartViewInvariant, MonitoredMachine, HartView, HartViewStepped, bare_machine, call_handled, call_refusals, called, handled}
 use Rattle.rv_monitor.proofs.Prelude.{handled_cause, monitored_step, refused, returned, hart_view, with_reprogrammed_hart}
-use Rattle.rv_monitor.proofs.InvariantLemmas.{own_kept}
+use Rattle.rv_monitor.proofs.InvariantLemmas.{hart_view_invariant}
 use Rattle.rv_monitor.proofs.PmpProgramming.{all_as_are}
 use Rattle.rv_monitor.proofs.HartCases.{is_trapping, programmed_by}
 use Rattle.rv_monitor.proofs.TrapSteps.{hart_state_after, trapped_step}
@@ -42,9 +42,9 @@ module _ (state : HartView) (kept : HartViewInvariant state) (trap : Trap) (refu
       → (returned outcome (with_reprogrammed_hart (refused (hart_state_after state.hart_state trap) state.shared refusal))).state ≡ refused_state
   returned_refused outcome =
       let hart = state.hart_state.hart in
-      let mprv = kept.layout.mprv in
-      let entries = kept.layout.entries in
-      let mie = kept.layout.mie in
+      let mprv = kept.hart.layout.mprv in
+      let entries = kept.hart.layout.entries in
+      let mie = kept.hart.layout.mie in
       rw (again_aligned hart.pc, or-false (is_set hart.csrs.mcountinhibit 0), mprv, ← entries, ← mie) refl
 
   abbrev Refused : HartViewStepped → Type 0
@@ -65,7 +65,7 @@ pub refusal_law : RefusalLaw
 refusal_law hart machine kept trap refusal is by_ecall refused =
     let trapping = is_trapping hart machine trap is in
     let state = hart_view hart machine in
-    let one = refused_one state (own_kept hart machine kept trapping.has) trap refusal trapping.trapped by_ecall refused in
+    let one = refused_one state (hart_view_invariant hart machine kept trapping.has) trap refusal trapping.trapped by_ecall refused in
     let left : HartState = record state.hart_state { hart = refused_hart state.hart_state.hart trap refusal } in (
       trapping.state ∙ ap (programmed_by hart machine) one.0
           ∙ ap (λ (hart_states : List HartState). let after : MonitoredMachine =

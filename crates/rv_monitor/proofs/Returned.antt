@@ -8,7 +8,7 @@ use Rattle.rv_monitor.specs.Returns.{RunsThrough, HostIsRestored, ReturnLaw}
 use Rattle.rv_monitor.proofs.Prelude.{HostContextIsLegal, Invariant, HostContextInvariant, MonitoredMachine, HartView, HartViewStepped, StaysOrSwitches}
 use Rattle.rv_monitor.proofs.Prelude.{both_ways, cases_eq, cases_lt, count_of, monitored_step, reason, saved, sched, hart_state_of, hart_view}
 use Rattle.rv_monitor.proofs.Prelude.{step_of, value}
-use Rattle.rv_monitor.proofs.InvariantLemmas.{kept_law, sched_kept}
+use Rattle.rv_monitor.proofs.InvariantLemmas.{invariant_law, sched_invariant}
 use Rattle.rv_monitor.proofs.HartCases.{past_hart_state, step_beside, step_count, step_seen}
 use Rattle.rv_monitor.proofs.Switched.{KeptStored, kept_between, switch_law}
 
@@ -130,5 +130,5 @@ return_law hart harts machine kept stored host runs again =
     let first = (step_of hart machine).state in
     let last = (sched harts first).state in
     let same = steps_keep hart harts first runs in
-    comes_back hart (hart_view hart machine) last (sched_kept harts first (kept_law hart machine kept)) (subst KeptStored (sym same) stored)
+    comes_back hart (hart_view hart machine) last (sched_invariant harts first (invariant_law hart machine kept)) (subst KeptStored (sym same) stored)
     (same ∙ entered_is hart machine kept host (first_runs hart harts first runs)) (last_runs hart harts first runs) again

@@ -9,7 +9,7 @@ use Rattle.rv_monitor.proofs.Beside.{live_by, running_is_undisturbed, runs_insid
 use Rattle.rv_monitor.proofs.Changes.{changes}
 use Rattle.rv_monitor.proofs.SchedNoninterference.{entered_by, is_entered, none_again}
 use Rattle.rv_monitor.proofs.Integrity.{integrity}
-use Rattle.rv_monitor.proofs.InvariantLemmas.{kept_beside, kept_law, own_kept}
+use Rattle.rv_monitor.proofs.InvariantLemmas.{invariant_of_others, invariant_law, hart_view_invariant}
 use Rattle.rv_monitor.proofs.PmpProgramming.{as_is}
 use Rattle.rv_monitor.proofs.HartCases.{by_hart, outside, step_seen}
 
@@ -50,7 +50,7 @@ sched_integrity k (hart ∷ harts) machine kept alone =
     let after = (step_of hart machine).state in
     untouched_twice k machine after (sched harts after).state
     (integrity hart machine kept k alone.1 alone.0 alone.2 (first_live k harts after alone.3))
-    (sched_integrity k harts after (kept_law hart machine kept) alone.3)
+    (sched_integrity k harts after (invariant_law hart machine kept) alone.3)
 
 -- ---- one that runs is neither entered nor ended by another hart
 
@@ -59,7 +59,7 @@ go_on_law hart machine kept k own runs not_running = by_hart hart machine (Keeps
     (record { passes = refl; live = running_is_live k own machine kept runs })
     (λ here.
     let after = monitored_step (hart_view hart machine) in
-    let sound = (kept_beside hart machine kept here).0 in
+    let sound = (invariant_of_others hart machine kept here).0 in
     let others = running_is_undisturbed k hart own machine here runs not_running in
     record {
       passes = entered_by k after.outcome.entered
@@ -78,7 +78,7 @@ running_law k own (hart ∷ harts) machine kept runs none =
       live,
       none.0,
       goes.passes,
-      running_law k own harts after (kept_law hart machine kept) still (none_again k hart harts machine none.1 goes.passes),
+      running_law k own harts after (invariant_law hart machine kept) still (none_again k hart harts machine none.1 goes.passes),
     )
 
 -- ---- which bytes they change
@@ -91,13 +91,13 @@ step_changes hart machine byte kept = elim (cases_lt hart (count_of machine)) [
   | inl here ↦
       subst (λ (after : HartViewStepped). byte_at after.state.shared.memory byte ≡ byte_at machine.shared.memory byte
       ⊎ IsChanged (hart_view hart machine) after byte) (sym (step_seen hart machine here))
-      (changes (hart_view hart machine) (own_kept hart machine kept here) byte)
+      (changes (hart_view hart machine) (hart_view_invariant hart machine kept here) byte)
 ]
 
 pub sched_changes : SchedChangeLaw
 sched_changes [] machine byte kept = inl refl
 sched_changes (hart ∷ harts) machine byte kept = elim (step_changes hart machine byte kept) [
-  | inl same ↦ elim (sched_changes harts (step_of hart machine).state byte (kept_law hart machine kept)) [
+  | inl same ↦ elim (sched_changes harts (step_of hart machine).state byte (invariant_law hart machine kept)) [
     | inl again ↦ inl (again ∙ same)
     | inr changed ↦ inr (inr changed)
   ]

@@ -4,7 +4,7 @@ use Rattle.rv_monitor.specs.Prelude.{Outcome, HartState, Trap, is_world_of}
 use Rattle.rv_monitor.proofs.Prelude.{EntryLaw, Handled, MonitoredMachine, MonitoredStepped, HartView, HartViewStepped, LowStepsLaw, RunsOnNone}
 use Rattle.rv_monitor.proofs.Prelude.{SchedLaw, cases_Bool, cases_eq, cases_lt, count_of, enters, eq-eqb, eqb-true, handled}
 use Rattle.rv_monitor.proofs.Prelude.{monitored_step, runs_on, hart_view, step_of}
-use Rattle.rv_monitor.proofs.InvariantLemmas.{kept_law}
+use Rattle.rv_monitor.proofs.InvariantLemmas.{invariant_law}
 use Rattle.rv_monitor.proofs.MonitoredAlike.{noninterference}
 use Rattle.rv_monitor.proofs.HartCases.{outside, step_beside, step_seen}
 use Rattle.rv_monitor.proofs.Switched.{Turns, handled_turns}
@@ -16,7 +16,7 @@ pub sched_law : SchedLaw
 sched_law e [] one other here there equiv low_steps = record { outcomes = refl; state = equiv; low_steps = tt }
 sched_law e (hart ∷ harts) one other here there equiv low_steps =
     let first = noninterference hart one here e other there equiv low_steps.0 in
-    let rest = sched_law e harts (step_of hart one).state (step_of hart other).state (kept_law hart one here) (kept_law hart other there)
+    let rest = sched_law e harts (step_of hart one).state (step_of hart other).state (invariant_law hart one here) (invariant_law hart other there)
     first.state low_steps.1 in
     let add : Outcome → List Outcome → List Outcome = λ x xs. x ∷ xs in
     let hart_states = equiv.hart_states hart in

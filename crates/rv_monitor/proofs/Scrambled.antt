@@ -2,7 +2,7 @@
 use Rattle.std.proofs.Common.{◌≡◌, ℕ, Bool, true, false, sym, ap}
 use Rattle.std.specs.Prelude.{if◌then◌else◌}
 use Rattle.rv_enclaves.specs.Scramble.{can_scramble, scrambled_shared}
-use Rattle.rv_enclaves.proofs.Scrambled.{scrambled_sound, scrambled_equiv}
+use Rattle.rv_enclaves.proofs.Scrambled.{scrambled_sound, scrambled_agrees}
 use Rattle.rv_enclaves.proofs.ScrambledTwice.{shared_twice}
 use Rattle.rv_enclaves.proofs.Alike.{itself}
 use Rattle.rv_monitor.specs.Prelude.{Shared}
@@ -12,9 +12,9 @@ use Rattle.rv_monitor.proofs.EquivLemmas.{equiv_itself, shared_equiv}
 
 -- ---- the machine
 
-pub scramble_kept : (machine : MonitoredMachine) (k : ℕ) → Invariant machine → can_scramble machine.shared.table k ≡ true → Invariant (scrambled machine k)
+pub scramble_invariant : (machine : MonitoredMachine) (k : ℕ) → Invariant machine → can_scramble machine.shared.table k ≡ true → Invariant (scrambled machine k)
 unfolding scrambled_shared
-scramble_kept machine k kept may = record {
+scramble_invariant machine k kept may = record {
   shared = scrambled_sound machine.shared (worlds machine) k kept.shared may;
   hart_states = kept.hart_states;
 }
@@ -23,7 +23,7 @@ pub scramble_equiv : (machine : MonitoredMachine) (k : ℕ) → Invariant machin
     → EquivExcept k machine (scrambled machine k)
 scramble_equiv machine k kept may =
     shared_equiv k machine machine machine.shared (scrambled_shared machine.shared k) (equiv_itself k machine (itself k machine.shared))
-    (scrambled_equiv machine.shared (worlds machine) k kept.shared may)
+    (scrambled_agrees machine.shared (worlds machine) k kept.shared may)
 
 -- ---- the call: done where it may be, and else nothing
 
@@ -35,7 +35,7 @@ perhaps done machine k = if done then scrambled_shared machine.shared k else mac
 
 pub perhaps_kept : (done : Bool) (machine : MonitoredMachine) (k : ℕ) → done ≡ can_scramble machine.shared.table k → Invariant machine
     → Invariant (seated_with machine (perhaps done machine k))
-perhaps_kept true machine k asked kept = scramble_kept machine k kept (sym asked)
+perhaps_kept true machine k asked kept = scramble_invariant machine k kept (sym asked)
 perhaps_kept false machine k asked kept = kept
 
 pub perhaps_equiv : (done : Bool) (machine : MonitoredMachine) (k : ℕ) → done ≡ can_scramble machine.shared.table k → Invariant machine

@@ -115,9 +115,9 @@ laid_seated before after hart_state is = reprogrammed_by before after hart_state
 
 -- ---- a step of one hart, by who runs on the others
 
-pub own_of : (hart_state : HartState) (shared : Shared) (worlds : List World) → SharedInvariant shared worlds → HartInvariant shared.table hart_state
+pub hart_view_of : (hart_state : HartState) (shared : Shared) (worlds : List World) → SharedInvariant shared worlds → HartInvariant shared.table hart_state
     → HartViewInvariant (record { hart_state = hart_state; shared = shared })
-own_of hart_state shared worlds sound is = record { valid = sound.valid; host = is.host; layout = is.layout }
+hart_view_of hart_state shared worlds sound is = record { valid = sound.valid; hart = is }
 
 abbrev pub KeptBeside : List World → HartViewStepped → Type 0
 KeptBeside beside after =
@@ -179,8 +179,8 @@ module _ (beside : List World) (hart_state : HartState) (shared : Shared) (sound
         }),
       )
 
-  pub step_kept : KeptBeside beside (monitored_step state)
-  step_kept =
+  pub step_invariant : KeptBeside beside (monitored_step state)
+  step_invariant =
       let after = step (bare_machine state) in
       let layout = is.layout in
       step_cases state (KeptBeside beside)

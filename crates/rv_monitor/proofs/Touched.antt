@@ -1,12 +1,12 @@
 -- What a step's instruction touches is in the reach of the world that runs.
 use Rattle.std.proofs.Common.{◌≡◌, ◌⊎◌, ℕ, false, Option, Some, None, Result, Ok, Err, refl, sym, ◌∙◌, subst, inl, inr}
-use Rattle.rv_hart.proofs.StepCases.{by_ways}
+use Rattle.rv_hart.proofs.StepCases.{step_ways}
 use Rattle.rv_memory.specs.declared.touched.Touched.{Touched}
 use Rattle.rv_monitor.specs.Prelude.{Access, Fetch, Hart, Mode, Read, Span, Machine, Stepped, Trap, Word, Write, data_mode, is_machine}
 use Rattle.rv_monitor.specs.Prelude.{retired_or_trapped, span, step}
 use Rattle.rv_monitor.specs.Touches.{executes, SpanIsAccessible, IsTouchedAccessible, TouchLaw}
 use Rattle.rv_monitor.proofs.Prelude.{HartViewInvariant, MayTouch, HartView, bare_machine, touches_permitted}
-use Rattle.rv_monitor.proofs.AccessControlLemmas.{below_M, data_below, kept_reach}
+use Rattle.rv_monitor.proofs.AccessControlLemmas.{below_M, data_below, access_control_law}
 use Rattle.rv_monitor.proofs.TrapSteps.{same_outcome}
 
 -- ---- what is fetched
@@ -23,7 +23,7 @@ FetchesAtPc pc after =
     (after.outcome.touched.fetched ≡ span pc Word) ⊎ ((after.outcome.touched.fetched ≡ None) × (executes after.outcome.trap ≡ false))
 
 fetches_at_pc : (state : Machine) → FetchesAtPc state.hart.pc (step state)
-fetches_at_pc state = by_ways state (FetchesAtPc state.hart.pc) (record {
+fetches_at_pc state = step_ways state (FetchesAtPc state.hart.pc) (record {
   interrupt = λ interrupt is. inr (refl, refl);
   fetch_refused = λ fault here. inr (refl, refl);
   illegal = λ word here. inl refl;
@@ -40,7 +40,7 @@ module _ (state : HartView) (kept : HartViewInvariant state) where
   accessible : (mode : Mode) (access : Access) (o : Option Span) → is_machine mode ≡ false → MayTouch (bare_machine state) mode access o
       → SpanIsAccessible state access o
   accessible mode access None below may = tt
-  accessible mode access (Some span) below may = sym (kept_reach state mode access span.addr span.len kept (below_M mode below) may.0) ∙ may.1
+  accessible mode access (Some span) below may = sym (access_control_law state mode access span.addr span.len kept (below_M mode below) may.0) ∙ may.1
 
   touched_in_reach : IsTouchedAccessible state (step (bare_machine state)).outcome
   touched_in_reach =
@@ -49,7 +49,7 @@ module _ (state : HartView) (kept : HartViewInvariant state) where
       let touched = (step (bare_machine state)).outcome.touched in
       record {
         at_pc = fetches_at_pc (bare_machine state);
-        fetched = accessible state.hart_state.hart.mode Fetch touched.fetched kept.layout.mode may.fetched;
+        fetched = accessible state.hart_state.hart.mode Fetch touched.fetched kept.hart.layout.mode may.fetched;
         loaded = accessible (data_mode state.hart_state.hart) Read touched.loaded below may.loaded;
         stored = accessible (data_mode state.hart_state.hart) Write touched.stored below may.stored;
       }

@@ -102,8 +102,7 @@ pub record HartInvariant (slots : Slots) (hart_state : HartState) : Type 0 where
 -- and of one hart and what it shares, whoever runs on the others
 pub record HartViewInvariant (state : HartView) : Type 0 where
   pub valid : IsValid state.shared.memory state.shared.table
-  pub host : HostContextInvariant state.hart_state
-  pub layout : HasPmpLayout state.shared.table state.hart_state
+  pub hart : HartInvariant state.shared.table state.hart_state
 
 pub record Invariant (machine : MonitoredMachine) : Type 0 where
   pub shared : SharedInvariant machine.shared (worlds machine)

@@ -15,7 +15,7 @@ ghost use Rattle.rv_monitor.specs.SwitchLaws.{SwitchLaw};
 ghost use Rattle.rv_monitor.specs.Touches.{TouchLaw};
 
 /// Reach: in every state of the machine, S and U do an access to bytes in RAM exactly where it is in reach.
-#[tactic(auto, using(crate::proofs::AccessControlLemmas::kept_reach))]
+#[tactic(auto, using(crate::proofs::AccessControlLemmas::access_control_law))]
 pub const fn access_control()
     ensures { AccessControlLaw }
 {}

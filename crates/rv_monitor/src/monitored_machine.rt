@@ -35,7 +35,7 @@ const fn keeps_own(csrs: &Csrs)
 #[tactic(auto, unfolding(crate::specs::Step::monitored_step))]
 fn step_hart(hart_state: &mut HartState, shared: &mut Shared) -> Outcome
     requires reprogrammed { HartInvariant shared.old.table hart_state.old }
-    requires legal { HostContextIsLegal hart_state.old }
+    requires stored { HostContextIsLegal hart_state.old }
     ensures meaning { monitored_step (record { hart_state = hart_state.old; shared = shared.old })
         ≡ record { state = record { hart_state = hart_state.new; shared = shared.new }; outcome = result } }
     ensures legal { HostContextIsLegal hart_state.new }
@@ -86,8 +86,8 @@ const fn counts(by_hart: &[HartState; 2], harts: u8)
 fn step_in(by_hart: &mut [HartState; 2], harts: u8, shared: &mut Shared, hart: u8) -> Outcome
     requires has { hart < harts }
     requires few { harts ≤ 2 }
-    requires invariant { Invariant (machine_of_parts by_hart.old harts shared.old) }
-    requires legal { HostContextsAreLegal (machine_of_parts by_hart.old harts shared.old) }
+    requires kept { Invariant (machine_of_parts by_hart.old harts shared.old) }
+    requires stored { HostContextsAreLegal (machine_of_parts by_hart.old harts shared.old) }
     ensures meaning { step_of hart (machine_of_parts by_hart.old harts shared.old) ≡ record { state = machine_of_parts by_hart.new harts shared.new; outcome = result } }
     ensures legal { HostContextsAreLegal (machine_of_parts by_hart.new harts shared.new) }
 {
@@ -115,7 +115,7 @@ fn run_fast_in(
 ) -> u32
     requires has { hart < harts }
     requires few { harts ≤ 2 }
-    requires legal { HostContextsAreLegal (machine_of_parts by_hart.old harts shared.old) }
+    requires stored { HostContextsAreLegal (machine_of_parts by_hart.old harts shared.old) }
     ensures count { result ≤ count }
     ensures steps { FastSteps hart limits.now result (machine_of_parts by_hart.old harts shared.old) (machine_of_parts by_hart.new harts shared.new) }
     ensures legal { HostContextsAreLegal (machine_of_parts by_hart.new harts shared.new) }

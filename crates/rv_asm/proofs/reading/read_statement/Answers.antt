@@ -9,5 +9,5 @@ returns c =
     let value =
     rw (c.as_slice.ensures.value, c.first_operands.ensures, statement_of-take, c.split_at.ensures.back, c.blank_position.ensures.value) at
     c.statement_of.ensures in
-    let word = rw (c.split_at.ensures.prefix, c.blank_position.ensures.value) at (sym c.mnemonic_of.ensures ∙ c.in_ok-mnemonic.was) in
+    let word = rw (c.split_at.ensures.front, c.blank_position.ensures.value) at (sym c.mnemonic_of.ensures ∙ c.in_ok-mnemonic.was) in
     rw word value

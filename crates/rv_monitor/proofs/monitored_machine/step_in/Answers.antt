@@ -13,11 +13,11 @@ returns-in-None c =
     let is = stepping c.args.by_hart.now c.args.harts c.args.hart c.args.shared.now _ c.index-by_hart-hart.result _ _ (search rules)
     c.requires.has c.requires.few c.requires.kept c.step_hart-outcome.ensures.meaning in
     let meaning = is.quiet c.in-None.is in
-    record { meaning = meaning; stored = is.stored _ c.step_hart-outcome.ensures.stored c.requires.stored meaning }
+    record { meaning = meaning; legal = is.stored _ c.step_hart-outcome.ensures.legal c.requires.stored meaning }
 
 pub returns-in-Some : goal.returns-in-Some
 returns-in-Some c =
     let is = stepping c.args.by_hart.now c.args.harts c.args.hart c.args.shared.now _ c.index-by_hart-hart.result _ _ (search rules)
     c.requires.has c.requires.few c.requires.kept c.step_hart-outcome.ensures.meaning in
     let meaning = is.laid _ _ c.in-Some.is c.program_other_pmp.ensures in
-    record { meaning = meaning; stored = is.stored _ c.step_hart-outcome.ensures.stored c.requires.stored meaning }
+    record { meaning = meaning; legal = is.stored _ c.step_hart-outcome.ensures.legal c.requires.stored meaning }

@@ -1,6 +1,6 @@
 use Rattle.std.proofs.Common.{◌<◌, ℕ, sym, subst}
 use Rattle.rv_monitor.proofs.Prelude.{MonitoredMachine, count_of}
-use Rattle.rv_monitor.proofs.monitored_machine.Monitored.invariant.Goals as goal
+use Rattle.rv_monitor.proofs.monitored_machine.MonitoredMachine.invariant.Goals as goal
 
 pub returns-clause-first : goal.returns-clause-first
 returns-clause-first c =

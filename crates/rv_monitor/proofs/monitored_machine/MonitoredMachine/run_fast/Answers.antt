@@ -1,7 +1,7 @@
 use Rattle.std.proofs.Common.{◌≡◌, subst}
 use Rattle.rv_monitor.proofs.Prelude.{MonitoredMachine, count_of, machine_of_parts}
 use Rattle.rv_monitor.proofs.FastSteps.{steps_count, steps_kept}
-use Rattle.rv_monitor.proofs.monitored_machine.Monitored.run_fast.Goals as goal
+use Rattle.rv_monitor.proofs.monitored_machine.MonitoredMachine.run_fast.Goals as goal
 
 pub invariant_of-self : goal.invariant_of-self
 invariant_of-self c =
@@ -11,7 +11,7 @@ invariant_of-self c =
     let new = c.run_fast_in.new in (
       steps_kept c.args.hart c.args.limits.now c.run_fast_in.result (machine_of_parts inside.by_hart inside.harts inside.shared)
           (machine_of_parts new.by_hart inside.harts new.shared) is.steps held_in.0,
-      is.stored,
+      is.legal,
       held_in.2,
       held_in.3,
     )

@@ -2,7 +2,7 @@ use Rattle.std.proofs.Common.{sym, subst}
 use Rattle.rv_monitor.specs.Prelude.{Shared}
 use Rattle.rv_monitor.proofs.Prelude.{EquivExcept, Invariant, MonitoredMachine, machine_of_parts}
 use Rattle.rv_monitor.proofs.Scrambled.{perhaps_kept, perhaps_equiv}
-use Rattle.rv_monitor.proofs.monitored_machine.Monitored.scramble.Goals as goal
+use Rattle.rv_monitor.proofs.monitored_machine.MonitoredMachine.scramble.Goals as goal
 
 pub invariant_of-self : goal.invariant_of-self
 invariant_of-self c =

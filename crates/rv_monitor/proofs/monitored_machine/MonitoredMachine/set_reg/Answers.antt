@@ -1,7 +1,7 @@
 use Rattle.rv_monitor.specs.Prelude.{with_register}
 use Rattle.rv_monitor.proofs.Prelude.{reg_set, hart_state_of}
 use Rattle.rv_monitor.proofs.Held.{put_at, written_holds}
-use Rattle.rv_monitor.proofs.monitored_machine.Monitored.set_reg.Goals as goal
+use Rattle.rv_monitor.proofs.monitored_machine.MonitoredMachine.set_reg.Goals as goal
 
 pub returns-clause-meaning : goal.returns-clause-meaning
 returns-clause-meaning c =

@@ -1,6 +1,6 @@
 use Rattle.rv_monitor.proofs.Prelude.{hart_state_of, timer_line_set}
 use Rattle.rv_monitor.proofs.Held.{put_at, written_holds}
-use Rattle.rv_monitor.proofs.monitored_machine.Monitored.set_timer.Goals as goal
+use Rattle.rv_monitor.proofs.monitored_machine.MonitoredMachine.set_timer.Goals as goal
 
 pub returns-clause-meaning : goal.returns-clause-meaning
 returns-clause-meaning c =

@@ -4,14 +4,14 @@ use Rattle.rv_monitor.proofs.Prelude.{MonitoredMachine, MonitoredStepped, count_
 use Rattle.rv_monitor.proofs.Held.{saved_after}
 use Rattle.rv_monitor.proofs.HartCases.{step_count}
 use Rattle.rv_monitor.proofs.StepLaws.{step_laws}
-use Rattle.rv_monitor.proofs.monitored_machine.Monitored.step.Goals as goal
+use Rattle.rv_monitor.proofs.monitored_machine.MonitoredMachine.step.Goals as goal
 
 pub invariant_of-self : goal.invariant_of-self
 invariant_of-self c =
     let inside = c.self.inside in
     let held_in = c.self.invariant in (
       saved_after c.args.hart (machine_of_parts inside.by_hart inside.harts inside.shared) _ held_in.0 c.step_in.ensures.meaning,
-      c.step_in.ensures.stored,
+      c.step_in.ensures.legal,
       held_in.2,
       held_in.3,
     )
