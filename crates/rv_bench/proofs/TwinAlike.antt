@@ -166,24 +166,14 @@ module _ (slot : ℕ) where
 
   done_follows : (pair : Pair) (command : Command) (after : BothExecuted) (why : BothWhy) → after.why ≡ why
       → Becomes pair.first pair.second command after → Follows pair (done_by_both why command) (of_command command after why pair).state
-  done_follows pair command after All is both =
-      record {
-        first = both.first ∙ ap (λ (why : BothWhy). after_commands pair.first (done_by_both why command)) is;
-        second = both.second
-            ∙ ap (λ (why : BothWhy). after_commands pair.second (done_by_both why command)) is;
-      }
-  done_follows pair command after Entered is both =
-      record {
-        first = both.first ∙ ap (λ (why : BothWhy). after_commands pair.first (done_by_both why command)) is;
-        second = both.second
-            ∙ ap (λ (why : BothWhy). after_commands pair.second (done_by_both why command)) is;
-      }
-  done_follows pair command after NotBlind is both =
-      record {
-        first = both.first ∙ ap (λ (why : BothWhy). after_commands pair.first (done_by_both why command)) is;
-        second = both.second
-            ∙ ap (λ (why : BothWhy). after_commands pair.second (done_by_both why command)) is;
-      }
+  done_follows pair command after why is both = record {
+    first = (left why).0 ∙ both.first ∙ ap (λ (why : BothWhy). after_commands pair.first (done_by_both why command)) is;
+    second = (left why).1 ∙ both.second ∙ ap (λ (why : BothWhy). after_commands pair.second (done_by_both why command)) is;
+  } where
+    left : (why : BothWhy) → (let end = (of_command command after why pair).state in (end.first ≡ after.first) × (end.second ≡ after.second))
+    left All = (refl, refl)
+    left Entered = (refl, refl)
+    left NotBlind = (refl, refl)
 
   line_follows : (pair : Pair) (line : List ℕ) → Going pair → Follows pair (done_in_line slot pair line) (pair_line slot pair line).state
   unfolding pair_line

@@ -1,14 +1,15 @@
 -- The laws of isolation, of what is done, of a command and of a list of commands.
 use Rattle.std.proofs.Common.{◌≡◌, ◌≢◌, ℕ, ◌+◌, ◌<◌, ◌≤◌, ◌⊎◌, true, false, List, [], ◌∷◌, Option, Some, None, refl}
-use Rattle.std.proofs.Common.{sym, ◌∙◌, subst, inl, inr, arith, ap}
+use Rattle.std.proofs.Common.{sym, ◌∙◌, subst, inl, inr, arith, ap, IfSome}
+use Rattle.std.specs.Prelude.{IsSomeAnd}
 use Rattle.rv_monitor.proofs.SchedIntegrity.{running_law, sched_changes, sched_integrity, preserved_twice}
 use Rattle.rv_monitor.proofs.AccessControlLemmas.{access_control_law}
-use Rattle.rv_debug.specs.Prelude.{Access, Bare, Command, Invariant, Monitored, RunsOnNone, Machine, Target, byte_at, has, read, region}
-use Rattle.rv_debug.specs.Prelude.{runs_on, hart_view, write}
-use Rattle.rv_debug.proofs.Prelude.{BenchState, ChangesMemory, Selected, Effect, IntegrityLaw, IsLiveIn, IsMonitored, IsPreservedIn, TargetInvariant}
+use Rattle.rv_debug.specs.Prelude.{Access, Bare, Command, Invariant, Monitored, RunsOnNone, Target, byte_at, has, read, region}
+use Rattle.rv_debug.specs.Prelude.{MonitoredMachine, is_live, runs_on, hart_view, write}
+use Rattle.rv_debug.proofs.Prelude.{BenchState, ChangesMemory, Selected, Effect, IntegrityLaw, IsPreservedIn, TargetInvariant}
 use Rattle.rv_debug.proofs.Prelude.{MayChange, OneByte, PokesNone, UndisturbedByEffect, RunningLaw, PreservesUndisturbed, Steps, ReportsAccess}
 use Rattle.rv_debug.proofs.Prelude.{after_commands, execute, byte_at-write, cases_eq, cases_lt, selected_of, effect, done, harts_of}
-use Rattle.rv_debug.proofs.Prelude.{harts_stepped, memory_of, hart_view_invariant}
+use Rattle.rv_debug.proofs.Prelude.{harts_stepped, machine_in, memory_of, hart_view_invariant}
 use Rattle.rv_debug.proofs.EffectsInvariant.{keeps_monitor, poke_of}
 use Rattle.rv_debug.proofs.ScheduledSteps.{schedule_is_sched}
 
@@ -43,14 +44,9 @@ poke_integrity k address byte machine (Some memory) is apart =
       context = refl;
     }
 
--- a machine alone has no enclave that rests
-none_rests : (k : ℕ) (machine : Machine) (d : Effect) → UndisturbedByEffect k (Bare machine) d → ⊥
-none_rests k machine (OneByte address byte) not_running = not_running.0
-none_rests k machine (Steps harts selected) not_running = not_running
-none_rests k machine _ not_running = not_running
-
-preserves : (target : Target) (d : Effect) → TargetInvariant target → (k : ℕ) → UndisturbedByEffect k target d → IsPreservedIn k target (done target d)
-preserves (Bare machine) d kept k not_running = absurd (none_rests k machine d not_running)
+preserves : (target : Target) (d : Effect) → TargetInvariant target → (k : ℕ)
+    → IsSomeAnd (machine_in target) (λ machine. UndisturbedByEffect k machine d) → IsPreservedIn k target (done target d)
+preserves (Bare machine) d kept k not_running = absurd not_running
 preserves (Monitored machine) (Steps harts selected) kept k not_running =
     subst (IsPreservedIn k (Monitored machine)) (sym (schedule_is_sched harts machine _ selected))
     (sched_integrity k harts machine.state kept not_running).preserved
@@ -64,20 +60,20 @@ integrity_resting bench command kept = preserves bench.target (effect bench comm
 
 -- ---- an enclave that runs on a hart which no step is of
 
-rests_by : (k own : ℕ) (selected : Selected) (d : Effect) → Invariant selected.state → runs_on k own selected.state ≡ true
-    → RunsOnNone k (harts_stepped d) selected.state → PokesNone k (Monitored selected) d → UndisturbedByEffect k (Monitored selected) d
-rests_by k own selected d kept runs none pokes = by d none pokes where
-  live : IsLiveIn k (Monitored selected)
-  live = running_law k own [] selected.state kept runs tt
-
-  by : (d : Effect) → RunsOnNone k (harts_stepped d) selected.state → PokesNone k (Monitored selected) d → UndisturbedByEffect k (Monitored selected) d
-  by (Steps harts last) none pokes = running_law k own harts selected.state kept runs none
-  by (OneByte address byte) none pokes = (live, pokes)
-  by _ none pokes = live
+rests_by : (k own : ℕ) (machine : MonitoredMachine) (d : Effect) → Invariant machine → runs_on k own machine ≡ true
+    → RunsOnNone k (harts_stepped d) machine → PokesNone k machine d → UndisturbedByEffect k machine d
+rests_by k own machine (Steps harts last) kept runs none pokes = running_law k own harts machine kept runs none
+rests_by k own machine (OneByte address byte) kept runs none pokes = (running_law k own [] machine kept runs tt, pokes)
+rests_by k own machine _ kept runs none pokes = running_law k own [] machine kept runs tt
 
 pub running : RunningLaw
-running k own selected breaks watches command kept runs none pokes =
-    rests_by k own selected (effect (record { target = Monitored selected; breaks = breaks; watches = watches }) command) kept runs none pokes
+running k own bench command = by (machine_in bench.target) where
+  by : (found : Option MonitoredMachine) → IfSome found Invariant
+      → IfSome found (λ machine.
+      let does = effect bench command in
+      runs_on k own machine ≡ true → RunsOnNone k (harts_stepped does) machine → PokesNone k machine does → UndisturbedByEffect k machine does)
+  by None kept = tt
+  by (Some machine) kept = rests_by k own machine (effect bench command) kept
 
 -- ---- the bytes that are changed
 
@@ -94,20 +90,24 @@ poke_changes address value byte machine (Some memory) is = elim (cases_eq byte a
   | inr other ↦ inl (byte_at-write machine.state.shared.memory address (value ∷ []) memory byte is (beside byte address other))
 ]
 
-changes : (target : Target) (d : Effect) → TargetInvariant target → IsMonitored target → (byte : ℕ)
-    → ByteIsOr byte target (done target d) (MayChange target d byte)
-changes (Bare machine) d kept is byte = absurd is
-changes (Monitored machine) (Steps harts selected) kept is byte = elim (sched_changes harts machine.state byte kept) [
+changes : (target : Target) (d : Effect) → TargetInvariant target → (byte : ℕ)
+    → IfSome (machine_in target) (λ machine. ByteIsOr byte target (done target d) (MayChange machine d byte))
+changes (Bare machine) d kept byte = tt
+changes (Monitored machine) (Steps harts selected) kept byte = elim (sched_changes harts machine.state byte kept) [
   | inl same ↦ inl (ap (λ (target : Target). byte_at (memory_of target) byte) (schedule_is_sched harts machine _ selected) ∙ same)
   | inr change ↦ inr change
 ]
-changes (Monitored machine) (OneByte address value) kept is byte =
+changes (Monitored machine) (OneByte address value) kept byte =
     poke_changes address value byte machine (write machine.state.shared.memory address (value ∷ [])) refl
-changes (Monitored machine) _ kept is byte = inl refl
+changes (Monitored machine) _ kept byte = inl refl
 
 pub changes_memory : (bench : BenchState) (command : Command) → TargetInvariant bench.target → ChangesMemory bench command (execute bench command).state
 unfolding execute
-changes_memory bench command kept = changes bench.target (effect bench command) kept
+changes_memory bench command kept byte = by bench.target (effect bench command) kept where
+  by : (target : Target) (d : Effect) → TargetInvariant target → IfSome (machine_in target) (λ machine.
+      byte_at (memory_of (done target d)) byte ≡ byte_at machine.shared.memory byte ⊎ MayChange machine d byte)
+  by (Bare machine) d kept = tt
+  by (Monitored machine) d kept = changes (Monitored machine) d kept byte
 
 -- ---- a list of commands
 
@@ -118,7 +118,8 @@ preserved_after k (Bare before) between after first last = absurd first
 preserved_after k (Monitored before) (Bare between) after first last = absurd first
 preserved_after k (Monitored before) (Monitored between) (Bare after) first last = absurd last
 
-preserved_itself : (k : ℕ) (target : Target) → IsLiveIn k target → IsPreservedIn k target target
+preserved_itself : (k : ℕ) (target : Target) → IsSomeAnd (machine_in target) (λ machine. is_live machine.shared.table k ≡ true)
+    → IsPreservedIn k target target
 preserved_itself k (Monitored machine) not_running = itself k machine
 preserved_itself k (Bare machine) not_running = not_running
 

@@ -1,17 +1,12 @@
 -- What two benches that agree but for an enclave show and leave, given the same commands that pass by the hart on which it runs: nothing of
 -- that enclave, up to the command that enters it. (Laws of this project's own debugger over its own monitor.)
-use Rattle.std.specs.Prelude.{ℕ, ◌≡◌, suc, Bool, true, false, List, [], ◌∷◌, take}
-use Rattle.rv_debug.specs.Prelude.{All, Bare, BothWhy, Command, Entered, Monitored, NotBlind, Poke, Target, has, is_live}
+use Rattle.std.specs.Prelude.{ℕ, ◌≡◌, suc, true, false, List, [], ◌∷◌, take}
+use Rattle.rv_debug.specs.Prelude.{All, BothWhy, Command, Entered, NotBlind, Poke, has}
 use Rattle.rv_debug.specs.Execute.{Executed, execute}
 use Rattle.rv_debug.specs.BenchState.{BenchState}
 use Rattle.rv_debug.specs.Isolation.{after_commands}
-use Rattle.rv_debug.specs.Targets.{TargetInvariant}
+use Rattle.rv_debug.specs.Targets.{TargetInvariant, is_live_in}
 use Rattle.rv_debug.specs.BothBenches.{BenchesEquivExcept, BothExecuted, AvoidsHart, RunsOnNoHart, is_blind, is_entered, region_in}
-
--- the enclave of slot e is live
-abbrev pub is_live_in : ℕ → Target → Bool
-is_live_in e (Bare machine) = false
-is_live_in e (Monitored selected) = is_live selected.state.shared.table e
 
 -- they agree again; and once the enclave is gone they are equal
 pub record RemainEquiv (e : ℕ) (first second : BenchState) : Type 0 where

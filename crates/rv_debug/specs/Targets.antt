@@ -1,15 +1,20 @@
 -- What commands work on, in the few words in which the answers speak of it. (This project's own debugger.)
-use Rattle.std.specs.Prelude.{ℕ, Bool, List, [], ◌∷◌, ◌++◌, codes, decimal, Option, None}
+use Rattle.std.specs.Prelude.{ℕ, Bool, false, List, [], ◌∷◌, ◌++◌, codes, decimal, Option, Some, None, IfSome}
 use Rattle.std.specs.Option.{option_map}
 use Rattle.rv_hart.specs.HartState.{Hart}
 use Rattle.rv_hart.specs.Step.{step}
 use Rattle.rv_enclaves.specs.declared.world.World.{World}
 use Rattle.rv_enclaves.specs.declared.world.World.TheVariants.{Host, Enclave}
-use Rattle.rv_debug.specs.Prelude.{Bare, Invariant, MonitoredMachine, Monitored, HartState, Machine, Target, count_of, hart_state_of, step_of, with_memory}
-use Rattle.rv_debug.specs.Prelude.{with_reg, with_register, with_timer, write}
+use Rattle.rv_debug.specs.Prelude.{HostContextsAreLegal, Bare, Invariant, MonitoredMachine, Monitored, HartState, Machine, Target, count_of, is_live, option_case}
+use Rattle.rv_debug.specs.Prelude.{hart_state_of, step_of, with_memory, with_reg, with_register, with_timer, write}
 use Rattle.rv_debug.specs.Selected.{Selected}
 use Rattle.rv_debug.specs.EnclaveText.{table_text}
 use Rattle.rv_debug.specs.Steps.{Stepped}
+
+-- the monitored machine of a target, if it is monitored
+abbrev pub machine_in : Target → Option MonitoredMachine
+machine_in (Bare machine) = None
+machine_in (Monitored selected) = Some selected.state
 
 -- the seat of the chosen hart
 abbrev pub selected_hart_state : Selected → HartState
@@ -37,8 +42,11 @@ world_text (Monitored selected) = world_name (selected_hart_state selected).worl
 
 -- a line for each of its live enclaves; a machine alone has none
 abbrev pub enclaves_text : Target → List ℕ
-enclaves_text (Bare machine) = []
-enclaves_text (Monitored selected) = table_text selected.state.shared.table
+enclaves_text target = option_case (machine_in target) [] (λ machine. table_text machine.shared.table)
+
+-- whether the enclave of slot e is live
+abbrev pub is_live_in : ℕ → Target → Bool
+is_live_in e target = option_case (machine_in target) false (λ machine. is_live machine.shared.table e)
 
 -- the address of its next instruction
 abbrev pub pc_of : Target → ℕ
@@ -111,5 +119,8 @@ IsBare (Monitored selected) = ⊥
 -- where the target is monitored: its table is valid, the entries and mie are those of the table and the world, the mode is S or U, and
 -- MIE, MPRV, TVM, TW and TSR are 0
 abbrev pub TargetInvariant : Target → Type 0
-TargetInvariant (Bare machine) = Unit {0}
-TargetInvariant (Monitored selected) = Invariant selected.state
+TargetInvariant target = IfSome (machine_in target) Invariant
+
+-- what is kept of the host of each hart is as a hart stores it
+abbrev pub HostContextsAreLegalIn : Target → Type 0
+HostContextsAreLegalIn target = IfSome (machine_in target) HostContextsAreLegal

@@ -29,11 +29,7 @@ impl Model for Bench {
 
     ghost Value = { BenchState };
 
-    ghost use Rattle.rv_debug.specs.Targets.{TargetInvariant};
-
     ghost view = { λ bench. record { target = bench.target; breaks = bench.breaks; watches = bench.watches } };
-
-    ghost invariant = { λ bench. TargetInvariant bench.target };
 }
 
 impl Bench {
@@ -42,8 +38,7 @@ impl Bench {
     ghost use Rattle.rv_debug.specs.Execute.{execute, execute_line, only_shows};
     ghost use Rattle.rv_debug.specs.BenchState.{bare, monitored};
     ghost use Rattle.rv_debug.specs.Isolation.{ReportsAccess, ChangesMemory, PreservesUndisturbed, PreservesHarts};
-    ghost use Rattle.rv_debug.specs.Returns.{HostContextsAreLegalIn};
-    ghost use Rattle.rv_debug.specs.Targets.{IsBare, TargetInvariant};
+    ghost use Rattle.rv_debug.specs.Targets.{IsBare, HostContextsAreLegalIn, TargetInvariant};
     ghost use Rattle.rv_debug.specs.BothBenches.{BenchesEquivExcept, RunsOnNoHart, can_scramble, is_blind, scrambled};
 
     /// A bench over a machine as it is, with no break and no watch.
@@ -57,13 +52,11 @@ impl Bench {
     pub fn monitored(machine: MonitoredMachine) -> Self
         ensures { result ≡ monitored machine }
     {
-        machine.invariant();
         Bench::over(Target::Monitored(SelectedHart { machine, hart: 0 }))
     }
 
     /// A bench over a target, with no break and no watch.
     fn over(target: Target) -> Self
-        requires { TargetInvariant target }
         ensures { result ≡ record { target = target; breaks = []; watches = [] } }
     {
         Bench {
@@ -73,12 +66,15 @@ impl Bench {
         }
     }
 
-    /// What holds in every state. It does nothing.
+    /// The invariant of a bench, as facts to cite. It does nothing. Of a bare bench it says nothing; of a monitored one:
+    /// - `monitor`: the table of enclaves is valid, and of each hart the PMP entries and mie are those of the table and its world, the mode is
+    ///   S or U, and MIE, MPRV, TVM, TW and TSR are 0;
+    /// - `stored`: what is kept of the host of each hart is as a hart stores it, which `laws::host_is_restored` needs.
     pub fn invariant(&self)
-        ensures { TargetInvariant self.now.target }
+        ensures monitor { TargetInvariant self.now.target }
+        ensures legal { HostContextsAreLegalIn self.now.target }
     {
-        // brings in what holds of every bench
-        let _ = &self.target;
+        self.target.invariant();
     }
 
     /// Whether a command is blind to the enclave of a slot: it is not a mem, dis or poke with a byte in its region.
@@ -96,30 +92,25 @@ impl Bench {
     ///
     /// Returns a number with bit k set where the enclave of slot k was entered: 0 where the bench is bare.
     ///
-    /// `execute` is all of it. Of what follows, `monitor` is what holds in every state of a monitored bench: the table of enclaves is
-    /// valid, and of each hart the PMP entries and mie are those of the table and its world, the mode is S or U, and MIE, MPRV, TVM, TW
-    /// and TSR are 0. `accessible` is that `access`, in S and U, is told to be permitted exactly where it is in the reach of the world that
-    /// runs on the chosen hart. `changes` is that a byte of memory changes only where it is poked, or where a step changes it in its
-    /// world's reach, by a destroy or by a measure. `integrity` is that the command changes neither record nor region nor context of a live
-    /// enclave that is not the world of a hart that steps, that it does not enter or end, and of whose region it pokes no byte: it may run
-    /// on the other hart. `beside` is that a hart of which the command makes no step, and sets no register and no timer line, keeps its
-    /// world, registers, pc and mode, and all but the entries and mie. `stored` is that what is kept of the host of each hart is as a hart
-    /// stores it, which the host that comes back rests on.
+    /// `execute` is all of it. The other clauses follow from it and the invariant:
+    /// - `accessible`: in S and U, `access` is told to be permitted exactly where it is in the reach of the world that runs on the chosen hart;
+    /// - `changes`: a byte of memory changes only where it is poked, or where a step changes it in its world's reach, by a destroy or by a
+    ///   measure;
+    /// - `integrity`: the command changes neither record nor region nor context of a live enclave that is not the world of a hart that steps,
+    ///   that it does not enter or end, and of whose region it pokes no byte; the enclave may run on the other hart;
+    /// - `beside`: a hart of which the command makes no step, and sets no register and no timer line, keeps its world, registers, pc and mode,
+    ///   and all but the entries and mie.
     pub fn command(&mut self, command: &Command, out: &mut Reply) -> u16
         ensures execute { execute self.old command.now ≡ record { state = self.new; reply = out.new.items; entered = result } }
         ensures bare { IsBare self.old.target → result ≡ 0 }
-        ensures monitor { TargetInvariant self.new.target }
         ensures accessible { ReportsAccess self.old.target command.now }
         ensures changes { ChangesMemory self.old command.now self.new }
         ensures integrity { PreservesUndisturbed self.old command.now self.new }
         ensures beside { PreservesHarts self.old command.now self.new }
-        ensures legal { HostContextsAreLegalIn self.new.target }
     {
         self.invariant();
         self.target.selected();
-        let entered = self.execute(command, out);
-        self.target.stored();
-        entered
+        self.execute(command, out)
     }
 
     /// Does one command, and replies.
@@ -127,7 +118,6 @@ impl Bench {
     fn execute(&mut self, command: &Command, out: &mut Reply) -> u16
         ensures execute { execute self.old command.now ≡ record { state = self.new; reply = out.new.items; entered = result } }
         ensures bare { IsBare self.old.target → result ≡ 0 }
-        ensures monitor { TargetInvariant self.new.target }
     {
         out.clear();
         match *command {
@@ -187,14 +177,13 @@ impl Bench {
     /// changes, only where the slot is free, its enclave runs, or the bench is bare.
     ///
     /// `asked`, `meaning` and `same` are all of it. Of what follows, `equivalent` is that the two benches differ in nothing but what is private
-    /// to the slot's enclave, `not_running` that this runs on no hart, and `monitor` what holds in every state.
+    /// to the slot's enclave, and `not_running` that this runs on no hart.
     pub fn scramble(&mut self, slot: Slot) -> bool
         ensures asked { result ≡ can_scramble slot self.old }
         ensures meaning { result ≡ true → self.new ≡ scrambled slot self.old }
         ensures same { result ≡ false → self.new ≡ self.old }
         ensures equivalent { result ≡ true → BenchesEquivExcept slot self.old self.new }
         ensures not_running { result ≡ true → RunsOnNoHart slot self.old.target }
-        ensures monitor { TargetInvariant self.new.target }
     {
         self.invariant();
         self.target.scramble(slot)
@@ -208,12 +197,10 @@ impl Bench {
         ensures execute { execute_line self.old line.now ≡ record { state = self.new; reply = out.new.items; entered = result } }
         ensures prefix { (other : List ℕ) → take 121 other ≡ take 121 line.now → execute_line self.old other ≡ execute_line self.old line.now }
         ensures bare { IsBare self.old.target → result ≡ 0 }
-        ensures monitor { TargetInvariant self.new.target }
     {
         match parse(line) {
             Ok(command) => self.command(&command, out),
             Err(fault) => {
-                self.invariant();
                 out.clear();
                 push_fault(out, fault);
                 0

@@ -4,12 +4,10 @@ ghost use Rattle.std.specs.Prelude.{◌≡◌, ◌<◌, ◌^◌, [], Some, None}
 ghost use Rattle.std.specs.Bool.{OnTrue, OnFalse};
 ghost use Rattle.rv_word.specs.Cases.{option_case};
 ghost use Rattle.rv_platform.specs.Blocks.{no_block};
-ghost use Rattle.rv_monitor.specs.MonitoredMachine.{Invariant};
-ghost use Rattle.rv_debug.specs.Returns.{HostContextsAreLegalIn};
 ghost use Rattle.rv_debug.specs.FastSteps.{so_far_in};
 ghost use Rattle.rv_debug.specs.Steps.{ended, no_steps, run, with_step};
 ghost use Rattle.rv_debug.specs.BothBenches.{TargetsEquivExcept, can_scramble_in, region_in, scrambled_in};
-ghost use Rattle.rv_debug.specs.Targets.{selected_of, hart_of, harts_of, memory_of, pc_of, target_stepped, with_selected, register_set, timer_set, poked, IsBare, TargetInvariant};
+ghost use Rattle.rv_debug.specs.Targets.{selected_of, hart_of, harts_of, memory_of, pc_of, target_stepped, with_selected, register_set, timer_set, poked, IsBare, HostContextsAreLegalIn, TargetInvariant};
 
 use crate::addresses::Addresses;
 use crate::selected_hart::SelectedHart;
@@ -31,9 +29,10 @@ pub enum Target {
 }
 
 impl Target {
-    /// What is kept of the host of each hart is as a hart stores it. It does nothing.
-    pub(crate) fn stored(&self)
-        ensures { HostContextsAreLegalIn self.now }
+    /// The invariant of a monitored machine, and that what is kept of the host of each hart is as a hart stores it. It does nothing.
+    pub(crate) fn invariant(&self)
+        ensures monitor { TargetInvariant self.now }
+        ensures legal { HostContextsAreLegalIn self.now }
     {
         if let Target::Monitored(selected) = self {
             selected.machine.invariant();
@@ -112,7 +111,6 @@ impl Target {
         requires { hart < harts_of self.old }
         ensures step_scheduled { self.new ≡ with_selected hart self.old }
         ensures harts { harts_of self.new ≡ harts_of self.old }
-        ensures monitor { TargetInvariant self.old → TargetInvariant self.new }
     {
         match self {
             Target::Bare(_) => {}
@@ -144,8 +142,7 @@ impl Target {
 
     /// Puts a word into a register.
     pub(crate) fn set_reg(&mut self, reg: Reg, value: u32)
-        ensures meaning { self.new ≡ register_set self.old reg value }
-        ensures monitor { TargetInvariant self.old → TargetInvariant self.new }
+        ensures { self.new ≡ register_set self.old reg value }
     {
         match self {
             Target::Bare(machine) => machine.regs_mut().set(reg, value),
@@ -155,8 +152,7 @@ impl Target {
 
     /// Raises the timer line, or lowers it.
     pub(crate) fn set_timer(&mut self, raised: bool)
-        ensures meaning { self.new ≡ timer_set self.old raised }
-        ensures monitor { TargetInvariant self.old → TargetInvariant self.new }
+        ensures { self.new ≡ timer_set self.old raised }
     {
         match self {
             Target::Bare(machine) => machine.csrs_mut().set_timer(raised),
@@ -169,7 +165,6 @@ impl Target {
         ensures done { OnTrue result (poked self.old address byte ≡ Some self.new) }
         ensures outside { OnFalse result (poked self.old address byte ≡ None) }
         ensures kept { OnFalse result (self.new ≡ self.old) }
-        ensures monitor { TargetInvariant self.old → TargetInvariant self.new }
     {
         match self {
             Target::Bare(machine) => machine.ram_mut().poke(address, byte),
@@ -184,7 +179,6 @@ impl Target {
         ensures meaning { OnTrue result (self.new ≡ scrambled_in slot self.old) }
         ensures same { OnFalse result (self.new ≡ self.old) }
         ensures equivalent { OnTrue result (TargetsEquivExcept slot self.old self.new) }
-        ensures monitor { TargetInvariant self.old → TargetInvariant self.new }
     {
         match self {
             Target::Bare(_) => false,
@@ -202,7 +196,6 @@ impl Target {
         ensures step { ended (with_step (so_far_in (with_selected hart self.old) ran.old) (target_stepped (with_selected hart self.old))) Stop.Done
             ≡ record { state = self.new; ran = ran.new } }
         ensures bare { IsBare self.old → ran.new.entered ≡ ran.old.entered }
-        ensures monitor { TargetInvariant self.old → TargetInvariant self.new }
     {
         match self {
             Target::Bare(machine) => step_bare(machine, ran, none, limits),
@@ -218,7 +211,6 @@ impl Target {
     pub(crate) fn run(&mut self, count: u32, breaks: &Addresses, watches: &Addresses) -> Ran
         ensures run { run target_stepped pc_of breaks.now watches.now count (no_steps self.old) ≡ record { state = self.new; ran = result } }
         ensures bare { IsBare self.old → result.entered ≡ 0 }
-        ensures monitor { TargetInvariant self.old → TargetInvariant self.new }
     {
         match self {
             Target::Bare(machine) => run_bare(machine, count, breaks, watches),
@@ -244,12 +236,10 @@ fn step_bare(machine: &mut Machine, ran: &mut Ran, none: &Addresses, limits: &mu
 fn step_monitored(selected: &mut SelectedHart, ran: &mut Ran, none: &Addresses, limits: &mut Limits)
     requires few { ran.old.steps < 2 ^ 31 }
     requires none { none.now ≡ [] }
-    ensures step { ended (with_step (so_far_in (Target.Monitored selected.old) ran.old) (target_stepped (Target.Monitored selected.old))) Stop.Done
+    ensures { ended (with_step (so_far_in (Target.Monitored selected.old) ran.old) (target_stepped (Target.Monitored selected.old))) Stop.Done
         ≡ record { state = Target.Monitored selected.new; ran = ran.new } }
-    ensures invariant { Invariant selected.new.state }
 {
     one_more(selected, ran, none, limits);
-    selected.machine.invariant();
 }
 
 /// The steps of a machine alone, which enter no enclave.
@@ -267,10 +257,7 @@ fn run_monitored(
     breaks: &Addresses,
     watches: &Addresses,
 ) -> Ran
-    ensures run { run target_stepped pc_of breaks.now watches.now count (no_steps (Target.Monitored selected.old)) ≡ record { state = Target.Monitored selected.new; ran = result } }
-    ensures invariant { Invariant selected.new.state }
+    ensures { run target_stepped pc_of breaks.now watches.now count (no_steps (Target.Monitored selected.old)) ≡ record { state = Target.Monitored selected.new; ran = result } }
 {
-    let ran = run_steps(selected, count, breaks, watches);
-    selected.machine.invariant();
-    ran
+    run_steps(selected, count, breaks, watches)
 }

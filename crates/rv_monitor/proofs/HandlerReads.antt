@@ -10,7 +10,8 @@ use Rattle.rv_monitor.specs.Prelude.{StepOutcome, Trap, bytes_of_block, context_
 use Rattle.rv_monitor.specs.Prelude.{saved_context, measured, measured_slot, measurement_at, measurement_of, new_slot, option_case}
 use Rattle.rv_monitor.specs.Prelude.{create_args_of, ram_base, recorded, region, running_slot, step, with_context, with_slot, with_state, write}
 use Rattle.rv_monitor.specs.declared.next.Next.{Next}
-use Rattle.rv_monitor.proofs.Prelude.{HandlerReadsLaw, StepReadsLaw, Handled, MonitoredMachine, HartView, HartViewStepped, SameRead, SameWhereSame}
+use Rattle.rv_monitor.specs.HandlerReads.{ReadsOnly}
+use Rattle.rv_monitor.proofs.Prelude.{HandlerReadsLaw, Handled, MonitoredMachine, HartView, HartViewStepped, SameRead, SameWhereSame}
 use Rattle.rv_monitor.proofs.Prelude.{SameHandling, a0, a1, returned_to_caller, requested_by, bare_machine, both_ways, cases_eq, entered_slot, eq-eqb, handled}
 use Rattle.rv_monitor.proofs.Prelude.{is_entering, left, monitored_step, ne_eqb, returned, returned_to, hart_state_at_start, reprogrammed}
 use Rattle.rv_monitor.proofs.Prelude.{hart_view, enclave_state_after, step_of, with_reprogrammed_hart}
@@ -160,7 +161,7 @@ asked_one hart_state one other trap trapped trapped_too same =
     rw (trapped_step here trap trapped, trapped_step there trap trapped_too)
     (returned_same one other (step (bare_machine here)).outcome (step (bare_machine there)).outcome _ _ work)
 
-pub step_reads_law : StepReadsLaw
+pub step_reads_law : (hart : ℕ) (machine : MonitoredMachine) → ReadsOnly hart machine (step_of hart machine)
 step_reads_law hart machine other trap hart_states trapped trapped_too same =
     let here = is_trapping hart machine trap trapped in
     let there = is_trapping hart other trap trapped_too in

@@ -3,7 +3,7 @@ use Rattle.std.proofs.Common.{◌≡◌, ◌<◌, ◌≤◌, ℕ, Bool, List, []
 use Rattle.std.specs.Prelude.{map, slice_index_or}
 use Rattle.std.proofs.lemmas.Simd.{map-map}
 use Rattle.rv_monitor.specs.Prelude.{Host, SharedInvariant, HartState, Slots, Trap, World}
-use Rattle.rv_monitor.proofs.Prelude.{HostContextsAreLegal, HostContextIsLegal, Invariant, HartViewInvariant, HartInvariant, InvariantLaw, MonitoredMachine, SchedInvariantLaw, cases_eq, cases_lt}
+use Rattle.rv_monitor.proofs.Prelude.{HostContextsAreLegal, HostContextIsLegal, Invariant, HartViewInvariant, HartInvariant, MonitoredMachine, SchedInvariantLaw, cases_eq, cases_lt}
 use Rattle.rv_monitor.proofs.Prelude.{changed, count_of, get_or-map, length-map, length-set, map-set, monitored_step, hart_state_at_start}
 use Rattle.rv_monitor.proofs.Prelude.{hart_state_of, reprogrammed, hart_states_reprogrammed, hart_view, set-get_or, set_past, sound_by_size, step_of, stepped_by}
 use Rattle.rv_monitor.proofs.Prelude.{with_hart_state, worlds}
@@ -74,7 +74,7 @@ stepped_kept hart machine kept has =
           ];
     }
 
-pub invariant_law : InvariantLaw
+pub invariant_law : (hart : ℕ) (machine : MonitoredMachine) → Invariant machine → Invariant (step_of hart machine).state
 invariant_law hart machine kept = by_hart hart machine (λ after. Invariant after.state) kept (stepped_kept hart machine kept)
 
 pub sched_invariant : SchedInvariantLaw

@@ -3,8 +3,9 @@ use Rattle.std.proofs.Common.{◌≡◌, ℕ, ◌⊎◌, true, Option, Some, Non
 use Rattle.std.proofs.Math.Bool.{or-false}
 use Rattle.rv_state.specs.declared.cause.Cause.TheVariants as causes
 use Rattle.rv_monitor.specs.Prelude.{Cause, Context, Enclave, Host, Outcome, HartState, StepOutcome, Trap, can_go_on, is_set, step}
-use Rattle.rv_monitor.proofs.Prelude.{Handled, HartViewInvariant, LeaveLaw, HartView, HartViewStepped, bare_machine, handled, saved_after, left_hart}
-use Rattle.rv_monitor.proofs.Prelude.{left, left_shared, monitored_step, returned, hart_view, with_reprogrammed_hart}
+use Rattle.rv_monitor.specs.Leaving.{LeavesOnly}
+use Rattle.rv_monitor.proofs.Prelude.{Handled, HartViewInvariant, HartView, HartViewStepped, bare_machine, handled, saved_after, left_hart}
+use Rattle.rv_monitor.proofs.Prelude.{left, left_shared, monitored_step, returned, hart_view, with_reprogrammed_hart, Invariant, MonitoredMachine, step_of}
 use Rattle.rv_monitor.proofs.InvariantLemmas.{hart_view_invariant}
 use Rattle.rv_monitor.proofs.HartCases.{is_trapping, programmed_by, step_seen}
 use Rattle.rv_monitor.proofs.Switched.{aligned_again}
@@ -77,7 +78,7 @@ module _ (before : HartView) (k : ℕ) (host : Context) (runs : before.hart_stat
       let there = subst (λ (after : HartViewStepped). after.state.hart_state.world ≡ Host) step_is gone in
       subst Left (sym step_is) (left_or_not (step (bare_machine before)).outcome _ all work_goes there)
 
-pub leave_law : LeaveLaw
+pub leave_law : (hart : ℕ) (machine : MonitoredMachine) → Invariant machine → LeavesOnly hart machine (step_of hart machine)
 leave_law hart machine kept k host trap runs saved_host is gone =
     let trapping = is_trapping hart machine trap is in
     let there = sym (ap (λ (after : HartViewStepped). after.state.hart_state.world) (step_seen hart machine trapping.has)) ∙ gone in

@@ -2,7 +2,8 @@
 use Rattle.std.proofs.Common.{◌≡◌, ◌<◌, ℕ, false, List, Option, Some, None, refl, sym, ◌∙◌, ap, ap₂, subst, inl, inr, arith}
 use Rattle.rv_monitor.specs.Prelude.{Hart, SharedInvariant, Outcome, HartState, Shared, SharedEquivExcept, Slots, Machine, StepOutcome, Stepped, Trap, World}
 use Rattle.rv_monitor.specs.Prelude.{is_live, is_world_of, option_case, step}
-use Rattle.rv_monitor.proofs.Prelude.{EquivExcept, NoninterferenceLaw, Invariant, HartViewInvariant, MonitoredMachine, HartView, HartViewStepped}
+use Rattle.rv_monitor.specs.Noninterference.{StepNoninterference}
+use Rattle.rv_monitor.proofs.Prelude.{EquivExcept, Invariant, HartViewInvariant, MonitoredMachine, HartView, HartViewStepped, step_of}
 use Rattle.rv_monitor.proofs.Prelude.{HartStatesEquivExcept, both_ways, cases_Bool, cases_eq, cases_lt, confined, count_of, get_or-map}
 use Rattle.rv_monitor.proofs.Prelude.{get_or_default, handled, length-map, monitored_step, returned, runs_on, same_lists, hart_state_at_start}
 use Rattle.rv_monitor.proofs.Prelude.{hart_state_of, reprogrammed, hart_view, sound_by_size, stepped_by, unhandled, worlds}
@@ -122,7 +123,7 @@ stepped_equiv e hart one other a b equiv has step j =
       ]
     ]
 
-pub noninterference : NoninterferenceLaw
+pub noninterference : (hart : ℕ) (machine : MonitoredMachine) → Invariant machine → StepNoninterference hart machine (step_of hart machine)
 noninterference hart one here e other there equiv not_running =
     let size = equiv.harts in
     elim (cases_lt hart (count_of one)) [

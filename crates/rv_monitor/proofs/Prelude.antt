@@ -12,15 +12,15 @@ pub use Rattle.rv_hart.proofs.StepLaws.{keeps_machine_parts, keeps_mprv_clear, t
 pub use Rattle.rv_hart.specs.Confinement.{EqualOn, IsConfined, SameIn, Stores}
 pub use Rattle.rv_hart.specs.Permitted.{MayTouch, MayTouchAll, TouchesPermitted}
 pub use Rattle.rv_monitor.specs.EquivExcept.{EquivExcept, HartStatesEquivExcept, runs_on}
-pub use Rattle.rv_monitor.specs.HandlerReads.{HandlerReadsLaw, StepReadsLaw, SameRead, SameWhereSame, SameHandling, requested_by, is_call, is_entering}
+pub use Rattle.rv_monitor.specs.HandlerReads.{HandlerReadsLaw, SameRead, SameWhereSame, SameHandling, requested_by, is_call, is_entering}
 pub use Rattle.rv_monitor.specs.CallRefusals.{a0, a1, call_refusals}
-pub use Rattle.rv_monitor.specs.Changes.{ByMonitor, ChangeLaw, ChangesAccessible, IsChanged, IsMeasured, IsStoredAccessible}
-pub use Rattle.rv_monitor.specs.Noninterference.{BareLaw, NoninterferenceLaw, HandledAlike, HandlerLaw, StepAlike, bare_machine, continuing_from}
+pub use Rattle.rv_monitor.specs.Changes.{ByMonitor, ChangesAccessible, IsChanged, IsMeasured, IsStoredAccessible}
+pub use Rattle.rv_monitor.specs.Noninterference.{BareLaw, HandledAlike, HandlerLaw, StepAlike, bare_machine, continuing_from}
 pub use Rattle.rv_monitor.specs.Debugger.{changed, reg_set, timer_line_set}
-pub use Rattle.rv_monitor.specs.HartLaws.{EntryLaw, IsUndisturbed, InvariantLaw, LowStepsLaw, RunningLaw, RunsOnNone, SchedChangeLaw, SchedInvariantLaw}
+pub use Rattle.rv_monitor.specs.HartLaws.{EntryLaw, IsUndisturbed, LowStepsLaw, RunningLaw, RunsOnNone, SchedChangeLaw, SchedInvariantLaw}
 pub use Rattle.rv_monitor.specs.HartLaws.{SchedLaw, SchedIntegrityLaw, sched}
-pub use Rattle.rv_monitor.specs.Integrity.{KeepsRunningLaw, KeepsRunning, IntegrityLaw, IsPreserved, IsUntouched, enters}
-pub use Rattle.rv_monitor.specs.Leaving.{LeaveLaw, saved_after, left_hart, left_shared, line_after, enclave_state_after}
+pub use Rattle.rv_monitor.specs.Integrity.{KeepsRunning, IsPreserved, IsUntouched, enters}
+pub use Rattle.rv_monitor.specs.Leaving.{saved_after, left_hart, left_shared, line_after, enclave_state_after}
 pub use Rattle.rv_monitor.specs.MonitoredMachine.{HostContextsAreLegal, HasPmpLayout, HostContextIsLegal, Invariant, HartViewInvariant, HartInvariant, HostContextInvariant, MonitoredMachine, HartView}
 pub use Rattle.rv_monitor.specs.MonitoredMachine.{count_of, machine_of_parts, hart_state_at_start, hart_state_of, reprogrammed, hart_states_at_start, hart_view, with_hart_state, worlds}
 unfoldable pub use Rattle.rv_monitor.specs.MonitoredMachine.{at_start}
@@ -29,7 +29,7 @@ pub use Rattle.rv_monitor.specs.Step.{past_call, refused, returned, returned_to,
 pub use Rattle.rv_monitor.specs.Step.{trapped_mode, trapped_pc, unhandled, with_reprogrammed_hart}
 unfoldable pub use Rattle.rv_monitor.specs.Step.{call_handled, called, forwarded_csrs, handled, monitored_step, performed, step_of}
 unfoldable pub use Rattle.rv_monitor.specs.Step.{timer_stopped}
-pub use Rattle.rv_monitor.specs.SwitchLaws.{StaysOrSwitches, SwitchLaw, reason, value}
+pub use Rattle.rv_monitor.specs.SwitchLaws.{StaysOrSwitches, reason, value}
 pub use Rattle.rv_monitor.specs.Switches.{Handled, saved_host, saved}
 unfoldable pub use Rattle.rv_monitor.specs.Switches.{entered_slot, left}
 pub use Rattle.rv_pmp.specs.Entries.{Entries, cfg_of}

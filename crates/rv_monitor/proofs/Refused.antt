@@ -4,9 +4,9 @@ use Rattle.std.proofs.Math.Bool.{or-false}
 use Rattle.rv_state.specs.declared.cause.Cause.TheVariants as causes
 use Rattle.rv_monitor.specs.Prelude.{Call, Cause, EnvironmentCallFromS, NotSupported, Outcome, Refusal, HartState, Shared, StepOutcome, Trap}
 use Rattle.rv_monitor.specs.Prelude.{aligned_to_4, requested_call, first_refusal, is_set, option_case, step, sum_of}
-use Rattle.rv_monitor.specs.Refused.{refusal_of, refused_hart, RefusalLaw}
+use Rattle.rv_monitor.specs.Refused.{refusal_of, refused_hart, RefusesOnly}
 use Rattle.rv_monitor.proofs.Prelude.{HartViewInvariant, MonitoredMachine, HartView, HartViewStepped, bare_machine, call_handled, call_refusals, called, handled}
-use Rattle.rv_monitor.proofs.Prelude.{handled_cause, monitored_step, refused, returned, hart_view, with_reprogrammed_hart}
+use Rattle.rv_monitor.proofs.Prelude.{handled_cause, monitored_step, refused, returned, hart_view, with_reprogrammed_hart, Invariant, step_of}
 use Rattle.rv_monitor.proofs.InvariantLemmas.{hart_view_invariant}
 use Rattle.rv_monitor.proofs.PmpProgramming.{all_as_are}
 use Rattle.rv_monitor.proofs.HartCases.{is_trapping, programmed_by}
@@ -61,7 +61,7 @@ module _ (state : HartView) (kept : HartViewInvariant state) (trap : Trap) (refu
       → refusal_of state.hart_state state.shared ≡ Some refusal → Refused (monitored_step state)
   refused_one is by_ecall refused = subst Refused (sym (trapped_step state trap is)) (refused_at (step (bare_machine state)).outcome by_ecall refused)
 
-pub refusal_law : RefusalLaw
+pub refusal_law : (hart : ℕ) (machine : MonitoredMachine) → Invariant machine → RefusesOnly hart machine (step_of hart machine)
 refusal_law hart machine kept trap refusal is by_ecall refused =
     let trapping = is_trapping hart machine trap is in
     let state = hart_view hart machine in

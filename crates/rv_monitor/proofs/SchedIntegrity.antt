@@ -2,7 +2,8 @@
 use Rattle.std.proofs.Common.{◌≡◌, ◌⊎◌, ℕ, true, List, [], ◌∷◌, refl, sym, ◌∙◌, ap, subst, inl, inr}
 use Rattle.std.proofs.lemmas.Bool.{or_right}
 use Rattle.rv_monitor.specs.Prelude.{HartState, Shared, byte_at, has, is_live, is_world_of, region_of, slot_at}
-use Rattle.rv_monitor.proofs.Prelude.{KeepsRunningLaw, KeepsRunning, IsChanged, Invariant, IsUndisturbed, IsPreserved, IsUntouched, MonitoredMachine, MonitoredStepped}
+use Rattle.rv_monitor.specs.Integrity.{KeepsOthersRunning}
+use Rattle.rv_monitor.proofs.Prelude.{KeepsRunning, IsChanged, Invariant, IsUndisturbed, IsPreserved, IsUntouched, MonitoredMachine, MonitoredStepped}
 use Rattle.rv_monitor.proofs.Prelude.{HartViewStepped, RunningLaw, SchedChangeLaw, SchedIntegrityLaw, both_ways, cases_lt, count_of}
 use Rattle.rv_monitor.proofs.Prelude.{monitored_step, runs_on, sched, hart_state_of, reprogrammed, hart_view_after, hart_view, step_of}
 use Rattle.rv_monitor.proofs.Beside.{live_by, running_is_undisturbed, runs_inside, running_is_live}
@@ -54,7 +55,7 @@ sched_integrity k (hart ∷ harts) machine kept alone =
 
 -- ---- one that runs is neither entered nor ended by another hart
 
-pub go_on_law : KeepsRunningLaw
+pub go_on_law : (hart : ℕ) (machine : MonitoredMachine) → Invariant machine → KeepsOthersRunning hart machine (step_of hart machine)
 go_on_law hart machine kept k own runs not_running = by_hart hart machine (KeepsRunning k)
     (record { passes = refl; live = running_is_live k own machine kept runs })
     (λ here.

@@ -4,7 +4,7 @@ use Rattle.std.specs.Prelude.{◌%◌, ◌&&◌, is_some, not}
 use Rattle.rv_state.specs.declared.s_context.SContext.{SContext}
 use Rattle.rv_monitor.specs.Prelude.{Context, CsrState, Enclave, Host, IsLegal, KeepsOwn, Mode, S, HartState, Shared, StepOutcome, Trap, World}
 use Rattle.rv_monitor.specs.Prelude.{aligned_to_4, can_go_on, is_host, is_machine, s_context, step, with_return_values, with_s_context}
-use Rattle.rv_monitor.proofs.Prelude.{Handled, HostContextIsLegal, HostContextInvariant, HartView, StaysOrSwitches, SwitchLaw, a0, and_parts, bare_machine}
+use Rattle.rv_monitor.proofs.Prelude.{Handled, HostContextIsLegal, HostContextInvariant, HartView, StaysOrSwitches, a0, and_parts, bare_machine}
 use Rattle.rv_monitor.proofs.Prelude.{both_ways, entered_slot, handled, saved_host, left, monitored_step, nat_tests, past_call, reason, returned}
 use Rattle.rv_monitor.proofs.Prelude.{saved, value}
 use Rattle.rv_monitor.proofs.TrapSteps.{step_cases, hart_state_after}
@@ -138,7 +138,7 @@ module _ (state : HartView) (kept : HostContextInvariant state.hart_state) (stor
   returned_turns outcome h trapped_is (inr (inr leaves)) =
       returned_leaves outcome h trapped_is leaves state.hart_state.world state.hart_state.host_context refl refl kept.kept
 
-pub switch_law : SwitchLaw
+pub switch_law : (state : HartView) → HostContextInvariant state.hart_state → HostContextIsLegal state.hart_state → StaysOrSwitches state (monitored_step state)
 switch_law state kept stored = step_cases state (StaysOrSwitches state)
     (λ none. inl (record { world = refl; host = refl; entered = refl }))
     (λ trap is. returned_turns state kept stored trap (step (bare_machine state)).outcome _ is (handled_turns (hart_state_after state.hart_state trap) state.shared trap))

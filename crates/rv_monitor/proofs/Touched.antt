@@ -4,8 +4,8 @@ use Rattle.rv_hart.proofs.StepCases.{step_ways}
 use Rattle.rv_memory.specs.declared.touched.Touched.{Touched}
 use Rattle.rv_monitor.specs.Prelude.{Access, Fetch, Hart, Mode, Read, Span, Machine, Stepped, Trap, Word, Write, data_mode, is_machine}
 use Rattle.rv_monitor.specs.Prelude.{retired_or_trapped, span, step}
-use Rattle.rv_monitor.specs.Touches.{executes, SpanIsAccessible, IsTouchedAccessible, TouchLaw}
-use Rattle.rv_monitor.proofs.Prelude.{HartViewInvariant, MayTouch, HartView, bare_machine, touches_permitted}
+use Rattle.rv_monitor.specs.Touches.{executes, SpanIsAccessible, IsTouchedAccessible, TouchesAccessible}
+use Rattle.rv_monitor.proofs.Prelude.{HartViewInvariant, MayTouch, HartView, bare_machine, touches_permitted, monitored_step}
 use Rattle.rv_monitor.proofs.AccessControlLemmas.{below_M, data_below, access_control_law}
 use Rattle.rv_monitor.proofs.TrapSteps.{same_outcome}
 
@@ -54,5 +54,5 @@ module _ (state : HartView) (kept : HartViewInvariant state) where
         stored = accessible (data_mode state.hart_state.hart) Write touched.stored below may.stored;
       }
 
-pub touch_law : TouchLaw
+pub touch_law : (state : HartView) → HartViewInvariant state → TouchesAccessible state (monitored_step state)
 touch_law state kept = subst (IsTouchedAccessible state) (sym (same_outcome state)) (touched_in_reach state kept)

@@ -5,8 +5,8 @@ use Rattle.std.specs.Prelude.{◌≡◌, ◌⊎◌, ℕ, ◌+◌, ◌<◌, ◌�
 use Rattle.rv_monitor.specs.Prelude.{Destroy, Measure, Shared, Slots, Span, Trap, World, Write, requested_call, byte_at, bytes_from, bytes_in}
 use Rattle.rv_monitor.specs.Prelude.{first_refusal, has, is_accessible, is_live, layout, measure_refusals, measured_slot, region, register}
 use Rattle.rv_monitor.specs.HandlerReads.{is_call}
-use Rattle.rv_monitor.specs.MonitoredMachine.{HartView, HartViewInvariant}
-use Rattle.rv_monitor.specs.Step.{HartViewStepped, monitored_step}
+use Rattle.rv_monitor.specs.MonitoredMachine.{HartView}
+use Rattle.rv_monitor.specs.Step.{HartViewStepped}
 
 -- the instruction stored the byte, and the store was in its world's reach
 pub record IsStoredAccessible (world : World) (shared : Shared) (stored : Option Span) (byte : ℕ) : Type 0 where
@@ -51,6 +51,3 @@ IsChanged before after byte =
 abbrev pub ChangesAccessible : HartView → HartViewStepped → Type 0
 ChangesAccessible before after =
     (byte : ℕ) → byte_at after.state.shared.memory byte ≡ byte_at before.shared.memory byte ⊎ IsChanged before after byte
-
-abbrev pub ChangeLaw : Type 0
-ChangeLaw = (state : HartView) → HartViewInvariant state → ChangesAccessible state (monitored_step state)

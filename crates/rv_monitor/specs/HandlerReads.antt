@@ -64,6 +64,3 @@ ReadsOnly hart before after =
     (other : MonitoredMachine) (trap : Trap) → before.hart_states ≡ other.hart_states → after.outcome.step.trap ≡ Some trap
     → (step_of hart other).outcome.step.trap ≡ Some trap → SameRead (hart_state_of hart before) trap.cause before.shared other.shared
     → SameStep before other after (step_of hart other)
-
-abbrev pub StepReadsLaw : Type 0
-StepReadsLaw = (hart : ℕ) (machine : MonitoredMachine) → ReadsOnly hart machine (step_of hart machine)

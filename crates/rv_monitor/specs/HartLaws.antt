@@ -19,11 +19,7 @@ abbrev pub sched : List ℕ → MonitoredMachine → Scheduled
 sched [] machine = record { state = machine; outcomes = [] }
 sched (hart ∷ harts) machine = first_then (step_of hart machine).outcome (sched harts (step_of hart machine).state)
 
--- a step keeps what is true in every state
-abbrev pub InvariantLaw : Type 0
-InvariantLaw = (hart : ℕ) (machine : MonitoredMachine) → Invariant machine → Invariant (step_of hart machine).state
-
--- so does every order of steps
+-- every order of steps keeps the invariant
 abbrev pub SchedInvariantLaw : Type 0
 SchedInvariantLaw = (harts : List ℕ) (machine : MonitoredMachine) → Invariant machine → Invariant (sched harts machine).state
 

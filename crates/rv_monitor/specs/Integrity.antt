@@ -3,8 +3,8 @@
 use Rattle.std.specs.Prelude.{ℕ, ◌≡◌, ◌==◌, Bool, true, false, Option, Some, None}
 use Rattle.rv_monitor.specs.Prelude.{Shared, byte_at, context_at, has, is_live, region, slot_at}
 use Rattle.rv_monitor.specs.EquivExcept.{runs_on}
-use Rattle.rv_monitor.specs.MonitoredMachine.{MonitoredMachine, Invariant, hart_state_of, reprogrammed}
-use Rattle.rv_monitor.specs.Step.{MonitoredStepped, step_of}
+use Rattle.rv_monitor.specs.MonitoredMachine.{MonitoredMachine, hart_state_of, reprogrammed}
+use Rattle.rv_monitor.specs.Step.{MonitoredStepped}
 
 -- whether the slot that was entered, if there is one, is this
 abbrev pub enters : ℕ → Option ℕ → Bool
@@ -29,9 +29,6 @@ PreservesOthers hart before after =
     → enters k after.outcome.entered ≡ false → is_live after.state.shared.table k ≡ true
     → IsUntouched k before after.state
 
-abbrev pub IntegrityLaw : Type 0
-IntegrityLaw = (hart : ℕ) (machine : MonitoredMachine) → Invariant machine → PreservesOthers hart machine (step_of hart machine)
-
 -- it is not entered, and it is live after the step
 pub record KeepsRunning (k : ℕ) (after : MonitoredStepped) : Type 0 where
   pub passes : enters k after.outcome.entered ≡ false
@@ -40,6 +37,3 @@ pub record KeepsRunning (k : ℕ) (after : MonitoredStepped) : Type 0 where
 -- every enclave that runs on a hart other than the one that steps
 abbrev pub KeepsOthersRunning : ℕ → MonitoredMachine → MonitoredStepped → Type 0
 KeepsOthersRunning hart before after = (k own : ℕ) → runs_on k own before ≡ true → runs_on k hart before ≡ false → KeepsRunning k after
-
-abbrev pub KeepsRunningLaw : Type 0
-KeepsRunningLaw = (hart : ℕ) (machine : MonitoredMachine) → Invariant machine → KeepsOthersRunning hart machine (step_of hart machine)

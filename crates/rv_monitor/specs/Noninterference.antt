@@ -56,6 +56,3 @@ pub record SteppedAlike (e : ℕ) (one other : MonitoredStepped) : Type 0 where
 abbrev pub StepNoninterference : ℕ → MonitoredMachine → MonitoredStepped → Type 0
 StepNoninterference hart before after =
     (e : ℕ) (other : MonitoredMachine) → Invariant other → EquivExcept e before other → runs_on e hart before ≡ false → SteppedAlike e after (step_of hart other)
-
-abbrev pub NoninterferenceLaw : Type 0
-NoninterferenceLaw = (hart : ℕ) (machine : MonitoredMachine) → Invariant machine → StepNoninterference hart machine (step_of hart machine)

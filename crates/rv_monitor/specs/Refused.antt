@@ -8,8 +8,8 @@ use Rattle.rv_state.specs.declared.cause.Cause.TheVariants as causes
 use Rattle.rv_monitor.specs.Prelude.{CsrState, EnvironmentCallFromS, Hart, NotSupported, Refusal, S, HartState, Shared, Trap, U, aligned_to_4}
 use Rattle.rv_monitor.specs.Prelude.{requested_call, first_refusal, is_set, option_case, status_of, sum_of, with_return_values}
 use Rattle.rv_monitor.specs.CallRefusals.{call_refusals}
-use Rattle.rv_monitor.specs.MonitoredMachine.{MonitoredMachine, Invariant, hart_state_of, with_hart_state}
-use Rattle.rv_monitor.specs.Step.{MonitoredStepped, step_of}
+use Rattle.rv_monitor.specs.MonitoredMachine.{MonitoredMachine, hart_state_of, with_hart_state}
+use Rattle.rv_monitor.specs.Step.{MonitoredStepped}
 
 -- why an ecall from S is refused, if it is: where a7 and a6 ask for no call of the world, or by the table of the call
 unfoldable pub refusal_of : HartState → Shared → Option Refusal
@@ -53,6 +53,3 @@ RefusesOnly hart before after =
     (trap : Trap) (refusal : Refusal) → after.outcome.step.trap ≡ Some trap → trap.cause ≡ causes.Exception EnvironmentCallFromS
     → refusal_of (hart_state_of hart before) before.shared ≡ Some refusal
     → (after.state ≡ refused_machine hart before trap refusal) × (after.outcome.entered ≡ None)
-
-abbrev pub RefusalLaw : Type 0
-RefusalLaw = (hart : ℕ) (machine : MonitoredMachine) → Invariant machine → RefusesOnly hart machine (step_of hart machine)

@@ -5,8 +5,8 @@ use Rattle.rv_state.specs.declared.cause.Cause.TheVariants as causes
 use Rattle.rv_monitor.specs.Prelude.{Cause, Context, Enclave, Exit, Hart, Host, S, Trap, call_number, register, with_return_values}
 use Rattle.rv_monitor.specs.Switches.{saved}
 use Rattle.rv_monitor.specs.Refused.{past_ecall}
-use Rattle.rv_monitor.specs.MonitoredMachine.{HartView, HostContextInvariant, HostContextIsLegal}
-use Rattle.rv_monitor.specs.Step.{HartViewStepped, monitored_step}
+use Rattle.rv_monitor.specs.MonitoredMachine.{HartView}
+use Rattle.rv_monitor.specs.Step.{HartViewStepped}
 
 -- the world goes on: it is the same, and what is kept of the host is as it was
 pub record Stays (before : HartView) (after : HartViewStepped) : Type 0 where
@@ -51,6 +51,3 @@ pub record Leaves (before : HartView) (after : HartViewStepped) : Type 0 where
 
 abbrev pub StaysOrSwitches : HartView → HartViewStepped → Type 0
 StaysOrSwitches before after = Stays before after ⊎ (Enters before after ⊎ Leaves before after)
-
-abbrev pub SwitchLaw : Type 0
-SwitchLaw = (state : HartView) → HostContextInvariant state.hart_state → HostContextIsLegal state.hart_state → StaysOrSwitches state (monitored_step state)

@@ -4,8 +4,8 @@ use Rattle.std.specs.Prelude.{◌≡◌, ◌⊎◌, Bool, true, false, Option, S
 use Rattle.rv_state.specs.declared.cause.Cause.TheVariants as causes
 use Rattle.rv_monitor.specs.Prelude.{Access, Cause, Exception, Fetch, InstructionAccessFault, Read, Span, StepOutcome, Trap, Word, Write}
 use Rattle.rv_monitor.specs.Prelude.{bytes_from, bytes_in, is_accessible, span}
-use Rattle.rv_monitor.specs.MonitoredMachine.{HartView, HartViewInvariant}
-use Rattle.rv_monitor.specs.Step.{HartViewStepped, monitored_step}
+use Rattle.rv_monitor.specs.MonitoredMachine.{HartView}
+use Rattle.rv_monitor.specs.Step.{HartViewStepped}
 
 -- whether a step came to an instruction: it took no interrupt, and its fetch was not refused
 abbrev pub is_after_fetch : Exception → Bool
@@ -35,6 +35,3 @@ pub record IsTouchedAccessible (before : HartView) (outcome : StepOutcome) : Typ
 
 abbrev pub TouchesAccessible : HartView → HartViewStepped → Type 0
 TouchesAccessible before after = IsTouchedAccessible before after.outcome.step
-
-abbrev pub TouchLaw : Type 0
-TouchLaw = (state : HartView) → HartViewInvariant state → TouchesAccessible state (monitored_step state)
