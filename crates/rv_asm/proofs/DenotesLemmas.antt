@@ -29,14 +29,14 @@ no_fault_first : (fault : List Reading → Reading → Option AsmFaultKind) (bef
 no_fault_first fault before lines line none =
     no_fault (fault before line) (fault_after (length before)) (first_line_fault fault (before ++ line ∷ []) lines) none
 
-no_fault_in : (fault : List Reading → Reading → Option AsmFaultKind) (before front after : List Reading)
-    → first_line_fault fault before (front ++ after) ≡ None
-    → (first_line_fault fault before front ≡ None) × (first_line_fault fault (before ++ front) after ≡ None)
+no_fault_in : (fault : List Reading → Reading → Option AsmFaultKind) (before prefix after : List Reading)
+    → first_line_fault fault before (prefix ++ after) ≡ None
+    → (first_line_fault fault before prefix ≡ None) × (first_line_fault fault (before ++ prefix) after ≡ None)
 no_fault_in fault before [] after none = (refl, rw (append-nil before) none)
-no_fault_in fault before (line ∷ front) after none =
-    let first = no_fault_first fault before (front ++ after) line none in
-    let others = no_fault_in fault (before ++ line ∷ []) front after first.1 in
-    (rw first.0 others.0, rw (← append_assoc before (line ∷ []) front) others.1)
+no_fault_in fault before (line ∷ prefix) after none =
+    let first = no_fault_first fault before (prefix ++ after) line none in
+    let others = no_fault_in fault (before ++ line ∷ []) prefix after first.1 in
+    (rw first.0 others.0, rw (← append_assoc before (line ∷ []) prefix) others.1)
 
 -- before a line, and at it
 no_fault_at : (fault : List Reading → Reading → Option AsmFaultKind) (all before after : List Reading) (line : Reading)
@@ -45,12 +45,12 @@ no_fault_at fault all before after line split none =
     let parts = no_fault_in fault [] before (line ∷ after) (rw split at none) in
     (parts.0, (no_fault_first fault before after line parts.1).0)
 
-words_from-append : (labels : List ℕ → Option ℕ) (before front after : List Reading)
-    → words_from labels before (front ++ after) ≡ words_from labels before front ++ words_from labels (before ++ front) after
+words_from-append : (labels : List ℕ → Option ℕ) (before prefix after : List Reading)
+    → words_from labels before (prefix ++ after) ≡ words_from labels before prefix ++ words_from labels (before ++ prefix) after
 words_from-append labels before [] after = rw (append-nil before) refl
-words_from-append labels before (line ∷ front) after =
-    let others = words_from-append labels (before ++ line ∷ []) front after in
-    rw (others, append_assoc before (line ∷ []) front) (sym (append_assoc (words_or_none (line_words labels (words_in before) line)) _ _))
+words_from-append labels before (line ∷ prefix) after =
+    let others = words_from-append labels (before ++ line ∷ []) prefix after in
+    rw (others, append_assoc before (line ∷ []) prefix) (sym (append_assoc (words_or_none (line_words labels (words_in before) line)) _ _))
 
 length-words_from : (labels : List ℕ → Option ℕ) (before lines : List Reading) → first_line_fault (name_fault labels) before lines ≡ None
     → length (words_from labels before lines) ≡ words_in lines
@@ -63,7 +63,7 @@ length-words_from labels before (line ∷ lines) none =
     length-append (words_or_none here) (words_from labels (before ++ line ∷ []) lines) ∙ ap₂ (λ m n. m + n) size others ∙ sym (sum_by-cons line_size line lines)
 
 mid_part : (n m : ℕ) (xs ys zs : List ℕ) → length xs ≡ n → length ys ≡ m → take m (drop n (xs ++ (ys ++ zs))) ≡ ys
-mid_part n m xs ys zs front mid = ap (take m) (drop_at xs (ys ++ zs) n front) ∙ ap (λ k. take k (ys ++ zs)) (sym mid) ∙ take-append_seam ys zs
+mid_part n m xs ys zs prefix mid = ap (take m) (drop_at xs (ys ++ zs) n prefix) ∙ ap (λ k. take k (ys ++ zs)) (sym mid) ∙ take-append_seam ys zs
 
 stands : (labels : List ℕ → Option ℕ) (all before after : List Reading) (line : Reading) → all ≡ before ++ line ∷ after
     → first_line_fault (name_fault labels) [] all ≡ None
@@ -180,8 +180,8 @@ join_parts n m words others is = ap (λ ws. take m (drop n words) ++ ws) (is ∙
 
 words_from-each : (labels : List ℕ → Option ℕ) (all before lines : List Reading) (words : List ℕ) → all ≡ before ++ lines
     → length words ≡ words_in all
-    → ((front : List Reading) (line : Reading) → (after : List Reading) × (all ≡ front ++ line ∷ after)
-    → line_words labels (words_in front) line ≡ Ok (take (line_size line) (drop (words_in front) words)))
+    → ((prefix : List Reading) (line : Reading) → (after : List Reading) × (all ≡ prefix ++ line ∷ after)
+    → line_words labels (words_in prefix) line ≡ Ok (take (line_size line) (drop (words_in prefix) words)))
     → words_from labels before lines ≡ drop (words_in before) words
 words_from-each labels all before [] words split whole each =
     let end : words_in all ≡ words_in before = ap words_in (split ∙ append-nil before) in

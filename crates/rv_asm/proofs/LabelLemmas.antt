@@ -41,12 +41,12 @@ some_stays : (b : Bool) (n : ℕ) (o last : Option ℕ) → cond b (Some n) (opt
 some_stays true n o last = refl
 some_stays false n o last = refl
 
-pub place_from-append : (before front after : List Reading) (name : List ℕ)
-    → place_from before (front ++ after) name ≡ option_case (place_from before front name) (place_from (before ++ front) after name) Some
+pub place_from-append : (before prefix after : List Reading) (name : List ℕ)
+    → place_from before (prefix ++ after) name ≡ option_case (place_from before prefix name) (place_from (before ++ prefix) after name) Some
 place_from-append before [] after name = rw (append-nil before) refl
-place_from-append before (line ∷ front) after name =
-    let others = place_from-append (before ++ line ∷ []) front after name in
-    rw (others, append_assoc before (line ∷ []) front) (some_stays (has_label name line) (words_in before) (place_from (before ++ line ∷ []) front name) _)
+place_from-append before (line ∷ prefix) after name =
+    let others = place_from-append (before ++ line ∷ []) prefix after name in
+    rw (others, append_assoc before (line ∷ []) prefix) (some_stays (has_label name line) (words_in before) (place_from (before ++ line ∷ []) prefix name) _)
 
 -- a fault of the line after so many
 abbrev pub fault_after : ℕ → AsmFaultKind → AsmFault

@@ -4,7 +4,7 @@ use Rattle.std.proofs.Common.{Result, Ok, Err, IfOk, IfErr, Vec, option_map, ari
 use Rattle.std.proofs.lemmas.List.{length-map}
 use Rattle.rv_word.specs.Cases.{option_case}
 use Rattle.rv_asm.specs.LabelMap.{places_of}
-use Rattle.rv_asm.specs.Lacking.{FailsFor, LacksForLabel}
+use Rattle.rv_asm.specs.OutOfMemory.{FailsFor, OutOfMemoryForLabel}
 use Rattle.rv_asm.specs.LineReading.{line_read}
 use Rattle.rv_text.specs.Lines.{lines_of}
 use Rattle.rv_asm.specs.Passes.{HasRead, label_twice}
@@ -93,10 +93,10 @@ words_decide_if text pass (Ok words) has none once found = words_decide text pas
 words_decide_if text pass (Err fault) has none once found = tt
 
 -- the first pass fails for an error of a line's own, or for memory
-pub own_fails : (text : List ℕ) (fault : AsmFault) → (first_line_fault own_fault [] (readings text) ≡ Some fault) ⊎ LacksForLabel (readings text) fault
+pub own_fails : (text : List ℕ) (fault : AsmFault) → (first_line_fault own_fault [] (readings text) ≡ Some fault) ⊎ OutOfMemoryForLabel (readings text) fault
     → FailsFor text fault
 own_fails text fault (inl own) = inl (own_decides text fault own)
-own_fails text fault (inr lacks) = inr (inl lacks)
+own_fails text fault (inr out_of_memory) = inr (inl out_of_memory)
 
 -- the second for a name, or for memory
 pub name_fails_if : {A : Type 0} (text : List ℕ) (pass : FirstPass) (r : Result A AsmFault) → HasRead pass (readings text)
@@ -105,9 +105,9 @@ pub name_fails_if : {A : Type 0} (text : List ℕ) (pass : FirstPass) (r : Resul
     ⊎ ((fault.kind ≡ NoMemory) × (first_line_fault (name_fault (places_of pass.labels)) [] (take fault.line (readings text)) ≡ None))) → IfErr r (FailsFor text)
 name_fails_if text pass (Ok words) has none once found = tt
 name_fails_if text pass (Err fault) has none once (inl named) = inl (name_decides text pass fault has none once named)
-name_fails_if text pass (Err fault) has none once (inr lacks) = inr (inr (record {
-  memory = lacks.0;
+name_fails_if text pass (Err fault) has none once (inr out_of_memory) = inr (inr (record {
+  memory = out_of_memory.0;
   own = none;
   labels = not_twice text pass has once;
-  names = ap (λ labels. first_line_fault (name_fault labels) [] (take fault.line (readings text))) (sym has.labels) ∙ lacks.1;
+  names = ap (λ labels. first_line_fault (name_fault labels) [] (take fault.line (readings text))) (sym has.labels) ∙ out_of_memory.1;
 }))

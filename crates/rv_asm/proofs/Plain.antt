@@ -42,8 +42,8 @@ pub is_plain-blank : (b : ℕ) → is_plain b ≡ true → is_blank b ≡ false
 is_plain-blank b plain = grind (arith, nat_tests)
 
 -- no byte of a text passes what no plain byte passes
-pub lacks : (q : ℕ → Bool) (text : List ℕ) → ((b : ℕ) → is_plain b ≡ true → q b ≡ false) → list_all is_plain text ≡ true → All (λ b. q b ≡ false) text
-lacks q text other plain = λ k d below. other _ (AllPass-from_list_all is_plain text plain k d below)
+pub out_of_memory : (q : ℕ → Bool) (text : List ℕ) → ((b : ℕ) → is_plain b ≡ true → q b ≡ false) → list_all is_plain text ≡ true → All (λ b. q b ≡ false) text
+out_of_memory q text other plain = λ k d below. other _ (AllPass-from_list_all is_plain text plain k d below)
 
 -- ---- blanks
 
@@ -72,11 +72,11 @@ unfolding trimmed
 trimmed-padded text plain = ap before_blanks (after_blanks-plain text plain) ∙ before_blanks-plain text plain
 
 -- a text that ends in a byte that is no blank has one left
-after_blanks-end : (front : List ℕ) (b : ℕ) → is_plain b ≡ true → 0 < length (after_blanks (front ++ b ∷ []))
+after_blanks-end : (prefix : List ℕ) (b : ℕ) → is_plain b ≡ true → 0 < length (after_blanks (prefix ++ b ∷ []))
 after_blanks-end [] b plain = let first = is_plain-blank b plain in rw first (omega arith)
-after_blanks-end (c ∷ front) b plain = either (is_blank c) (after_blanks-end front b plain)
+after_blanks-end (c ∷ prefix) b plain = either (is_blank c) (after_blanks-end prefix b plain)
   where
-    either : (t : Bool) → 0 < length (after_blanks (front ++ b ∷ [])) → 0 < length (if t then after_blanks (front ++ b ∷ []) else c ∷ (front ++ b ∷ []))
+    either : (t : Bool) → 0 < length (after_blanks (prefix ++ b ∷ [])) → 0 < length (if t then after_blanks (prefix ++ b ∷ []) else c ∷ (prefix ++ b ∷ []))
     either true more = more
     either false more = omega arith
 
@@ -96,7 +96,7 @@ spaced first more = 32 ∷ (first ++ flat_map (λ operand. codes ", " ++ operand
 -- no comma stands in a blank and a piece
 no_comma : (text : List ℕ) → list_all is_plain text ≡ true → (k d : ℕ) → k < length (32 ∷ text) → (slice_index_or (32 ∷ text) k d == 44) ≡ false
 no_comma text plain zero d below = refl
-no_comma text plain (suc k) d below = lacks (λ b. b == 44) text is_plain-comma plain k d (omega (arith, below))
+no_comma text plain (suc k) d below = out_of_memory (λ b. b == 44) text is_plain-comma plain k d (omega (arith, below))
 
 split-spaced : (first : List ℕ) (more : List (List ℕ)) → IsPiece first → ArePieces more
     → slice_split (λ b. b == 44) (spaced first more) ≡ map (λ t. 32 ∷ t) (first ∷ more)

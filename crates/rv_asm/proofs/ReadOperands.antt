@@ -199,40 +199,40 @@ piece-base n small = (
 
 pub piece-address : (offset base : ℕ) → offset < 2 ^ 12 → base < 32 → IsPiece (address_text offset base)
 piece-address offset base small small_base =
-    let front = signed-signed 12 offset (omega (arith, small)) (omega arith) in
+    let prefix = signed-signed 12 offset (omega (arith, small)) (omega arith) in
     let back = piece-base base small_base in
     let size : length (base_text base) ≤ 5 = grind (arith, nat_tests, back.1) in
     let both : IsPiece (signed_text 12 offset ++ base_text base) = record {
-      some = omega (arith, front.some, length-append (signed_text 12 offset) (base_text base));
-      short = omega (arith, front.short, size, length-append (signed_text 12 offset) (base_text base));
-      plain = list_all-append is_plain (signed_text 12 offset) (base_text base) ∙ and_from _ _ (signed-plain (signed_text 12 offset) front.signed) back.0;
+      some = omega (arith, prefix.some, length-append (signed_text 12 offset) (base_text base));
+      short = omega (arith, prefix.short, size, length-append (signed_text 12 offset) (base_text base));
+      plain = list_all-append is_plain (signed_text 12 offset) (base_text base) ∙ and_from _ _ (signed-plain (signed_text 12 offset) prefix.signed) back.0;
     } in
     subst IsPiece (sym (address-parts offset base)) both
 
 -- the first parenthesis stands behind the offset
-opening-signed : (front back : List ℕ) → list_all is_signed front ≡ true → opening (front ++ 40 ∷ back) ≡ length front
+opening-signed : (prefix back : List ℕ) → list_all is_signed prefix ≡ true → opening (prefix ++ 40 ∷ back) ≡ length prefix
 opening-signed [] back signed = refl
-opening-signed (c ∷ front) back signed =
-    let parts = and_parts (is_signed c) (list_all is_signed front) signed in
+opening-signed (c ∷ prefix) back signed =
+    let parts = and_parts (is_signed c) (list_all is_signed prefix) signed in
     let other : (c == 40) ≡ false = one parts.0 in
-    rw other (omega (arith, opening-signed front back parts.1))
+    rw other (omega (arith, opening-signed prefix back parts.1))
   where
     one : is_signed c ≡ true → (c == 40) ≡ false
     one here = grind (arith, nat_tests)
 
-address_of-parts : (front back : List ℕ) (offset : _) (base : ℕ) → list_all is_signed front ≡ true → written_number front ≡ Some offset
-    → base_of (40 ∷ back) ≡ Some base → offset_and_base (front ++ 40 ∷ back) ≡ Some (offset, base)
+address_of-parts : (prefix back : List ℕ) (offset : _) (base : ℕ) → list_all is_signed prefix ≡ true → written_number prefix ≡ Some offset
+    → base_of (40 ∷ back) ≡ Some base → offset_and_base (prefix ++ 40 ∷ back) ≡ Some (offset, base)
 unfolding offset_and_base
-address_of-parts front back offset base signed written behind =
-    let at_front = opening-signed front back signed in
-    rw (at_front, take-append_seam front (40 ∷ back), drop-append_seam front (40 ∷ back), written, behind) refl
+address_of-parts prefix back offset base signed written behind =
+    let at_prefix = opening-signed prefix back signed in
+    rw (at_prefix, take-append_seam prefix (40 ∷ back), drop-append_seam prefix (40 ∷ back), written, behind) refl
 
 pub read-address : (offset base : ℕ) → offset < 2 ^ 12 → base < 32 → address_operand (address_text offset base) ≡ Ok (signed_number 12 offset, base)
 read-address offset base small small_base =
-    let front = signed-signed 12 offset (omega (arith, small)) (omega arith) in
+    let prefix = signed-signed 12 offset (omega (arith, small)) (omega arith) in
     let written = written-signed 12 offset (omega (arith, small)) (omega arith) in
     let found =
-    address_of-parts (signed_text 12 offset) (register_operand_text base ++ codes ")") (signed_number 12 offset) base front.signed written
+    address_of-parts (signed_text 12 offset) (register_operand_text base ++ codes ")") (signed_number 12 offset) base prefix.signed written
     (piece-base base small_base).2 in
     ap address_operand (address-parts offset base) ∙ again found
   where

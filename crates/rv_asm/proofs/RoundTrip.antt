@@ -9,7 +9,7 @@ use Rattle.std.proofs.lemmas.List.Folds.{list_all-append}
 use Rattle.rv_word.specs.Cases.{option_case}
 use Rattle.rv_encoding.specs.Listing.{name_of}
 use Rattle.rv_encoding.specs.Decoding.{decoded}
-use Rattle.rv_encoding.specs.Rows.{word_of, IsInstr, Spells}
+use Rattle.rv_encoding.specs.Rows.{word_of, IsInstr, Encodes}
 use Rattle.rv_encoding.specs.declared.kind.BranchKind.{BranchKind}
 use Rattle.rv_encoding.specs.declared.kind.LoadKind.{LoadKind}
 use Rattle.rv_encoding.specs.declared.kind.StoreKind.{StoreKind}
@@ -335,16 +335,16 @@ assembled-word_text word small =
 
 -- ---- whatever a word is spelled
 
-assembled-told : (word : ℕ) (i : Instr) (told : Bool) → is_told_by_operands i ≡ told → word < 2 ^ 32 → Spells word i
+assembled-told : (word : ℕ) (i : Instr) (told : Bool) → is_told_by_operands i ≡ told → word < 2 ^ 32 → Encodes word i
     → assembled (if told then instr_text i else word_text word) ≡ Ok (word ∷ [])
-assembled-told word i true is small spells = assembled-instr_text i spells.0 is ∙ ap (λ w. Ok (w ∷ [])) spells.1
-assembled-told word i false is small spells = assembled-word_text word small
+assembled-told word i true is small encodes = assembled-instr_text i encodes.0 is ∙ ap (λ w. Ok (w ∷ [])) encodes.1
+assembled-told word i false is small encodes = assembled-word_text word small
 
-assembled-found : (word : ℕ) (found : Option Instr) → word < 2 ^ 32 → IfSome found (Spells word)
+assembled-found : (word : ℕ) (found : Option Instr) → word < 2 ^ 32 → IfSome found (Encodes word)
     → assembled (option_case found (word_text word) (λ i. if is_told_by_operands i then instr_text i else word_text word)) ≡ Ok (word ∷ [])
-assembled-found word None small spells = assembled-word_text word small
-assembled-found word (Some i) small spells = assembled-told word i (is_told_by_operands i) refl small spells
+assembled-found word None small encodes = assembled-word_text word small
+assembled-found word (Some i) small encodes = assembled-told word i (is_told_by_operands i) refl small encodes
 
-pub assembled_spelling : (word : ℕ) → word < 2 ^ 32 → IfSome (decoded word) (Spells word) → assembled (spelling word) ≡ Ok (word ∷ [])
+pub assembled_spelling : (word : ℕ) → word < 2 ^ 32 → IfSome (decoded word) (Encodes word) → assembled (spelling word) ≡ Ok (word ∷ [])
 unfolding spelling
-assembled_spelling word small spells = assembled-found word (decoded word) small spells
+assembled_spelling word small encodes = assembled-found word (decoded word) small encodes

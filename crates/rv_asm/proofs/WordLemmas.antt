@@ -89,21 +89,21 @@ none_through labels words lines text rest after line has is gives =
     let this = line_read line in
     let whole : readings text ≡ (has.before ++ this ∷ []) ++ readings after =
     has.split ∙ (ap (λ ls. has.before ++ map line_read ls) is ∙ sym (append_assoc has.before (this ∷ []) (readings after))) in
-    let front : take (lines + 1) (readings text) ≡ has.before ++ this ∷ [] =
+    let prefix : take (lines + 1) (readings text) ≡ has.before ++ this ∷ [] =
     ap (take (lines + 1)) whole
     ∙ take_at (has.before ++ this ∷ []) (readings after) (lines + 1) (omega (arith, has.count, length-append has.before (this ∷ []))) in
     let here : name_fault labels has.before this ≡ None = no_name_fault (line_words labels (words_in has.before) this) (rw (← has.place) gives) in
-    ap (first_line_fault (name_fault labels) []) front ∙ (first_fault-push (name_fault labels) [] has.before this ∙ rw (has.none, here) refl)
+    ap (first_line_fault (name_fault labels) []) prefix ∙ (first_fault-push (name_fault labels) [] has.before this ∙ rw (has.none, here) refl)
 
 -- the fault at a line is that of the text, or memory was refused there
-pub fails_or_lacks : (labels : List ℕ → Option ℕ) (words : List ℕ) (lines : ℕ) (text rest after line : List ℕ) (kind : AsmFaultKind)
+pub fails_or_out_of_memory : (labels : List ℕ → Option ℕ) (words : List ℕ) (lines : ℕ) (text rest after line : List ℕ) (kind : AsmFaultKind)
     → (has : HasWrittenUpTo labels words lines text rest) → lines_of rest ≡ line ∷ lines_of after
     → (line_words labels (length words) (line_read line) ≡ Err kind) ⊎ ((kind ≡ NoMemory) × IsOk (line_words labels (length words) (line_read line)))
     → (first_line_fault (name_fault labels) [] (readings text) ≡ Some (record { line = lines + 1; kind = kind }))
     ⊎ ((kind ≡ NoMemory) × (first_line_fault (name_fault labels) [] (take (lines + 1) (readings text)) ≡ None))
-fails_or_lacks labels words lines text rest after line kind has is (inl gives) = inl (fails_at labels words lines text rest after line kind has is gives)
-fails_or_lacks labels words lines text rest after line kind has is (inr lacks) =
-    inr (lacks.0, none_through labels words lines text rest after line has is lacks.1)
+fails_or_out_of_memory labels words lines text rest after line kind has is (inl gives) = inl (fails_at labels words lines text rest after line kind has is gives)
+fails_or_out_of_memory labels words lines text rest after line kind has is (inr out_of_memory) =
+    inr (out_of_memory.0, none_through labels words lines text rest after line has is out_of_memory.1)
 
 pub is_line_of : (labels : List ℕ → Option ℕ) (words : List ℕ) (lines : ℕ) (text rest after line : List ℕ)
     → (has : HasWrittenUpTo labels words lines text rest) → lines_of rest ≡ line ∷ lines_of after → lines + 1 ≤ length (readings text)

@@ -4,7 +4,7 @@ pub mod Denotes
 pub mod Faults
 pub mod FenceSets
 pub mod LabelMap
-pub mod Lacking
+pub mod OutOfMemory
 pub mod LineReading
 pub mod Passes
 pub mod Mnemonics

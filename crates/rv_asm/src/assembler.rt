@@ -3,7 +3,7 @@
 ghost use Rattle.std.specs.Prelude.{◌≡◌, ◌≤◌, ℕ, List, None, IfOk, IfErr, Ok, length};
 ghost use Rattle.rv_asm.specs.Denotes.{Denotes};
 ghost use Rattle.rv_text.specs.Lines.{lines_of};
-ghost use Rattle.rv_asm.specs.Lacking.{FailsFor};
+ghost use Rattle.rv_asm.specs.OutOfMemory.{FailsFor};
 ghost use Rattle.rv_asm.specs.Program.{assembled, fault_in, readings};
 
 use crate::fault::{AsmFault, AsmFaultKind};

@@ -3,7 +3,7 @@
 ghost use Rattle.std.specs.Prelude.{◌≡◌, ◌⊎◌, ◌≤◌, ◌<◌, ◌+◌, ◌^◌, ◌-◌, ◌∷◌, [], ◌++◌, IfOk, IfErr, OnOk, OnErr, Some, None, length, List, false, is_some};
 ghost use Rattle.rv_word.specs.Cases.{option_case};
 ghost use Rattle.rv_asm.specs.LabelMap.{places_of};
-ghost use Rattle.rv_asm.specs.Lacking.{FailsAt, LacksForLabel};
+ghost use Rattle.rv_asm.specs.OutOfMemory.{FailsAt, OutOfMemoryForLabel};
 ghost use Rattle.rv_asm.specs.Passes.{HasRead, AddsLabel};
 ghost use Rattle.rv_asm.specs.LineReading.{line_read};
 ghost use Rattle.rv_asm.specs.Program.{Reading, readings, own_fault, first_line_fault, statement_size as statement_size_of};
@@ -140,7 +140,7 @@ impl FirstPass {
     /// line in hand.
     pub(crate) fn over(alloc: Global, text: &[u8]) -> Result<FirstPass, AsmFault>
         ensures ok { IfOk result (λ pass. HasRead pass (readings text.now) × (first_line_fault own_fault [] (readings text.now) ≡ None)) }
-        ensures fault { IfErr result (λ fault. (first_line_fault own_fault [] (readings text.now) ≡ Some fault) ⊎ LacksForLabel (readings text.now) fault) }
+        ensures fault { IfErr result (λ fault. (first_line_fault own_fault [] (readings text.now) ≡ Some fault) ⊎ OutOfMemoryForLabel (readings text.now) fault) }
         ensures line { IfErr result (λ fault. (1 ≤ fault.line) × (fault.line ≤ length (readings text.now))) }
     {
         let mut pass = FirstPass::new(alloc);

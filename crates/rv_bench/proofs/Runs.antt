@@ -14,14 +14,14 @@ use Rattle.rv_streams.specs.declared.separator.ScriptEnd.TheVariants.{Input, Sep
 use Rattle.rv_streams.specs.Calls.{SourceWorked, SinkWorked, SinkFailed}
 use Rattle.rv_streams.specs.LineText.{ReadsLineText}
 use Rattle.rv_streams.specs.Script.{script_lines, is_script_line, FindsEnd, TakesScript}
-use Rattle.rv_streams.specs.Transfer.{WritesFront}
-use Rattle.rv_streams.specs.Unread.{held, unread, TellsEnd}
+use Rattle.rv_streams.specs.Transfer.{WritesPrefix}
+use Rattle.rv_streams.specs.Unread.{held, unread, EndsWithSource}
 use Rattle.rv_streams.proofs.Ends.{SinkFailed-after}
 use Rattle.rv_streams.proofs.LineTextLemmas.{ReadsLines-none, ReadsLines-more}
-use Rattle.rv_streams.proofs.ScriptLemmas.{ends_script-shown, script_lines-all, script_lines-front, ReadsScript, FindsEnd-separator, FindsEnd-whole}
+use Rattle.rv_streams.proofs.ScriptLemmas.{ends_script-shown, script_lines-all, script_lines-prefix, ReadsScript, FindsEnd-separator, FindsEnd-whole}
 use Rattle.rv_streams.proofs.TakeWhileLemmas.{list_all-push}
-use Rattle.rv_bench.specs.Answered.{AnswersAll, AnswersLine, AnswersLines, AnswersNext}
-use Rattle.rv_bench.specs.Replies.{Answering, Replied, bench_line, one_bench, replies, state_after}
+use Rattle.rv_bench.specs.Responses.{RespondsToAll, RespondsToLine, RespondsToLines, RespondsToNext}
+use Rattle.rv_bench.specs.Replies.{Responding, Replied, bench_line, one_bench, replies, state_after}
 use Rattle.rv_bench.specs.Run.{FailsIn, RunsScript, StopsAtRead, StopsAtWrite}
 use Rattle.rv_debug.specs.BenchState.{BenchState}
 use Rattle.rv_text.specs.Lines.{lines_of}
@@ -30,16 +30,16 @@ use Rattle.rv_bench.proofs.RepliesLemmas.{replies-append, state_after-append, re
 -- ---- a line
 
 -- what is answered to a line, by other names
-pub AnswersLine-same : {A : Type 0} {old by : Answering A} {now : A} {given line : List ℕ} {answered : Replied A} → old ≡ by → given ≡ line
-    → AnswersLine old now given answered → AnswersLine by now line answered
-AnswersLine-same {old = old} {now = now} {line = line} {answered = answered} answers same is =
-    subst (λ b. AnswersLine b now line answered) answers (subst (λ l. AnswersLine old now l answered) same is)
+pub RespondsToLine-same : {A : Type 0} {old by : Responding A} {now : A} {given line : List ℕ} {responded : Replied A} → old ≡ by → given ≡ line
+    → RespondsToLine old now given responded → RespondsToLine by now line responded
+RespondsToLine-same {old = old} {now = now} {line = line} {responded = responded} responds same is =
+    subst (λ b. RespondsToLine b now line responded) responds (subst (λ l. RespondsToLine old now l responded) same is)
 
 -- ---- the lines so far
 
-module _ {A : Type 0} {by : Answering A} {end : ScriptEnd} {start : A} {tells : Type 0} {unread old : List ℕ} where
-  pub AnswersLines-none : {is_at_end : Bool} → AnswersLines by end start tells unread old start unread is_at_end old
-  AnswersLines-none {is_at_end = is_at_end} = record {
+module _ {A : Type 0} {by : Responding A} {end : ScriptEnd} {start : A} {is_specified : Type 0} {unread old : List ℕ} where
+  pub RespondsToLines-none : {is_at_end : Bool} → RespondsToLines by end start is_specified unread old start unread is_at_end old
+  RespondsToLines-none {is_at_end = is_at_end} = record {
     lines = [];
     taken = record { reads = ReadsLines-none unread is_at_end; inside = refl };
     state = refl;
@@ -48,130 +48,130 @@ module _ {A : Type 0} {by : Answering A} {end : ScriptEnd} {start : A} {tells : 
 
   module _ {now : A} {left new : List ℕ} where
     -- lines that go on are not at their end
-    pub AnswersLines-going : {is_at_end : Bool} → is_at_end ≡ false → AnswersLines by end start tells unread old now left is_at_end new
-        → AnswersLines by end start tells unread old now left false new
-    AnswersLines-going going so_far = subst (λ b. AnswersLines by end start tells unread old now left b new) going so_far
+    pub RespondsToLines-going : {is_at_end : Bool} → is_at_end ≡ false → RespondsToLines by end start is_specified unread old now left is_at_end new
+        → RespondsToLines by end start is_specified unread old now left false new
+    RespondsToLines-going going so_far = subst (λ b. RespondsToLines by end start is_specified unread old now left b new) going so_far
 
     -- the source fails within a line
-    pub AnswersLines-read : {rest kept : List ℕ} → AnswersLines by end start tells unread old now left false new → by.is_over now ≡ false
-        → ReadsLineText left rest kept → StopsAtRead by end start tells unread rest kept old new
-    AnswersLines-read so_far going begun = let reads = so_far.taken.reads in record {
+    pub RespondsToLines-read : {rest kept : List ℕ} → RespondsToLines by end start is_specified unread old now left false new → by.is_over now ≡ false
+        → ReadsLineText left rest kept → StopsAtRead by end start is_specified unread rest kept old new
+    RespondsToLines-read so_far going begun = let reads = so_far.taken.reads in record {
       text = reads.text;
       begun = begun.text;
       split = reads.split ∙ ap (λ t. reads.text ++ t) begun.split;
       whole = reads.whole refl;
       unfinished = begun.unfinished;
-      front = begun.front;
+      prefix = begun.prefix;
       inside = ap (script_lines end) reads.are_lines ∙ (script_lines-all end so_far.lines so_far.taken.inside ∙ sym reads.are_lines);
-      going = ap by.is_over (ap (state_after by.answer start) reads.are_lines ∙ sym so_far.state) ∙ going;
-      written = λ told. so_far.written told ∙ ap (λ lines. old ++ replies by.answer start lines) (sym reads.are_lines);
+      going = ap by.is_over (ap (state_after by.respond start) reads.are_lines ∙ sym so_far.state) ∙ going;
+      written = λ told. so_far.written told ∙ ap (λ lines. old ++ replies by.respond start lines) (sym reads.are_lines);
     }
 
-    module _ {is_at_end : Bool} {rest : List ℕ} (so_far : AnswersLines by end start tells unread old now left is_at_end new)
+    module _ {is_at_end : Bool} {rest : List ℕ} (so_far : RespondsToLines by end start is_specified unread old now left is_at_end new)
         (whole : ReadsScript end unread rest so_far.lines) where
       -- at the end every line of the script has its reply
-      pub AnswersLines-all : tells → new ≡ old ++ replies by.answer start (script_lines end (lines_of unread))
-      AnswersLines-all told = so_far.written told ∙ ap (λ lines. old ++ replies by.answer start lines) (sym whole.all)
+      pub RespondsToLines-all : is_specified → new ≡ old ++ replies by.respond start (script_lines end (lines_of unread))
+      RespondsToLines-all told = so_far.written told ∙ ap (λ lines. old ++ replies by.respond start lines) (sym whole.all)
 
       -- the state is that after all of them
-      pub AnswersLines-state : now ≡ state_after by.answer start (script_lines end (lines_of unread))
-      AnswersLines-state = so_far.state ∙ ap (state_after by.answer start) (sym whole.all)
+      pub RespondsToLines-state : now ≡ state_after by.respond start (script_lines end (lines_of unread))
+      RespondsToLines-state = so_far.state ∙ ap (state_after by.respond start) (sym whole.all)
 
       -- and if the sink fails then, they have their replies
-      pub AnswersLines-written : {last : List ℕ} → by.is_over now ≡ false → (tells → last ≡ new)
-          → StopsAtWrite by end start tells unread rest old last
-      AnswersLines-written going kept = let reads = whole.reads in record {
+      pub RespondsToLines-written : {last : List ℕ} → by.is_over now ≡ false → (is_specified → last ≡ new)
+          → StopsAtWrite by end start is_specified unread rest old last
+      RespondsToLines-written going kept = let reads = whole.reads in record {
         text = reads.text;
-        answered = so_far.lines;
+        responded = so_far.lines;
         next = [];
         one = omega (arith, ap length reads.are_lines, length-append so_far.lines whole.closing, whole.one);
         split = reads.split;
         are_lines = ap (script_lines end) reads.are_lines ∙ (whole.inside ∙ sym (append-nil so_far.lines));
         all = reads.all ∙ ap (λ lines. lines ++ lines_of rest) (sym reads.are_lines);
         going = ap by.is_over (sym so_far.state) ∙ going;
-        written = λ told. ([], ([], kept told ∙ (so_far.written told ∙ sym (append-nil (old ++ replies by.answer start so_far.lines))), refl));
+        written = λ told. ([], ([], kept told ∙ (so_far.written told ∙ sym (append-nil (old ++ replies by.respond start so_far.lines))), refl));
       }
 
   -- what is written where the sink fails is a beginning of all replies
-  pub StopsAtWrite-front : {left new : List ℕ} → StopsAtWrite by end start tells unread left old new → tells
-      → WritesFront old new (replies by.answer start (script_lines end (lines_of unread)))
-  StopsAtWrite-front {left = left} stops told =
-      let (more, (front, wrote, said)) = stops.written told in
-      let (following, split) = script_lines-front end (lines_of stops.text) (lines_of left) in
-      let before = replies by.answer start stops.answered in
+  pub StopsAtWrite-prefix : {left new : List ℕ} → StopsAtWrite by end start is_specified unread left old new → is_specified
+      → WritesPrefix old new (replies by.respond start (script_lines end (lines_of unread)))
+  StopsAtWrite-prefix {left = left} stops told =
+      let (more, (prefix, wrote, said)) = stops.written told in
+      let (following, split) = script_lines-prefix end (lines_of stops.text) (lines_of left) in
+      let before = replies by.respond start stops.responded in
       let read = script_lines end (lines_of stops.text) in
-      let others = replies by.answer (state_after by.answer start read) following in
-      let first : replies by.answer start read ≡ before ++ (front ++ more) =
-      ap (replies by.answer start) stops.are_lines ∙ (replies-append by.answer start stops.answered stops.next ∙ ap (λ t. before ++ t) said) in (
+      let others = replies by.respond (state_after by.respond start read) following in
+      let first : replies by.respond start read ≡ before ++ (prefix ++ more) =
+      ap (replies by.respond start) stops.are_lines ∙ (replies-append by.respond start stops.responded stops.next ∙ ap (λ t. before ++ t) said) in (
         more ++ others,
         (
-          before ++ front,
-          wrote ∙ append_assoc old before front,
-          ap (λ lines. replies by.answer start (script_lines end lines)) stops.all
-              ∙ (ap (replies by.answer start) split
-              ∙ (replies-append by.answer start read following
-              ∙ (ap (λ t. t ++ others) (first ∙ sym (append_assoc before front more)) ∙ append_assoc (before ++ front) more others))),
+          before ++ prefix,
+          wrote ∙ append_assoc old before prefix,
+          ap (λ lines. replies by.respond start (script_lines end lines)) stops.all
+              ∙ (ap (replies by.respond start) split
+              ∙ (replies-append by.respond start read following
+              ∙ (ap (λ t. t ++ others) (first ∙ sym (append_assoc before prefix more)) ∙ append_assoc (before ++ prefix) more others))),
         ),
       )
 
 -- ---- one line more
 
-module _ {A : Type 0} {by : Answering A} {end : ScriptEnd} {start : A} {tells : Type 0} {unread old mid : List ℕ} {after : A} {rest : List ℕ}
-    {ends : Bool} {reply : List ℕ} (next : AnswersNext by end start tells unread old mid after rest ends reply) where
+module _ {A : Type 0} {by : Responding A} {end : ScriptEnd} {start : A} {is_specified : Type 0} {unread old mid : List ℕ} {after : A} {rest : List ℕ}
+    {ends : Bool} {reply : List ℕ} (next : RespondsToNext by end start is_specified unread old mid after rest ends reply) where
   abbrev lines : List (List ℕ)
   lines = next.so_far.lines ++ next.takes.line ∷ []
 
   -- after the lines so far it has the answer of what is shown of it
-  next_answer : by.answer (state_after by.answer start next.so_far.lines) next.takes.line ≡ record { state = after; reply = reply }
-  next_answer = let line = next.takes.line in
-      ap (λ s. by.answer s line) (sym next.so_far.state)
-      ∙ (next.answers.1 line (sym (ap (take 121) next.takes.front ∙ take-take 121 121 line (lit≤ tt))) ∙ next.answers.0)
+  next_response : by.respond (state_after by.respond start next.so_far.lines) next.takes.line ≡ record { state = after; reply = reply }
+  next_response = let line = next.takes.line in
+      ap (λ s. by.respond s line) (sym next.so_far.state)
+      ∙ (next.responds.1 line (sym (ap (take 121) next.takes.prefix ∙ take-take 121 121 line (lit≤ tt))) ∙ next.responds.0)
 
-  pub AnswersNext-going : by.is_over (state_after by.answer start next.so_far.lines) ≡ false
-  AnswersNext-going = ap by.is_over (sym next.so_far.state) ∙ next.going
+  pub RespondsToNext-going : by.is_over (state_after by.respond start next.so_far.lines) ≡ false
+  RespondsToNext-going = ap by.is_over (sym next.so_far.state) ∙ next.going
 
-  pub AnswersNext-state : after ≡ state_after by.answer start lines
-  AnswersNext-state = sym (state_after-append by.answer start next.so_far.lines (next.takes.line ∷ []) ∙ ap (λ (a : Replied A). a.state) next_answer)
+  pub RespondsToNext-state : after ≡ state_after by.respond start lines
+  RespondsToNext-state = sym (state_after-append by.respond start next.so_far.lines (next.takes.line ∷ []) ∙ ap (λ (a : Replied A). a.state) next_response)
 
-  pub AnswersNext-taken : TakesScript end unread rest ends lines
-  AnswersNext-taken = record {
+  pub RespondsToNext-taken : TakesScript end unread rest ends lines
+  RespondsToNext-taken = record {
     reads = ReadsLines-more unread next.left rest ends next.shown next.so_far.lines next.so_far.taken.reads next.takes;
     inside = list_all-push (is_script_line end) next.so_far.lines next.takes.line next.so_far.taken.inside
         (ap not (ends_script-shown end next.left rest ends next.shown next.takes ∙ next.inside));
   }
 
   -- its reply is written
-  pub AnswersNext-wrote : {new : List ℕ} → (tells → new ≡ mid ++ reply) → AnswersLines by end start tells unread old after rest ends new
-  AnswersNext-wrote wrote = let so_far = next.so_far in record {
+  pub RespondsToNext-wrote : {new : List ℕ} → (is_specified → new ≡ mid ++ reply) → RespondsToLines by end start is_specified unread old after rest ends new
+  RespondsToNext-wrote wrote = let so_far = next.so_far in record {
     lines = lines;
-    taken = AnswersNext-taken;
-    state = AnswersNext-state;
+    taken = RespondsToNext-taken;
+    state = RespondsToNext-state;
     written = λ told.
         wrote told
         ∙ (ap (λ t. t ++ reply) (so_far.written told)
-        ∙ (append_assoc old (replies by.answer start so_far.lines) reply
-        ∙ ap (λ t. old ++ t) (sym (replies-more by.answer start so_far.lines next.takes.line
-        ∙ ap (λ (a : Replied A). replies by.answer start so_far.lines ++ a.reply) next_answer))));
+        ∙ (append_assoc old (replies by.respond start so_far.lines) reply
+        ∙ ap (λ t. old ++ t) (sym (replies-more by.respond start so_far.lines next.takes.line
+        ∙ ap (λ (a : Replied A). replies by.respond start so_far.lines ++ a.reply) next_response))));
   }
 
   -- the sink stops within it
-  pub AnswersNext-stops : {new : List ℕ} → (tells → WritesFront mid new reply) → StopsAtWrite by end start tells unread rest old new
-  AnswersNext-stops stops =
+  pub RespondsToNext-stops : {new : List ℕ} → (is_specified → WritesPrefix mid new reply) → StopsAtWrite by end start is_specified unread rest old new
+  RespondsToNext-stops stops =
       let so_far = next.so_far in
-      let reads = AnswersNext-taken.reads in
-      let said = append-nil (by.answer (state_after by.answer start so_far.lines) next.takes.line).reply
-      ∙ ap (λ (a : Replied A). a.reply) next_answer in record {
+      let reads = RespondsToNext-taken.reads in
+      let said = append-nil (by.respond (state_after by.respond start so_far.lines) next.takes.line).reply
+      ∙ ap (λ (a : Replied A). a.reply) next_response in record {
         text = reads.text;
-        answered = so_far.lines;
+        responded = so_far.lines;
         next = next.takes.line ∷ [];
         one = omega (arith, ap length reads.are_lines, length-append so_far.lines (next.takes.line ∷ []));
         split = reads.split;
-        are_lines = ap (script_lines end) reads.are_lines ∙ script_lines-all end lines AnswersNext-taken.inside;
+        are_lines = ap (script_lines end) reads.are_lines ∙ script_lines-all end lines RespondsToNext-taken.inside;
         all = reads.all ∙ ap (λ lines. lines ++ lines_of rest) (sym reads.are_lines);
-        going = AnswersNext-going;
+        going = RespondsToNext-going;
         written = λ told.
-            let (more, (front, wrote, split)) = stops told in
-            (more, (front, wrote ∙ ap (λ t. t ++ front) (so_far.written told), said ∙ split));
+            let (more, (prefix, wrote, split)) = stops told in
+            (more, (prefix, wrote ∙ ap (λ t. t ++ prefix) (so_far.written told), said ∙ split));
       }
 
 -- ---- a script that is answered
@@ -180,9 +180,9 @@ module _ {S W : Type 0} {g : SourceGhosts S} (h : SinkGhosts W) where
   -- no line of the script was left, and its replies are written
   RunsScript-whole : (end : ScriptEnd) (output : Result (List ℕ) BenchFault) {old mid new : Lines S g} {before after : W}
       → SourceWorked g old.source new.source → held new ≡ [] → SinkWorked h before after → (end ≡ Input → h.is_flushed after ≡ true)
-      → TellsEnd old new → FindsEnd end mid new
-      → (g.tells → (lines : List (List ℕ)) × TakesScript end (unread old) (unread mid) mid.is_at_end lines)
-      → (g.tells → IsOkAnd output (λ text. h.tells → h.taken after ≡ h.taken before ++ text))
+      → EndsWithSource old new → FindsEnd end mid new
+      → (g.is_specified → (lines : List (List ℕ)) × TakesScript end (unread old) (unread mid) mid.is_at_end lines)
+      → (g.is_specified → IsOkAnd output (λ text. h.is_specified → h.taken after ≡ h.taken before ++ text))
       → RunsScript h end output old new before after
   RunsScript-whole Input output source emptied sink flushed ends (inl at_end) taken written = record {
     at_end = at_end.at_end;
@@ -199,35 +199,35 @@ module _ {S W : Type 0} {g : SourceGhosts S} (h : SinkGhosts W) where
 
   -- What is written may be flushed after it; a sink that fails then has all replies.
   module _ {end : ScriptEnd} {start now : BenchState} {old new : Lines S g} {before mid : W}
-      (answers : AnswersAll h one_bench end start now old new before mid) (ends : TellsEnd old new) where
-    pub one_bench-state : g.tells → now ≡ state_after bench_line start (script_lines end (lines_of (unread old)))
-    one_bench-state tells = elim answers.stopped [
-      | inl run ↦ AnswersLines-state (run.answered tells) (FindsEnd-whole old run.last new end _ run.found (run.answered tells).taken tells)
+      (responds : RespondsToAll h one_bench end start now old new before mid) (ends : EndsWithSource old new) where
+    pub one_bench-state : g.is_specified → now ≡ state_after bench_line start (script_lines end (lines_of (unread old)))
+    one_bench-state is_specified = elim responds.stopped [
+      | inl run ↦ RespondsToLines-state (run.responded is_specified) (FindsEnd-whole old run.last new end _ run.found (run.responded is_specified).taken is_specified)
       | inr run ↦ absurd (false≢true run.over)
     ]
 
-    module _ {after : W} (same : h.tells → h.taken after ≡ h.taken mid) where
+    module _ {after : W} (same : h.is_specified → h.taken after ≡ h.taken mid) where
       pub one_bench-runs : SinkWorked h mid after → (end ≡ Input → h.is_flushed after ≡ true)
           → RunsScript h end (Ok (replies bench_line start (script_lines end (lines_of (unread old))))) old new before after
-      one_bench-runs worked flushed = elim answers.stopped [
+      one_bench-runs worked flushed = elim responds.stopped [
         | inl run ↦
-            RunsScript-whole end _ answers.source answers.emptied (worked.0 ∙ answers.sink.0, worked.1 ∙ answers.sink.1) flushed ends run.found
-            (λ tells. ((run.answered tells).lines, (run.answered tells).taken))
-            (λ tells told. same told ∙ AnswersLines-all (run.answered tells)
-            (FindsEnd-whole old run.last new end _ run.found (run.answered tells).taken tells) told)
+            RunsScript-whole end _ responds.source responds.emptied (worked.0 ∙ responds.sink.0, worked.1 ∙ responds.sink.1) flushed ends run.found
+            (λ is_specified. ((run.responded is_specified).lines, (run.responded is_specified).taken))
+            (λ is_specified told. same told ∙ RespondsToLines-all (run.responded is_specified)
+            (FindsEnd-whole old run.last new end _ run.found (run.responded is_specified).taken is_specified) told)
         | inr run ↦ absurd (false≢true run.over)
       ]
 
       pub one_bench-fails : SinkFailed h mid after → FailsIn h one_bench end start old new before after Write
-      one_bench-fails failed = elim answers.stopped [
+      one_bench-fails failed = elim responds.stopped [
         | inl run ↦
-            let stops = λ (tells : g.tells). AnswersLines-written (run.answered tells)
-            (FindsEnd-whole old run.last new end _ run.found (run.answered tells).taken tells) refl same in (
+            let stops = λ (is_specified : g.is_specified). RespondsToLines-written (run.responded is_specified)
+            (FindsEnd-whole old run.last new end _ run.found (run.responded is_specified).taken is_specified) refl same in (
               record {
-                source = answers.source;
-                sink = SinkFailed-after h answers.sink failed;
-                emptied = answers.emptied;
-                front = λ tells told. StopsAtWrite-front (stops tells) told;
+                source = responds.source;
+                sink = SinkFailed-after h responds.sink failed;
+                emptied = responds.emptied;
+                prefix = λ is_specified told. StopsAtWrite-prefix (stops is_specified) told;
               },
               stops,
             )

@@ -9,17 +9,17 @@ use Rattle.rv_text.specs.Words.{words_of}
 use Rattle.rv_script.specs.Command.{keyword_of, meaning_of, parse_of}
 use Rattle.rv_script.specs.Numbers.{hexadecimal_of, byte_of_text}
 use Rattle.rv_script.specs.declared.command.Command.TheVariants.{Poke}
-use Rattle.rv_debug.specs.Answer.{answer}
+use Rattle.rv_debug.specs.Execute.{execute}
 use Rattle.rv_debug.specs.BenchState.{BenchState}
 use Rattle.rv_debug.specs.BothBenches.{can_scramble, is_blind, region_in}
 use Rattle.rv_command_line.specs.declared.setup.Setup.{Setup}
 use Rattle.rv_streams.specs.declared.fault.BenchFault.{BenchFault}
 use Rattle.rv_streams.specs.Separator.{after_separator, has_separator}
-use Rattle.rv_bench.specs.Confidentiality.{AreSecret, LinePassesOver}
+use Rattle.rv_bench.specs.Noninterference.{AreSecret, LineAvoidsEnclave}
 use Rattle.rv_bench.specs.Output.{bench_in, output}
 use Rattle.rv_bench.specs.Replies.{bench_line, state_after}
 use Rattle.rv_streams.proofs.Mapped.{IsOkAnd-at}
-use Rattle.rv_bench.proofs.Concealed.{conceals_secret}
+use Rattle.rv_bench.proofs.NoninterferenceLemmas.{secret_noninterference}
 
 abbrev key : List ℕ
 key = codes "poke 80020000 41\n# that was the key\n"
@@ -36,16 +36,16 @@ pub record HasEnclave (bench : BenchState) : Type 0 where
   pub first : has (region_in 0 bench.target) 0x80020000 ≡ true
   pub second : has (region_in 0 bench.target) 0x80020ffc ≡ true
 
-comment_passes : (bench : BenchState) → LinePassesOver 0 bench (codes "# that was the key")
-unfolding parse_of is_text meaning_of words_of is_blind answer
+comment_passes : (bench : BenchState) → LineAvoidsEnclave 0 bench (codes "# that was the key")
+unfolding parse_of is_text meaning_of words_of is_blind execute
 comment_passes bench = record { blind = refl; past = refl }
 
-enclaves_pass : (bench : BenchState) → LinePassesOver 0 bench (codes "enclaves")
-unfolding parse_of is_text meaning_of words_of keyword_of is_blind answer
+enclaves_pass : (bench : BenchState) → LineAvoidsEnclave 0 bench (codes "enclaves")
+unfolding parse_of is_text meaning_of words_of keyword_of is_blind execute
 enclaves_pass bench = record { blind = refl; past = refl }
 
-regs_pass : (bench : BenchState) → LinePassesOver 0 bench (codes "regs")
-unfolding parse_of is_text meaning_of words_of keyword_of is_blind answer
+regs_pass : (bench : BenchState) → LineAvoidsEnclave 0 bench (codes "regs")
+unfolding parse_of is_text meaning_of words_of keyword_of is_blind execute
 regs_pass bench = record { blind = refl; past = refl }
 
 first_poke : parse_of (codes "poke 80020000 41") ≡ Ok (Poke 0x80020000 0x41)
@@ -68,20 +68,20 @@ from_bench : (bench : Result BenchState BenchFault) (before : List (List ℕ)) �
 from_bench (Ok bench) before there = is_secret (state_after bench_line bench before) there
 from_bench (Err fault) before there = tt
 
-pub key_is_concealed : (setup : Setup) (front : List ℕ) → through_last_feed front ≡ front → has_separator front ≡ true
-    → IfOk (bench_in setup front) (λ bench. HasEnclave (state_after bench_line bench (lines_of (after_separator front))))
-    → output setup (front ++ (key ++ rest)) ≡ output setup (front ++ (other_key ++ rest))
-key_is_concealed setup front whole separated there =
-    conceals_secret setup (front ++ (key ++ rest)) 0 (front ++ (other_key ++ rest)) (record {
-      front = front;
+pub key_is_concealed : (setup : Setup) (prefix : List ℕ) → through_last_feed prefix ≡ prefix → has_separator prefix ≡ true
+    → IfOk (bench_in setup prefix) (λ bench. HasEnclave (state_after bench_line bench (lines_of (after_separator prefix))))
+    → output setup (prefix ++ (key ++ rest)) ≡ output setup (prefix ++ (other_key ++ rest))
+key_is_concealed setup prefix whole separated there =
+    secret_noninterference setup (prefix ++ (key ++ rest)) 0 (prefix ++ (other_key ++ rest)) (record {
+      prefix = prefix;
       secret = key;
       another = other_key;
       rest = rest;
       input_is = refl;
       other_is = refl;
-      whole_front = whole;
+      whole_prefix = whole;
       whole_secret = refl;
       whole_another = refl;
       separated = separated;
-      poked = from_bench (bench_in setup front) (lines_of (after_separator front)) there;
+      poked = from_bench (bench_in setup prefix) (lines_of (after_separator prefix)) there;
     })

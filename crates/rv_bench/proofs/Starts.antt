@@ -2,9 +2,9 @@
 use Rattle.std.proofs.Common.{◌≡◌, ℕ, Bool, true, false, cond, List, length, replicate, Result, Ok, Err, IfOk, refl, ◌∙◌}
 use Rattle.rv_word.specs.Cases.{result_case}
 use Rattle.rv_memory.specs.Memory.{is_ram_size, ram_base}
-use Rattle.rv_monitor.proofs.Start.{start_kept}
+use Rattle.rv_monitor.proofs.Start.{start_invariant}
 use Rattle.rv_debug.specs.BenchState.{BenchState}
-use Rattle.rv_debug.specs.Targets.{KeepsMonitor}
+use Rattle.rv_debug.specs.Targets.{TargetInvariant}
 use Rattle.rv_elf.specs.Loaded.{byte_after, loaded_memory}
 use Rattle.std.proofs.lemmas.List.{length-replicate}
 use Rattle.std.proofs.lemmas.List.FromFn.{length-map-range_with_len}
@@ -62,19 +62,19 @@ loaded_size image setup plan =
     let zeros = replicate setup.ram 0 in
     length-map-range_with_len (byte_after image plan.segments zeros) ram_base (length zeros) ∙ length-replicate setup.ram 0
 
-reset_keeps : (setup : Setup) (memory : List ℕ) (entry : ℕ) → is_ram_size (length memory) ≡ true → KeepsMonitor (reset_over setup memory entry).target
+reset_keeps : (setup : Setup) (memory : List ℕ) (entry : ℕ) → is_ram_size (length memory) ≡ true → TargetInvariant (reset_over setup memory entry).target
 reset_keeps setup memory entry valid = go setup.monitored where
-  go : (monitored : Bool) → KeepsMonitor (reset_over (record setup { monitored = monitored }) memory entry).target
+  go : (monitored : Bool) → TargetInvariant (reset_over (record setup { monitored = monitored }) memory entry).target
   go false = tt
-  go true = start_kept memory entry setup.harts valid
+  go true = start_invariant memory entry setup.harts valid
 
-pub started_keeps : (image : List ℕ) (setup : Setup) → IfOk (started image setup) (λ state. KeepsMonitor state.target)
+pub started_keeps : (image : List ℕ) (setup : Setup) → IfOk (started image setup) (λ state. TargetInvariant state.target)
 unfolding started
 started_keeps image setup = go (is_ram_size setup.ram) refl (planned image setup) where
   go : (valid : Bool) → is_ram_size setup.ram ≡ valid → (plan : Result LoadPlan ElfFault)
       → IfOk
       (cond valid (result_case plan (λ plan. Ok (reset_over setup (memory_loaded image setup plan) plan.entry)) (λ fault. Err (Image fault)))
-      (Err (Ram BadSize))) (λ state. KeepsMonitor state.target)
+      (Err (Ram BadSize))) (λ state. TargetInvariant state.target)
   go false is plan = tt
   go true is (Err fault) = tt
   go true is (Ok plan) = reset_keeps setup (memory_loaded image setup plan) plan.entry (rw (loaded_size image setup plan) is)

@@ -16,9 +16,9 @@ use Rattle.rv_streams.specs.Image.{image_in}
 use Rattle.rv_streams.specs.Faults.{Outcome}
 use Rattle.rv_streams.specs.Script.{ReadsThroughSeparator}
 use Rattle.rv_streams.specs.Separator.{after_separator}
-use Rattle.rv_streams.specs.Transfer.{WritesFront}
-use Rattle.rv_streams.specs.Unread.{held, unread, TellsEnd}
-use Rattle.rv_streams.proofs.Ends.{TellsEnd-more, separator_read}
+use Rattle.rv_streams.specs.Transfer.{WritesPrefix}
+use Rattle.rv_streams.specs.Unread.{held, unread, EndsWithSource}
+use Rattle.rv_streams.proofs.Ends.{EndsWithSource-more, separator_read}
 use Rattle.rv_bench.specs.Loaded.{started}
 use Rattle.rv_bench.specs.Output.{bench_in, output, replies_of}
 use Rattle.rv_bench.specs.Replies.{bench_line, one_bench, replies}
@@ -31,20 +31,20 @@ ok_and (Ok x) P h = (x, refl, h)
 ok_and (Err e) P h = absurd h
 
 module _ {S W : Type 0} {g : SourceGhosts S} (h : SinkGhosts W) (setup : Setup) (image : List ℕ) (old mid new : Lines S g) (before after : W)
-    (reads : ReadsThroughSeparator old mid) (is : g.tells → image_in (unread old) ≡ Ok image) (image_end : TellsEnd old mid)
-    (script_end : TellsEnd mid new) where
+    (reads : ReadsThroughSeparator old mid) (is : g.is_specified → image_in (unread old) ≡ Ok image) (image_end : EndsWithSource old mid)
+    (script_end : EndsWithSource mid new) where
   -- the bench of the input is that of the image
-  bench_is : (r : Result BenchState BenchFault) → started image setup ≡ r → g.tells → bench_in setup (unread old) ≡ r
-  bench_is r starts tells = rw (is tells) starts
+  bench_is : (r : Result BenchState BenchFault) → started image setup ≡ r → g.is_specified → bench_in setup (unread old) ≡ r
+  bench_is r starts is_specified = rw (is is_specified) starts
 
-  output_is : (state : BenchState) → started image setup ≡ Ok state → g.tells
+  output_is : (state : BenchState) → started image setup ≡ Ok state → g.is_specified
       → output setup (unread old) ≡ Ok (replies bench_line state (lines_of (unread mid)))
-  output_is state starts tells =
-      ap (λ m. replies_of m (lines_of (after_separator (unread old)))) (bench_is (Ok state) starts tells)
-      ∙ ap (λ t. Ok (replies bench_line state (lines_of t))) (sym (reads.rest tells))
+  output_is state starts is_specified =
+      ap (λ m. replies_of m (lines_of (after_separator (unread old)))) (bench_is (Ok state) starts is_specified)
+      ∙ ap (λ t. Ok (replies bench_line state (lines_of t))) (sym (reads.rest is_specified))
 
-  fault_is : (fault : BenchFault) → started image setup ≡ Err fault → g.tells → output setup (unread old) ≡ Err fault
-  fault_is fault starts tells = ap (λ m. replies_of m (lines_of (after_separator (unread old)))) (bench_is (Err fault) starts tells)
+  fault_is : (fault : BenchFault) → started image setup ≡ Err fault → g.is_specified → output setup (unread old) ≡ Err fault
+  fault_is fault starts is_specified = ap (λ m. replies_of m (lines_of (after_separator (unread old)))) (bench_is (Err fault) starts is_specified)
 
   failed : SourceFailed g mid.source new.source → SourceFailed g old.source new.source
   failed risen = let same = reads.source in omega (arith, risen, same)
@@ -56,24 +56,24 @@ module _ {S W : Type 0} {g : SourceGhosts S} (h : SinkGhosts W) (setup : Setup) 
         has_ram image setup state starts,
         record {
           at_end = run.at_end;
-          ended = (TellsEnd-more old mid new image_end script_end).ended run.at_end;
+          ended = (EndsWithSource-more old mid new image_end script_end).ended run.at_end;
           emptied = run.emptied;
           source = run.source ∙ reads.source;
           sink = run.sink;
           used_up = run.used_up;
-          written = λ tells. subst (λ o. IsOkAnd o (λ text. h.tells → h.taken after ≡ h.taken before ++ text))
-              (sym (output_is state starts tells)) (run.written tells);
+          written = λ is_specified. subst (λ o. IsOkAnd o (λ text. h.is_specified → h.taken after ≡ h.taken before ++ text))
+              (sym (output_is state starts is_specified)) (run.written is_specified);
         },
       )
   streamed (Err Read) runs =
       let (state, starts, run) = ok_and (started image setup) _ runs in (
         record { source = failed run.0.source; sink = run.0.sink; going = run.0.going },
-        λ tells. inr (
-          separator_read old mid new reads script_end run.0.going tells,
-          subst (λ m. IsOkAnd m (λ state. StopsAtRead one_bench Input state h.tells (after_separator (unread old)) (g.remaining new.source) (held new)
-              (h.taken before) (h.taken after))) (sym (bench_is (Ok state) starts tells))
-              (subst (λ t. StopsAtRead one_bench Input state h.tells t (g.remaining new.source) (held new) (h.taken before) (h.taken after))
-              (reads.rest tells) (run.1 tells)),
+        λ is_specified. inr (
+          separator_read old mid new reads script_end run.0.going is_specified,
+          subst (λ m. IsOkAnd m (λ state. StopsAtRead one_bench Input state h.is_specified (after_separator (unread old)) (g.remaining new.source) (held new)
+              (h.taken before) (h.taken after))) (sym (bench_is (Ok state) starts is_specified))
+              (subst (λ t. StopsAtRead one_bench Input state h.is_specified t (g.remaining new.source) (held new) (h.taken before) (h.taken after))
+              (reads.rest is_specified) (run.1 is_specified)),
         ),
       )
   streamed (Err Write) runs =
@@ -83,18 +83,18 @@ module _ {S W : Type 0} {g : SourceGhosts S} (h : SinkGhosts W) (setup : Setup) 
           source = run.0.source ∙ reads.source;
           sink = run.0.sink;
           emptied = run.0.emptied;
-          front = λ tells. subst (λ o. IsOkAnd o (λ text. h.tells → WritesFront (h.taken before) (h.taken after) text))
-              (sym (output_is state starts tells)) (run.0.front tells);
+          prefix = λ is_specified. subst (λ o. IsOkAnd o (λ text. h.is_specified → WritesPrefix (h.taken before) (h.taken after) text))
+              (sym (output_is state starts is_specified)) (run.0.prefix is_specified);
         },
-        λ tells.
-            subst (λ m. IsOkAnd m (λ state. StopsAtWrite one_bench Input state h.tells (after_separator (unread old)) (unread new) (h.taken before)
-            (h.taken after))) (sym (bench_is (Ok state) starts tells))
-            (subst (λ t. StopsAtWrite one_bench Input state h.tells t (unread new) (h.taken before) (h.taken after)) (reads.rest tells) (run.1 tells)),
+        λ is_specified.
+            subst (λ m. IsOkAnd m (λ state. StopsAtWrite one_bench Input state h.is_specified (after_separator (unread old)) (unread new) (h.taken before)
+            (h.taken after))) (sym (bench_is (Ok state) starts is_specified))
+            (subst (λ t. StopsAtWrite one_bench Input state h.is_specified t (unread new) (h.taken before) (h.taken after)) (reads.rest is_specified) (run.1 is_specified)),
       )
   streamed (Err (Ram BadSize)) (none, same, unwritten) =
       (none, subst (ReadsThroughSeparator old) (sym same) reads, fault_is (Ram BadSize) (no_ram image setup none), unwritten)
   streamed (Err (Ram NoRamMemory)) (some, same, unwritten) =
-      (some, subst (ReadsThroughSeparator old) (sym same) reads, λ tells. rw (is tells) refl, unwritten)
+      (some, subst (ReadsThroughSeparator old) (sym same) reads, λ is_specified. rw (is is_specified) refl, unwritten)
   streamed (Err (Image fault)) (faulty, same, unwritten) =
       (fault_has_ram image setup fault faulty, subst (ReadsThroughSeparator old) (sym same) reads, fault_is (Image fault) faulty, unwritten)
   streamed (Err _) runs = absurd (ok_and (started image setup) _ runs).2

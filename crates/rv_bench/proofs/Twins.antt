@@ -4,13 +4,13 @@ use Rattle.std.proofs.Common.{subst, arith, append_assoc}
 use Rattle.std.specs.Option.{IsSomeAnd}
 use Rattle.std.specs.Result.{IsOkAnd}
 use Rattle.rv_debug.specs.BenchState.{BenchState}
-use Rattle.rv_debug.specs.Targets.{KeepsMonitor}
+use Rattle.rv_debug.specs.Targets.{TargetInvariant}
 use Rattle.rv_debug.specs.BothBenches.{can_scramble, can_scramble_in, scrambled}
 use Rattle.rv_debug.specs.declared.target.Target.{Target}
 use Rattle.rv_debug.specs.declared.target.Target.TheVariants.{Bare, Monitored}
 use Rattle.rv_enclaves.proofs.Slots.{none_past}
 use Rattle.rv_enclaves.specs.SlotNumbers.{slot_numbered}
-use Rattle.rv_enclaves.specs.Sound.{is_held}
+use Rattle.rv_enclaves.specs.SharedInvariant.{is_held}
 use Rattle.rv_word.specs.Cases.{result_case}
 use Rattle.rv_memory.specs.Memory.{is_ram_size}
 use Rattle.rv_memory.specs.declared.ram_fault.RamFault.TheVariants.{BadSize, NoMemory as NoRamMemory}
@@ -26,52 +26,52 @@ use Rattle.rv_streams.specs.Image.{image_in}
 use Rattle.rv_streams.specs.Faults.{Outcome}
 use Rattle.rv_streams.specs.Script.{ReadsThroughSeparator}
 use Rattle.rv_streams.specs.Separator.{after_separator}
-use Rattle.rv_streams.specs.Transfer.{WritesFront}
-use Rattle.rv_streams.specs.Unread.{held, unread, TellsEnd}
-use Rattle.rv_streams.proofs.Ends.{SinkFailed-after, TellsEnd-more, separator_read}
-use Rattle.rv_bench.specs.declared.apart.Apart.{Apart}
-use Rattle.rv_bench.specs.declared.apart.ApartBenches.{ApartBenches}
-use Rattle.rv_bench.specs.Apart.{set_apart, both_benches}
+use Rattle.rv_streams.specs.Transfer.{WritesPrefix}
+use Rattle.rv_streams.specs.Unread.{held, unread, EndsWithSource}
+use Rattle.rv_streams.proofs.Ends.{SinkFailed-after, EndsWithSource-more, separator_read}
+use Rattle.rv_bench.specs.declared.pair.Pair.{Pair}
+use Rattle.rv_bench.specs.declared.pair.PairOnSlot.{PairOnSlot}
+use Rattle.rv_bench.specs.Pair.{make_pair, both_benches}
 use Rattle.rv_bench.specs.Loaded.{Starts, started}
 use Rattle.rv_bench.specs.Output.{bench_in}
 use Rattle.rv_bench.specs.Replies.{one_bench}
 use Rattle.rv_bench.specs.Run.{RunsLines, StopsAtRead, StopsAtWrite}
 use Rattle.rv_bench.specs.Twin.{IsNeverEntered, IsOver, RunsSecond, RunsTwin, StopsInScripts, StopsInScriptsAtWrite, StopsSecondAtWrite}
 use Rattle.rv_bench.specs.Twin.{after_first_script, first_text, monitored_setup, scripts_text, second_text, twin_output}
-use Rattle.rv_bench.proofs.ApartLemmas.{front_after, front_more}
+use Rattle.rv_bench.proofs.PairLemmas.{prefix_after, prefix_more}
 use Rattle.rv_bench.proofs.Entering.{read_after, write_after}
 use Rattle.rv_bench.proofs.Starts.{no_ram, has_ram, fault_has_ram}
 
 -- ---- the benches that are set apart
 
 -- no enclave can be scrambled, or that of the slot is; over 12 there is no slot
-pub not_apart : (slot : ℕ) (bench : BenchState) → can_scramble slot bench ≡ false → None ≡ set_apart slot bench
-not_apart slot bench none = rw none refl
+pub not_pair : (slot : ℕ) (bench : BenchState) → can_scramble slot bench ≡ false → None ≡ make_pair slot bench
+not_pair slot bench none = rw none refl
 
-pub are_apart : (slot : ℕ) (bench second : BenchState) → can_scramble slot bench ≡ true → second ≡ scrambled slot bench
-    → Some (record { first = bench; second = second; ran = 0; entered = false }) ≡ set_apart slot bench
-are_apart slot bench second can is = rw can (ap (λ (second : BenchState). Some (record { first = bench; second = second; ran = 0; entered = false })) is)
+pub are_pair : (slot : ℕ) (bench second : BenchState) → can_scramble slot bench ≡ true → second ≡ scrambled slot bench
+    → Some (record { first = bench; second = second; ran = 0; entered = false }) ≡ make_pair slot bench
+are_pair slot bench second can is = rw can (ap (λ (second : BenchState). Some (record { first = bench; second = second; ran = 0; entered = false })) is)
 
-none_numbered : (number : ℕ) (target : Target) → KeepsMonitor target → slot_numbered number ≡ None → can_scramble_in number target ≡ false
+none_numbered : (number : ℕ) (target : Target) → TargetInvariant target → slot_numbered number ≡ None → can_scramble_in number target ≡ false
 none_numbered number (Bare machine) kept none = refl
-none_numbered number (Monitored chosen) kept none = ap is_held (none_past chosen.state.shared.table number kept.shared.valid.count none)
+none_numbered number (Monitored selected) kept none = ap is_held (none_past selected.state.shared.table number kept.shared.valid.count none)
 
 -- what is said of two benches that are set apart is said of the slot that was named
-pub set_apart_at : (P : ℕ → Option Apart → Type 0) (number : ℕ) (bench : BenchState) (found : ApartBenches)
-    → (found.slot ≡ number) × (set_apart number bench ≡ Some found.apart) → P found.slot (Some found.apart) → P number (set_apart number bench)
-set_apart_at P number bench found is holds =
-    subst (λ (slot : ℕ). P slot (set_apart number bench)) is.0 (subst (P found.slot) (sym is.1) holds)
+pub make_pair_at : (P : ℕ → Option Pair → Type 0) (number : ℕ) (bench : BenchState) (found : PairOnSlot)
+    → (found.slot ≡ number) × (make_pair number bench ≡ Some found.pair) → P found.slot (Some found.pair) → P number (make_pair number bench)
+make_pair_at P number bench found is holds =
+    subst (λ (slot : ℕ). P slot (make_pair number bench)) is.0 (subst (P found.slot) (sym is.1) holds)
 
-pub not_numbered : (number : ℕ) (bench : BenchState) → KeepsMonitor bench.target → slot_numbered number ≡ None → set_apart number bench ≡ None
-not_numbered number bench kept none = sym (not_apart number bench (none_numbered number bench.target kept none))
+pub not_numbered : (number : ℕ) (bench : BenchState) → TargetInvariant bench.target → slot_numbered number ≡ None → make_pair number bench ≡ None
+not_numbered number bench kept none = sym (not_pair number bench (none_numbered number bench.target kept none))
 
 -- ---- the image, and the first script
 
 -- the image was read, and the text through the separator behind it
 pub record ReadsImage {S : Type 0} {g : SourceGhosts S} (old mid : Lines S g) (image : List ℕ) : Type 0 where
   pub through : ReadsThroughSeparator old mid
-  pub gives : g.tells → image_in (unread old) ≡ Ok image
-  pub ends : TellsEnd old mid
+  pub gives : g.is_specified → image_in (unread old) ≡ Ok image
+  pub ends : EndsWithSource old mid
 
 -- the first script was run over the bench of the image, which is another bench then
 pub record RunsFirst {S W : Type 0} {g : SourceGhosts S} (h : SinkGhosts W) (bench : BenchState) (mid : Lines S g) (before : W) : Type 0 where
@@ -79,31 +79,31 @@ pub record RunsFirst {S W : Type 0} {g : SourceGhosts S} (h : SinkGhosts W) (ben
   pub between : W
   pub then : BenchState
   pub runs : RunsLines h Separator bench mid next before between (Ok tt)
-  pub state : g.tells → then ≡ after_first_script bench (unread mid)
-  pub ends : TellsEnd mid next
+  pub state : g.is_specified → then ≡ after_first_script bench (unread mid)
+  pub ends : EndsWithSource mid next
 
 module _ {S W : Type 0} {g : SourceGhosts S} (h : SinkGhosts W) (setup : Setup) (slot : ℕ) (image : List ℕ) (old mid : Lines S g) (before : W)
     (read : ReadsImage old mid image) where
   -- the bench of the input is that of the image
-  bench_is : (r : Result BenchState BenchFault) → started image (monitored_setup setup) ≡ r → g.tells → bench_in (monitored_setup setup) (unread old) ≡ r
-  bench_is r starts tells = rw (read.gives tells) starts
+  bench_is : (r : Result BenchState BenchFault) → started image (monitored_setup setup) ≡ r → g.is_specified → bench_in (monitored_setup setup) (unread old) ≡ r
+  bench_is r starts is_specified = rw (read.gives is_specified) starts
 
-  fault_is : (fault : BenchFault) → started image (monitored_setup setup) ≡ Err fault → g.tells → twin_output setup slot (unread old) ≡ Err fault
-  fault_is fault starts tells =
+  fault_is : (fault : BenchFault) → started image (monitored_setup setup) ≡ Err fault → g.is_specified → twin_output setup slot (unread old) ≡ Err fault
+  fault_is fault starts is_specified =
       ap (λ (m : Result BenchState BenchFault). result_case m (λ bench. Ok (scripts_text slot bench (after_separator (unread old)))) Err)
-      (bench_is (Err fault) starts tells)
+      (bench_is (Err fault) starts is_specified)
 
-  output_is : (bench : BenchState) → started image (monitored_setup setup) ≡ Ok bench → g.tells
+  output_is : (bench : BenchState) → started image (monitored_setup setup) ≡ Ok bench → g.is_specified
       → twin_output setup slot (unread old) ≡ Ok (scripts_text slot bench (unread mid))
-  output_is bench starts tells =
+  output_is bench starts is_specified =
       ap (λ (m : Result BenchState BenchFault). result_case m (λ bench. Ok (scripts_text slot bench (after_separator (unread old)))) Err)
-      (bench_is (Ok bench) starts tells)
-      ∙ ap (λ (t : List ℕ). Ok (scripts_text slot bench t)) (sym (read.through.rest tells))
+      (bench_is (Ok bench) starts is_specified)
+      ∙ ap (λ (t : List ℕ). Ok (scripts_text slot bench t)) (sym (read.through.rest is_specified))
 
   -- the benches do not start
   pub not_started : (fault : BenchFault) → Starts image (monitored_setup setup) (Err fault) → RunsTwin h setup slot old mid before before (Err fault)
   not_started (Ram BadSize) none = (none, read.through, fault_is (Ram BadSize) (no_ram image (monitored_setup setup) none), refl)
-  not_started (Ram NoRamMemory) some = (some, read.through, λ tells. rw (read.gives tells) refl, refl)
+  not_started (Ram NoRamMemory) some = (some, read.through, λ is_specified. rw (read.gives is_specified) refl, refl)
   not_started (Image fault) faulty = (fault_has_ram image (monitored_setup setup) fault faulty, read.through, fault_is (Image fault) faulty, refl)
   not_started _ never = absurd never
 
@@ -111,7 +111,7 @@ module _ {S W : Type 0} {g : SourceGhosts S} (h : SinkGhosts W) (setup : Setup) 
     has_size : is_ram_size setup.ram ≡ true
     has_size = has_ram image (monitored_setup setup) bench starts
 
-    module _ (new : Lines S g) (after : W) (script_end : TellsEnd mid new) where
+    module _ (new : Lines S g) (after : W) (script_end : EndsWithSource mid new) where
       -- the source failed in the first script
       first_read : RunsLines h Separator bench mid new before after (Err Read) → RunsTwin h setup slot old new before after (Err Read)
       first_read run =
@@ -119,12 +119,12 @@ module _ {S W : Type 0} {g : SourceGhosts S} (h : SinkGhosts W) (setup : Setup) 
           let risen = run.0.source in
           let failed : SourceFailed g old.source new.source = omega (arith, risen, same) in (
             record { source = failed; sink = run.0.sink; going = run.0.going },
-            λ tells. inr (
-              separator_read old mid new read.through script_end run.0.going tells,
+            λ is_specified. inr (
+              separator_read old mid new read.through script_end run.0.going is_specified,
               subst (λ (m : Result BenchState BenchFault). IsOkAnd m (StopsInScripts h setup slot old new before after (after_separator (unread old))))
-                  (sym (bench_is (Ok bench) starts tells))
-                  (inl (subst (λ (t : List ℕ). StopsAtRead one_bench Separator bench h.tells t (g.remaining new.source) (held new)
-                  (h.taken before) (h.taken after)) (read.through.rest tells) (run.1 tells))),
+                  (sym (bench_is (Ok bench) starts is_specified))
+                  (inl (subst (λ (t : List ℕ). StopsAtRead one_bench Separator bench h.is_specified t (g.remaining new.source) (held new)
+                  (h.taken before) (h.taken after)) (read.through.rest is_specified) (run.1 is_specified))),
             ),
           )
 
@@ -136,15 +136,15 @@ module _ {S W : Type 0} {g : SourceGhosts S} (h : SinkGhosts W) (setup : Setup) 
           source = run.0.source ∙ read.through.source;
           sink = run.0.sink;
           emptied = run.0.emptied;
-          front = λ tells. subst (λ o. IsOkAnd o (λ text. h.tells → WritesFront (h.taken before) (h.taken after) text))
-              (sym (output_is bench starts tells))
-              (λ told. front_more (h.taken before) (h.taken after) (first_text bench (unread mid)) _ (run.0.front tells told));
+          prefix = λ is_specified. subst (λ o. IsOkAnd o (λ text. h.is_specified → WritesPrefix (h.taken before) (h.taken after) text))
+              (sym (output_is bench starts is_specified))
+              (λ told. prefix_more (h.taken before) (h.taken after) (first_text bench (unread mid)) _ (run.0.prefix is_specified told));
         },
-        λ tells.
+        λ is_specified.
             subst (λ (m : Result BenchState BenchFault). IsOkAnd m (StopsInScriptsAtWrite h setup slot old new before after (after_separator (unread old))))
-            (sym (bench_is (Ok bench) starts tells))
-            (inl (subst (λ (t : List ℕ). StopsAtWrite one_bench Separator bench h.tells t (unread new) (h.taken before) (h.taken after))
-            (read.through.rest tells) (run.1 tells))),
+            (sym (bench_is (Ok bench) starts is_specified))
+            (inl (subst (λ (t : List ℕ). StopsAtWrite one_bench Separator bench h.is_specified t (unread new) (h.taken before) (h.taken after))
+            (read.through.rest is_specified) (run.1 is_specified))),
       )
 
       pub first_fails : (fault : BenchFault) → RunsLines h Separator bench mid new before after (Err fault)
@@ -155,7 +155,7 @@ module _ {S W : Type 0} {g : SourceGhosts S} (h : SinkGhosts W) (setup : Setup) 
 
     -- ---- the first script was run, and the benches are set apart
 
-    module _ (ran : RunsFirst h bench mid before) (new : Lines S g) (after : W) (second_end : TellsEnd ran.next new) where
+    module _ (ran : RunsFirst h bench mid before) (new : Lines S g) (after : W) (second_end : EndsWithSource ran.next new) where
       abbrev next : Lines S g
       next = ran.next
 
@@ -165,39 +165,39 @@ module _ {S W : Type 0} {g : SourceGhosts S} (h : SinkGhosts W) (setup : Setup) 
       abbrev first : RunsLines h Separator bench mid ran.next before ran.between (Ok tt)
       first = ran.runs
 
-      abbrev apart_at : List ℕ → Option Apart
-      apart_at scripts = set_apart slot (after_first_script bench scripts)
+      abbrev pair_at : List ℕ → Option Pair
+      pair_at scripts = make_pair slot (after_first_script bench scripts)
 
-      apart_is : g.tells → set_apart slot then ≡ apart_at (unread mid)
-      apart_is tells = ap (set_apart slot) (ran.state tells)
+      pair_is : g.is_specified → make_pair slot then ≡ pair_at (unread mid)
+      pair_is is_specified = ap (make_pair slot) (ran.state is_specified)
 
-      text_is : (text : List ℕ) → (tells : g.tells) → second_text slot (set_apart slot then) (unread next) ≡ text
+      text_is : (text : List ℕ) → (is_specified : g.is_specified) → second_text slot (make_pair slot then) (unread next) ≡ text
           → first_text bench (unread mid) ++ text ≡ scripts_text slot bench (unread mid)
-      text_is text tells same =
+      text_is text is_specified same =
           ap (λ (t : List ℕ). first_text bench (unread mid) ++ t)
-          (sym same ∙ (ap (λ (apart : Option Apart). second_text slot apart (unread next)) (apart_is tells)
-          ∙ ap (second_text slot (apart_at (unread mid))) (first.reads.rest tells)))
+          (sym same ∙ (ap (λ (pair : Option Pair). second_text slot pair (unread next)) (pair_is is_specified)
+          ∙ ap (second_text slot (pair_at (unread mid))) (first.reads.rest is_specified)))
 
-      rest_end : TellsEnd mid new
-      rest_end = TellsEnd-more mid next new ran.ends second_end
+      rest_end : EndsWithSource mid new
+      rest_end = EndsWithSource-more mid next new ran.ends second_end
 
       -- what holds of the second script and the benches that are set apart, of both scripts,
-      of_rest : g.tells → (P : Option Apart → List ℕ → Type 0) → P (set_apart slot then) (unread next)
-          → P (apart_at (unread mid)) (after_separator (unread mid))
-      of_rest tells P holds =
-          subst (P (apart_at (unread mid))) (first.reads.rest tells) (subst (λ (apart : Option Apart). P apart (unread next)) (apart_is tells) holds)
+      of_rest : g.is_specified → (P : Option Pair → List ℕ → Type 0) → P (make_pair slot then) (unread next)
+          → P (pair_at (unread mid)) (after_separator (unread mid))
+      of_rest is_specified P holds =
+          subst (P (pair_at (unread mid))) (first.reads.rest is_specified) (subst (λ (pair : Option Pair). P pair (unread next)) (pair_is is_specified) holds)
 
       -- and of the whole input
-      of_scripts : g.tells → (P : Option Apart → List ℕ → Type 0) → P (set_apart slot then) (unread next)
+      of_scripts : g.is_specified → (P : Option Pair → List ℕ → Type 0) → P (make_pair slot then) (unread next)
           → IsOkAnd (bench_in (monitored_setup setup) (unread old))
-          (λ bench. P (set_apart slot (after_first_script bench (after_separator (unread old)))) (after_separator (after_separator (unread old))))
-      of_scripts tells P holds =
+          (λ bench. P (make_pair slot (after_first_script bench (after_separator (unread old)))) (after_separator (after_separator (unread old))))
+      of_scripts is_specified P holds =
           subst (λ (m : Result BenchState BenchFault). IsOkAnd m
-          (λ bench. P (set_apart slot (after_first_script bench (after_separator (unread old)))) (after_separator (after_separator (unread old))))) (sym
-          (bench_is (Ok bench) starts tells))
-          (subst (λ (t : List ℕ). P (apart_at t) (after_separator t)) (read.through.rest tells) (of_rest tells P holds))
+          (λ bench. P (make_pair slot (after_first_script bench (after_separator (unread old)))) (after_separator (after_separator (unread old))))) (sym
+          (bench_is (Ok bench) starts is_specified))
+          (subst (λ (t : List ℕ). P (pair_at t) (after_separator t)) (read.through.rest is_specified) (of_rest is_specified P holds))
 
-      pub second_part : (outcome : Outcome) → RunsSecond h slot (set_apart slot then) next new ran.between after outcome
+      pub second_part : (outcome : Outcome) → RunsSecond h slot (make_pair slot then) next new ran.between after outcome
           → RunsTwin h setup slot old new before after outcome
       second_part (Ok done) run = (
         has_size,
@@ -208,19 +208,19 @@ module _ {S W : Type 0} {g : SourceGhosts S} (h : SinkGhosts W) (setup : Setup) 
           read = elim run.read [
             | inl ended ↦ inl (record {
               at_end = ended.at_end;
-              ended = (TellsEnd-more old mid new read.ends rest_end).ended ended.at_end;
+              ended = (EndsWithSource-more old mid new read.ends rest_end).ended ended.at_end;
               used_up = ended.used_up;
-              going = λ tells. of_scripts tells (IsNeverEntered slot) (ended.going tells);
+              going = λ is_specified. of_scripts is_specified (IsNeverEntered slot) (ended.going is_specified);
               told = ended.told;
             })
-            | inr (over, told) ↦ inr (λ tells. of_scripts tells (λ apart script. IsOver slot apart script (unread new) new.is_at_end) (over tells), told)
+            | inr (over, told) ↦ inr (λ is_specified. of_scripts is_specified (λ pair script. IsOver slot pair script (unread new) new.is_at_end) (over is_specified), told)
           ];
-          written = λ tells. subst (λ o. IsOkAnd o (λ text. h.tells → h.taken after ≡ h.taken before ++ text))
-              (sym (output_is bench starts tells))
-              (λ told. run.written tells told
-              ∙ (ap (λ (t : List ℕ). t ++ second_text slot (set_apart slot then) (unread next)) (first.written tells told)
-              ∙ (append_assoc (h.taken before) (first_text bench (unread mid)) (second_text slot (set_apart slot then) (unread next))
-              ∙ ap (λ (t : List ℕ). h.taken before ++ t) (text_is _ tells refl))));
+          written = λ is_specified. subst (λ o. IsOkAnd o (λ text. h.is_specified → h.taken after ≡ h.taken before ++ text))
+              (sym (output_is bench starts is_specified))
+              (λ told. run.written is_specified told
+              ∙ (ap (λ (t : List ℕ). t ++ second_text slot (make_pair slot then) (unread next)) (first.written is_specified told)
+              ∙ (append_assoc (h.taken before) (first_text bench (unread mid)) (second_text slot (make_pair slot then) (unread next))
+              ∙ ap (λ (t : List ℕ). h.taken before ++ t) (text_is _ is_specified refl))));
         },
       )
       second_part (Err Read) run =
@@ -228,21 +228,21 @@ module _ {S W : Type 0} {g : SourceGhosts S} (h : SinkGhosts W) (setup : Setup) 
           let risen = run.0.source in
           let failed : SourceFailed g old.source new.source = omega (arith, risen, same) in (
             record { source = failed; sink = (run.0.sink.0 ∙ first.sink.0, run.0.sink.1 ∙ first.sink.1); going = run.0.going },
-            λ tells. inr (
-              separator_read old mid new read.through rest_end run.0.going tells,
+            λ is_specified. inr (
+              separator_read old mid new read.through rest_end run.0.going is_specified,
               subst (λ (m : Result BenchState BenchFault). IsOkAnd m (StopsInScripts h setup slot old new before after (after_separator (unread old))))
-                  (sym (bench_is (Ok bench) starts tells))
-                  (subst (λ (scripts : List ℕ). StopsInScripts h setup slot old new before after scripts bench) (read.through.rest tells)
+                  (sym (bench_is (Ok bench) starts is_specified))
+                  (subst (λ (scripts : List ℕ). StopsInScripts h setup slot old new before after scripts bench) (read.through.rest is_specified)
                   (inr (
-                    separator_read mid next new first.reads second_end run.0.going tells,
-                    of_rest tells Stops
-                        (read_after slot (set_apart slot then) h.tells _ _ _ _ _ _ (first.written tells) (run.1 tells)),
+                    separator_read mid next new first.reads second_end run.0.going is_specified,
+                    of_rest is_specified Stops
+                        (read_after slot (make_pair slot then) h.is_specified _ _ _ _ _ _ (first.written is_specified) (run.1 is_specified)),
                   ))),
             ),
           ) where
-            Stops : Option Apart → List ℕ → Type 0
-            Stops apart script = IsSomeAnd apart
-                (λ apart. StopsAtRead (both_benches slot) Input apart h.tells script (g.remaining new.source) (held new)
+            Stops : Option Pair → List ℕ → Type 0
+            Stops pair script = IsSomeAnd pair
+                (λ pair. StopsAtRead (both_benches slot) Input pair h.is_specified script (g.remaining new.source) (held new)
                 (h.taken before ++ first_text bench (unread mid)) (h.taken after))
       second_part (Err Write) run = (
         has_size,
@@ -250,18 +250,18 @@ module _ {S W : Type 0} {g : SourceGhosts S} (h : SinkGhosts W) (setup : Setup) 
           source = run.0.source ∙ (first.reads.source ∙ read.through.source);
           sink = SinkFailed-after h first.sink run.0.sink;
           emptied = run.0.emptied;
-          front = λ tells. subst (λ o. IsOkAnd o (λ text. h.tells → WritesFront (h.taken before) (h.taken after) text))
-              (sym (output_is bench starts tells))
-              (λ told. subst (WritesFront (h.taken before) (h.taken after)) (text_is _ tells refl)
-              (front_after (h.taken before) (h.taken ran.between) (h.taken after) (first_text bench (unread mid)) _ (first.written tells told)
-              (run.0.front tells told)));
+          prefix = λ is_specified. subst (λ o. IsOkAnd o (λ text. h.is_specified → WritesPrefix (h.taken before) (h.taken after) text))
+              (sym (output_is bench starts is_specified))
+              (λ told. subst (WritesPrefix (h.taken before) (h.taken after)) (text_is _ is_specified refl)
+              (prefix_after (h.taken before) (h.taken ran.between) (h.taken after) (first_text bench (unread mid)) _ (first.written is_specified told)
+              (run.0.prefix is_specified told)));
         },
-        λ tells.
+        λ is_specified.
             subst (λ (m : Result BenchState BenchFault). IsOkAnd m (StopsInScriptsAtWrite h setup slot old new before after (after_separator (unread old))))
-            (sym (bench_is (Ok bench) starts tells))
-            (subst (λ (scripts : List ℕ). StopsInScriptsAtWrite h setup slot old new before after scripts bench) (read.through.rest tells)
-            (inr (of_rest tells Stops (write_after slot (set_apart slot then) h.tells _ _ _ _ _ (first.written tells) (run.1 tells))))),
+            (sym (bench_is (Ok bench) starts is_specified))
+            (subst (λ (scripts : List ℕ). StopsInScriptsAtWrite h setup slot old new before after scripts bench) (read.through.rest is_specified)
+            (inr (of_rest is_specified Stops (write_after slot (make_pair slot then) h.is_specified _ _ _ _ _ (first.written is_specified) (run.1 is_specified))))),
       ) where
-        Stops : Option Apart → List ℕ → Type 0
-        Stops apart script = StopsSecondAtWrite slot apart h.tells script (unread new) (h.taken before ++ first_text bench (unread mid)) (h.taken after)
+        Stops : Option Pair → List ℕ → Type 0
+        Stops pair script = StopsSecondAtWrite slot pair h.is_specified script (unread new) (h.taken before ++ first_text bench (unread mid)) (h.taken after)
       second_part (Err _) run = absurd run

@@ -1,6 +1,6 @@
 -- What a job comes to from bytes in memory to bytes in memory, where no device is left that might not tell. (This project's own jobs.)
 use Rattle.std.specs.Prelude.{◌≡◌, ◌⊎◌, ℕ, ⊤, List, Result, Err}
-use Rattle.rv_asm.specs.Lacking.{LacksMemory}
+use Rattle.rv_asm.specs.OutOfMemory.{RunsOutOfMemory}
 use Rattle.rv_memory.specs.declared.ram_fault.RamFault.TheVariants.{NoMemory as NoRamMemory}
 use Rattle.rv_command_line.specs.declared.job.Job.{Job}
 use Rattle.rv_command_line.specs.declared.job.Job.TheVariants.{Run, Twin, Asm, Dis}
@@ -8,7 +8,7 @@ use Rattle.rv_streams.specs.AssemblyText.{asm_output}
 use Rattle.rv_streams.specs.DisassemblyText.{dis_output}
 use Rattle.rv_streams.specs.declared.fault.BenchFault.{BenchFault}
 use Rattle.rv_streams.specs.declared.fault.BenchFault.TheVariants.{Ram, Read, Write, NoMemory, Asm as AsmText}
-use Rattle.rv_bench.specs.Confidentiality.{ConcealsSecret}
+use Rattle.rv_bench.specs.Noninterference.{SecretNoninterference}
 use Rattle.rv_bench.specs.Output.{output}
 use Rattle.rv_bench.specs.Twin.{twin_output}
 
@@ -26,10 +26,10 @@ MeetsFault job input Read = ⊤
 MeetsFault job input Write = ⊤
 MeetsFault job input NoMemory = ⊤
 MeetsFault job input (Ram NoRamMemory) = ⊤
-MeetsFault job input (AsmText fault) = (job_output job input ≡ Err (AsmText fault)) ⊎ LacksMemory input fault
+MeetsFault job input (AsmText fault) = (job_output job input ≡ Err (AsmText fault)) ⊎ RunsOutOfMemory input fault
 MeetsFault job input fault = job_output job input ≡ Err fault
 
 -- the output of a run tells no secret that its script pokes
-abbrev pub ConcealsInMemory : Job → List ℕ → Type 0
-ConcealsInMemory (Run setup) input = ConcealsSecret setup input
-ConcealsInMemory job input = ⊤
+abbrev pub InMemoryNoninterference : Job → List ℕ → Type 0
+InMemoryNoninterference (Run setup) input = SecretNoninterference setup input
+InMemoryNoninterference job input = ⊤

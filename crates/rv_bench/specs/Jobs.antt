@@ -8,13 +8,13 @@ use Rattle.rv_streams.specs.declared.lines.Lines.{Lines}
 use Rattle.rv_streams.specs.Assemble.{RunsAsm}
 use Rattle.rv_streams.specs.Disassemble.{RunsDis}
 use Rattle.rv_streams.specs.Faults.{Outcome}
-use Rattle.rv_streams.specs.Unread.{held, unread, TellsEnd}
-use Rattle.rv_bench.specs.Confidentiality.{ConcealsSecret, ConcealsThrough}
-use Rattle.rv_bench.specs.Integrity.{SparesThrough}
+use Rattle.rv_streams.specs.Unread.{held, unread, EndsWithSource}
+use Rattle.rv_bench.specs.Noninterference.{SecretNoninterference, ScriptNoninterference}
+use Rattle.rv_bench.specs.Integrity.{PreservesThrough}
 use Rattle.rv_bench.specs.Output.{bench_in}
 use Rattle.rv_bench.specs.Stream.{RunsStream}
 use Rattle.rv_bench.specs.Twin.{RunsTwin}
-use Rattle.rv_bench.specs.TwinLaws.{TwinConceals, TwinSpares}
+use Rattle.rv_bench.specs.TwinLaws.{TwinNoninterference, TwinIntegrity}
 
 module _ {S : Type 0} (g : SourceGhosts S) where
   -- New lines of a source, as far as they were read, when the source is given back.
@@ -22,7 +22,7 @@ module _ {S : Type 0} (g : SourceGhosts S) where
     pub made : old.source ≡ source
     pub empty : held old ≡ []
     pub begins : old.is_at_end ≡ false
-    pub end : TellsEnd old new
+    pub end : EndsWithSource old new
     pub back : left ≡ new.source
 
 module _ {S W : Type 0} (g : SourceGhosts S) (h : SinkGhosts W) (source left : S) (before after : W) where
@@ -30,10 +30,10 @@ module _ {S W : Type 0} (g : SourceGhosts S) (h : SinkGhosts W) (source left : S
   abbrev pub DoesJob : Job → Outcome → Type 0
   DoesJob (Run setup) outcome =
       (old : Lines S g) × (new : Lines S g) × ReadsByLines g source left old new × RunsStream h setup old new before after outcome
-      × IfOk (bench_in setup (unread old)) SparesThrough × IfOk (bench_in setup (unread old)) ConcealsThrough × ConcealsSecret setup (unread old)
+      × IfOk (bench_in setup (unread old)) PreservesThrough × IfOk (bench_in setup (unread old)) ScriptNoninterference × SecretNoninterference setup (unread old)
   DoesJob (Twin setup slot) outcome =
       (old : Lines S g) × (new : Lines S g) × ReadsByLines g source left old new × RunsTwin h setup slot old new before after outcome
-      × TwinConceals setup slot (unread old) × TwinSpares setup slot (unread old)
+      × TwinNoninterference setup slot (unread old) × TwinIntegrity setup slot (unread old)
   DoesJob Asm outcome = RunsAsm g h source left before after outcome
   DoesJob Dis outcome =
       (old : Lines S g) × (new : Lines S g) × ReadsByLines g source left old new × RunsDis h old new before after outcome

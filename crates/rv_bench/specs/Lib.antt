@@ -1,6 +1,6 @@
-pub mod Answered
-pub mod Apart
-pub mod Confidentiality
+pub mod Responses
+pub mod Pair
+pub mod Noninterference
 pub mod InMemory
 pub mod Integrity
 pub mod Jobs

@@ -6,7 +6,7 @@ use Rattle.rv_pmp.specs.declared.mode.Mode.TheVariants.{M}
 use Rattle.rv_hart.specs.Hart.{at_reset}
 use Rattle.rv_memory.specs.Memory.{is_ram_size}
 use Rattle.rv_memory.specs.declared.ram_fault.RamFault.TheVariants.{BadSize, NoMemory as NoRamMemory}
-use Rattle.rv_monitor.specs.State.{at_start}
+use Rattle.rv_monitor.specs.MonitoredMachine.{at_start}
 use Rattle.rv_debug.specs.BenchState.{BenchState, bare, monitored as monitored_bench}
 use Rattle.rv_elf.specs.Fields.{magic}
 use Rattle.rv_elf.specs.Loaded.{loaded_memory}

@@ -16,7 +16,7 @@ use Rattle.rv_streams.specs.declared.fault.BenchFault.{BenchFault}
 use Rattle.rv_streams.specs.declared.fault.BenchFault.TheVariants.{Image, Ram, Read, Write, Hex, TooLong, NoMemory, Asm}
 use Rattle.rv_streams.specs.Calls.{SinkFlushed, SinkFailed}
 use Rattle.rv_streams.specs.Faults.{Outcome}
-use Rattle.rv_streams.specs.Transfer.{WritesFront}
+use Rattle.rv_streams.specs.Transfer.{WritesPrefix}
 use Rattle.rv_bench.specs.Jobs.{DoesJob}
 
 -- ---- the lines of faults
@@ -45,46 +45,46 @@ module _ {W : Type 0} (h : SinkGhosts W) where
   -- A text was written behind what was taken before, and the sink flushed.
   pub record WritesAll (before after : W) (text : List ℕ) : Type 0 where
     pub sink : SinkFlushed h before after
-    pub written : h.tells → h.taken after ≡ h.taken before ++ text
+    pub written : h.is_specified → h.taken after ≡ h.taken before ++ text
 
   -- The sink failed, and took a beginning of the text.
-  pub record TellsFront (before after : W) (text : List ℕ) : Type 0 where
+  pub record WritesOnlyPrefix (before after : W) (text : List ℕ) : Type 0 where
     pub sink : SinkFailed h before after
-    pub front : h.tells → WritesFront (h.taken before) (h.taken after) text
+    pub prefix : h.is_specified → WritesPrefix (h.taken before) (h.taken after) text
 
   -- what was told in addition, where that did not change the status
-  abbrev pub Tells : W → W → List ℕ → Type 0
-  Tells before after text = WritesAll before after text ⊎ TellsFront before after text
+  abbrev pub TriesToWrite : W → W → List ℕ → Type 0
+  TriesToWrite before after text = WritesAll before after text ⊎ WritesOnlyPrefix before after text
 
   -- what is told of an outcome, behind what the job has written: the line of its fault
-  abbrev pub TellsOutcome : Outcome → W → W → Type 0
-  TellsOutcome (Ok _) before after = after ≡ before
-  TellsOutcome (Err Write) before after = after ≡ before
-  TellsOutcome (Err fault) before after = Tells before after (fault_text fault)
+  abbrev pub ReportsOutcome : Outcome → W → W → Type 0
+  ReportsOutcome (Ok _) before after = after ≡ before
+  ReportsOutcome (Err Write) before after = after ≡ before
+  ReportsOutcome (Err fault) before after = TriesToWrite before after (fault_text fault)
 
   -- What is told of words that name no job, and the status: help is done where its text was written.
   abbrev pub Refuses : W → W → WordsFault → ℕ → Type 0
-  Refuses before after words.Refused status = Tells before after (codes "rvbench: command line\n") × (status ≡ 2)
-  Refuses before after words.NoMemory status = Tells before after (codes "rvbench: memory\n") × (status ≡ 1)
+  Refuses before after words.Refused status = TriesToWrite before after (codes "rvbench: command line\n") × (status ≡ 2)
+  Refuses before after words.NoMemory status = TriesToWrite before after (codes "rvbench: memory\n") × (status ≡ 1)
   Refuses before after (words.Help text) status =
-      (WritesAll before after (string_bytes text) × (status ≡ 0)) ⊎ (TellsFront before after (string_bytes text) × (status ≡ 1))
+      (WritesAll before after (string_bytes text) × (status ≡ 0)) ⊎ (WritesOnlyPrefix before after (string_bytes text) × (status ≡ 1))
 
 module _ {S W : Type 0} (g : SourceGhosts S) (h : SinkGhosts W) (source : S) (before after : W) where
   -- the job was done, and its outcome told
-  pub record DoesAndTells (job : Job) (status : ℕ) : Type 0 where
+  pub record DoesAndReports (job : Job) (status : ℕ) : Type 0 where
     pub left : S
     pub outcome : Outcome
     pub mid : W
     pub does : DoesJob g h source left before mid job outcome
-    pub told : TellsOutcome h outcome mid after
+    pub told : ReportsOutcome h outcome mid after
     pub status_is : status ≡ exit_status outcome
 
   -- the words name no job, for one of the reasons that they have, or memory was refused
-  pub record RefusesWords (given : List Text) (status : ℕ) : Type 0 where
+  pub record RefusesArguments (given : List Text) (status : ℕ) : Type 0 where
     pub fault : WordsFault
     pub reason : IsFaultOf (refusals_of given) fault
     pub refuses : Refuses h before after fault status
 
   -- the words name a job, which was done, or they name none
   abbrev pub Performs : List Text → ℕ → Type 0
-  Performs given status = ((refusals_of given ≡ []) × DoesAndTells (job_of given) status) ⊎ RefusesWords given status
+  Performs given status = ((refusals_of given ≡ []) × DoesAndReports (job_of given) status) ⊎ RefusesArguments given status

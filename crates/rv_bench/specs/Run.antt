@@ -15,38 +15,38 @@ use Rattle.rv_streams.specs.declared.separator.ScriptEnd.TheVariants.{Input, Sep
 use Rattle.rv_streams.specs.Calls.{SourceWorked, SourceFailed, SinkWorked, SinkFlushed, SinkFailed}
 use Rattle.rv_streams.specs.Faults.{Outcome}
 use Rattle.rv_streams.specs.Script.{script_lines, ReadsThroughSeparator}
-use Rattle.rv_streams.specs.Transfer.{WritesFront}
+use Rattle.rv_streams.specs.Transfer.{WritesPrefix}
 use Rattle.rv_streams.specs.Unread.{held, unread, HasEnded}
 use Rattle.rv_bench.specs.Loaded.{started}
-use Rattle.rv_bench.specs.Replies.{Answering, bench_line, one_bench, replies, state_after}
+use Rattle.rv_bench.specs.Replies.{Responding, bench_line, one_bench, replies, state_after}
 
-module _ {A : Type 0} (by : Answering A) where
+module _ {A : Type 0} (by : Responding A) where
   -- The source failed. A text of whole lines of the script has its replies, after which it is not over, and the line that was begun is
   -- kept, at most 122 bytes of it, so that a later call goes on from there. What was written is known where the sink tells.
-  pub record StopsAtRead (end : ScriptEnd) (start : A) (tells : Type 0) (unread left kept old new : List ℕ) : Type 0 where
+  pub record StopsAtRead (end : ScriptEnd) (start : A) (is_specified : Type 0) (unread left kept old new : List ℕ) : Type 0 where
     pub text : List ℕ
     pub begun : List ℕ
     pub split : unread ≡ text ++ (begun ++ left)
     pub whole : through_last_feed text ≡ text
     pub unfinished : has_feed begun ≡ false
-    pub front : kept ≡ take 122 begun
+    pub prefix : kept ≡ take 122 begun
     pub inside : script_lines end (lines_of text) ≡ lines_of text
-    pub going : by.is_over (state_after by.answer start (lines_of text)) ≡ false
-    pub written : tells → new ≡ old ++ replies by.answer start (lines_of text)
+    pub going : by.is_over (state_after by.respond start (lines_of text)) ≡ false
+    pub written : is_specified → new ≡ old ++ replies by.respond start (lines_of text)
 
   -- The sink failed, or took nothing. Lines of the script were answered, after which it is not over, and at most one more line was read:
   -- the next of the script, of whose reply a beginning was written, or the line that ends the script. A later call goes on after these.
-  pub record StopsAtWrite (end : ScriptEnd) (start : A) (tells : Type 0) (unread left old new : List ℕ) : Type 0 where
+  pub record StopsAtWrite (end : ScriptEnd) (start : A) (is_specified : Type 0) (unread left old new : List ℕ) : Type 0 where
     pub text : List ℕ
-    pub answered : List (List ℕ)
+    pub responded : List (List ℕ)
     pub next : List (List ℕ)
-    pub one : length (lines_of text) ≤ length answered + 1
+    pub one : length (lines_of text) ≤ length responded + 1
     pub split : unread ≡ text ++ left
-    pub are_lines : script_lines end (lines_of text) ≡ answered ++ next
+    pub are_lines : script_lines end (lines_of text) ≡ responded ++ next
     pub all : lines_of unread ≡ lines_of text ++ lines_of left
-    pub going : by.is_over (state_after by.answer start answered) ≡ false
-    pub written : tells
-        → WritesFront (old ++ replies by.answer start answered) new (replies by.answer (state_after by.answer start answered) next)
+    pub going : by.is_over (state_after by.respond start responded) ≡ false
+    pub written : is_specified
+        → WritesPrefix (old ++ replies by.respond start responded) new (replies by.respond (state_after by.respond start responded) next)
 
 module _ {S W : Type 0} {g : SourceGhosts S} (h : SinkGhosts W) where
   -- All was read, to the end that the source answered, and just the output was written, and the sink flushed behind it.
@@ -56,14 +56,14 @@ module _ {S W : Type 0} {g : SourceGhosts S} (h : SinkGhosts W) where
     pub emptied : held new ≡ []
     pub source : SourceWorked g old.source new.source
     pub sink : SinkFlushed h before after
-    pub used_up : g.tells → unread new ≡ []
-    pub written : g.tells → IsOkAnd output (λ text. h.tells → h.taken after ≡ h.taken before ++ text)
+    pub used_up : g.is_specified → unread new ≡ []
+    pub written : g.is_specified → IsOkAnd output (λ text. h.is_specified → h.taken after ≡ h.taken before ++ text)
 
   -- All was read through the first separator, or to the end that the source answered, and just the output was written.
   pub record RunsToSeparator (output : Result (List ℕ) BenchFault) (old new : Lines S g) (before after : W) : Type 0 where
     pub reads : ReadsThroughSeparator old new
     pub sink : SinkWorked h before after
-    pub written : g.tells → IsOkAnd output (λ text. h.tells → h.taken after ≡ h.taken before ++ text)
+    pub written : g.is_specified → IsOkAnd output (λ text. h.is_specified → h.taken after ≡ h.taken before ++ text)
 
   -- the script was run, up to its end
   abbrev pub RunsScript : ScriptEnd → Result (List ℕ) BenchFault → Lines S g → Lines S g → W → W → Type 0
@@ -81,16 +81,16 @@ module _ {S W : Type 0} {g : SourceGhosts S} (h : SinkGhosts W) where
     pub source : SourceWorked g old.source new.source
     pub sink : SinkFailed h before after
     pub emptied : held new ≡ []
-    pub front : g.tells → IsOkAnd output (λ text. h.tells → WritesFront (h.taken before) (h.taken after) text)
+    pub prefix : g.is_specified → IsOkAnd output (λ text. h.is_specified → WritesPrefix (h.taken before) (h.taken after) text)
 
   -- what each failure means of a run over the lines of a script, from the state before it
-  abbrev pub FailsIn : {A : Type 0} → Answering A → ScriptEnd → A → Lines S g → Lines S g → W → W → BenchFault → Type 0
+  abbrev pub FailsIn : {A : Type 0} → Responding A → ScriptEnd → A → Lines S g → Lines S g → W → W → BenchFault → Type 0
   FailsIn by end start old new before after Read =
       FailsToRead old new before after
-      × (g.tells → StopsAtRead by end start h.tells (unread old) (g.remaining new.source) (held new) (h.taken before) (h.taken after))
+      × (g.is_specified → StopsAtRead by end start h.is_specified (unread old) (g.remaining new.source) (held new) (h.taken before) (h.taken after))
   FailsIn by end start old new before after Write =
-      FailsToWrite (Ok (replies by.answer start (script_lines end (lines_of (unread old))))) old new before after
-      × (g.tells → StopsAtWrite by end start h.tells (unread old) (unread new) (h.taken before) (h.taken after))
+      FailsToWrite (Ok (replies by.respond start (script_lines end (lines_of (unread old))))) old new before after
+      × (g.is_specified → StopsAtWrite by end start h.is_specified (unread old) (unread new) (h.taken before) (h.taken after))
   FailsIn by end start old new before after _ = ⊥
 
   -- what each result of a run of one bench over the lines of a script means, from the state of the bench before it

@@ -17,14 +17,14 @@ use Rattle.rv_streams.specs.declared.separator.ScriptEnd.TheVariants.{Input, Sep
 use Rattle.rv_streams.specs.Calls.{SourceWorked, SinkFlushed}
 use Rattle.rv_streams.specs.Image.{image_in, ReadsInImage}
 use Rattle.rv_streams.specs.LineText.{ReadsLines}
-use Rattle.rv_streams.specs.ReadImage.{FindsFault, LacksMemory}
+use Rattle.rv_streams.specs.ReadImage.{FindsFault, RunsOutOfMemory}
 use Rattle.rv_streams.specs.Faults.{Outcome}
 use Rattle.rv_streams.specs.Script.{ReadsThroughSeparator}
 use Rattle.rv_streams.specs.Separator.{before_separator, has_separator, after_separator}
-use Rattle.rv_streams.specs.Transfer.{WritesFront}
+use Rattle.rv_streams.specs.Transfer.{WritesPrefix}
 use Rattle.rv_streams.specs.Unread.{held, unread, HasEnded}
-use Rattle.rv_bench.specs.declared.apart.Apart.{Apart}
-use Rattle.rv_bench.specs.Apart.{apart_line, end_text, entered_text, no_slot_text, script_text, set_apart, both_benches}
+use Rattle.rv_bench.specs.declared.pair.Pair.{Pair}
+use Rattle.rv_bench.specs.Pair.{pair_line, end_text, entered_text, no_slot_text, script_text, make_pair, both_benches}
 use Rattle.rv_bench.specs.Output.{bench_in}
 use Rattle.rv_bench.specs.Replies.{bench_line, one_bench, replies, state_after}
 use Rattle.rv_bench.specs.Run.{FailsToRead, FailsToWrite, StopsAtRead, StopsAtWrite}
@@ -43,13 +43,13 @@ abbrev pub first_text : BenchState → List ℕ → List ℕ
 first_text bench input = replies bench_line bench (before_separator (lines_of input))
 
 -- what is told once the benches are set apart, of the second script, which is all that follows
-abbrev pub second_text : ℕ → Option Apart → List ℕ → List ℕ
+abbrev pub second_text : ℕ → Option Pair → List ℕ → List ℕ
 second_text slot None input = no_slot_text
-second_text slot (Some apart) input = script_text slot apart (lines_of input)
+second_text slot (Some pair) input = script_text slot pair (lines_of input)
 
 -- the text over both scripts
 abbrev pub scripts_text : ℕ → BenchState → List ℕ → List ℕ
-scripts_text slot bench input = first_text bench input ++ second_text slot (set_apart slot (after_first_script bench input)) (after_separator input)
+scripts_text slot bench input = first_text bench input ++ second_text slot (make_pair slot (after_first_script bench input)) (after_separator input)
 
 -- the text for a whole input, or the fault of its image
 abbrev pub twin_output : Setup → ℕ → List ℕ → Result (List ℕ) BenchFault
@@ -59,85 +59,85 @@ twin_output setup slot input =
 -- ---- what was read
 
 -- Lines were read, none of which entered the slot, and the one that entered it: this one through its line feed, or to the end of the input.
-pub record EntersSlot (slot : ℕ) (apart : Apart) (unread left : List ℕ) (is_at_end : Bool) : Type 0 where
+pub record EntersSlot (slot : ℕ) (pair : Pair) (unread left : List ℕ) (is_at_end : Bool) : Type 0 where
   pub lines : List (List ℕ)
   pub line : List ℕ
   pub reads : ReadsLines unread left is_at_end (lines ++ line ∷ [])
-  pub going : (state_after (apart_line slot) apart lines).entered ≡ false
-  pub entered : (state_after (apart_line slot) apart (lines ++ line ∷ [])).entered ≡ true
+  pub going : (state_after (pair_line slot) pair lines).entered ≡ false
+  pub entered : (state_after (pair_line slot) pair (lines ++ line ∷ [])).entered ≡ true
 
 -- the run was over before the end: no slot was scrambled, or the slot was entered
-abbrev pub IsOver : ℕ → Option Apart → List ℕ → List ℕ → Bool → Type 0
+abbrev pub IsOver : ℕ → Option Pair → List ℕ → List ℕ → Bool → Type 0
 IsOver slot None unread left is_at_end = left ≡ unread
-IsOver slot (Some apart) unread left is_at_end = EntersSlot slot apart unread left is_at_end
+IsOver slot (Some pair) unread left is_at_end = EntersSlot slot pair unread left is_at_end
 
 -- a slot was scrambled, and no line of the input entered it
-abbrev pub IsNeverEntered : ℕ → Option Apart → List ℕ → Type 0
-IsNeverEntered slot apart input = IsSomeAnd apart (λ apart. (state_after (apart_line slot) apart (lines_of input)).entered ≡ false)
+abbrev pub IsNeverEntered : ℕ → Option Pair → List ℕ → Type 0
+IsNeverEntered slot pair input = IsSomeAnd pair (λ pair. (state_after (pair_line slot) pair (lines_of input)).entered ≡ false)
 
 -- The sink failed in the line that tells the end of the input, no line having entered the slot.
-pub record StopsInEnd (slot : ℕ) (apart : Apart) (tells : Type 0) (unread left old new : List ℕ) : Type 0 where
+pub record StopsInEnd (slot : ℕ) (pair : Pair) (is_specified : Type 0) (unread left old new : List ℕ) : Type 0 where
   pub used_up : left ≡ []
-  pub going : (state_after (apart_line slot) apart (lines_of unread)).entered ≡ false
-  pub written : tells
-      → WritesFront (old ++ replies (apart_line slot) apart (lines_of unread)) new (end_text (state_after (apart_line slot) apart (lines_of unread)).ran)
+  pub going : (state_after (pair_line slot) pair (lines_of unread)).entered ≡ false
+  pub written : is_specified
+      → WritesPrefix (old ++ replies (pair_line slot) pair (lines_of unread)) new (end_text (state_after (pair_line slot) pair (lines_of unread)).ran)
 
 -- the sink failed in the second script, or in the line that tells that there is no slot
-abbrev pub StopsSecondAtWrite : ℕ → Option Apart → Type 0 → List ℕ → List ℕ → List ℕ → List ℕ → Type 0
-StopsSecondAtWrite slot None tells unread left old new = (left ≡ unread) × (tells → WritesFront old new no_slot_text)
-StopsSecondAtWrite slot (Some apart) tells unread left old new =
-    StopsAtWrite (both_benches slot) Input apart tells unread left old new ⊎ StopsInEnd slot apart tells unread left old new
+abbrev pub StopsSecondAtWrite : ℕ → Option Pair → Type 0 → List ℕ → List ℕ → List ℕ → List ℕ → Type 0
+StopsSecondAtWrite slot None is_specified unread left old new = (left ≡ unread) × (is_specified → WritesPrefix old new no_slot_text)
+StopsSecondAtWrite slot (Some pair) is_specified unread left old new =
+    StopsAtWrite (both_benches slot) Input pair is_specified unread left old new ⊎ StopsInEnd slot pair is_specified unread left old new
 
 -- this is the last that was written
 abbrev pub EndsIn : List ℕ → List ℕ → Type 0
-EndsIn last written = (front : List ℕ) × (written ≡ front ++ last)
+EndsIn last written = (prefix : List ℕ) × (written ≡ prefix ++ last)
 
 -- what is told last where the run was over before the end
-abbrev pub TellsOver : {W : Type 0} → SinkGhosts W → W → Type 0
-TellsOver h after = h.tells → EndsIn no_slot_text (h.taken after) ⊎ ((ran : ℕ) × EndsIn (entered_text ran) (h.taken after))
+abbrev pub ReportsEnd : {W : Type 0} → SinkGhosts W → W → Type 0
+ReportsEnd h after = h.is_specified → EndsIn no_slot_text (h.taken after) ⊎ ((ran : ℕ) × EndsIn (entered_text ran) (h.taken after))
 
 module _ {S W : Type 0} {g : SourceGhosts S} (h : SinkGhosts W) where
   -- The run went to the end of the input, which the source answered, and no line entered the slot. That is told last.
   pub record GoesToEnd (NeverEntered : Type 0) (old new : Lines S g) (after : W) : Type 0 where
     pub at_end : new.is_at_end ≡ true
     pub ended : HasEnded old new
-    pub used_up : g.tells → unread new ≡ []
-    pub going : g.tells → NeverEntered
-    pub told : h.tells → (ran : ℕ) × EndsIn (end_text ran) (h.taken after)
+    pub used_up : g.is_specified → unread new ≡ []
+    pub going : g.is_specified → NeverEntered
+    pub told : h.is_specified → (ran : ℕ) × EndsIn (end_text ran) (h.taken after)
 
   -- The text was written, the sink flushed behind it, and all was read to the end of the input, or as far as the run went.
   pub record TellsTwin (output : Result (List ℕ) BenchFault) (NeverEntered Over : Type 0) (old new : Lines S g) (before after : W) : Type 0 where
     pub source : SourceWorked g old.source new.source
     pub sink : SinkFlushed h before after
     pub emptied : held new ≡ []
-    pub read : GoesToEnd NeverEntered old new after ⊎ ((g.tells → Over) × TellsOver h after)
-    pub written : g.tells → IsOkAnd output (λ text. h.tells → h.taken after ≡ h.taken before ++ text)
+    pub read : GoesToEnd NeverEntered old new after ⊎ ((g.is_specified → Over) × ReportsEnd h after)
+    pub written : g.is_specified → IsOkAnd output (λ text. h.is_specified → h.taken after ≡ h.taken before ++ text)
 
   -- What each result of the second part means, by the benches once they are set apart.
-  abbrev pub RunsSecond : ℕ → Option Apart → Lines S g → Lines S g → W → W → Outcome → Type 0
-  RunsSecond slot apart old new before after (Ok _) =
-      TellsTwin (Ok (second_text slot apart (unread old))) (IsNeverEntered slot apart (unread old)) (IsOver slot apart (unread old) (unread new) new.is_at_end)
+  abbrev pub RunsSecond : ℕ → Option Pair → Lines S g → Lines S g → W → W → Outcome → Type 0
+  RunsSecond slot pair old new before after (Ok _) =
+      TellsTwin (Ok (second_text slot pair (unread old))) (IsNeverEntered slot pair (unread old)) (IsOver slot pair (unread old) (unread new) new.is_at_end)
       old new before after
-  RunsSecond slot apart old new before after (Err Read) =
+  RunsSecond slot pair old new before after (Err Read) =
       FailsToRead h old new before after
-      × (g.tells → IsSomeAnd apart (λ apart.
-      StopsAtRead (both_benches slot) Input apart h.tells (unread old) (g.remaining new.source) (held new) (h.taken before) (h.taken after)))
-  RunsSecond slot apart old new before after (Err Write) =
-      FailsToWrite h (Ok (second_text slot apart (unread old))) old new before after
-      × (g.tells → StopsSecondAtWrite slot apart h.tells (unread old) (unread new) (h.taken before) (h.taken after))
-  RunsSecond slot apart old new before after (Err _) = ⊥
+      × (g.is_specified → IsSomeAnd pair (λ pair.
+      StopsAtRead (both_benches slot) Input pair h.is_specified (unread old) (g.remaining new.source) (held new) (h.taken before) (h.taken after)))
+  RunsSecond slot pair old new before after (Err Write) =
+      FailsToWrite h (Ok (second_text slot pair (unread old))) old new before after
+      × (g.is_specified → StopsSecondAtWrite slot pair h.is_specified (unread old) (unread new) (h.taken before) (h.taken after))
+  RunsSecond slot pair old new before after (Err _) = ⊥
 
 module _ {S W : Type 0} {g : SourceGhosts S} (h : SinkGhosts W) (setup : Setup) (slot : ℕ) (old new : Lines S g) (before after : W) where
   -- the input has this fault in place of a text
   abbrev pub HasFault : BenchFault → Type 0
-  HasFault fault = g.tells → twin_output setup slot (unread old) ≡ Err fault
+  HasFault fault = g.is_specified → twin_output setup slot (unread old) ≡ Err fault
 
   -- the source failed in the first script, or in the second, which follows a separator
   abbrev pub StopsInScripts : List ℕ → BenchState → Type 0
   StopsInScripts scripts bench =
-      StopsAtRead one_bench Separator bench h.tells scripts (g.remaining new.source) (held new) (h.taken before) (h.taken after)
-      ⊎ (IsTrue (has_separator scripts) × IsSomeAnd (set_apart slot (after_first_script bench scripts)) (λ apart.
-      StopsAtRead (both_benches slot) Input apart h.tells (after_separator scripts) (g.remaining new.source) (held new)
+      StopsAtRead one_bench Separator bench h.is_specified scripts (g.remaining new.source) (held new) (h.taken before) (h.taken after)
+      ⊎ (IsTrue (has_separator scripts) × IsSomeAnd (make_pair slot (after_first_script bench scripts)) (λ pair.
+      StopsAtRead (both_benches slot) Input pair h.is_specified (after_separator scripts) (g.remaining new.source) (held new)
       (h.taken before ++ first_text bench scripts) (h.taken after)))
 
   -- The source failed: in the image, when nothing is written, or else in a script, which follows a separator.
@@ -149,8 +149,8 @@ module _ {S W : Type 0} {g : SourceGhosts S} (h : SinkGhosts W) (setup : Setup) 
   -- the sink failed in the first script, or after it
   abbrev pub StopsInScriptsAtWrite : List ℕ → BenchState → Type 0
   StopsInScriptsAtWrite scripts bench =
-      StopsAtWrite one_bench Separator bench h.tells scripts (unread new) (h.taken before) (h.taken after)
-      ⊎ StopsSecondAtWrite slot (set_apart slot (after_first_script bench scripts)) h.tells (after_separator scripts) (unread new)
+      StopsAtWrite one_bench Separator bench h.is_specified scripts (unread new) (h.taken before) (h.taken after)
+      ⊎ StopsSecondAtWrite slot (make_pair slot (after_first_script bench scripts)) h.is_specified (after_separator scripts) (unread new)
       (h.taken before ++ first_text bench scripts) (h.taken after)
 
   abbrev pub StopsTwinAtWrite : Type 0
@@ -161,26 +161,26 @@ module _ {S W : Type 0} {g : SourceGhosts S} (h : SinkGhosts W) (setup : Setup) 
   IsTwinNeverEntered =
       IsOkAnd (bench_in (monitored_setup setup) (unread old)) (λ bench.
       let scripts = after_separator (unread old) in
-      IsNeverEntered slot (set_apart slot (after_first_script bench scripts)) (after_separator scripts))
+      IsNeverEntered slot (make_pair slot (after_first_script bench scripts)) (after_separator scripts))
 
   -- the run was over before the end of the input
   abbrev pub IsTwinOver : Type 0
   IsTwinOver =
       IsOkAnd (bench_in (monitored_setup setup) (unread old)) (λ bench.
       let scripts = after_separator (unread old) in
-      IsOver slot (set_apart slot (after_first_script bench scripts)) (after_separator scripts) (unread new) new.is_at_end)
+      IsOver slot (make_pair slot (after_first_script bench scripts)) (after_separator scripts) (unread new) new.is_at_end)
 
   -- What each result of `run_twin` means. The image's text, the RAM's size and the image are asked in this order, before a byte is written.
   abbrev pub RunsTwin : Outcome → Type 0
   RunsTwin (Ok _) = (is_ram_size setup.ram ≡ true) × TellsTwin h (twin_output setup slot (unread old)) IsTwinNeverEntered IsTwinOver old new before after
-  RunsTwin (Err Read) = FailsToRead h old new before after × (g.tells → StopsTwinAtRead)
+  RunsTwin (Err Read) = FailsToRead h old new before after × (g.is_specified → StopsTwinAtRead)
   RunsTwin (Err Write) =
-      (is_ram_size setup.ram ≡ true) × FailsToWrite h (twin_output setup slot (unread old)) old new before after × (g.tells → StopsTwinAtWrite)
+      (is_ram_size setup.ram ≡ true) × FailsToWrite h (twin_output setup slot (unread old)) old new before after × (g.is_specified → StopsTwinAtWrite)
   RunsTwin (Err Hex) = FindsFault Hex old new × HasFault Hex × (after ≡ before)
   RunsTwin (Err TooLong) = FindsFault TooLong old new × HasFault TooLong × (after ≡ before)
-  RunsTwin (Err NoMemory) = LacksMemory old new × (after ≡ before)
+  RunsTwin (Err NoMemory) = RunsOutOfMemory old new × (after ≡ before)
   RunsTwin (Err (Ram BadSize)) = (is_ram_size setup.ram ≡ false) × ReadsThroughSeparator old new × HasFault (Ram BadSize) × (after ≡ before)
   RunsTwin (Err (Ram NoRamMemory)) =
-      (is_ram_size setup.ram ≡ true) × ReadsThroughSeparator old new × (g.tells → IsOk (image_in (unread old))) × (after ≡ before)
+      (is_ram_size setup.ram ≡ true) × ReadsThroughSeparator old new × (g.is_specified → IsOk (image_in (unread old))) × (after ≡ before)
   RunsTwin (Err (Image fault)) = (is_ram_size setup.ram ≡ true) × ReadsThroughSeparator old new × HasFault (Image fault) × (after ≡ before)
   RunsTwin (Err _) = ⊥

@@ -3,7 +3,7 @@
 ghost use Rattle.std.specs.Prelude.{◌≡◌};
 ghost use Rattle.rv_bench.specs.Replies.{one_bench};
 
-use crate::answers::Answers;
+use crate::responder::Responder;
 use rv_debug::Bench;
 use rv_text::Reply;
 
@@ -15,18 +15,18 @@ pub(crate) struct EqualBenches {
     ghost equal: { second ≡ first },
 }
 
-impl Answers for EqualBenches {
+impl Responder for EqualBenches {
     type Told = Reply;
 
     type State = Bench;
 
     ghost state = { λ benches. benches.first };
 
-    ghost answering = { λ _. one_bench };
+    ghost responding = { λ _. one_bench };
 
-    fn answer_line(&mut self, line: &[u8], out: &mut Reply) {
-        self.second.answer_line(line, out);
-        self.first.answer_line(line, out);
+    fn respond_to_line(&mut self, line: &[u8], out: &mut Reply) {
+        self.second.execute_line(line, out);
+        self.first.execute_line(line, out);
     }
 
     fn is_over(&self) -> bool {

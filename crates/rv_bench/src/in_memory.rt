@@ -1,7 +1,7 @@
 //! A job from bytes in memory to bytes in memory.
 
 ghost use Rattle.std.specs.Prelude.{◌≡◌, IfOk, IfErr, Ok};
-ghost use Rattle.rv_bench.specs.InMemory.{ConcealsInMemory, job_output, MeetsFault};
+ghost use Rattle.rv_bench.specs.InMemory.{InMemoryNoninterference, job_output, MeetsFault};
 
 use crate::job::run_job;
 use rv_command_line::Job;
@@ -18,7 +18,7 @@ use std::alloc::Global;
 pub fn run_in_memory(alloc: Global, job: &Job, input: &[u8]) -> Result<Vec<u8>, BenchFault>
     ensures ok { IfOk result (λ written. job_output job.now input.now ≡ Ok written.items) }
     ensures fault { IfErr result (MeetsFault job.now input.now) }
-    ensures secret { ConcealsInMemory job.now input.now }
+    ensures secret { InMemoryNoninterference job.now input.now }
 {
     let mut sink = StandardSink::new(Vec::new(alloc));
     let (_, outcome) = run_job(alloc, job, StandardSource::new(input), &mut sink);

@@ -3,7 +3,7 @@
 //!
 //! What a line of a script does is the business of the crate `rv_debug`; lines, images and the jobs that need no bench that of
 //! `rv_streams`. The specs have an equation for each result of a call, of what was read, kept and written then: `Run` (of `run_bench`),
-//! `Stream`, `Twin` and `Jobs`. The texts that are written are named in `Output`, `Replies` and `Apart`.
+//! `Stream`, `Twin` and `Jobs`. The texts that are written are named in `Output`, `Replies` and `Pair`.
 //!
 //! ```text
 //! let mut lines = Lines::new(MemorySource::new(b"9300f0ff\n--\nstep 1\nreg 1\n"));
@@ -14,12 +14,12 @@
 //! ```
 #![tactic(auto)]
 
-mod answers;
-mod apart;
 mod equal;
 mod in_memory;
 mod job;
+mod pair;
 mod program;
+mod responder;
 mod run;
 mod start;
 mod twin;

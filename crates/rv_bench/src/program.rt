@@ -3,7 +3,7 @@
 ghost use Rattle.std.specs.Prelude.{◌≡◌, ◌≤◌, ◌++◌, OnOk, OnErr, codes, decimal, length};
 ghost use Rattle.clap.specs.Walk.{texts};
 ghost use Rattle.rv_asm.specs.Faults.{asm_fault_number};
-ghost use Rattle.rv_bench.specs.Performing.{DoesAndTells, fault_text, Performs, Refuses, WritesAll, TellsFront};
+ghost use Rattle.rv_bench.specs.Performing.{DoesAndReports, fault_text, Performs, Refuses, WritesAll, WritesOnlyPrefix};
 
 use crate::job::run_job;
 use rv_asm::AsmFault;
@@ -78,9 +78,9 @@ fn fault_line(fault: BenchFault) -> Reply
 /// # Errors
 ///
 /// Where the sink failed in this call, or took no byte of a part that was not empty. A beginning of the text is written then.
-fn tell<W: Sink>(sink: &mut W, text: &[u8]) -> Result<(), DeviceFault>
+fn report<W: Sink>(sink: &mut W, text: &[u8]) -> Result<(), DeviceFault>
     ensures all { OnOk result (WritesAll W.Sink sink.old sink.new text.now) }
-    ensures front { OnErr result (TellsFront W.Sink sink.old sink.new text.now) }
+    ensures prefix { OnErr result (WritesOnlyPrefix W.Sink sink.old sink.new text.now) }
 {
     write_all(sink, text)?;
     sink.flush()
@@ -93,14 +93,14 @@ pub fn refuse<W: Sink>(fault: &WordsFault, sink: &mut W) -> u8
 {
     match fault {
         WordsFault::Refused => {
-            let _ = tell(sink, b"rvbench: command line\n");
+            let _ = report(sink, b"rvbench: command line\n");
             REFUSED
         }
         WordsFault::NoMemory => {
-            let _ = tell(sink, b"rvbench: memory\n");
+            let _ = report(sink, b"rvbench: memory\n");
             FAILED
         }
-        WordsFault::Help(text) => match tell(sink, text.as_bytes()) {
+        WordsFault::Help(text) => match report(sink, text.as_bytes()) {
             Ok(()) => DONE,
             Err(_) => FAILED,
         },
@@ -109,14 +109,14 @@ pub fn refuse<W: Sink>(fault: &WordsFault, sink: &mut W) -> u8
 
 /// Does a job, tells its fault, and gives the status. A line that cannot be written changes nothing about it.
 fn done<S: Source + Drop, W: Sink>(alloc: Global, job: &Job, source: S, sink: &mut W) -> u8
-    ensures { DoesAndTells S.Source W.Sink source sink.old sink.new job.now result }
+    ensures { DoesAndReports S.Source W.Sink source sink.old sink.new job.now result }
 {
     let (_, outcome) = run_job(alloc, job, source, sink);
     match outcome {
         Ok(()) => DONE,
         Err(BenchFault::Write) => FAILED,
         Err(fault) => {
-            let _ = tell(sink, fault_line(fault).as_slice());
+            let _ = report(sink, fault_line(fault).as_slice());
             FAILED
         }
     }

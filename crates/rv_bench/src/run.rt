@@ -1,16 +1,16 @@
 //! From lines read to replies written.
 
 ghost use Rattle.std.specs.Prelude.{◌≡◌, IfOk, false};
-ghost use Rattle.rv_bench.specs.Answered.{AnswersScript};
-ghost use Rattle.rv_bench.specs.Confidentiality.{ConcealsSecret, ConcealsThrough};
-ghost use Rattle.rv_bench.specs.Integrity.{SparesThrough};
+ghost use Rattle.rv_bench.specs.Responses.{RespondsToScript};
+ghost use Rattle.rv_bench.specs.Noninterference.{SecretNoninterference, ScriptNoninterference};
+ghost use Rattle.rv_bench.specs.Integrity.{PreservesThrough};
 ghost use Rattle.rv_bench.specs.Loaded.{started};
 ghost use Rattle.rv_bench.specs.Output.{bench_in};
 ghost use Rattle.rv_bench.specs.Run.{RunsBench, RunsLines};
 ghost use Rattle.rv_bench.specs.Stream.{RunsStream};
-ghost use Rattle.rv_streams.specs.Unread.{unread, TellsEnd};
+ghost use Rattle.rv_streams.specs.Unread.{unread, EndsWithSource};
 
-use crate::answers::Answers;
+use crate::responder::Responder;
 use crate::start::start;
 use rv_command_line::Setup;
 use rv_debug::Bench;
@@ -20,22 +20,22 @@ use std::convert::AsSlice;
 
 /// Answers the lines of a script, and writes what is told of each, to the end of the script or to the line after which it is over, which is
 /// the last that is read. It takes no memory.
-pub(crate) fn run_lines<T: Answers, S: Source, W: Sink>(
-    answering: &mut T,
+pub(crate) fn run_lines<T: Responder, S: Source, W: Sink>(
+    responding: &mut T,
     lines: &mut Lines<S>,
     sink: &mut W,
     end: ScriptEnd,
 ) -> Result<(), BenchFault>
-    requires { (T.answering answering.old).is_over (T.state answering.old) ≡ false }
-    ensures outcome { AnswersScript W.Sink (T.answering answering.old) end (T.state answering.old) (T.state answering.new)
+    requires { (T.responding responding.old).is_over (T.state responding.old) ≡ false }
+    ensures outcome { RespondsToScript W.Sink (T.responding responding.old) end (T.state responding.old) (T.state responding.new)
         lines.old lines.new sink.old sink.new result }
-    ensures end { TellsEnd lines.old lines.new }
+    ensures end { EndsWithSource lines.old lines.new }
 {
     let mut told = T::Told::default();
     while let Some(line) = lines.next_line_before(end).map_err(|_| BenchFault::Read)? {
-        answering.answer_line(line.as_slice(), &mut told);
+        responding.respond_to_line(line.as_slice(), &mut told);
         write_all(sink, told.as_slice()).map_err(|_| BenchFault::Write)?;
-        if answering.is_over() {
+        if responding.is_over() {
             return Ok(());
         }
     }
@@ -49,7 +49,7 @@ fn run_script<S: Source, W: Sink>(
     sink: &mut W,
 ) -> Result<(), BenchFault>
     ensures outcome { RunsLines W.Sink ScriptEnd.Input bench.old lines.old lines.new sink.old sink.new result }
-    ensures end { TellsEnd lines.old lines.new }
+    ensures end { EndsWithSource lines.old lines.new }
 {
     run_lines(bench, lines, sink, ScriptEnd::Input)?;
     sink.flush().map_err(|_| BenchFault::Write)
@@ -60,7 +60,7 @@ fn run_script<S: Source, W: Sink>(
 ///
 /// Under the monitor every part of a script spares each enclave that rests through it (`integrity`), and is answered alike by every
 /// bench that agrees but for an enclave over which it passes, and of whose hart it steps and shows nothing: byte for byte, and the benches
-/// agree again after it (`conceals`).
+/// agree again after it (`noninterference`).
 ///
 /// # Errors
 ///
@@ -80,9 +80,9 @@ pub fn run_bench<S: Source, W: Sink>(
     sink: &mut W,
 ) -> Result<(), BenchFault>
     ensures outcome { RunsBench W.Sink image.now setup.now lines.old lines.new sink.old sink.new result }
-    ensures end { TellsEnd lines.old lines.new }
-    ensures integrity { IfOk (started image.now setup.now) SparesThrough }
-    ensures conceals { IfOk (started image.now setup.now) ConcealsThrough }
+    ensures end { EndsWithSource lines.old lines.new }
+    ensures integrity { IfOk (started image.now setup.now) PreservesThrough }
+    ensures noninterference { IfOk (started image.now setup.now) ScriptNoninterference }
 {
     let mut bench = start(alloc, image, setup)?;
     run_script(&mut bench, lines, sink)
@@ -110,10 +110,10 @@ pub fn run_stream<S: Source, W: Sink>(
     sink: &mut W,
 ) -> Result<(), BenchFault>
     ensures outcome { RunsStream W.Sink setup.now lines.old lines.new sink.old sink.new result }
-    ensures end { TellsEnd lines.old lines.new }
-    ensures integrity { IfOk (bench_in setup.now (unread lines.old)) SparesThrough }
-    ensures conceals { IfOk (bench_in setup.now (unread lines.old)) ConcealsThrough }
-    ensures secret { ConcealsSecret setup.now (unread lines.old) }
+    ensures end { EndsWithSource lines.old lines.new }
+    ensures integrity { IfOk (bench_in setup.now (unread lines.old)) PreservesThrough }
+    ensures noninterference { IfOk (bench_in setup.now (unread lines.old)) ScriptNoninterference }
+    ensures secret { SecretNoninterference setup.now (unread lines.old) }
 {
     let image = read_image(alloc, lines)?;
     run_bench(alloc, image.as_slice(), setup, lines, sink)

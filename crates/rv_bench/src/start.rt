@@ -8,7 +8,7 @@ use rv_debug::Bench;
 use rv_elf::{ElfFault, Plan, is_elf, load, plan, plan_raw};
 use rv_hart::Machine;
 use rv_memory::Ram;
-use rv_monitor::Monitored;
+use rv_monitor::MonitoredMachine;
 use rv_pmp::Mode;
 use rv_streams::BenchFault;
 use std::alloc::Global;
@@ -46,7 +46,7 @@ fn reset(ram: Ram, entry: u32, setup: &Setup) -> Bench
     ensures { result ≡ reset_over setup.now ram entry }
 {
     if setup.monitored {
-        Bench::monitored(Monitored::new(ram, entry, setup.harts))
+        Bench::monitored(MonitoredMachine::new(ram, entry, setup.harts))
     } else {
         Bench::bare(Machine::new(ram, entry, Mode::M))
     }

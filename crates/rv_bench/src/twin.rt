@@ -1,14 +1,14 @@
 //! Two benches that are given the same script, and differ in what is private to an enclave.
 
 ghost use Rattle.std.specs.Prelude.{◌≡◌, Ok, Err, Some, None, MatchOption, MatchResult, IfSome, [], false};
-ghost use Rattle.rv_bench.specs.Apart.{set_apart as set_apart_of, no_slot_text};
+ghost use Rattle.rv_bench.specs.Pair.{make_pair as make_pair_of, no_slot_text};
 ghost use Rattle.rv_bench.specs.Loaded.{Starts, started};
 ghost use Rattle.rv_bench.specs.Twin.{RunsSecond, RunsTwin, monitored_setup};
-ghost use Rattle.rv_bench.specs.TwinLaws.{TwinConceals, TwinSpares};
-ghost use Rattle.rv_streams.specs.Unread.{held, unread, TellsEnd};
+ghost use Rattle.rv_bench.specs.TwinLaws.{TwinNoninterference, TwinIntegrity};
+ghost use Rattle.rv_streams.specs.Unread.{held, unread, EndsWithSource};
 
-use crate::apart::{Apart, ApartBenches};
 use crate::equal::EqualBenches;
+use crate::pair::{Pair, PairOnSlot};
 use crate::run::run_lines;
 use crate::start::start;
 use rv_command_line::Setup;
@@ -44,16 +44,16 @@ fn no_slot() -> Reply
 }
 
 /// Scrambles the slot in the second bench, where that can be.
-fn scrambled(benches: EqualBenches, slot: Slot) -> Option<Apart>
-    ensures apart { result ≡ set_apart_of slot benches.first }
-    ensures going { IfSome result (λ apart. apart.entered ≡ false) }
+fn scrambled(benches: EqualBenches, slot: Slot) -> Option<Pair>
+    ensures pair { result ≡ make_pair_of slot benches.first }
+    ensures going { IfSome result (λ pair. pair.entered ≡ false) }
 {
     let EqualBenches { first, second } = benches;
     let mut second = second;
     if !second.scramble(slot) {
         return None;
     }
-    Some(Apart {
+    Some(Pair {
         first,
         second,
         ran: 0,
@@ -63,16 +63,16 @@ fn scrambled(benches: EqualBenches, slot: Slot) -> Option<Apart>
 
 /// Scrambles the slot of a number in the second bench, where that can be; over 12 there is none.
 #[tactic(auto, using(crate::proofs::Twins::not_numbered))]
-fn set_apart(benches: EqualBenches, number: u8) -> Option<ApartBenches>
-    ensures apart { MatchOption result
-        (set_apart_of number benches.first ≡ None)
-        (λ found. (found.slot ≡ number) × (set_apart_of number benches.first ≡ Some found.apart)) }
-    ensures going { IfSome result (λ found. found.apart.entered ≡ false) }
+fn make_pair(benches: EqualBenches, number: u8) -> Option<PairOnSlot>
+    ensures pair { MatchOption result
+        (make_pair_of number benches.first ≡ None)
+        (λ found. (found.slot ≡ number) × (make_pair_of number benches.first ≡ Some found.pair)) }
+    ensures going { IfSome result (λ found. found.pair.entered ≡ false) }
 {
     benches.first.invariant();
     let slot = Slot::new(u32::from(number))?;
-    let apart = scrambled(benches, slot)?;
-    Some(ApartBenches { apart, slot })
+    let pair = scrambled(benches, slot)?;
+    Some(PairOnSlot { pair, slot })
 }
 
 /// Scrambles the slot of a number in the second bench, and runs the second script; or tells that this could not be.
@@ -83,14 +83,14 @@ fn run_second<S: Source, W: Sink>(
     sink: &mut W,
 ) -> Result<(), BenchFault>
     requires { held lines.old ≡ [] }
-    ensures outcome { RunsSecond W.Sink number (set_apart_of number benches.first) lines.old lines.new sink.old sink.new result }
-    ensures end { TellsEnd lines.old lines.new }
+    ensures outcome { RunsSecond W.Sink number (make_pair_of number benches.first) lines.old lines.new sink.old sink.new result }
+    ensures end { EndsWithSource lines.old lines.new }
 {
-    let Some(mut found) = set_apart(benches, number) else {
+    let Some(mut found) = make_pair(benches, number) else {
         return write_last(&no_slot(), sink).map_err(|_| BenchFault::Write);
     };
     run_lines(&mut found, lines, sink, ScriptEnd::Input)?;
-    write_last(&found.apart.last(), sink).map_err(|_| BenchFault::Write)
+    write_last(&found.pair.last(), sink).map_err(|_| BenchFault::Write)
 }
 
 /// Reads an image, gives the lines up to the next `--` to two equal benches of the setup, which are monitored whatever it says, and writes
@@ -100,7 +100,7 @@ fn run_second<S: Source, W: Sink>(
 /// faulty line is told its fault once. The run ends with `twin entered N` once a command enters the slot, or with `twin end N` at the end
 /// of the input, where N counts the commands that were run (it stays at 2^64 - 1). The line that enters the slot is the last that is read.
 ///
-/// `outcome` is all of it. `conceals` is that as long as the slot was not entered the two benches agree but for it, and of each line that both
+/// `outcome` is all of it. `noninterference` is that as long as the slot was not entered the two benches agree but for it, and of each line that both
 /// did the two replies are equal. `integrity` is that in the first script, and in both benches in the second, every part of what is done
 /// spares each enclave that rests through it.
 ///
@@ -120,9 +120,9 @@ pub fn run_twin<S: Source, W: Sink>(
     sink: &mut W,
 ) -> Result<(), BenchFault>
     ensures outcome { RunsTwin W.Sink setup.now slot lines.old lines.new sink.old sink.new result }
-    ensures end { TellsEnd lines.old lines.new }
-    ensures conceals { TwinConceals setup.now slot (unread lines.old) }
-    ensures integrity { TwinSpares setup.now slot (unread lines.old) }
+    ensures end { EndsWithSource lines.old lines.new }
+    ensures noninterference { TwinNoninterference setup.now slot (unread lines.old) }
+    ensures integrity { TwinIntegrity setup.now slot (unread lines.old) }
 {
     let image = read_image(alloc, lines)?;
     let mut benches = start_two(alloc, image.as_slice(), setup)?;

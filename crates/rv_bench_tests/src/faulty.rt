@@ -49,7 +49,7 @@ impl<'a> FaultySource<'a> {
 }
 
 impl<'a> Source for FaultySource<'a> {
-    ghost tells = { ⊤ };
+    ghost is_specified = { ⊤ };
 
     ghost remaining = { λ faulty. rest_in_memory faulty.source };
 
@@ -117,7 +117,7 @@ impl<'a> FaultySink<'a> {
 }
 
 impl<'a> Sink for FaultySink<'a> {
-    ghost tells = { ⊤ };
+    ghost is_specified = { ⊤ };
 
     ghost taken = { λ faulty. bytes_taken faulty.sink };
 
@@ -183,7 +183,7 @@ impl FeedSource {
 }
 
 impl Source for FeedSource {
-    ghost tells = { ⊥ };
+    ghost is_specified = { ⊥ };
 
     ghost remaining = { λ _. [] };
 

@@ -141,7 +141,7 @@ const WITH_ANOTHER: &[u8] = b"73000000730000007300000073000000\n--\n\
     setreg 16 1\nsetreg 10 80020000\nsetreg 11 1000\nsetreg 14 80020000\nstep 1\nsetreg 16 3\nsetreg 10 0\nstep 1\nregs\n";
 
 #[test]
-fn conceals_a_key(rt: HostRuntime) {
+fn noninterference_a_key(rt: HostRuntime) {
     let job = Job::Run(MONITORED);
     let first = run_in_memory(rt.alloc(), &job, WITH_A_KEY).expect(&rt, "an output");
     let second = run_in_memory(rt.alloc(), &job, WITH_ANOTHER).expect(&rt, "an output");

@@ -91,7 +91,7 @@ fn expect_shown(rt: &impl Abort, len: usize, ending: &[u8], shown: usize) {
 }
 
 #[test]
-fn shows_the_front_of_a_long_line(rt: HostRuntime) {
+fn shows_the_prefix_of_a_long_line(rt: HostRuntime) {
     for (len, shown) in [
         (119usize, 119usize),
         (120, 120),

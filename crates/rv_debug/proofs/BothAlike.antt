@@ -3,54 +3,54 @@ use Rattle.std.proofs.Common.{◌≡◌, ℕ, suc, ◌+◌, ◌<◌, Bool, true,
 use Rattle.std.proofs.Common.{◌∙◌, ap, ap₂, subst, inl, inr, arith, not}
 use Rattle.std.specs.Prelude.{◌&&◌, ◌||◌, if◌then◌else◌}
 use Rattle.rv_debug.specs.Prelude.{All, Bare, BothWhy, Command, Entered, Monitored, NotBlind, Slots, Target, bytes_named, meets, region}
-use Rattle.rv_debug.proofs.Prelude.{AlikeBy, AllPassBy, AnswerAlike, BenchState, BenchesAgreeBut, BothAnswered, BothRan, KeepsMonitor}
-use Rattle.rv_debug.proofs.Prelude.{PassAll, PassBy, StayAlike, TargetsAgreeBut, after_commands, and_parts, answer, both_answer, both_do}
+use Rattle.rv_debug.proofs.Prelude.{AlikeBy, CommandsAvoidHart, ExecuteAlike, BenchState, BenchesEquivExcept, BothExecuted, BothRan, TargetInvariant}
+use Rattle.rv_debug.proofs.Prelude.{AllAlike, DoneAlike, StayAlike, TargetsEquivExcept, after_commands, and_parts, execute, both_execute, both_do}
 use Rattle.rv_debug.proofs.Prelude.{both_run, cases_Bool, drop_all, drop_more, go_on, is_blind, is_entered, region_in}
-use Rattle.rv_debug.proofs.AnswersAlike.{agree_again, confidentiality}
-use Rattle.rv_debug.proofs.EffectsKept.{keeps_monitor}
+use Rattle.rv_debug.proofs.ExecuteAlike.{equiv_again, noninterference}
+use Rattle.rv_debug.proofs.EffectsInvariant.{keeps_monitor}
 
 module _ (e : ℕ) where
-  abbrev pub stopped : BenchState → BenchState → BothAnswered
+  abbrev pub stopped : BenchState → BenchState → BothExecuted
   stopped a b = record { first = a; second = b; first_reply = []; second_reply = []; why = NotBlind }
 
-  abbrev pub done : BenchState → BenchState → Command → BothAnswered
-  done a b c = both_do e (answer a c) (answer b c)
+  abbrev pub done : BenchState → BenchState → Command → BothExecuted
+  done a b c = both_do e (execute a c) (execute b c)
 
   -- ---- one command
 
   -- a command that is blind in both is done by both, and any other by neither
   one_cases : (a b : BenchState) (c : Command)
-      → (((is_blind e a c && is_blind e b c) ≡ false) × (both_answer e a b c ≡ stopped a b))
-      ⊎ ((is_blind e a c ≡ true) × (both_answer e a b c ≡ done a b c))
-  unfolding both_answer
+      → (((is_blind e a c && is_blind e b c) ≡ false) × (both_execute e a b c ≡ stopped a b))
+      ⊎ ((is_blind e a c ≡ true) × (both_execute e a b c ≡ done a b c))
+  unfolding both_execute
   one_cases a b c = elim (cases_Bool (is_blind e a c && is_blind e b c)) [
     | inl both ↦ inr ((and_parts _ _ both).0, rw both refl)
     | inr other ↦ inl (other, rw other refl)
   ]
 
-  same_region : (c : Command) (one other : Target) → TargetsAgreeBut e one other
+  same_region : (c : Command) (one other : Target) → TargetsEquivExcept e one other
       → meets (bytes_named c) (region_in e one) ≡ meets (bytes_named c) (region_in e other)
-  same_region c (Monitored one) (Monitored other) agree =
-      ap (λ (slots : Slots). meets (bytes_named c) (region slots e)) (let state = agree.state in state.shared.table)
-  same_region c (Bare one) (Bare other) agree = refl
-  same_region c (Bare one) (Monitored other) agree = absurd agree
-  same_region c (Monitored one) (Bare other) agree = absurd agree
+  same_region c (Monitored one) (Monitored other) equiv =
+      ap (λ (slots : Slots). meets (bytes_named c) (region slots e)) (let state = equiv.state in state.shared.table)
+  same_region c (Bare one) (Bare other) equiv = refl
+  same_region c (Bare one) (Monitored other) equiv = absurd equiv
+  same_region c (Monitored one) (Bare other) equiv = absurd equiv
 
-  same_blind : (a b : BenchState) (c : Command) → BenchesAgreeBut e a b → is_blind e a c ≡ is_blind e b c
+  same_blind : (a b : BenchState) (c : Command) → BenchesEquivExcept e a b → is_blind e a c ≡ is_blind e b c
   unfolding is_blind
-  same_blind a b c agree = ap (λ (met : Bool). not met) (same_region c a.target b.target agree.target)
+  same_blind a b c equiv = ap (λ (met : Bool). not met) (same_region c a.target b.target equiv.target)
 
   neither : (x y : Bool) → x ≡ y → (x && y) ≡ false → x ≡ false
   neither true y same none = same ∙ none
   neither false y same none = refl
 
   -- the benches after a command that both did
-  why_is : (a b : BenchState) (c : Command) (x y : Bool) → is_entered e (answer a c).entered ≡ x → is_entered e (answer b c).entered ≡ y
+  why_is : (a b : BenchState) (c : Command) (x y : Bool) → is_entered e (execute a c).entered ≡ x → is_entered e (execute b c).entered ≡ y
       → (done a b c).why ≡ (if x || y then Entered else All)
   why_is a b c x y here there = ap₂ (λ (x y : Bool). if x || y then Entered else All) here there
 
-  done_alike : (a b : BenchState) (c : Command) → AnswerAlike e (answer a c) (answer b c) → AlikeBy e a b c (done a b c) (done a b c).why
-  done_alike a b c alike = elim (cases_Bool (is_entered e (answer a c).entered)) [
+  done_alike : (a b : BenchState) (c : Command) → ExecuteAlike e (execute a c) (execute b c) → AlikeBy e a b c (done a b c) (done a b c).why
+  done_alike a b c alike = elim (cases_Bool (is_entered e (execute a c).entered)) [
     | inl here ↦
         let there = sym alike.entered ∙ here in
         subst (λ (why : BothWhy). AlikeBy e a b c (done a b c) why) (sym (why_is a b c true true here there)) (record { here = here; there = there })
@@ -60,24 +60,24 @@ module _ (e : ℕ) where
         (record { reply = passed.reply; state = passed.state })
   ]
 
-  pub both_alike : (a b : BenchState) (c : Command) → KeepsMonitor a.target → KeepsMonitor b.target → StayAlike e a b c (both_answer e a b c)
-  both_alike a b c kept kept' agree by = elim (one_cases a b c) [
+  pub both_alike : (a b : BenchState) (c : Command) → TargetInvariant a.target → TargetInvariant b.target → StayAlike e a b c (both_execute e a b c)
+  both_alike a b c kept kept' equiv by = elim (one_cases a b c) [
     | inl stop ↦
-        let none = neither _ _ (same_blind a b c agree) stop.0 in
-        subst (λ (after : BothAnswered). AlikeBy e a b c after after.why) (sym stop.1)
-        (record { here = none; there = sym (same_blind a b c agree) ∙ none })
+        let none = neither _ _ (same_blind a b c equiv) stop.0 in
+        subst (λ (after : BothExecuted). AlikeBy e a b c after after.why) (sym stop.1)
+        (record { here = none; there = sym (same_blind a b c equiv) ∙ none })
     | inr goes ↦
-        subst (λ (after : BothAnswered). AlikeBy e a b c after after.why) (sym goes.1)
-        (done_alike a b c (confidentiality e a b c kept kept' agree goes.0 by))
+        subst (λ (after : BothExecuted). AlikeBy e a b c after after.why) (sym goes.1)
+        (done_alike a b c (noninterference e a b c kept kept' equiv goes.0 by))
   ]
 
   -- ---- a list of commands
 
-  goes_by : (a b : BenchState) (c : Command) (cs : List Command) (after : BothAnswered) (why : BothWhy) → both_answer e a b c ≡ after → after.why ≡ why
+  goes_by : (a b : BenchState) (c : Command) (cs : List Command) (after : BothExecuted) (why : BothWhy) → both_execute e a b c ≡ after → after.why ≡ why
       → both_run e a b (c ∷ cs) ≡ go_on why after (both_run e after.first after.second cs)
   unfolding both_run
   goes_by a b c cs after why is because =
-      ap (λ (after : BothAnswered). go_on after.why after (both_run e after.first after.second cs)) is
+      ap (λ (after : BothExecuted). go_on after.why after (both_run e after.first after.second cs)) is
       ∙ ap (λ (why : BothWhy). go_on why after (both_run e after.first after.second cs)) because
 
   none_by : (a b : BenchState) → both_run e a b [] ≡ record { first = a; second = b; ran = 0; why = All }
@@ -89,7 +89,7 @@ module _ (e : ℕ) where
   Folded a b cs end = (end.first ≡ after_commands a (take end.ran cs)) × (end.second ≡ after_commands b (take end.ran cs))
 
   folded_by : (a b : BenchState) (c : Command) (cs : List Command) (why : BothWhy) (rest : BothRan)
-      → (why ≡ NotBlind → ⊥) → Folded (answer a c).state (answer b c).state cs rest → Folded a b (c ∷ cs) (go_on why (done a b c) rest)
+      → (why ≡ NotBlind → ⊥) → Folded (execute a c).state (execute b c).state cs rest → Folded a b (c ∷ cs) (go_on why (done a b c) rest)
   folded_by a b c cs All rest goes more = more
   folded_by a b c cs Entered rest goes more = (refl, refl)
   folded_by a b c cs NotBlind rest goes more = absurd (goes refl)
@@ -104,52 +104,52 @@ module _ (e : ℕ) where
     | inl stop ↦ subst (Folded a b (c ∷ cs)) (sym (goes_by a b c cs (stopped a b) NotBlind stop.1 refl)) (refl, refl)
     | inr goes ↦
         subst (Folded a b (c ∷ cs)) (sym (goes_by a b c cs (done a b c) _ goes.1 refl))
-        (folded_by a b c cs _ (both_run e (answer a c).state (answer b c).state cs) (not_stopped _) (folded (answer a c).state (answer b c).state cs))
+        (folded_by a b c cs _ (both_run e (execute a c).state (execute b c).state cs) (not_stopped _) (folded (execute a c).state (execute b c).state cs))
   ]
 
   -- ---- what both have in common
 
-  abbrev pub PassEnd : BenchState → BenchState → List Command → BothRan → Type 0
-  PassEnd a b cs end = AllPassBy e a (take end.ran cs) → PassBy e a b cs end.ran end.why
+  abbrev pub EndAlike : BenchState → BenchState → List Command → BothRan → Type 0
+  EndAlike a b cs end = CommandsAvoidHart e a (take end.ran cs) → DoneAlike e a b cs end.ran end.why
 
-  none_passed : (a b : BenchState) → KeepsMonitor a.target → BenchesAgreeBut e a b → PassAll e a b []
-  none_passed a b kept agree = record { replies = refl; state = agree_again e a b kept agree }
+  none_passed : (a b : BenchState) → TargetInvariant a.target → BenchesEquivExcept e a b → AllAlike e a b []
+  none_passed a b kept equiv = record { replies = refl; state = equiv_again e a b kept equiv }
 
-  one_passed : (a b : BenchState) (c : Command) (cs : List Command) → (answer a c).reply ≡ (answer b c).reply
-      → PassAll e (answer a c).state (answer b c).state cs → PassAll e a b (c ∷ cs)
+  one_passed : (a b : BenchState) (c : Command) (cs : List Command) → (execute a c).reply ≡ (execute b c).reply
+      → AllAlike e (execute a c).state (execute b c).state cs → AllAlike e a b (c ∷ cs)
   one_passed a b c cs reply more = record {
     replies = ap₂ (λ (reply : List ℕ) (replies : List (List ℕ)). reply ∷ replies) reply more.replies;
     state = more.state;
   }
 
-  more_passed : (a b : BenchState) (c : Command) (cs : List Command) (ran : ℕ) (why : BothWhy) → (answer a c).reply ≡ (answer b c).reply
-      → PassBy e (answer a c).state (answer b c).state cs ran why → PassBy e a b (c ∷ cs) (suc ran) why
+  more_passed : (a b : BenchState) (c : Command) (cs : List Command) (ran : ℕ) (why : BothWhy) → (execute a c).reply ≡ (execute b c).reply
+      → DoneAlike e (execute a c).state (execute b c).state cs ran why → DoneAlike e a b (c ∷ cs) (suc ran) why
   more_passed a b c cs ran All reply more = one_passed a b c (take ran cs) reply more
   more_passed a b c cs ran NotBlind reply more = one_passed a b c (take ran cs) reply more
   more_passed a b c cs ran Entered reply more = (suc more.0, ap (λ (n : ℕ). suc n) more.1, one_passed a b c (take more.0 cs) reply more.2)
 
   -- the last that was done entered the slot
-  entered_last : (a b : BenchState) (c : Command) (cs : List Command) → KeepsMonitor a.target → BenchesAgreeBut e a b
-      → both_answer e a b c ≡ done a b c → (done a b c).why ≡ Entered → PassEnd a b (c ∷ cs) (both_run e a b (c ∷ cs))
-  entered_last a b c cs kept agree goes why =
-      subst (PassEnd a b (c ∷ cs)) (sym (goes_by a b c cs (done a b c) Entered goes why)) (λ by. (0, refl, none_passed a b kept agree))
+  entered_last : (a b : BenchState) (c : Command) (cs : List Command) → TargetInvariant a.target → BenchesEquivExcept e a b
+      → both_execute e a b c ≡ done a b c → (done a b c).why ≡ Entered → EndAlike a b (c ∷ cs) (both_run e a b (c ∷ cs))
+  entered_last a b c cs kept equiv goes why =
+      subst (EndAlike a b (c ∷ cs)) (sym (goes_by a b c cs (done a b c) Entered goes why)) (λ by. (0, refl, none_passed a b kept equiv))
 
-  pub run_alike : (a b : BenchState) (cs : List Command) → KeepsMonitor a.target → KeepsMonitor b.target → BenchesAgreeBut e a b
-      → PassEnd a b cs (both_run e a b cs)
-  run_alike a b [] kept kept' agree = subst (PassEnd a b []) (sym (none_by a b)) (λ by. none_passed a b kept agree)
-  run_alike a b (c ∷ cs) kept kept' agree = elim (one_cases a b c) [
-    | inl stop ↦ subst (PassEnd a b (c ∷ cs)) (sym (goes_by a b c cs (stopped a b) NotBlind stop.1 refl)) (λ by. none_passed a b kept agree)
-    | inr goes ↦ elim (cases_Bool (is_entered e (answer a c).entered)) [
-      | inl here ↦ entered_last a b c cs kept agree goes.1 (why_is a b c true (is_entered e (answer b c).entered) here refl)
-      | inr none ↦ elim (cases_Bool (is_entered e (answer b c).entered)) [
-        | inl there ↦ entered_last a b c cs kept agree goes.1 (why_is a b c false true none there)
+  pub run_alike : (a b : BenchState) (cs : List Command) → TargetInvariant a.target → TargetInvariant b.target → BenchesEquivExcept e a b
+      → EndAlike a b cs (both_run e a b cs)
+  run_alike a b [] kept kept' equiv = subst (EndAlike a b []) (sym (none_by a b)) (λ by. none_passed a b kept equiv)
+  run_alike a b (c ∷ cs) kept kept' equiv = elim (one_cases a b c) [
+    | inl stop ↦ subst (EndAlike a b (c ∷ cs)) (sym (goes_by a b c cs (stopped a b) NotBlind stop.1 refl)) (λ by. none_passed a b kept equiv)
+    | inr goes ↦ elim (cases_Bool (is_entered e (execute a c).entered)) [
+      | inl here ↦ entered_last a b c cs kept equiv goes.1 (why_is a b c true (is_entered e (execute b c).entered) here refl)
+      | inr none ↦ elim (cases_Bool (is_entered e (execute b c).entered)) [
+        | inl there ↦ entered_last a b c cs kept equiv goes.1 (why_is a b c false true none there)
         | inr none' ↦
-            let rest = both_run e (answer a c).state (answer b c).state cs in
-            subst (PassEnd a b (c ∷ cs)) (sym (goes_by a b c cs (done a b c) All goes.1 (why_is a b c false false none none'))) (λ by.
-            let alike = confidentiality e a b c kept kept' agree goes.0 by.0 in
+            let rest = both_run e (execute a c).state (execute b c).state cs in
+            subst (EndAlike a b (c ∷ cs)) (sym (goes_by a b c cs (done a b c) All goes.1 (why_is a b c false false none none'))) (λ by.
+            let alike = noninterference e a b c kept kept' equiv goes.0 by.0 in
             let passed = alike.passed none in
             more_passed a b c cs rest.ran rest.why passed.reply
-            (run_alike (answer a c).state (answer b c).state cs (keeps_monitor a c kept) (keeps_monitor b c kept') passed.state.but (by.1 none)))
+            (run_alike (execute a c).state (execute b c).state cs (keeps_monitor a c kept) (keeps_monitor b c kept') passed.state.but (by.1 none)))
       ]
     ]
   ]
@@ -163,13 +163,13 @@ module _ (e : ℕ) where
   next_command : (cs : List Command) (n : ℕ) (c : Command) → n < length cs → c ≡ get_or cs n c → drop n cs ≡ c ∷ drop (n + 1) cs
   next_command cs n c inside is = drop_more cs n c inside ∙ ap (λ (first : Command). first ∷ drop (n + 1) cs) (sym is)
 
-  module _ (a b : BenchState) (cs : List Command) (n : ℕ) (c : Command) (all : BothRan) (after : BothAnswered)
+  module _ (a b : BenchState) (cs : List Command) (n : ℕ) (c : Command) (all : BothRan) (after : BothExecuted)
       (inside : n < length cs) (is : c ≡ get_or cs n c)
-      (so_far : later n (both_run e a b (drop n cs)) ≡ all) (answered : both_answer e a b c ≡ after) where
+      (so_far : later n (both_run e a b (drop n cs)) ≡ all) (executed : both_execute e a b c ≡ after) where
     goes_at : (why : BothWhy) → after.why ≡ why → all ≡ later n (go_on why after (both_run e after.first after.second (drop (n + 1) cs)))
     goes_at why because =
         sym so_far ∙ ap (λ (rest : List Command). later n (both_run e a b rest)) (next_command cs n c inside is)
-        ∙ ap (later n) (goes_by a b c (drop (n + 1) cs) after why answered because)
+        ∙ ap (later n) (goes_by a b c (drop (n + 1) cs) after why executed because)
 
     pub at_entered : after.why ≡ Entered → all ≡ record { first = after.first; second = after.second; ran = n + 1; why = Entered }
     at_entered why = goes_at Entered why

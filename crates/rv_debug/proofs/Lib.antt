@@ -1,9 +1,9 @@
 pub mod Prelude
 mod AddressLaws
 pub mod AddressLemmas
-pub mod Answers
-pub mod AnswersAlike
-pub mod AtRest
+pub mod Execution
+pub mod ExecuteAlike
+pub mod NotRunning
 pub mod BothAlike
 mod FastRuns
 mod FastTargets
@@ -17,7 +17,7 @@ mod Stepping
 mod TargetRuns
 mod SchedAlike
 mod ScheduledSteps
-mod Beside
+mod OtherHarts
 mod ScheduleLoop
 mod RunSchedules
-pub mod EffectsKept
+pub mod EffectsInvariant

@@ -1,23 +1,23 @@
 -- A run of the debugger is a schedule of the chosen hart alone.
 use Rattle.std.proofs.Common.{◌≡◌, ℕ, suc, ◌+◌, ◌==◌, List, replicate, refl, sym, ◌∙◌, ap, arith}
 use Rattle.rv_debug.specs.Prelude.{Bare, Monitored, Scheduled, Stop, Target}
-use Rattle.rv_debug.proofs.Prelude.{AfterRun, AfterSteps, AfterSchedule, chosen_of, done, ended, entered_by, no_steps, schedule_start, pc_of, run}
-use Rattle.rv_debug.proofs.Prelude.{run_effect, target_stepped, steps_of, scheduled_steps, with_chosen, slots_with, with_step, with_scheduled_step}
+use Rattle.rv_debug.proofs.Prelude.{AfterRun, AfterSteps, AfterSchedule, selected_of, done, ended, entered_by, no_steps, schedule_start, pc_of, run}
+use Rattle.rv_debug.proofs.Prelude.{run_effect, target_stepped, steps_of, scheduled_steps, with_selected, slots_with, with_step, with_scheduled_step}
 use Rattle.rv_debug.proofs.ScheduledSteps.{after_schedule}
-use Rattle.rv_debug.proofs.Stepping.{by_run}
+use Rattle.rv_debug.proofs.Stepping.{run_induction}
 
 -- ---- the chosen hart
 
-own_scheduled_step : (target : Target) → with_chosen (chosen_of target) target ≡ target
+own_scheduled_step : (target : Target) → with_selected (selected_of target) target ≡ target
 own_scheduled_step (Bare machine) = refl
 own_scheduled_step (Monitored machine) = refl
 
-same_hart : (target : Target) → chosen_of (target_stepped target).state ≡ chosen_of target
+same_hart : (target : Target) → selected_of (target_stepped target).state ≡ selected_of target
 same_hart (Bare machine) = refl
 same_hart (Monitored machine) = refl
 
-step_scheduled_own : (hart : ℕ) (target : Target) → chosen_of target ≡ hart → with_chosen hart target ≡ target
-step_scheduled_own hart target is = ap (λ (h : ℕ). with_chosen h target) (sym is) ∙ own_scheduled_step target
+step_scheduled_own : (hart : ℕ) (target : Target) → selected_of target ≡ hart → with_selected hart target ≡ target
+step_scheduled_own hart target is = ap (λ (h : ℕ). with_selected h target) (sym is) ∙ own_scheduled_step target
 
 -- ---- its steps
 
@@ -25,16 +25,16 @@ step_scheduled_own hart target is = ap (λ (h : ℕ). with_chosen h target) (sym
 record IsScheduled (hart : ℕ) (target : Target) (slots earlier : ℕ) (after : AfterRun Target) : Type 0 where
   count : ℕ
   steps : after.ran.steps ≡ earlier + count
-  chosen : chosen_of after.state ≡ hart
+  selected : selected_of after.state ≡ hart
   state : (did : Scheduled) → (scheduled_steps (replicate count hart) (after_schedule target did)).state ≡ after.state
   entered : (did : Scheduled) → did.entered ≡ slots → (scheduled_steps (replicate count hart) (after_schedule target did)).did.entered ≡ after.ran.entered
 
-ends : (hart : ℕ) (so_far : AfterSteps Target) (stop : Stop) → chosen_of so_far.state ≡ hart
+ends : (hart : ℕ) (so_far : AfterSteps Target) (stop : Stop) → selected_of so_far.state ≡ hart
     → IsScheduled hart so_far.state so_far.entered so_far.steps (ended so_far stop)
 unfolding scheduled_steps
-ends hart so_far stop own = record { count = 0; steps = omega arith; chosen = own; state = λ did. refl; entered = λ did is. is }
+ends hart so_far stop own = record { count = 0; steps = omega arith; selected = own; state = λ did. refl; entered = λ did is. is }
 
-goes : (hart : ℕ) (before : AfterSteps Target) (after : AfterRun Target) → chosen_of before.state ≡ hart
+goes : (hart : ℕ) (before : AfterSteps Target) (after : AfterRun Target) → selected_of before.state ≡ hart
     → (let so_far = with_step before (target_stepped before.state) in IsScheduled hart so_far.state so_far.entered so_far.steps after)
     → IsScheduled hart before.state before.entered before.steps after
 unfolding scheduled_steps
@@ -47,33 +47,33 @@ goes hart before after own more =
     record {
       count = suc more.count;
       steps = more.steps ∙ omega arith;
-      chosen = more.chosen;
+      selected = more.selected;
       state = λ did. ap (λ (target : Target). (next target did).state) here ∙ more.state (did_of did);
       entered = λ did is. ap (λ (target : Target). (next target did).did.entered) here
           ∙ more.entered (did_of did) (ap (λ (slots : ℕ). slots_with slots last.entered) is);
     }
 
-is-scheduled_steps : (breaks watches : List ℕ) (hart count : ℕ) (before : AfterSteps Target) → chosen_of before.state ≡ hart
+is-scheduled_steps : (breaks watches : List ℕ) (hart count : ℕ) (before : AfterSteps Target) → selected_of before.state ≡ hart
     → IsScheduled hart before.state before.entered before.steps (run target_stepped pc_of breaks watches count before)
 is-scheduled_steps breaks watches hart =
-    by_run target_stepped pc_of breaks watches
-    (λ before end. chosen_of before.state ≡ hart → IsScheduled hart before.state before.entered before.steps end)
+    run_induction target_stepped pc_of breaks watches
+    (λ before end. selected_of before.state ≡ hart → IsScheduled hart before.state before.entered before.steps end)
     (ends hart) (λ before end more own. goes hart before end own (more (same_hart before.state ∙ own)))
 
 -- where a run ends, and what it entered
 pub run_done : (target : Target) (breaks watches : List ℕ) (count : ℕ)
     → done target (run_effect target breaks watches count) ≡ (steps_of target breaks watches count).state
 run_done target breaks watches count =
-    let is = is-scheduled_steps breaks watches (chosen_of target) count (no_steps target) refl in
+    let is = is-scheduled_steps breaks watches (selected_of target) count (no_steps target) refl in
     let end = steps_of target breaks watches count in
     let all : is.count ≡ end.ran.steps = omega (arith, is.steps) in
-    ap (λ (n : ℕ). with_chosen (chosen_of target) (scheduled_steps (replicate n (chosen_of target)) (schedule_start target)).state) (sym all)
-    ∙ ap (with_chosen (chosen_of target)) (is.state _) ∙ step_scheduled_own (chosen_of target) end.state is.chosen
+    ap (λ (n : ℕ). with_selected (selected_of target) (scheduled_steps (replicate n (selected_of target)) (schedule_start target)).state) (sym all)
+    ∙ ap (with_selected (selected_of target)) (is.state _) ∙ step_scheduled_own (selected_of target) end.state is.selected
 
 pub run_entered : (target : Target) (breaks watches : List ℕ) (count : ℕ)
     → entered_by target (run_effect target breaks watches count) ≡ (steps_of target breaks watches count).ran.entered
 run_entered target breaks watches count =
-    let is = is-scheduled_steps breaks watches (chosen_of target) count (no_steps target) refl in
+    let is = is-scheduled_steps breaks watches (selected_of target) count (no_steps target) refl in
     let end = steps_of target breaks watches count in
     let all : is.count ≡ end.ran.steps = omega (arith, is.steps) in
-    ap (λ (n : ℕ). (scheduled_steps (replicate n (chosen_of target)) (schedule_start target)).did.entered) (sym all) ∙ is.entered _ refl
+    ap (λ (n : ℕ). (scheduled_steps (replicate n (selected_of target)) (schedule_start target)).did.entered) (sym all) ∙ is.entered _ refl

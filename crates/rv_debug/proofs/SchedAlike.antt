@@ -1,11 +1,11 @@
 -- Steps of named harts in two machines that agree but for an enclave that runs on none of them: they show and leave the same, up to one that
 -- enters it.
 use Rattle.std.proofs.Common.{◌≡◌, ℕ, true, List, [], ◌∷◌, ◌⊎◌, Some, refl, sym, ◌∙◌, ap, subst, inl, inr}
-use Rattle.rv_monitor.proofs.HartsAlike.{entered_some, entry_law}
+use Rattle.rv_monitor.proofs.SchedNoninterference.{entered_some, entry_law}
 use Rattle.rv_monitor.specs.declared.outcome.Outcome.{Outcome}
-use Rattle.rv_debug.specs.Prelude.{IsKept, Machine, Monitored, Scheduled, enters, step_of}
-use Rattle.rv_debug.proofs.Prelude.{AfterSchedule, Chosen, ChosenAgreeBut, RestsIn, cases_Bool, confidentiality, is_entered, kept_law}
-use Rattle.rv_debug.proofs.Prelude.{target_stepped, scheduled_steps, with_chosen, with_scheduled_step}
+use Rattle.rv_debug.specs.Prelude.{Invariant, MonitoredMachine, Monitored, Scheduled, enters, step_of}
+use Rattle.rv_debug.proofs.Prelude.{AfterSchedule, Selected, SelectedEquivExcept, RunsOnNoHart, cases_Bool, noninterference, is_entered, invariant_law}
+use Rattle.rv_debug.proofs.Prelude.{target_stepped, scheduled_steps, with_selected, with_scheduled_step}
 use Rattle.rv_debug.proofs.StepsAlike.{enters-with, enters-now}
 use Rattle.rv_debug.proofs.ScheduledSteps.{after_schedule}
 
@@ -16,7 +16,7 @@ stays_entered : (e : ℕ) (harts : List ℕ) (before : AfterSchedule) → is_ent
 unfolding scheduled_steps
 stays_entered e [] before is = is
 stays_entered e (hart ∷ harts) before is =
-    let last = target_stepped (with_chosen hart before.state) in
+    let last = target_stepped (with_selected hart before.state) in
     stays_entered e harts (with_scheduled_step hart before last) (enters-with e before.did.entered last.entered is)
 
 -- ---- all steps
@@ -28,38 +28,38 @@ pub record BothIn (e : ℕ) (one other : AfterSchedule) : Type 0 where
 
 -- they did the same, and agree again, and the enclave runs on no hart
 pub record BothPast (e : ℕ) (one other : AfterSchedule) : Type 0 where
-  pub here : Chosen
-  pub there : Chosen
+  pub here : Selected
+  pub there : Selected
   pub here_is : one.state ≡ Monitored here
   pub there_is : other.state ≡ Monitored there
   pub did : one.did ≡ other.did
-  pub state : ChosenAgreeBut e here there
-  pub rests : RestsIn e (Monitored here)
+  pub state : SelectedEquivExcept e here there
+  pub not_running : RunsOnNoHart e (Monitored here)
 
 abbrev pub ScheduledStepsAlike : ℕ → AfterSchedule → AfterSchedule → Type 0
 ScheduledStepsAlike e one other = BothIn e one other ⊎ BothPast e one other
 
 -- the machines and what was done after one step of a hart, by what it left and showed
-abbrev next : ℕ → Scheduled → Machine → Outcome → AfterSchedule
+abbrev next : ℕ → Scheduled → MonitoredMachine → Outcome → AfterSchedule
 next hart did state outcome =
-    let machine : Chosen = record { hart = hart; state = state } in
+    let machine : Selected = record { hart = hart; state = state } in
     with_scheduled_step hart (after_schedule (Monitored machine) did) (record { state = Monitored machine; outcome = outcome.step; entered = outcome.entered })
 
-entered_next : (e hart : ℕ) (harts : List ℕ) (did : Scheduled) (state : Machine) (outcome : Outcome) → outcome.entered ≡ Some e
+entered_next : (e hart : ℕ) (harts : List ℕ) (did : Scheduled) (state : MonitoredMachine) (outcome : Outcome) → outcome.entered ≡ Some e
     → is_entered e (scheduled_steps harts (next hart did state outcome)).did.entered ≡ true
 entered_next e hart harts did state outcome is =
     stays_entered e harts (next hart did state outcome) (enters-now e did.entered outcome.entered is)
 
-pub scheduled_steps_alike : (e : ℕ) (harts : List ℕ) (one other : Chosen) (did : Scheduled) → IsKept one.state → IsKept other.state → ChosenAgreeBut e one other
-    → RestsIn e (Monitored one)
+pub scheduled_steps_alike : (e : ℕ) (harts : List ℕ) (one other : Selected) (did : Scheduled) → Invariant one.state → Invariant other.state → SelectedEquivExcept e one other
+    → RunsOnNoHart e (Monitored one)
     → ScheduledStepsAlike e (scheduled_steps harts (after_schedule (Monitored one) did)) (scheduled_steps harts (after_schedule (Monitored other) did))
 unfolding scheduled_steps
-scheduled_steps_alike e [] one other did kept kept' agree rests =
-    inr (record { here = one; there = other; here_is = refl; there_is = refl; did = refl; state = agree; rests = rests })
-scheduled_steps_alike e (hart ∷ harts) one other did kept kept' agree rests =
+scheduled_steps_alike e [] one other did kept kept' equiv not_running =
+    inr (record { here = one; there = other; here_is = refl; there_is = refl; did = refl; state = equiv; not_running = not_running })
+scheduled_steps_alike e (hart ∷ harts) one other did kept kept' equiv not_running =
     let first = step_of hart one.state in
     let second = step_of hart other.state in
-    let both = confidentiality hart one.state kept e other.state kept' agree.state (rests hart) in
+    let both = noninterference hart one.state kept e other.state kept' equiv.state (not_running hart) in
     elim (cases_Bool (enters e first.outcome.entered)) [
       | inl enters_it ↦
           let is = entered_some e first.outcome.entered enters_it in
@@ -68,11 +68,11 @@ scheduled_steps_alike e (hart ∷ harts) one other did kept kept' agree rests =
             there = entered_next e hart harts did second.state second.outcome (ap (λ (outcome : Outcome). outcome.entered) (sym both.outcome) ∙ is);
           })
       | inr passes ↦
-          let a : Chosen = record { hart = hart; state = first.state } in
-          let b : Chosen = record { hart = hart; state = second.state } in
+          let a : Selected = record { hart = hart; state = first.state } in
+          let b : Selected = record { hart = hart; state = second.state } in
           let after = (next hart did first.state first.outcome).did in
-          let still : RestsIn e (Monitored a) = λ own. entry_law e hart own one.state (rests own) passes in
-          let alike = scheduled_steps_alike e harts a b after (kept_law hart one.state kept) (kept_law hart other.state kept')
+          let still : RunsOnNoHart e (Monitored a) = λ own. entry_law e hart own one.state (not_running own) passes in
+          let alike = scheduled_steps_alike e harts a b after (invariant_law hart one.state kept) (invariant_law hart other.state kept')
           (record { hart = refl; state = both.state }) still in
           subst (λ (outcome : Outcome). ScheduledStepsAlike e (scheduled_steps harts (next hart did first.state first.outcome))
           (scheduled_steps harts (next hart did second.state outcome)))

@@ -13,28 +13,28 @@ next_of after more hit last here =
     option_case hit (cond last (ended after Done) (cond here (ended after Break) more)) (λ address. ended after (Watch address))
 
 -- what holds where it ends, and of what is more, holds; of two runs side by side that stop alike,
-pub by_next : {A B : Type 0} (P : AfterRun A → AfterRun B → Type 0) (a : AfterSteps A) (b : AfterSteps B) (one : AfterRun A)
+pub next_cases : {A B : Type 0} (P : AfterRun A → AfterRun B → Type 0) (a : AfterSteps A) (b : AfterSteps B) (one : AfterRun A)
     (other : AfterRun B) (hit : Option ℕ) (last here : Bool) → ((stop : Stop) → P (ended a stop) (ended b stop)) → P one other
     → P (next_of a one hit last here) (next_of b other hit last here)
-by_next P a b one other (Some address) last here ends more = ends (Watch address)
-by_next P a b one other None true here ends more = ends Done
-by_next P a b one other None false true ends more = ends Break
-by_next P a b one other None false false ends more = more
+next_cases P a b one other (Some address) last here ends more = ends (Watch address)
+next_cases P a b one other None true here ends more = ends Done
+next_cases P a b one other None false true ends more = ends Break
+next_cases P a b one other None false false ends more = more
 
 -- and of one; from its end back to its beginning
-pub by_run : {A : Type 0} (step : A → Stepped A) (pc : A → ℕ) (breaks watches : List ℕ) (P : AfterSteps A → AfterRun A → Type 0)
+pub run_induction : {A : Type 0} (step : A → Stepped A) (pc : A → ℕ) (breaks watches : List ℕ) (P : AfterSteps A → AfterRun A → Type 0)
     → ((after : AfterSteps A) (stop : Stop) → P after (ended after stop))
     → ((before : AfterSteps A) (end : AfterRun A) → P (with_step before (step before.state)) end → P before end)
     → (count : ℕ) (before : AfterSteps A) → P before (run step pc breaks watches count before)
 unfolding run
-by_run step pc breaks watches P ends goes zero before = ends before Done
-by_run {A} step pc breaks watches P ends goes (suc left) before =
+run_induction step pc breaks watches P ends goes zero before = ends before Done
+run_induction {A} step pc breaks watches P ends goes (suc left) before =
     let last = step before.state in
     let after = with_step before last in
     let more = run step pc breaks watches left after in
     let Ends : AfterRun A → AfterRun A → Type 0 = λ end _. P after end in
-    goes before _ (by_next Ends after after more more (lowest_accessed watches last.outcome.touched) (left == 0)
-    (is_among (pc last.state) breaks) (ends after) (by_run step pc breaks watches P ends goes left after))
+    goes before _ (next_cases Ends after after more more (lowest_accessed watches last.outcome.touched) (left == 0)
+    (is_among (pc last.state) breaks) (ends after) (run_induction step pc breaks watches P ends goes left after))
 
 -- ---- one step of it
 

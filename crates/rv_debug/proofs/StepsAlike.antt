@@ -5,13 +5,13 @@ use Rattle.std.proofs.Common.{inr, arith}
 use Rattle.std.specs.Prelude.{bit_or, ◌^◌}
 use Rattle.std.proofs.lemmas.Nat.Bits.{bit_at_or, bit_at-lt, bit_at-pow_same}
 use Rattle.std.proofs.lemmas.Bool.{eqb-true}
-use Rattle.rv_monitor.proofs.HartsAlike.{entered_some, entry_law}
+use Rattle.rv_monitor.proofs.SchedNoninterference.{entered_some, entry_law}
 use Rattle.rv_monitor.specs.declared.outcome.Outcome.{Outcome}
-use Rattle.rv_debug.specs.Prelude.{AgreeBut, IsKept, Machine, Seat, Stop, enters, runs_on, step_of}
-use Rattle.rv_debug.proofs.Prelude.{AfterRun, AfterSteps, cases_Bool, confidentiality, eq-eqb, is_among, is_entered, kept_law}
+use Rattle.rv_debug.specs.Prelude.{EquivExcept, Invariant, MonitoredMachine, HartState, Stop, enters, runs_on, step_of}
+use Rattle.rv_debug.proofs.Prelude.{AfterRun, AfterSteps, cases_Bool, noninterference, eq-eqb, is_among, is_entered, invariant_law}
 use Rattle.rv_debug.proofs.Prelude.{lowest_accessed, run, slots_with, with_step}
 use Rattle.rv_debug.proofs.TargetRuns.{hart_pc, hart_stepped}
-use Rattle.rv_debug.proofs.Stepping.{by_next, by_run, next_of}
+use Rattle.rv_debug.proofs.Stepping.{next_cases, run_induction, next_of}
 
 -- ---- slots that are entered
 
@@ -32,66 +32,66 @@ enters-now e slots entered is =
 -- ---- runs
 
 -- both entered the slot
-pub record BothIn (e : ℕ) (one other : AfterRun Machine) : Type 0 where
+pub record BothIn (e : ℕ) (one other : AfterRun MonitoredMachine) : Type 0 where
   pub here : is_entered e one.ran.entered ≡ true
   pub there : is_entered e other.ran.entered ≡ true
 
 -- they did the same, and agree again, and the chosen hart does not run the enclave
-pub record BothPast (e hart : ℕ) (one other : AfterRun Machine) : Type 0 where
+pub record BothPast (e hart : ℕ) (one other : AfterRun MonitoredMachine) : Type 0 where
   pub ran : one.ran ≡ other.ran
-  pub state : AgreeBut e one.state other.state
-  pub rests : runs_on e hart one.state ≡ false
+  pub state : EquivExcept e one.state other.state
+  pub not_running : runs_on e hart one.state ≡ false
 
-abbrev pub RunAlike : ℕ → ℕ → AfterRun Machine → AfterRun Machine → Type 0
+abbrev pub RunAlike : ℕ → ℕ → AfterRun MonitoredMachine → AfterRun MonitoredMachine → Type 0
 RunAlike e hart one other = BothIn e one other ⊎ BothPast e hart one other
 
-abbrev with_state : AfterSteps Machine → Machine → AfterSteps Machine
+abbrev with_state : AfterSteps MonitoredMachine → MonitoredMachine → AfterSteps MonitoredMachine
 with_state before state = record before { state = state }
 
 module _ (e hart : ℕ) (breaks watches : List ℕ) where
-  abbrev on : ℕ → AfterSteps Machine → AfterRun Machine
+  abbrev on : ℕ → AfterSteps MonitoredMachine → AfterRun MonitoredMachine
   on left before = run (hart_stepped hart) (hart_pc hart) breaks watches left before
 
   -- the steps and one more
-  abbrev after_step : AfterSteps Machine → Outcome → Machine → AfterSteps Machine
+  abbrev after_step : AfterSteps MonitoredMachine → Outcome → MonitoredMachine → AfterSteps MonitoredMachine
   after_step before outcome state = with_step before (record { state = state; outcome = outcome.step; entered = outcome.entered })
 
-  abbrev next_run : ℕ → AfterSteps Machine → Outcome → Machine → AfterRun Machine
+  abbrev next_run : ℕ → AfterSteps MonitoredMachine → Outcome → MonitoredMachine → AfterRun MonitoredMachine
   next_run left before outcome state =
       let after = after_step before outcome state in
       next_of after (on left after) (lowest_accessed watches outcome.step.touched) (left == 0) (is_among (hart_pc hart state) breaks)
 
   -- a slot that was entered stays so
-  abbrev Enters : AfterRun Machine → AfterRun Machine → Type 0
+  abbrev Enters : AfterRun MonitoredMachine → AfterRun MonitoredMachine → Type 0
   Enters end _ = is_entered e end.ran.entered ≡ true
 
-  stays-entered : (left : ℕ) (before : AfterSteps Machine) → is_entered e before.entered ≡ true
+  stays-entered : (left : ℕ) (before : AfterSteps MonitoredMachine) → is_entered e before.entered ≡ true
       → is_entered e (on left before).ran.entered ≡ true
   stays-entered =
-      by_run (hart_stepped hart) (hart_pc hart) breaks watches (λ before end. is_entered e before.entered ≡ true → Enters end end)
+      run_induction (hart_stepped hart) (hart_pc hart) breaks watches (λ before end. is_entered e before.entered ≡ true → Enters end end)
       (λ after stop is. is) (λ before end more is. more (enters-with e before.entered (hart_stepped hart before.state).entered is))
 
   -- and so does one that this step enters
-  entered-next : (left : ℕ) (before : AfterSteps Machine) (outcome : Outcome) (state : Machine) → outcome.entered ≡ Some e
+  entered-next : (left : ℕ) (before : AfterSteps MonitoredMachine) (outcome : Outcome) (state : MonitoredMachine) → outcome.entered ≡ Some e
       → is_entered e (next_run left before outcome state).ran.entered ≡ true
   entered-next left before outcome state is =
       let after = after_step before outcome state in
       let more = on left after in
       let now = enters-now e before.entered outcome.entered is in
-      by_next Enters after after more more (lowest_accessed watches outcome.step.touched) (left == 0) (is_among (hart_pc hart state) breaks)
+      next_cases Enters after after more more (lowest_accessed watches outcome.step.touched) (left == 0) (is_among (hart_pc hart state) breaks)
       (λ stop. now) (stays-entered left after now)
 
-  pub run-alike : (left : ℕ) (before : AfterSteps Machine) (other : Machine) → IsKept before.state → IsKept other
-      → AgreeBut e before.state other → runs_on e hart before.state ≡ false
+  pub run-alike : (left : ℕ) (before : AfterSteps MonitoredMachine) (other : MonitoredMachine) → Invariant before.state → Invariant other
+      → EquivExcept e before.state other → runs_on e hart before.state ≡ false
       → RunAlike e hart (on left before) (on left (with_state before other))
   unfolding run
-  run-alike zero before other kept kept' agree rests = inr (record { ran = refl; state = agree; rests = rests })
-  run-alike (suc left) before other kept kept' agree rests =
+  run-alike zero before other kept kept' equiv not_running = inr (record { ran = refl; state = equiv; not_running = not_running })
+  run-alike (suc left) before other kept kept' equiv not_running =
       let one = step_of hart before.state in
       let two = step_of hart other in
       let after = after_step before one.outcome one.state in
       let hit = lowest_accessed watches one.outcome.step.touched in
-      let both = confidentiality hart before.state kept e other kept' agree rests in
+      let both = noninterference hart before.state kept e other kept' equiv not_running in
       elim (cases_Bool (enters e one.outcome.entered)) [
         | inl enters_it ↦
             let is = entered_some e one.outcome.entered enters_it in
@@ -100,13 +100,13 @@ module _ (e hart : ℕ) (breaks watches : List ℕ) where
               there = entered-next left (with_state before other) two.outcome two.state (ap (λ (outcome : Outcome). outcome.entered) (sym both.outcome) ∙ is);
             })
         | inr passes ↦
-            let still = entry_law e hart hart before.state rests passes in
-            let more = run-alike left after two.state (kept_law hart before.state kept) (kept_law hart other kept') both.state still in
-            let stops = λ (stop : Stop). inr (record { ran = refl; state = both.state; rests = still }) in
-            let alike = by_next (RunAlike e hart) after (with_state after two.state) _ _ hit (left == 0)
+            let still = entry_law e hart hart before.state not_running passes in
+            let more = run-alike left after two.state (invariant_law hart before.state kept) (invariant_law hart other kept') both.state still in
+            let stops = λ (stop : Stop). inr (record { ran = refl; state = both.state; not_running = still }) in
+            let alike = next_cases (RunAlike e hart) after (with_state after two.state) _ _ hit (left == 0)
             (is_among (hart_pc hart one.state) breaks) stops more in
-            let seats = (let state = both.state in state.seats hart) in
-            let place = ap (λ (seat : Seat). is_among seat.hart.pc breaks) (seats.same still) in
+            let hart_states = (let state = both.state in state.hart_states hart) in
+            let place = ap (λ (hart_state : HartState). is_among hart_state.hart.pc breaks) (hart_states.same still) in
             subst (λ (outcome : Outcome). RunAlike e hart (next_run left before one.outcome one.state)
             (next_run left (with_state before other) outcome two.state)) both.outcome
             (subst (λ (here : Bool). RunAlike e hart (next_run left before one.outcome one.state)

@@ -1,9 +1,9 @@
 -- Steps of a target are those of the machine that it is.
 use Rattle.std.proofs.Common.{◌≡◌, ℕ, zero, suc, ◌==◌, List, refl, sym, ◌∙◌, ap}
-use Rattle.rv_debug.specs.Prelude.{Bare, Machine, Monitored, Ran, State, Target, seat_of, step_of}
-use Rattle.rv_debug.proofs.Prelude.{AfterRun, AfterSteps, Chosen, Stepped, chosen_at, chosen_seat, chosen_stepped, is_among}
+use Rattle.rv_debug.specs.Prelude.{Bare, MonitoredMachine, Monitored, Ran, Machine, Target, hart_state_of, step_of}
+use Rattle.rv_debug.proofs.Prelude.{AfterRun, AfterSteps, Selected, Stepped, selected_at, selected_hart_state, selected_stepped, is_among}
 use Rattle.rv_debug.proofs.Prelude.{lowest_accessed, machine_stepped, no_steps, pc_of, run, target_stepped, with_step, with_target}
-use Rattle.rv_debug.proofs.Stepping.{by_next, by_run, next_of}
+use Rattle.rv_debug.proofs.Stepping.{next_cases, run_induction, next_of}
 
 abbrev pub in_target : {A : Type 0} → (A → Target) → AfterSteps A → AfterSteps Target
 in_target target after = record { state = target after.state; steps = after.steps; trap = after.trap; entered = after.entered }
@@ -29,7 +29,7 @@ module _ {A : Type 0} (target : A → Target) (step : A → Stepped A) (pc : A �
       let after = with_step before last in
       ap (λ (seen : Stepped Target). next_in left (in_target target before) seen (pc_of seen.state)) (steps before.state)
       ∙ (ap (next_in left (in_target target before) (with_target target last)) (pcs last.state)
-      ∙ by_next (λ (there : AfterRun Target) (here : AfterRun A). there ≡ target_of target here) (in_target target after) after _ _
+      ∙ next_cases (λ (there : AfterRun Target) (here : AfterRun A). there ≡ target_of target here) (in_target target after) after _ _
       (lowest_accessed watches last.outcome.touched) (left == 0) (is_among (pc last.state) breaks) (λ stop. refl) (run-in left after))
 
   -- what a run of the machine gives, said of the target
@@ -38,47 +38,47 @@ module _ {A : Type 0} (target : A → Target) (step : A → Stepped A) (pc : A �
       → run target_stepped pc_of breaks watches count (no_steps (target machine)) ≡ record { state = target after; ran = ran }
   runs-in count machine after ran is = run-in count (no_steps machine) ∙ ap (target_of target) is
 
-abbrev pub machine_pc : State → ℕ
+abbrev pub machine_pc : Machine → ℕ
 machine_pc machine = machine.hart.pc
 
 -- of a machine under the monitor, whose chosen hart stays so
-abbrev pub hart_stepped : ℕ → Machine → Stepped Machine
+abbrev pub hart_stepped : ℕ → MonitoredMachine → Stepped MonitoredMachine
 hart_stepped hart machine =
     let after = step_of hart machine in
     record { state = after.state; outcome = after.outcome.step; entered = after.outcome.entered }
 
-abbrev pub hart_pc : ℕ → Machine → ℕ
-hart_pc hart machine = (seat_of hart machine).hart.pc
+abbrev pub hart_pc : ℕ → MonitoredMachine → ℕ
+hart_pc hart machine = (hart_state_of hart machine).hart.pc
 
-pub runs_bare : (breaks watches : List ℕ) (count : ℕ) (machine after : State) (ran : Ran)
+pub runs_bare : (breaks watches : List ℕ) (count : ℕ) (machine after : Machine) (ran : Ran)
     → run machine_stepped machine_pc breaks watches count (no_steps machine) ≡ record { state = after; ran = ran }
     → run target_stepped pc_of breaks watches count (no_steps (Bare machine)) ≡ record { state = Bare after; ran = ran }
 runs_bare breaks watches = runs-in Bare machine_stepped machine_pc (λ machine. refl) (λ machine. refl) breaks watches
 
-pub run_monitored : (hart : ℕ) (breaks watches : List ℕ) (count : ℕ) (before : AfterSteps Machine)
-    → run target_stepped pc_of breaks watches count (in_target (chosen_at hart) before) ≡ target_of (chosen_at hart)
+pub run_monitored : (hart : ℕ) (breaks watches : List ℕ) (count : ℕ) (before : AfterSteps MonitoredMachine)
+    → run target_stepped pc_of breaks watches count (in_target (selected_at hart) before) ≡ target_of (selected_at hart)
     (run (hart_stepped hart) (hart_pc hart) breaks watches count before)
-run_monitored hart breaks watches = run-in (chosen_at hart) (hart_stepped hart) (hart_pc hart) (λ machine. refl) (λ machine. refl) breaks watches
+run_monitored hart breaks watches = run-in (selected_at hart) (hart_stepped hart) (hart_pc hart) (λ machine. refl) (λ machine. refl) breaks watches
 
 -- ---- a machine alone enters no enclave
 
-entered-none : (breaks watches : List ℕ) (count : ℕ) (before : AfterSteps State)
+entered-none : (breaks watches : List ℕ) (count : ℕ) (before : AfterSteps Machine)
     → (run machine_stepped machine_pc breaks watches count before).ran.entered ≡ before.entered
 entered-none breaks watches =
-    by_run machine_stepped machine_pc breaks watches (λ before end. end.ran.entered ≡ before.entered) (λ after stop. refl)
+    run_induction machine_stepped machine_pc breaks watches (λ before end. end.ran.entered ≡ before.entered) (λ after stop. refl)
     (λ before end same. same)
 
-pub enters_none : (breaks watches : List ℕ) (count : ℕ) (machine after : State) (ran : Ran)
+pub enters_none : (breaks watches : List ℕ) (count : ℕ) (machine after : Machine) (ran : Ran)
     → run machine_stepped machine_pc breaks watches count (no_steps machine) ≡ record { state = after; ran = ran } → ran.entered ≡ 0
 enters_none breaks watches count machine after ran is =
-    ap (λ (a : AfterRun State). a.ran.entered) (sym is) ∙ entered-none breaks watches count (no_steps machine)
+    ap (λ (a : AfterRun Machine). a.ran.entered) (sym is) ∙ entered-none breaks watches count (no_steps machine)
 
 -- ---- of a chosen hart
 
-abbrev pub chosen_pc : Chosen → ℕ
-chosen_pc chosen = (chosen_seat chosen).hart.pc
+abbrev pub selected_pc : Selected → ℕ
+selected_pc selected = (selected_hart_state selected).hart.pc
 
-pub runs_chosen : (breaks watches : List ℕ) (count : ℕ) (machine after : Chosen) (ran : Ran)
-    → run chosen_stepped chosen_pc breaks watches count (no_steps machine) ≡ record { state = after; ran = ran }
+pub runs_selected : (breaks watches : List ℕ) (count : ℕ) (machine after : Selected) (ran : Ran)
+    → run selected_stepped selected_pc breaks watches count (no_steps machine) ≡ record { state = after; ran = ran }
     → run target_stepped pc_of breaks watches count (no_steps (Monitored machine)) ≡ record { state = Monitored after; ran = ran }
-runs_chosen breaks watches = runs-in Monitored chosen_stepped chosen_pc (λ machine. refl) (λ machine. refl) breaks watches
+runs_selected breaks watches = runs-in Monitored selected_stepped selected_pc (λ machine. refl) (λ machine. refl) breaks watches

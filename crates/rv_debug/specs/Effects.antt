@@ -4,13 +4,13 @@ use Rattle.rv_debug.specs.Prelude.{Command, Hart, Poke, Run, Sched, SetReg, Step
 use Rattle.rv_debug.specs.BenchState.{BenchState}
 use Rattle.rv_debug.specs.ScheduledSteps.{schedule_start, scheduled_steps}
 use Rattle.rv_debug.specs.Steps.{AfterRun, no_steps, run}
-use Rattle.rv_debug.specs.Targets.{chosen_of, harts_of, pc_of, target_stepped, register_set, timer_set, poked, with_chosen}
+use Rattle.rv_debug.specs.Targets.{selected_of, harts_of, pc_of, target_stepped, register_set, timer_set, poked, with_selected}
 
 -- no effect; steps of these harts in this order, after which the given hart is chosen; a write of a register of the chosen hart; a change
 -- of its timer line; a write of a byte, if its address is in memory
 pub data Effect : Type 0 where
   Nothing : Effect
-  Steps : (harts : List ℕ) (chosen : ℕ) → Effect
+  Steps : (harts : List ℕ) (selected : ℕ) → Effect
   Register : (number value : ℕ) → Effect
   TimerLine : (raised : Bool) → Effect
   OneByte : (address byte : ℕ) → Effect
@@ -19,19 +19,19 @@ pub data Effect : Type 0 where
 
 abbrev pub done : Target → Effect → Target
 done target Nothing = target
-done target (Steps harts chosen) = with_chosen chosen (scheduled_steps harts (schedule_start target)).state
+done target (Steps harts selected) = with_selected selected (scheduled_steps harts (schedule_start target)).state
 done target (Register number value) = register_set target number value
 done target (TimerLine raised) = timer_set target raised
 done target (OneByte address byte) = option_case (poked target address byte) target (λ after. after)
 
 -- the slots of the enclaves that the effect enters, as bits
 abbrev pub entered_by : Target → Effect → ℕ
-entered_by target (Steps harts chosen) = (scheduled_steps harts (schedule_start target)).did.entered
+entered_by target (Steps harts selected) = (scheduled_steps harts (schedule_start target)).did.entered
 entered_by target _ = 0
 
 -- the harts whose steps the effect executes, one for each step, in order
 abbrev pub harts_stepped : Effect → List ℕ
-harts_stepped (Steps harts chosen) = harts
+harts_stepped (Steps harts selected) = harts
 harts_stepped _ = []
 
 -- ---- the effect of a command
@@ -42,7 +42,7 @@ steps_of target breaks watches count = run target_stepped pc_of breaks watches c
 
 abbrev pub run_effect : Target → List ℕ → List ℕ → ℕ → Effect
 run_effect target breaks watches count =
-    Steps (replicate (steps_of target breaks watches count).ran.steps (chosen_of target)) (chosen_of target)
+    Steps (replicate (steps_of target breaks watches count).ran.steps (selected_of target)) (selected_of target)
 
 -- a hart is chosen, if there is one with this number
 abbrev pub hart_effect : Target → ℕ → Effect
@@ -50,7 +50,7 @@ hart_effect target hart = if nat_lt hart (harts_of target) then Steps [] hart el
 
 -- the steps of a schedule do not change the chosen hart; if the schedule names a hart that does not exist, no step is executed
 abbrev pub sched_effect : Target → List ℕ → Effect
-sched_effect target harts = if has_all (harts_of target) harts then Steps harts (chosen_of target) else Nothing
+sched_effect target harts = if has_all (harts_of target) harts then Steps harts (selected_of target) else Nothing
 
 abbrev pub effect : BenchState → Command → Effect
 effect bench (Step count) = run_effect bench.target [] [] count

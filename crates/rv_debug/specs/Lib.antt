@@ -1,9 +1,9 @@
 pub mod Prelude
 pub mod Addresses
-pub mod Answer
-pub mod Chosen
+pub mod Execute
+pub mod Selected
 pub mod BenchState
-pub mod Confidentiality
+pub mod Noninterference
 pub mod Effects
 pub mod EnclaveText
 pub mod FastSteps

@@ -4,7 +4,7 @@ use Rattle.std.specs.Prelude.{Option, None, if◌then◌else◌}
 use Rattle.std.specs.Option.{option_or}
 use Rattle.rv_debug.specs.Prelude.{HartRan, Ran, Scheduled, Target, Trap}
 use Rattle.rv_debug.specs.Steps.{Stepped, slots_with}
-use Rattle.rv_debug.specs.Targets.{target_stepped, with_chosen}
+use Rattle.rv_debug.specs.Targets.{target_stepped, with_selected}
 
 -- a target after scheduled steps, and a summary of them
 pub record AfterSchedule : Type 0 where
@@ -19,8 +19,8 @@ abbrev pub schedule_start : Target → AfterSchedule
 schedule_start state = record { state = state; did = record { first = nothing_ran; second = nothing_ran; entered = 0 } }
 
 -- the summary of two runs, one of each hart
-abbrev pub runs_told : Ran → Ran → Scheduled
-runs_told first second = record {
+abbrev pub schedule_summary : Ran → Ran → Scheduled
+schedule_summary first second = record {
   first = record { steps = first.steps; trap = first.trap };
   second = record { steps = second.steps; trap = second.trap };
   entered = bit_or first.entered second.entered;
@@ -44,4 +44,4 @@ with_scheduled_step hart before last = record {
 -- one step of each of these harts, in this order; breakpoints and watchpoints do not matter, and the last hart is chosen then
 unfoldable pub scheduled_steps : List ℕ → AfterSchedule → AfterSchedule
 scheduled_steps [] before = before
-scheduled_steps (hart ∷ harts) before = scheduled_steps harts (with_scheduled_step hart before (target_stepped (with_chosen hart before.state)))
+scheduled_steps (hart ∷ harts) before = scheduled_steps harts (with_scheduled_step hart before (target_stepped (with_selected hart before.state)))

@@ -1,29 +1,34 @@
 -- What commands work on, in the few words in which the answers speak of it. (This project's own debugger.)
-use Rattle.std.specs.Prelude.{ℕ, Bool, List, [], ◌∷◌, ◌++◌, codes, decimal, Option, None}
+use Rattle.std.specs.Prelude.{ℕ, Bool, false, List, [], ◌∷◌, ◌++◌, codes, decimal, Option, Some, None, IfSome}
 use Rattle.std.specs.Option.{option_map}
 use Rattle.rv_hart.specs.HartState.{Hart}
 use Rattle.rv_hart.specs.Step.{step}
 use Rattle.rv_enclaves.specs.declared.world.World.{World}
 use Rattle.rv_enclaves.specs.declared.world.World.TheVariants.{Host, Enclave}
-use Rattle.rv_debug.specs.Prelude.{Bare, IsKept, Machine, Monitored, Seat, State, Target, count_of, seat_of, step_of, with_memory}
-use Rattle.rv_debug.specs.Prelude.{with_reg, with_register, with_timer, write}
-use Rattle.rv_debug.specs.Chosen.{Chosen}
+use Rattle.rv_debug.specs.Prelude.{HostContextsAreLegal, Bare, Invariant, MonitoredMachine, Monitored, HartState, Machine, Target, count_of, is_live, option_case}
+use Rattle.rv_debug.specs.Prelude.{hart_state_of, step_of, with_memory, with_reg, with_register, with_timer, write}
+use Rattle.rv_debug.specs.Selected.{Selected}
 use Rattle.rv_debug.specs.EnclaveText.{table_text}
 use Rattle.rv_debug.specs.Steps.{Stepped}
 
+-- the monitored machine of a target, if it is monitored
+abbrev pub machine_in : Target → Option MonitoredMachine
+machine_in (Bare machine) = None
+machine_in (Monitored selected) = Some selected.state
+
 -- the seat of the chosen hart
-abbrev pub chosen_seat : Chosen → Seat
-chosen_seat chosen = seat_of chosen.hart chosen.state
+abbrev pub selected_hart_state : Selected → HartState
+selected_hart_state selected = hart_state_of selected.hart selected.state
 
 -- its hart; of two, the chosen one
 abbrev pub hart_of : Target → Hart
 hart_of (Bare machine) = machine.hart
-hart_of (Monitored chosen) = (chosen_seat chosen).hart
+hart_of (Monitored selected) = (selected_hart_state selected).hart
 
 -- its memory
 abbrev pub memory_of : Target → List ℕ
 memory_of (Bare machine) = machine.memory
-memory_of (Monitored chosen) = chosen.state.shared.memory
+memory_of (Monitored selected) = selected.state.shared.memory
 
 -- the name of a world: `host`, or `e` and the slot
 abbrev pub world_name : World → List ℕ
@@ -33,71 +38,74 @@ world_name (Enclave slot) = codes "e" ++ decimal slot
 -- the name of its world
 abbrev pub world_text : Target → List ℕ
 world_text (Bare machine) = codes "bare"
-world_text (Monitored chosen) = world_name (chosen_seat chosen).world
+world_text (Monitored selected) = world_name (selected_hart_state selected).world
 
 -- a line for each of its live enclaves; a machine alone has none
 abbrev pub enclaves_text : Target → List ℕ
-enclaves_text (Bare machine) = []
-enclaves_text (Monitored chosen) = table_text chosen.state.shared.table
+enclaves_text target = option_case (machine_in target) [] (λ machine. table_text machine.shared.table)
+
+-- whether the enclave of slot e is live
+abbrev pub is_live_in : ℕ → Target → Bool
+is_live_in e target = option_case (machine_in target) false (λ machine. is_live machine.shared.table e)
 
 -- the address of its next instruction
 abbrev pub pc_of : Target → ℕ
 pc_of target = (hart_of target).pc
 
 -- a machine alone after one step: it enters no enclave
-abbrev pub machine_stepped : State → Stepped State
+abbrev pub machine_stepped : Machine → Stepped Machine
 machine_stepped machine = let after = step machine in record { state = after.state; outcome = after.outcome; entered = None }
 
 -- a monitored machine after one step of the chosen hart
-abbrev pub chosen_stepped : Chosen → Stepped Chosen
-chosen_stepped chosen =
-    let after = step_of chosen.hart chosen.state in
-    record { state = record { hart = chosen.hart; state = after.state }; outcome = after.outcome.step; entered = after.outcome.entered }
+abbrev pub selected_stepped : Selected → Stepped Selected
+selected_stepped selected =
+    let after = step_of selected.hart selected.state in
+    record { state = record { hart = selected.hart; state = after.state }; outcome = after.outcome.step; entered = after.outcome.entered }
 
 -- the same of a target
 abbrev pub with_target : {A : Type 0} → (A → Target) → Stepped A → Stepped Target
 with_target target after = record { state = target after.state; outcome = after.outcome; entered = after.entered }
 
 -- a machine under the monitor with a chosen hart
-abbrev pub chosen_at : ℕ → Machine → Target
-chosen_at hart state = Monitored (record { hart = hart; state = state })
+abbrev pub selected_at : ℕ → MonitoredMachine → Target
+selected_at hart state = Monitored (record { hart = hart; state = state })
 
 -- a target after one step, of the chosen hart
 abbrev pub target_stepped : Target → Stepped Target
 target_stepped (Bare machine) = with_target Bare (machine_stepped machine)
-target_stepped (Monitored chosen) = with_target Monitored (chosen_stepped chosen)
+target_stepped (Monitored selected) = with_target Monitored (selected_stepped selected)
 
 -- how many harts it has
 abbrev pub harts_of : Target → ℕ
 harts_of (Bare machine) = 1
-harts_of (Monitored chosen) = count_of chosen.state
+harts_of (Monitored selected) = count_of selected.state
 
 -- the number of the chosen hart
-abbrev pub chosen_of : Target → ℕ
-chosen_of (Bare machine) = 0
-chosen_of (Monitored chosen) = chosen.hart
+abbrev pub selected_of : Target → ℕ
+selected_of (Bare machine) = 0
+selected_of (Monitored selected) = selected.hart
 
 -- another hart chosen, which it has
-abbrev pub with_chosen : ℕ → Target → Target
-with_chosen hart (Bare machine) = Bare machine
-with_chosen hart (Monitored chosen) = chosen_at hart chosen.state
+abbrev pub with_selected : ℕ → Target → Target
+with_selected hart (Bare machine) = Bare machine
+with_selected hart (Monitored selected) = selected_at hart selected.state
 
 -- a word put into a register; x0 stays 0
 abbrev pub register_set : Target → ℕ → ℕ → Target
 register_set (Bare machine) number value =
     Bare (record machine { hart = record machine.hart { regs = with_register machine.hart.regs number value } })
-register_set (Monitored chosen) number value = chosen_at chosen.hart (with_reg chosen.hart chosen.state number value)
+register_set (Monitored selected) number value = selected_at selected.hart (with_reg selected.hart selected.state number value)
 
 -- the timer line raised or lowered
 abbrev pub timer_set : Target → Bool → Target
 timer_set (Bare machine) raised =
     Bare (record machine { hart = record machine.hart { csrs = record machine.hart.csrs { timer = raised } } })
-timer_set (Monitored chosen) raised = chosen_at chosen.hart (with_timer chosen.hart chosen.state raised)
+timer_set (Monitored selected) raised = selected_at selected.hart (with_timer selected.hart selected.state raised)
 
 -- a memory in place of its own
 abbrev pub over_memory : Target → List ℕ → Target
 over_memory (Bare machine) memory = Bare (record machine { memory = memory })
-over_memory (Monitored chosen) memory = chosen_at chosen.hart (with_memory chosen.state memory)
+over_memory (Monitored selected) memory = selected_at selected.hart (with_memory selected.state memory)
 
 -- a byte put into memory, where its address is in it
 abbrev pub poked : Target → ℕ → ℕ → Option Target
@@ -106,10 +114,13 @@ poked target address byte = option_map (over_memory target) (write (memory_of ta
 -- the target is a machine alone
 abbrev pub IsBare : Target → Type 0
 IsBare (Bare machine) = Unit {0}
-IsBare (Monitored chosen) = ⊥
+IsBare (Monitored selected) = ⊥
 
 -- where the target is monitored: its table is valid, the entries and mie are those of the table and the world, the mode is S or U, and
 -- MIE, MPRV, TVM, TW and TSR are 0
-abbrev pub KeepsMonitor : Target → Type 0
-KeepsMonitor (Bare machine) = Unit {0}
-KeepsMonitor (Monitored chosen) = IsKept chosen.state
+abbrev pub TargetInvariant : Target → Type 0
+TargetInvariant target = IfSome (machine_in target) Invariant
+
+-- what is kept of the host of each hart is as a hart stores it
+abbrev pub HostContextsAreLegalIn : Target → Type 0
+HostContextsAreLegalIn target = IfSome (machine_in target) HostContextsAreLegal

@@ -1,16 +1,16 @@
 //! The bench: a machine and the debugger's state.
 
 use crate::addresses::Addresses;
-use crate::answer::{
-    answer_access, answer_csr, answer_dis, answer_hart, answer_mem, answer_poke, answer_removal,
-    answer_run, answer_sched, answer_setreg, answer_timer,
-};
-use crate::chosen::ChosenHart;
 use crate::enclaves::push_enclaves;
+use crate::execute::{
+    execute_access, execute_csr, execute_dis, execute_hart, execute_mem, execute_poke,
+    execute_removal, execute_run, execute_sched, execute_setreg, execute_timer,
+};
 use crate::reply::{push_fault, push_pmp, push_register, push_registers, push_set};
+use crate::selected_hart::SelectedHart;
 use crate::target::Target;
 use rv_hart::Machine;
-use rv_monitor::{Monitored, Slot};
+use rv_monitor::{MonitoredMachine, Slot};
 use rv_script::{Command, parse};
 use rv_text::Reply;
 use std::fmt;
@@ -29,22 +29,17 @@ impl Model for Bench {
 
     ghost Value = { BenchState };
 
-    ghost use Rattle.rv_debug.specs.Targets.{KeepsMonitor};
-
     ghost view = { λ bench. record { target = bench.target; breaks = bench.breaks; watches = bench.watches } };
-
-    ghost invariant = { λ bench. KeepsMonitor bench.target };
 }
 
 impl Bench {
     ghost use Rattle.std.specs.Prelude.{◌≡◌, ℕ, true, false, List, [], take};
     ghost use Rattle.arrayvec.specs.ArrayVec.{array_vec_len};
-    ghost use Rattle.rv_debug.specs.Answer.{answer, line_answer, only_shows};
+    ghost use Rattle.rv_debug.specs.Execute.{execute, execute_line, only_shows};
     ghost use Rattle.rv_debug.specs.BenchState.{bare, monitored};
-    ghost use Rattle.rv_debug.specs.Isolation.{TellsReach, ChangesMemory, SparesResting, SparesHarts};
-    ghost use Rattle.rv_debug.specs.Returns.{IsStoredIn};
-    ghost use Rattle.rv_debug.specs.Targets.{IsBare, KeepsMonitor};
-    ghost use Rattle.rv_debug.specs.BothBenches.{BenchesAgreeBut, RestsIn, can_scramble, is_blind, scrambled};
+    ghost use Rattle.rv_debug.specs.Isolation.{ReportsAccess, ChangesMemory, PreservesUndisturbed, PreservesHarts};
+    ghost use Rattle.rv_debug.specs.Targets.{IsBare, HostContextsAreLegalIn, TargetInvariant};
+    ghost use Rattle.rv_debug.specs.BothBenches.{BenchesEquivExcept, RunsOnNoHart, can_scramble, is_blind, scrambled};
 
     /// A bench over a machine as it is, with no break and no watch.
     pub fn bare(machine: Machine) -> Self
@@ -54,16 +49,14 @@ impl Bench {
     }
 
     /// A bench over a monitored machine as it is, with hart 0 chosen, no break and no watch.
-    pub fn monitored(machine: Monitored) -> Self
+    pub fn monitored(machine: MonitoredMachine) -> Self
         ensures { result ≡ monitored machine }
     {
-        machine.invariant();
-        Bench::over(Target::Monitored(ChosenHart { machine, hart: 0 }))
+        Bench::over(Target::Monitored(SelectedHart { machine, hart: 0 }))
     }
 
     /// A bench over a target, with no break and no watch.
     fn over(target: Target) -> Self
-        requires { KeepsMonitor target }
         ensures { result ≡ record { target = target; breaks = []; watches = [] } }
     {
         Bench {
@@ -73,12 +66,15 @@ impl Bench {
         }
     }
 
-    /// What holds in every state. It does nothing.
+    /// The invariant of a bench, as facts to cite. It does nothing. Of a bare bench it says nothing; of a monitored one:
+    /// - `monitor`: the table of enclaves is valid, and of each hart the PMP entries and mie are those of the table and its world, the mode is
+    ///   S or U, and MIE, MPRV, TVM, TW and TSR are 0;
+    /// - `stored`: what is kept of the host of each hart is as a hart stores it, which `laws::host_is_restored` needs.
     pub fn invariant(&self)
-        ensures { KeepsMonitor self.now.target }
+        ensures monitor { TargetInvariant self.now.target }
+        ensures legal { HostContextsAreLegalIn self.now.target }
     {
-        // brings in what holds of every bench
-        let _ = &self.target;
+        self.target.invariant();
     }
 
     /// Whether a command is blind to the enclave of a slot: it is not a mem, dis or poke with a byte in its region.
@@ -96,80 +92,74 @@ impl Bench {
     ///
     /// Returns a number with bit k set where the enclave of slot k was entered: 0 where the bench is bare.
     ///
-    /// `answer` is all of it. Of what follows, `monitor` is what holds in every state of a monitored bench: the table of enclaves is
-    /// valid, and of each hart the PMP entries and mie are those of the table and its world, the mode is S or U, and MIE, MPRV, TVM, TW
-    /// and TSR are 0. `reach` is that `access`, in S and U, is told to be permitted exactly where it is in the reach of the world that
-    /// runs on the chosen hart. `changes` is that a byte of memory changes only where it is poked, or where a step changes it in its
-    /// world's reach, by a destroy or by a measure. `spares` is that the command changes neither record nor region nor context of a live
-    /// enclave that is not the world of a hart that steps, that it does not enter or end, and of whose region it pokes no byte: it may run
-    /// on the other hart. `beside` is that a hart of which the command makes no step, and sets no register and no timer line, keeps its
-    /// world, registers, pc and mode, and all but the entries and mie. `stored` is that what is kept of the host of each hart is as a hart
-    /// stores it, which the host that comes back rests on.
+    /// `execute` is all of it. The other clauses follow from it and the invariant:
+    /// - `accessible`: in S and U, `access` is told to be permitted exactly where it is in the reach of the world that runs on the chosen hart;
+    /// - `changes`: a byte of memory changes only where it is poked, or where a step changes it in its world's reach, by a destroy or by a
+    ///   measure;
+    /// - `integrity`: the command changes neither record nor region nor context of a live enclave that is not the world of a hart that steps,
+    ///   that it does not enter or end, and of whose region it pokes no byte; the enclave may run on the other hart;
+    /// - `beside`: a hart of which the command makes no step, and sets no register and no timer line, keeps its world, registers, pc and mode,
+    ///   and all but the entries and mie.
     pub fn command(&mut self, command: &Command, out: &mut Reply) -> u16
-        ensures answer { answer self.old command.now ≡ record { state = self.new; reply = out.new.items; entered = result } }
+        ensures execute { execute self.old command.now ≡ record { state = self.new; reply = out.new.items; entered = result } }
         ensures bare { IsBare self.old.target → result ≡ 0 }
-        ensures monitor { KeepsMonitor self.new.target }
-        ensures reach { TellsReach self.old.target command.now }
+        ensures accessible { ReportsAccess self.old.target command.now }
         ensures changes { ChangesMemory self.old command.now self.new }
-        ensures spares { SparesResting self.old command.now self.new }
-        ensures beside { SparesHarts self.old command.now self.new }
-        ensures stored { IsStoredIn self.new.target }
+        ensures integrity { PreservesUndisturbed self.old command.now self.new }
+        ensures beside { PreservesHarts self.old command.now self.new }
     {
         self.invariant();
-        self.target.chosen();
-        let entered = self.answer(command, out);
-        self.target.stored();
-        entered
+        self.target.selected();
+        self.execute(command, out)
     }
 
     /// Does one command, and replies.
-    #[tactic(auto, unfolding(crate::specs::Answer::answer))]
-    fn answer(&mut self, command: &Command, out: &mut Reply) -> u16
-        ensures answer { answer self.old command.now ≡ record { state = self.new; reply = out.new.items; entered = result } }
+    #[tactic(auto, unfolding(crate::specs::Execute::execute))]
+    fn execute(&mut self, command: &Command, out: &mut Reply) -> u16
+        ensures execute { execute self.old command.now ≡ record { state = self.new; reply = out.new.items; entered = result } }
         ensures bare { IsBare self.old.target → result ≡ 0 }
-        ensures monitor { KeepsMonitor self.new.target }
     {
         out.clear();
         match *command {
             Command::Blank => {}
             Command::Step(count) => {
                 let none = Addresses::new();
-                return answer_run(&mut self.target, count, &none, &none, out);
+                return execute_run(&mut self.target, count, &none, &none, out);
             }
             Command::Run(count) => {
-                return answer_run(&mut self.target, count, &self.breaks, &self.watches, out);
+                return execute_run(&mut self.target, count, &self.breaks, &self.watches, out);
             }
             Command::Break(address) => push_set(out, self.breaks.insert(address)),
-            Command::Clear(address) => answer_removal(&mut self.breaks, address, out),
+            Command::Clear(address) => execute_removal(&mut self.breaks, address, out),
             Command::Watch(address) => push_set(out, self.watches.insert(address)),
-            Command::Unwatch(address) => answer_removal(&mut self.watches, address, out),
-            Command::SetReg(reg, value) => answer_setreg(&mut self.target, reg, value, out),
-            Command::Poke(address, byte) => answer_poke(&mut self.target, address, byte, out),
-            Command::Timer(raised) => answer_timer(&mut self.target, raised, out),
-            Command::Hart(hart) => answer_hart(&mut self.target, hart, out),
-            Command::Sched(schedule) => return answer_sched(&mut self.target, &schedule, out),
+            Command::Unwatch(address) => execute_removal(&mut self.watches, address, out),
+            Command::SetReg(reg, value) => execute_setreg(&mut self.target, reg, value, out),
+            Command::Poke(address, byte) => execute_poke(&mut self.target, address, byte, out),
+            Command::Timer(raised) => execute_timer(&mut self.target, raised, out),
+            Command::Hart(hart) => execute_hart(&mut self.target, hart, out),
+            Command::Sched(schedule) => return execute_sched(&mut self.target, &schedule, out),
             _ => self.show(command, out),
         }
         0
     }
 
     /// Replies to a command that only shows something. Nothing changes.
-    #[tactic(auto, unfolding(crate::specs::Answer::answer))]
+    #[tactic(auto, unfolding(crate::specs::Execute::execute))]
     fn show(&self, command: &Command, out: &mut Reply)
         requires kind { only_shows command.now ≡ true }
         requires empty { array_vec_len out.old ≡ 0 }
-        ensures { answer self.now command.now ≡ record { state = self.now; reply = out.new.items; entered = 0 } }
+        ensures { execute self.now command.now ≡ record { state = self.now; reply = out.new.items; entered = 0 } }
     {
         match *command {
             Command::Reg(reg) => push_register(out, reg, self.target.regs().get(reg)),
             Command::Regs => push_registers(
                 out,
                 self.target.regs(),
-                self.target.pc_at(self.target.chosen()),
+                self.target.pc_at(self.target.selected()),
             ),
-            Command::Csr(csr) => answer_csr(&self.target, csr, out),
-            Command::Mem(address, count) => answer_mem(&self.target, address, count, out),
-            Command::Dis(address) => answer_dis(&self.target, address, out),
+            Command::Csr(csr) => execute_csr(&self.target, csr, out),
+            Command::Mem(address, count) => execute_mem(&self.target, address, count, out),
+            Command::Dis(address) => execute_dis(&self.target, address, out),
             Command::Pmp => push_pmp(out, self.target.csrs().pmp()),
             Command::Enclaves => push_enclaves(out, &self.target),
             Command::Access {
@@ -177,7 +167,7 @@ impl Bench {
                 access,
                 address,
                 width,
-            } => answer_access(&self.target, mode, access, address, width, out),
+            } => execute_access(&self.target, mode, access, address, width, out),
             _ => {}
         }
     }
@@ -186,15 +176,14 @@ impl Bench {
     /// becomes FFFFFFFF - w), of one that has ended too: a bench that agrees with the one before in all else. It answers false, and nothing
     /// changes, only where the slot is free, its enclave runs, or the bench is bare.
     ///
-    /// `asked`, `meaning` and `same` are all of it. Of what follows, `agrees` is that the two benches differ in nothing but what is private
-    /// to the slot's enclave, `rests` that this runs on no hart, and `monitor` what holds in every state.
+    /// `asked`, `meaning` and `same` are all of it. Of what follows, `equivalent` is that the two benches differ in nothing but what is private
+    /// to the slot's enclave, and `not_running` that this runs on no hart.
     pub fn scramble(&mut self, slot: Slot) -> bool
         ensures asked { result ≡ can_scramble slot self.old }
         ensures meaning { result ≡ true → self.new ≡ scrambled slot self.old }
         ensures same { result ≡ false → self.new ≡ self.old }
-        ensures agrees { result ≡ true → BenchesAgreeBut slot self.old self.new }
-        ensures rests { result ≡ true → RestsIn slot self.old.target }
-        ensures monitor { KeepsMonitor self.new.target }
+        ensures equivalent { result ≡ true → BenchesEquivExcept slot self.old self.new }
+        ensures not_running { result ≡ true → RunsOnNoHart slot self.old.target }
     {
         self.invariant();
         self.target.scramble(slot)
@@ -203,17 +192,15 @@ impl Bench {
     /// Does what a line says, given without its ending, or replies with its first fault, and then nothing changes. The reply
     /// is put in place of what the buffer holds. Returns what `command` returns, and 0 at a fault. Every line that begins
     /// with the same 121 bytes has the same answer.
-    #[tactic(auto, using(crate::proofs::Answers::line_answer_front), unfolding(crate::specs::Answer::line_answer))]
-    pub fn answer_line(&mut self, line: &[u8], out: &mut Reply) -> u16
-        ensures answer { line_answer self.old line.now ≡ record { state = self.new; reply = out.new.items; entered = result } }
-        ensures front { (other : List ℕ) → take 121 other ≡ take 121 line.now → line_answer self.old other ≡ line_answer self.old line.now }
+    #[tactic(auto, using(crate::proofs::Execution::execute_line_prefix), unfolding(crate::specs::Execute::execute_line))]
+    pub fn execute_line(&mut self, line: &[u8], out: &mut Reply) -> u16
+        ensures execute { execute_line self.old line.now ≡ record { state = self.new; reply = out.new.items; entered = result } }
+        ensures prefix { (other : List ℕ) → take 121 other ≡ take 121 line.now → execute_line self.old other ≡ execute_line self.old line.now }
         ensures bare { IsBare self.old.target → result ≡ 0 }
-        ensures monitor { KeepsMonitor self.new.target }
     {
         match parse(line) {
             Ok(command) => self.command(&command, out),
             Err(fault) => {
-                self.invariant();
                 out.clear();
                 push_fault(out, fault);
                 0

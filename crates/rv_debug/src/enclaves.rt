@@ -116,6 +116,6 @@ pub(crate) fn push_enclaves(out: &mut Reply, target: &Target)
 {
     match target {
         Target::Bare(_) => {}
-        Target::Monitored(chosen) => push_table(out, chosen.machine.table()),
+        Target::Monitored(selected) => push_table(out, selected.machine.table()),
     }
 }

@@ -13,21 +13,21 @@
 #![tactic(auto)]
 
 mod addresses;
-mod answer;
 mod backoff;
 mod bench;
 mod both;
-mod chosen;
 mod enclaves;
+mod execute;
 mod free_limits;
 pub mod laws;
 mod reply;
 mod scheduled;
+mod selected_hart;
 mod steps;
 mod target;
 
 pub use bench::Bench;
 pub use both::{Both, BothLine, BothWhy, both_command, both_line, run_both};
-pub use chosen::ChosenHart;
 pub use rv_script::{ByteCount, Command, CommandFault, Schedule, StepCount, Within, parse};
+pub use selected_hart::SelectedHart;
 pub use target::Target;

@@ -2,9 +2,9 @@
 
 ghost use Rattle.std.specs.Prelude.{◌≡◌, ℕ, ◌+◌, ◌*◌, ◌<◌, ◌≤◌, ◌++◌, length, codes, decimal, if◌then◌else◌};
 ghost use Rattle.arrayvec.specs.ArrayVec.{array_vec_len};
-ghost use Rattle.rv_debug.specs.Answer.{hart_told};
+ghost use Rattle.rv_debug.specs.Execute.{hart_summary_text};
 ghost use Rattle.rv_debug.specs.ReplyText.{mode_text, stop_text, ran_text, hart_text, no_hart_text, trap_text, register_text, registers_text, pc_text, ok_text, csr_text, memory_text, dis_text, entry_text, pmp_text, verdict_text, denied_outside_text, full_text, command_fault_text, no_csr_text, outside_text};
-ghost use Rattle.rv_debug.specs.Targets.{hart_of, harts_of, pc_of, with_chosen, world_name, world_text};
+ghost use Rattle.rv_debug.specs.Targets.{hart_of, harts_of, pc_of, with_selected, world_name, world_text};
 
 use crate::scheduled::HartRan;
 use crate::steps::{Ran, Stop};
@@ -86,12 +86,12 @@ fn push_world_name(out: &mut Reply, world: World)
 fn push_world_at(out: &mut Reply, target: &Target, hart: u8)
     requires has { hart < harts_of target.now }
     requires room { array_vec_len out.old + 11 ≤ 2048 }
-    ensures items { out.new.items ≡ out.old.items ++ world_text (with_chosen hart target.now) }
+    ensures items { out.new.items ≡ out.old.items ++ world_text (with_selected hart target.now) }
     ensures len { array_vec_len out.new ≤ array_vec_len out.old + 11 }
 {
     match target {
         Target::Bare(_) => push_text(out, "bare"),
-        Target::Monitored(chosen) => push_world_name(out, chosen.machine.world(hart)),
+        Target::Monitored(selected) => push_world_name(out, selected.machine.world(hart)),
     }
 }
 
@@ -100,7 +100,7 @@ fn push_world_at(out: &mut Reply, target: &Target, hart: u8)
 pub(crate) fn push_hart(out: &mut Reply, target: &Target, hart: u8, ran: HartRan)
     requires has { hart < harts_of target.now }
     requires room { array_vec_len out.old + 87 ≤ 2048 }
-    ensures items { out.new.items ≡ out.old.items ++ hart_told target.now hart ran }
+    ensures items { out.new.items ≡ out.old.items ++ hart_summary_text target.now hart ran }
     ensures len { array_vec_len out.new ≤ array_vec_len out.old + 87 }
 {
     push_text(out, "hart ");
@@ -126,7 +126,7 @@ pub(crate) fn push_ran(out: &mut Reply, target: &Target, ran: Ran)
     ensures items { out.new.items ≡ out.old.items ++ ran_text (pc_of target.now) (hart_of target.now).mode (world_text target.now) ran }
     ensures len { array_vec_len out.new ≤ array_vec_len out.old + 97 }
 {
-    let hart = target.chosen();
+    let hart = target.selected();
     push_text(out, "ran ");
     push_decimal(out, ran.steps);
     push_text(out, " pc=");

@@ -4,15 +4,13 @@ ghost use Rattle.std.specs.Prelude.{◌≡◌, ◌<◌, ◌^◌, [], Some, None}
 ghost use Rattle.std.specs.Bool.{OnTrue, OnFalse};
 ghost use Rattle.rv_word.specs.Cases.{option_case};
 ghost use Rattle.rv_platform.specs.Blocks.{no_block};
-ghost use Rattle.rv_monitor.specs.State.{IsKept};
-ghost use Rattle.rv_debug.specs.Returns.{IsStoredIn};
 ghost use Rattle.rv_debug.specs.FastSteps.{so_far_in};
 ghost use Rattle.rv_debug.specs.Steps.{ended, no_steps, run, with_step};
-ghost use Rattle.rv_debug.specs.BothBenches.{TargetsAgreeBut, can_scramble_in, region_in, scrambled_in};
-ghost use Rattle.rv_debug.specs.Targets.{chosen_of, hart_of, harts_of, memory_of, pc_of, target_stepped, with_chosen, register_set, timer_set, poked, IsBare, KeepsMonitor};
+ghost use Rattle.rv_debug.specs.BothBenches.{TargetsEquivExcept, can_scramble_in, region_in, scrambled_in};
+ghost use Rattle.rv_debug.specs.Targets.{selected_of, hart_of, harts_of, memory_of, pc_of, target_stepped, with_selected, register_set, timer_set, poked, IsBare, HostContextsAreLegalIn, TargetInvariant};
 
 use crate::addresses::Addresses;
-use crate::chosen::ChosenHart;
+use crate::selected_hart::SelectedHart;
 use crate::steps::{Ran, Stop, one_more, run_steps};
 use rv_hart::{Limits, Machine};
 use rv_memory::Ram;
@@ -27,16 +25,17 @@ pub enum Target {
     /// A machine alone.
     Bare(Machine),
     /// A machine under the monitor, of which commands work on one hart.
-    Monitored(ChosenHart),
+    Monitored(SelectedHart),
 }
 
 impl Target {
-    /// What is kept of the host of each hart is as a hart stores it. It does nothing.
-    pub(crate) fn stored(&self)
-        ensures { IsStoredIn self.now }
+    /// The invariant of a monitored machine, and that what is kept of the host of each hart is as a hart stores it. It does nothing.
+    pub(crate) fn invariant(&self)
+        ensures monitor { TargetInvariant self.now }
+        ensures legal { HostContextsAreLegalIn self.now }
     {
-        if let Target::Monitored(chosen) = self {
-            chosen.machine.invariant();
+        if let Target::Monitored(selected) = self {
+            selected.machine.invariant();
         }
     }
 
@@ -46,7 +45,7 @@ impl Target {
     {
         match self {
             Target::Bare(machine) => machine.regs(),
-            Target::Monitored(chosen) => chosen.machine.regs(chosen.hart),
+            Target::Monitored(selected) => selected.machine.regs(selected.hart),
         }
     }
 
@@ -56,7 +55,7 @@ impl Target {
     {
         match self {
             Target::Bare(machine) => machine.csrs(),
-            Target::Monitored(chosen) => chosen.machine.csrs(chosen.hart),
+            Target::Monitored(selected) => selected.machine.csrs(selected.hart),
         }
     }
 
@@ -66,7 +65,7 @@ impl Target {
     {
         match self {
             Target::Bare(machine) => machine.ram(),
-            Target::Monitored(chosen) => chosen.machine.ram(),
+            Target::Monitored(selected) => selected.machine.ram(),
         }
     }
 
@@ -76,7 +75,11 @@ impl Target {
     {
         match self {
             Target::Bare(_) => None,
-            Target::Monitored(chosen) => chosen.machine.table().get(slot).map(|info| info.region),
+            Target::Monitored(selected) => selected
+                .machine
+                .table()
+                .get(slot)
+                .map(|info| info.region),
         }
     }
 
@@ -87,76 +90,73 @@ impl Target {
     {
         match self {
             Target::Bare(_) => 1,
-            Target::Monitored(chosen) => chosen.machine.harts(),
+            Target::Monitored(selected) => selected.machine.harts(),
         }
     }
 
     /// The number of the chosen hart, which it has.
-    pub(crate) fn chosen(&self) -> u8
-        ensures chosen { result ≡ chosen_of self.now }
+    pub(crate) fn selected(&self) -> u8
+        ensures selected { result ≡ selected_of self.now }
         ensures has { result < harts_of self.now }
-        ensures step_scheduled { with_chosen result self.now ≡ self.now }
+        ensures step_scheduled { with_selected result self.now ≡ self.now }
     {
         match self {
             Target::Bare(_) => 0,
-            Target::Monitored(chosen) => chosen.hart,
+            Target::Monitored(selected) => selected.hart,
         }
     }
 
     /// Chooses a hart.
-    pub(crate) fn choose(&mut self, hart: u8)
+    pub(crate) fn select(&mut self, hart: u8)
         requires { hart < harts_of self.old }
-        ensures step_scheduled { self.new ≡ with_chosen hart self.old }
+        ensures step_scheduled { self.new ≡ with_selected hart self.old }
         ensures harts { harts_of self.new ≡ harts_of self.old }
-        ensures monitor { KeepsMonitor self.old → KeepsMonitor self.new }
     {
         match self {
             Target::Bare(_) => {}
-            Target::Monitored(chosen) => chosen.hart = hart,
+            Target::Monitored(selected) => selected.hart = hart,
         }
     }
 
     /// The address of the next instruction of a hart.
     pub(crate) fn pc_at(&self, hart: u8) -> u32
         requires { hart < harts_of self.now }
-        ensures { result ≡ pc_of (with_chosen hart self.now) }
+        ensures { result ≡ pc_of (with_selected hart self.now) }
     {
         match self {
             Target::Bare(machine) => machine.pc(),
-            Target::Monitored(chosen) => chosen.machine.pc(hart),
+            Target::Monitored(selected) => selected.machine.pc(hart),
         }
     }
 
     /// The mode of a hart.
     pub(crate) fn mode_at(&self, hart: u8) -> Mode
         requires { hart < harts_of self.now }
-        ensures { result ≡ (hart_of (with_chosen hart self.now)).mode }
+        ensures { result ≡ (hart_of (with_selected hart self.now)).mode }
     {
         match self {
             Target::Bare(machine) => machine.mode(),
-            Target::Monitored(chosen) => chosen.machine.mode(hart),
+            Target::Monitored(selected) => selected.machine.mode(hart),
         }
     }
 
     /// Puts a word into a register.
     pub(crate) fn set_reg(&mut self, reg: Reg, value: u32)
-        ensures meaning { self.new ≡ register_set self.old reg value }
-        ensures monitor { KeepsMonitor self.old → KeepsMonitor self.new }
+        ensures { self.new ≡ register_set self.old reg value }
     {
         match self {
             Target::Bare(machine) => machine.regs_mut().set(reg, value),
-            Target::Monitored(chosen) => chosen.machine.set_reg(chosen.hart, reg, value),
+            Target::Monitored(selected) => selected.machine.set_reg(selected.hart, reg, value),
         }
     }
 
     /// Raises the timer line, or lowers it.
     pub(crate) fn set_timer(&mut self, raised: bool)
-        ensures meaning { self.new ≡ timer_set self.old raised }
-        ensures monitor { KeepsMonitor self.old → KeepsMonitor self.new }
+        ensures { self.new ≡ timer_set self.old raised }
     {
         match self {
             Target::Bare(machine) => machine.csrs_mut().set_timer(raised),
-            Target::Monitored(chosen) => chosen.machine.set_timer(chosen.hart, raised),
+            Target::Monitored(selected) => selected.machine.set_timer(selected.hart, raised),
         }
     }
 
@@ -165,11 +165,10 @@ impl Target {
         ensures done { OnTrue result (poked self.old address byte ≡ Some self.new) }
         ensures outside { OnFalse result (poked self.old address byte ≡ None) }
         ensures kept { OnFalse result (self.new ≡ self.old) }
-        ensures monitor { KeepsMonitor self.old → KeepsMonitor self.new }
     {
         match self {
             Target::Bare(machine) => machine.ram_mut().poke(address, byte),
-            Target::Monitored(chosen) => chosen.machine.poke(address, byte),
+            Target::Monitored(selected) => selected.machine.poke(address, byte),
         }
     }
 
@@ -179,12 +178,11 @@ impl Target {
         ensures asked { result ≡ can_scramble_in slot self.old }
         ensures meaning { OnTrue result (self.new ≡ scrambled_in slot self.old) }
         ensures same { OnFalse result (self.new ≡ self.old) }
-        ensures agrees { OnTrue result (TargetsAgreeBut slot self.old self.new) }
-        ensures monitor { KeepsMonitor self.old → KeepsMonitor self.new }
+        ensures equivalent { OnTrue result (TargetsEquivExcept slot self.old self.new) }
     {
         match self {
             Target::Bare(_) => false,
-            Target::Monitored(chosen) => chosen.machine.scramble(slot),
+            Target::Monitored(selected) => selected.machine.scramble(slot),
         }
     }
 
@@ -195,16 +193,15 @@ impl Target {
         requires has { hart < harts_of self.old }
         requires few { ran.old.steps < 2 ^ 31 }
         requires none { none.now ≡ [] }
-        ensures step { ended (with_step (so_far_in (with_chosen hart self.old) ran.old) (target_stepped (with_chosen hart self.old))) Stop.Done
+        ensures step { ended (with_step (so_far_in (with_selected hart self.old) ran.old) (target_stepped (with_selected hart self.old))) Stop.Done
             ≡ record { state = self.new; ran = ran.new } }
         ensures bare { IsBare self.old → ran.new.entered ≡ ran.old.entered }
-        ensures monitor { KeepsMonitor self.old → KeepsMonitor self.new }
     {
         match self {
             Target::Bare(machine) => step_bare(machine, ran, none, limits),
-            Target::Monitored(chosen) => {
-                chosen.hart = hart;
-                step_monitored(chosen, ran, none, limits);
+            Target::Monitored(selected) => {
+                selected.hart = hart;
+                step_monitored(selected, ran, none, limits);
             }
         }
     }
@@ -214,11 +211,10 @@ impl Target {
     pub(crate) fn run(&mut self, count: u32, breaks: &Addresses, watches: &Addresses) -> Ran
         ensures run { run target_stepped pc_of breaks.now watches.now count (no_steps self.old) ≡ record { state = self.new; ran = result } }
         ensures bare { IsBare self.old → result.entered ≡ 0 }
-        ensures monitor { KeepsMonitor self.old → KeepsMonitor self.new }
     {
         match self {
             Target::Bare(machine) => run_bare(machine, count, breaks, watches),
-            Target::Monitored(chosen) => run_monitored(chosen, count, breaks, watches),
+            Target::Monitored(selected) => run_monitored(selected, count, breaks, watches),
         }
     }
 }
@@ -237,15 +233,13 @@ fn step_bare(machine: &mut Machine, ran: &mut Ran, none: &Addresses, limits: &mu
 
 /// One step more of the chosen hart of a machine under the monitor.
 #[inline(always)]
-fn step_monitored(chosen: &mut ChosenHart, ran: &mut Ran, none: &Addresses, limits: &mut Limits)
+fn step_monitored(selected: &mut SelectedHart, ran: &mut Ran, none: &Addresses, limits: &mut Limits)
     requires few { ran.old.steps < 2 ^ 31 }
     requires none { none.now ≡ [] }
-    ensures step { ended (with_step (so_far_in (Target.Monitored chosen.old) ran.old) (target_stepped (Target.Monitored chosen.old))) Stop.Done
-        ≡ record { state = Target.Monitored chosen.new; ran = ran.new } }
-    ensures kept { IsKept chosen.new.state }
+    ensures { ended (with_step (so_far_in (Target.Monitored selected.old) ran.old) (target_stepped (Target.Monitored selected.old))) Stop.Done
+        ≡ record { state = Target.Monitored selected.new; ran = ran.new } }
 {
-    one_more(chosen, ran, none, limits);
-    chosen.machine.invariant();
+    one_more(selected, ran, none, limits);
 }
 
 /// The steps of a machine alone, which enter no enclave.
@@ -258,15 +252,12 @@ fn run_bare(machine: &mut Machine, count: u32, breaks: &Addresses, watches: &Add
 
 /// The steps of the chosen hart of a machine under the monitor.
 fn run_monitored(
-    chosen: &mut ChosenHart,
+    selected: &mut SelectedHart,
     count: u32,
     breaks: &Addresses,
     watches: &Addresses,
 ) -> Ran
-    ensures run { run target_stepped pc_of breaks.now watches.now count (no_steps (Target.Monitored chosen.old)) ≡ record { state = Target.Monitored chosen.new; ran = result } }
-    ensures kept { IsKept chosen.new.state }
+    ensures { run target_stepped pc_of breaks.now watches.now count (no_steps (Target.Monitored selected.old)) ≡ record { state = Target.Monitored selected.new; ran = result } }
 {
-    let ran = run_steps(chosen, count, breaks, watches);
-    chosen.machine.invariant();
-    ran
+    run_steps(selected, count, breaks, watches)
 }

@@ -45,7 +45,7 @@ pub(crate) type Line = (&'static [u8], &'static [u8], u16);
 pub(crate) fn expect(rt: &impl Abort, bench: &mut Bench, lines: &[Line]) {
     let mut reply = Reply::new();
     for (line, wanted, slots) in lines {
-        let entered = bench.answer_line(line, &mut reply);
+        let entered = bench.execute_line(line, &mut reply);
         expect_text(rt, &reply, wanted);
         assert!(rt; entered == *slots);
     }

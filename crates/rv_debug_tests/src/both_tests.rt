@@ -4,7 +4,7 @@
 use crate::benches::{expect_text, poke_words, with_words};
 use rv_debug::{Bench, Both, BothLine, BothWhy, Command, both_command, both_line, parse, run_both};
 use rv_memory::Ram;
-use rv_monitor::{Harts, Monitored, Slot};
+use rv_monitor::{Harts, MonitoredMachine, Slot};
 use rv_text::Reply;
 use std::alloc::Global;
 use std::process::Abort;
@@ -53,7 +53,7 @@ type After = (&'static [u8], &'static [u8], &'static [u8]);
 fn give(bench: &mut Bench, lines: &[&[u8]]) {
     let mut reply = Reply::new();
     for line in lines {
-        let _ = bench.answer_line(line, &mut reply);
+        let _ = bench.execute_line(line, &mut reply);
     }
 }
 
@@ -61,7 +61,7 @@ fn give(bench: &mut Bench, lines: &[&[u8]]) {
 fn bench_of_calls(rt: &impl Abort, alloc: Global, harts: Harts) -> Bench {
     let mut ram = Ram::new(alloc, 196_608).expect(rt, "a RAM");
     poke_words(&mut ram, FIRST, &[0x73; 4]);
-    Bench::monitored(Monitored::new(ram, FIRST, harts))
+    Bench::monitored(MonitoredMachine::new(ram, FIRST, harts))
 }
 
 /// A bench with an enclave in slot 0.
@@ -94,7 +94,7 @@ fn bench_of(rt: &impl Abort, alloc: Global, made: Made, lines: &[&[u8]]) -> Benc
 /// Gives a line to a bench, which must have this reply.
 fn expect_reply(rt: &impl Abort, bench: &mut Bench, line: &[u8], want: &[u8]) {
     let mut reply = Reply::new();
-    let _ = bench.answer_line(line, &mut reply);
+    let _ = bench.execute_line(line, &mut reply);
     expect_text(rt, &reply, want);
 }
 

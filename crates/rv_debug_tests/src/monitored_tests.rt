@@ -3,7 +3,7 @@
 use crate::benches::{Line, expect, poke_words};
 use rv_debug::Bench;
 use rv_memory::Ram;
-use rv_monitor::{Harts, Monitored};
+use rv_monitor::{Harts, MonitoredMachine};
 use std::alloc::Global;
 use std::process::Abort;
 
@@ -14,7 +14,7 @@ const FIRST: u32 = 0x8001_0000;
 fn bench_of(rt: &impl Abort, alloc: Global, words: &[u32], harts: Harts) -> Bench {
     let mut ram = Ram::new(alloc, 1_048_576).expect(rt, "a RAM");
     poke_words(&mut ram, FIRST, words);
-    Bench::monitored(Monitored::new(ram, FIRST, harts))
+    Bench::monitored(MonitoredMachine::new(ram, FIRST, harts))
 }
 
 /// Gives lines to a bench over a monitored machine whose host begins with four ecalls, of which the first creates an enclave.

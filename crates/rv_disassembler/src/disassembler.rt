@@ -6,7 +6,7 @@ mod operand;
 
 ghost use Rattle.std.specs.Prelude.{◌≡◌, IfSome};
 ghost use Rattle.rv_encoding.specs.Decoding.{decoded};
-ghost use Rattle.rv_encoding.specs.Rows.{Spells};
+ghost use Rattle.rv_encoding.specs.Rows.{Encodes};
 ghost use Rattle.rv_disassembler.specs.Spelling.{is_told_by_operands, instr_text, word_text, spelling};
 
 use arrayvec::ArrayString;
@@ -32,7 +32,7 @@ use rv_text::hex;
 pub fn disassemble(word: u32, out: &mut ArrayString<48>)
     ensures text { out.new.bytes ≡ spelling word }
     // An instruction that is shown is spelled by the word.
-    ensures shown { IfSome (decoded word) (Spells word) }
+    ensures shown { IfSome (decoded word) (Encodes word) }
 {
     match decode(word) {
         Some(instr) if is_told(&instr) => put_instr(out, &instr),

@@ -6,25 +6,25 @@ use Rattle.std.proofs.lemmas.Bool.{cases_Bool, cases_eq, both_ways, and_parts, a
 use Rattle.std.proofs.lemmas.List.{same_lists, get_or_default}
 use Rattle.std.proofs.lemmas.Grind.{same_number_lists}
 use Rattle.rv_memory.specs.Memory.{read}
-use Rattle.rv_enclaves.specs.SharedButFor.{SameContexts}
+use Rattle.rv_enclaves.specs.SharedEquivExcept.{SameContexts}
 use Rattle.rv_enclaves.specs.Create.{with_enclave}
 use Rattle.rv_enclaves.specs.Destroy.{without}
 use Rattle.rv_enclaves.specs.declared.call.Call.TheVariants as calls
-use Rattle.rv_enclaves.proofs.Prelude.{AgreeOutside, Block, Context, Contexts, EnclaveState, IsValidSlot, IsValid, CreateArgs, Shared, SharedButFor, SlotInfo}
+use Rattle.rv_enclaves.proofs.Prelude.{EqualOutside, Block, Context, Contexts, EnclaveState, IsValidSlot, IsValid, CreateArgs, Shared, SharedEquivExcept, SlotInfo}
 use Rattle.rv_enclaves.proofs.Prelude.{Slots, context_at, created, destroyed, first_context, has, is_block_size, is_inside, is_valid_block, is_live, is_private}
 use Rattle.rv_enclaves.proofs.Prelude.{measured, measurement_at, measurement_of, meets, new_slot, option_case, recorded, region, region_of, slot_at}
 use Rattle.rv_enclaves.proofs.Prelude.{with_bytes_at, with_context, with_slot, with_state, zeroed}
-use Rattle.rv_enclaves.proofs.Agreement.{IsSeen, inside-is, same_read, read-none, write-alike, zeros-alike}
+use Rattle.rv_enclaves.proofs.EqualMemory.{IsSeen, inside-is, same_read, read-none, write-alike, zeros-alike}
 use Rattle.rv_platform.proofs.BlockLaws.{meets_at}
 use Rattle.rv_enclaves.proofs.SavedLists.{same_at_set, same_after_set, length_after}
 use Rattle.rv_enclaves.proofs.Refusals.{MayCreate, IsTaken}
 use Rattle.rv_enclaves.proofs.Slots.{at_other, at_same, free_from}
-use Rattle.rv_enclaves.proofs.Sound.{free_slot_from, live_in_range}
+use Rattle.rv_enclaves.proofs.SharedInvariantLemmas.{free_slot_from, live_in_range}
 
 -- ---- what agrees
 
 -- what is shared agrees with itself
-pub itself : (e : ℕ) (shared : Shared) → SharedButFor e shared shared
+pub itself : (e : ℕ) (shared : Shared) → SharedEquivExcept e shared shared
 itself e shared = record {
   table = refl;
   memory = record { size = refl; bytes = λ i seen. refl };
@@ -32,8 +32,8 @@ itself e shared = record {
   gone = λ dead. refl;
 }
 
-pub equal_agree : (e : ℕ) (one other : Shared) → one ≡ other → SharedButFor e one other
-equal_agree e one other same = subst (SharedButFor e one) same (itself e one)
+pub equal_agree : (e : ℕ) (one other : Shared) → one ≡ other → SharedEquivExcept e one other
+equal_agree e one other same = subst (SharedEquivExcept e one) same (itself e one)
 
 -- contexts that agree but for e, and there too, are equal
 same_contexts : (e : ℕ) (cs ds : Contexts) → SameContexts e cs ds → context_at cs e ≡ context_at ds e → cs ≡ ds
@@ -59,18 +59,18 @@ seen_block p q apart b low high = elim (cases_Bool (has q b)) [
       absurd (both_ways _ apart (meets_at p q b in_p hidden))
 ]
 
-read_alike : (hidden : ℕ → Bool) (m n : List ℕ) (address count : ℕ) → AgreeOutside hidden m n → IsSeen hidden address count
+read_alike : (hidden : ℕ → Bool) (m n : List ℕ) (address count : ℕ) → EqualOutside hidden m n → IsSeen hidden address count
     → read m address count ≡ read n address count
-read_alike hidden m n address count agree seen = elim (cases_Bool (is_inside m address count)) [
-  | inl inside ↦ same_read hidden m n address count agree inside seen
+read_alike hidden m n address count equiv seen = elim (cases_Bool (is_inside m address count)) [
+  | inl inside ↦ same_read hidden m n address count equiv inside seen
   | inr outside ↦
-      let sizes = agree.size in
+      let sizes = equiv.size in
       read-none m address count outside ∙ sym (read-none n address count (rw (← sizes) outside))
 ]
 
 -- ---- a live slot
 
-module _ (e : ℕ) (table : Slots) (m n : List ℕ) (cs ds : Contexts) (agree : AgreeOutside (is_private table e) m n) (saved : SameContexts e cs ds)
+module _ (e : ℕ) (table : Slots) (m n : List ℕ) (cs ds : Contexts) (equiv : EqualOutside (is_private table e) m n) (saved : SameContexts e cs ds)
     (live : is_live table e ≡ true) where
   abbrev here : Shared
   here = record { memory = m; table = table; contexts = cs }
@@ -80,30 +80,30 @@ module _ (e : ℕ) (table : Slots) (m n : List ℕ) (cs ds : Contexts) (agree : 
 
   -- slot e is live, and its region is as before
   with_region : (after : Slots) (m' n' : List ℕ) (cs' ds' : Contexts) → region after e ≡ region table e → is_live after e ≡ true
-      → AgreeOutside (is_private table e) m' n' → SameContexts e cs' ds'
-      → SharedButFor e (record { memory = m'; table = after; contexts = cs' }) (record { memory = n'; table = after; contexts = ds' })
-  with_region after m' n' cs' ds' same lives agree' saved' = record {
+      → EqualOutside (is_private table e) m' n' → SameContexts e cs' ds'
+      → SharedEquivExcept e (record { memory = m'; table = after; contexts = cs' }) (record { memory = n'; table = after; contexts = ds' })
+  with_region after m' n' cs' ds' same lives equiv' saved' = record {
     table = refl;
-    memory = subst (λ (b : Block). AgreeOutside (has b) m' n') (sym same) agree';
+    memory = subst (λ (b : Block). EqualOutside (has b) m' n') (sym same) equiv';
     contexts = saved';
     gone = λ dead. absurd (both_ways _ dead lives);
   }
 
   -- slot e is as before
   still : (after : Slots) (m' n' : List ℕ) (cs' ds' : Contexts) → slot_at after e ≡ slot_at table e
-      → AgreeOutside (is_private table e) m' n' → SameContexts e cs' ds'
-      → SharedButFor e (record { memory = m'; table = after; contexts = cs' }) (record { memory = n'; table = after; contexts = ds' })
+      → EqualOutside (is_private table e) m' n' → SameContexts e cs' ds'
+      → SharedEquivExcept e (record { memory = m'; table = after; contexts = cs' }) (record { memory = n'; table = after; contexts = ds' })
   still after m' n' cs' ds' same = with_region after m' n' cs' ds' (ap region_of same) (ap (λ (o : Option SlotInfo). is_some o) same ∙ live)
 
-  pub as_before : SharedButFor e here there
-  as_before = still table m n cs ds refl agree saved
+  pub as_before : SharedEquivExcept e here there
+  as_before = still table m n cs ds refl equiv saved
 
   -- ---- create
 
   measurement_alike : (new : CreateArgs) → meets new.region (region table e) ≡ false → measurement_of m new ≡ measurement_of n new
   unfolding measurement_of
   measurement_alike new apart =
-      let reads = read_alike (is_private table e) m n new.region.base new.region.size agree (seen_block new.region (region table e) apart) in
+      let reads = read_alike (is_private table e) m n new.region.base new.region.size equiv (seen_block new.region (region table e) apart) in
       rw reads refl
 
   recorded_alike : (new : CreateArgs) → meets new.region (region table e) ≡ false → recorded m new ≡ recorded n new
@@ -114,12 +114,12 @@ module _ (e : ℕ) (table : Slots) (m n : List ℕ) (cs ds : Contexts) (agree : 
       let dead : is_live table e ≡ false = rw (same, free) refl in
       both_ways _ dead live
 
-  put_alike : (k : ℕ) (info : SlotInfo) → slot_at table k ≡ None → SharedButFor e (with_enclave here k info) (with_enclave there k info)
+  put_alike : (k : ℕ) (info : SlotInfo) → slot_at table k ≡ None → SharedEquivExcept e (with_enclave here k info) (with_enclave there k info)
   put_alike k info free =
       still (with_slot table k (Some info)) m n (with_context cs k (Some (first_context info))) (with_context ds k (Some (first_context info)))
-      (at_other table k e (Some info) (not_free k free)) agree (contexts_with e cs ds k (Some (first_context info)) saved)
+      (at_other table k e (Some info) (not_free k free)) equiv (contexts_with e cs ds k (Some (first_context info)) saved)
 
-  pub created_alike : (new : CreateArgs) → MayCreate here new → SharedButFor e (created here new) (created there new)
+  pub created_alike : (new : CreateArgs) → MayCreate here new → SharedEquivExcept e (created here new) (created there new)
   unfolding created
   created_alike new may =
       let same = recorded_alike new ((free_from table new may.apart).others e).regions in
@@ -134,21 +134,21 @@ module _ (e : ℕ) (table : Slots) (m n : List ℕ) (cs ds : Contexts) (agree : 
       let covers : (b : ℕ) → is_private table e b ≡ true → (block.base ≤ b) × (b < block.base + block.size) =
       λ b hidden. let parts = and_parts (nat_le block.base b) (nat_lt b (block.base + block.size)) (sym (ap (λ (r : Block). has r b) is) ∙ hidden) in
       (leb-true _ _ parts.0, ltb-true _ _ parts.1) in
-      let zeros : AgreeOutside (λ b. false) (zeroed m block) (zeroed n block) =
-      zeros-alike (is_private table e) (λ b. false) m n block.base block.size agree at covers in
+      let zeros : EqualOutside (λ b. false) (zeroed m block) (zeroed n block) =
+      zeros-alike (is_private table e) (λ b. false) m n block.base block.size equiv at covers in
       let memories : zeroed m block ≡ zeroed n block = same_number_lists _ _ zeros.size (λ i within. zeros.bytes i refl) in
       let contexts : with_context cs e None ≡ with_context ds e None =
       same_contexts e (with_context cs e None) (with_context ds e None) (contexts_with e cs ds e None saved) (same_at_set cs ds e None None saved.size) in
       rw (memories, contexts) refl
 
   without_alike : (k : ℕ) → is_inside m (region table k).base (region table k).size ≡ true
-      → SharedButFor e (without here k (region table k)) (without there k (region table k))
+      → SharedEquivExcept e (without here k (region table k)) (without there k (region table k))
   without_alike k inside = elim (cases_eq k e) [
     | inl own ↦ rw own (equal_agree e _ _ (gone_alike (region table e) refl (rw own at inside)))
     | inr other ↦
         let block = region table k in
         still (with_slot table k None) (zeroed m block) (zeroed n block) (with_context cs k None) (with_context ds k None)
-        (at_other table k e None (λ same. other (sym same))) (write-alike (is_private table e) m n block.base (replicate block.size 0) agree)
+        (at_other table k e None (λ same. other (sym same))) (write-alike (is_private table e) m n block.base (replicate block.size 0) equiv)
         (contexts_with e cs ds k None saved)
   ]
 
@@ -157,17 +157,17 @@ module _ (e : ℕ) (table : Slots) (m n : List ℕ) (cs ds : Contexts) (agree : 
   region_inside None law live = cc
   region_inside (Some info) law live = (and_parts _ _ (and_parts (is_block_size info.region.size) _ law.region).1).1
 
-  pub destroyed_alike : (k : ℕ) → IsValid m table → IsTaken table calls.Destroy k → SharedButFor e (destroyed here k) (destroyed there k)
+  pub destroyed_alike : (k : ℕ) → IsValid m table → IsTaken table calls.Destroy k → SharedEquivExcept e (destroyed here k) (destroyed there k)
   unfolding destroyed
   destroyed_alike k valid taken = without_alike k (region_inside (slot_at table k) (valid.well_formed k) (ap (λ (o : Option SlotInfo). is_some o) taken.is))
 
   -- ---- measure
 
-  pub measured_alike : (k address : ℕ) → SharedButFor e (measured here k address) (measured there k address)
+  pub measured_alike : (k address : ℕ) → SharedEquivExcept e (measured here k address) (measured there k address)
   unfolding measured
   measured_alike k address =
       let bytes = measurement_at table k in
-      still table (with_bytes_at m address bytes) (with_bytes_at n address bytes) cs ds refl (write-alike (is_private table e) m n address bytes agree) saved
+      still table (with_bytes_at m address bytes) (with_bytes_at n address bytes) cs ds refl (write-alike (is_private table e) m n address bytes equiv) saved
 
   -- ---- a switch
 
@@ -192,7 +192,7 @@ module _ (e : ℕ) (table : Slots) (m n : List ℕ) (cs ds : Contexts) (agree : 
 
   pub switched_alike : length table ≡ 13 → (k : ℕ) (state : EnclaveState) (c : Option Context)
       → (let after = with_state table k state in
-      SharedButFor e (record here { table = after; contexts = with_context cs k c }) (record there { table = after; contexts = with_context ds k c }))
+      SharedEquivExcept e (record here { table = after; contexts = with_context cs k c }) (record there { table = after; contexts = with_context ds k c }))
   switched_alike count k state c =
       let kept = state_keeps count k state in
-      with_region (with_state table k state) m n (with_context cs k c) (with_context ds k c) kept.0 kept.1 agree (contexts_with e cs ds k c saved)
+      with_region (with_state table k state) m n (with_context cs k c) (with_context ds k c) kept.0 kept.1 equiv (contexts_with e cs ds k c saved)

@@ -84,7 +84,7 @@ region_covers memory w k (Some info) before b ram_size well_formed =
     let covered = block_covers memory info.region before b ram_size well_formed.region in
     elim (cases_Bool (is_world_of k w)) [
       | inl runs ↦ rw runs covered
-      | inr rests ↦ rw rests covered
+      | inr not_running ↦ rw not_running covered
     ]
 
 -- a window with bytes is a valid block

@@ -2,7 +2,7 @@
 pub use Rattle.rv_platform.specs.Blocks.{has, meets, monitor_block}
 pub use Rattle.rv_enclaves.specs.ValidBlocks.{is_block_size}
 unfoldable pub use Rattle.rv_enclaves.specs.ValidBlocks.{is_valid_block}
-pub use Rattle.rv_enclaves.specs.Contexts.{can_go_on, context_at, Contexts, kept_context, with_context}
+pub use Rattle.rv_enclaves.specs.Contexts.{can_go_on, context_at, Contexts, saved_context, with_context}
 unfoldable pub use Rattle.rv_enclaves.specs.Contexts.{first_context}
 pub use Rattle.rv_enclaves.specs.Create.{new_slot, recorded}
 unfoldable pub use Rattle.rv_enclaves.specs.Create.{created, measurement_of, overlaps}
@@ -13,8 +13,8 @@ unfoldable pub use Rattle.rv_enclaves.specs.Layout.{entry_at, layout}
 pub use Rattle.rv_enclaves.specs.Measure.{measurement_at, with_bytes_at}
 unfoldable pub use Rattle.rv_enclaves.specs.Measure.{measured}
 pub use Rattle.rv_enclaves.specs.Refusals.{first_refusal}
-pub use Rattle.rv_enclaves.specs.SharedButFor.{AgreeOutside, is_private, SharedButFor}
-pub use Rattle.rv_enclaves.specs.Sound.{AreApart, is_held, IsSound}
+pub use Rattle.rv_enclaves.specs.SharedEquivExcept.{EqualOutside, is_private, SharedEquivExcept}
+pub use Rattle.rv_enclaves.specs.SharedInvariant.{AreApart, is_held, SharedInvariant}
 pub use Rattle.rv_enclaves.specs.Table.{IsValidSlot, IsValid, Slots, is_host, is_live, is_running, is_world_of, region, region_of, runs, slot_at, window}
 pub use Rattle.rv_enclaves.specs.Table.{running_slot, window_of, with_slot, with_state}
 unfoldable pub use Rattle.rv_enclaves.specs.Table.{is_window}

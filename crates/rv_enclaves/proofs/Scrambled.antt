@@ -7,18 +7,18 @@ use Rattle.std.proofs.lemmas.Bool.{cases_lt, cases_eq, cases_Bool, and_from, le-
 use Rattle.rv_memory.proofs.Complements.{with_complements, length-with_complements, below, above, inside-index, complemented-is}
 use Rattle.rv_enclaves.specs.CallLaws.{ScrambledLaw}
 use Rattle.rv_enclaves.specs.Scramble.{can_scramble, complemented_context, complemented_block, scrambled_shared}
-use Rattle.rv_enclaves.proofs.Prelude.{AgreeOutside, Block, Context, Contexts, IsSound, Shared, SharedButFor, SlotInfo, World, can_go_on, context_at, has}
+use Rattle.rv_enclaves.proofs.Prelude.{EqualOutside, Block, Context, Contexts, SharedInvariant, Shared, SharedEquivExcept, SlotInfo, World, can_go_on, context_at, has}
 use Rattle.rv_enclaves.proofs.Prelude.{is_held, is_inside, is_live, is_running, option_case, ram_base, region, runs, slot_at, with_context}
-use Rattle.rv_enclaves.proofs.Agreement.{inside-is, read-none}
+use Rattle.rv_enclaves.proofs.EqualMemory.{inside-is, read-none}
 use Rattle.rv_enclaves.proofs.Slots.{at_same, at_other}
-use Rattle.rv_enclaves.proofs.Sound.{live_in_range}
+use Rattle.rv_enclaves.proofs.SharedInvariantLemmas.{live_in_range}
 use Rattle.rv_enclaves.proofs.Valid.{valid_by_size}
 
 -- ---- memory
 
 -- outside the block no byte changes
 inside_agrees : (memory : List ℕ) (block : Block) → is_inside memory block.base block.size ≡ true
-    → AgreeOutside (has block) memory (with_complements memory (block.base - ram_base) block.size)
+    → EqualOutside (has block) memory (with_complements memory (block.base - ram_base) block.size)
 inside_agrees memory block inside =
     let is = inside-is memory block.base block.size inside in
     let index = block.base - ram_base in
@@ -37,7 +37,7 @@ inside_agrees memory block inside =
       ];
     }
 
-block_agrees : (memory : List ℕ) (block : Block) → AgreeOutside (has block) memory (complemented_block memory block)
+block_agrees : (memory : List ℕ) (block : Block) → EqualOutside (has block) memory (complemented_block memory block)
 block_agrees memory block = elim (cases_Bool (is_inside memory block.base block.size)) [
   | inl inside ↦ let is = complemented-is memory block.base block.size inside in rw is (inside_agrees memory block inside)
   | inr outside ↦ let is = read-none memory block.base block.size outside in rw is (record { size = refl; bytes = λ i seen. refl })
@@ -58,7 +58,7 @@ goes_on_after (Some context) held = held
 
 record MayScramble (shared : Shared) (k : ℕ) : Type 0 where
   pub live : is_live shared.table k ≡ true
-  pub rests : runs shared.table k ≡ false
+  pub not_running : runs shared.table k ≡ false
   pub in_range : k < 13
 
 not-true : (b : Bool) → not b ≡ true → b ≡ false
@@ -73,11 +73,11 @@ in_range : (shared : Shared) (k : ℕ) (o : Option SlotInfo) → slot_at shared.
 in_range shared k None is count held = cc
 in_range shared k (Some info) is count held = live_in_range shared.table k info count is
 
-module _ (shared : Shared) (worlds : List World) (k : ℕ) (sound : IsSound shared worlds) (may : can_scramble shared.table k ≡ true) where
+module _ (shared : Shared) (worlds : List World) (k : ℕ) (sound : SharedInvariant shared worlds) (may : can_scramble shared.table k ≡ true) where
   may_be : MayScramble shared k
   may_be =
       let parts = slot_rests (slot_at shared.table k) may in
-      record { live = parts.0; rests = parts.1; in_range = in_range shared k (slot_at shared.table k) refl sound.valid.count may }
+      record { live = parts.0; not_running = parts.1; in_range = in_range shared k (slot_at shared.table k) refl sound.valid.count may }
 
   abbrev kept_one : Option Context
   kept_one = context_at shared.contexts k
@@ -88,7 +88,7 @@ module _ (shared : Shared) (worlds : List World) (k : ℕ) (sound : IsSound shar
   here : context_at new_contexts k ≡ option_map complemented_context kept_one
   here = at_same shared.contexts k (option_map complemented_context kept_one) (let range = may_be.in_range in omega (arith, sound.contexts.count, range))
 
-  pub scrambled_sound : IsSound (scrambled_shared shared k) worlds
+  pub scrambled_sound : SharedInvariant (scrambled_shared shared k) worlds
   unfolding scrambled_shared
   scrambled_sound = record {
     valid = valid_by_size shared.memory (complemented_block shared.memory (region shared.table k)) shared.table
@@ -110,7 +110,7 @@ module _ (shared : Shared) (worlds : List World) (k : ℕ) (sound : IsSound shar
     apart = sound.apart;
   }
 
-  pub scrambled_agrees : SharedButFor k shared (scrambled_shared shared k)
+  pub scrambled_agrees : SharedEquivExcept k shared (scrambled_shared shared k)
   unfolding scrambled_shared
   scrambled_agrees = record {
     table = refl;
@@ -124,7 +124,7 @@ module _ (shared : Shared) (worlds : List World) (k : ℕ) (sound : IsSound shar
 
 pub scrambled_law : ScrambledLaw
 scrambled_law shared worlds k sound may = record {
-  rests = (slot_rests (slot_at shared.table k) may).1;
+  not_running = (slot_rests (slot_at shared.table k) may).1;
   sound = scrambled_sound shared worlds k sound may;
-  agrees = scrambled_agrees shared worlds k sound may;
+  equivalent = scrambled_agrees shared worlds k sound may;
 }

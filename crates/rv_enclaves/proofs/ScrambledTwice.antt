@@ -7,7 +7,7 @@ use Rattle.rv_memory.proofs.Complements.{with_complements, length-with_complemen
 use Rattle.rv_enclaves.specs.CallLaws.{ScrambledTwiceLaw}
 use Rattle.rv_enclaves.specs.Scramble.{complemented_registers, complemented_context, complemented_block, scrambled_shared}
 use Rattle.rv_enclaves.proofs.Prelude.{Block, Context, context_at, is_inside, ram_base, region}
-use Rattle.rv_enclaves.proofs.Agreement.{read-none}
+use Rattle.rv_enclaves.proofs.EqualMemory.{read-none}
 
 words_twice : (words : List ℕ) → ((n : ℕ) → get_or words n 0 < 2 ^ 32)
     → map (λ word. 2 ^ 32 - 1 - word) (map (λ word. 2 ^ 32 - 1 - word) words) ≡ words

@@ -5,9 +5,9 @@ use Rattle.std.specs.List.{list_any}
 use Rattle.std.proofs.lemmas.List.{get_or_past, get_or-replicate}
 use Rattle.std.proofs.lemmas.Bool.{cases_lt}
 use Rattle.rv_enclaves.specs.Contexts.{no_contexts}
-use Rattle.rv_enclaves.specs.Sound.{shared_at_start}
+use Rattle.rv_enclaves.specs.SharedInvariant.{shared_at_start}
 use Rattle.rv_enclaves.specs.Table.{no_slots}
-use Rattle.rv_enclaves.proofs.Prelude.{AreApart, Context, IsValidSlot, IsSound, IsValid, SlotInfo, World, can_go_on, context_at, is_held, is_ram_size}
+use Rattle.rv_enclaves.proofs.Prelude.{AreApart, Context, IsValidSlot, SharedInvariant, IsValid, SlotInfo, World, can_go_on, context_at, is_held, is_ram_size}
 use Rattle.rv_enclaves.proofs.Prelude.{is_running, is_world_of, meets, monitor_block, option_case, region, region_of, slot_at, window, window_of}
 use Rattle.rv_platform.proofs.BlockLaws.{meets_nothing}
 
@@ -42,7 +42,7 @@ no_slots_valid memory ram = record {
 
 pub start_sound : (memory : List ℕ) (ws : List World) → ((k : ℕ) → list_any (is_world_of k) ws ≡ false) → AreApart ws
     → is_ram_size (length memory) ≡ true
-    → IsSound (shared_at_start memory) ws
+    → SharedInvariant (shared_at_start memory) ws
 start_sound memory ws none apart ram = record {
   valid = no_slots_valid memory ram;
   contexts = record {

@@ -2,9 +2,9 @@
 use Rattle.std.proofs.Common.{◌≡◌, ◌≢◌, ℕ, true, List, Option, refl, sym, subst, inl, inr}
 use Rattle.std.proofs.lemmas.Bool.{cases_Bool}
 use Rattle.rv_enclaves.specs.CallLaws.{CallsAlikeLaw}
-use Rattle.rv_enclaves.specs.SharedButFor.{SameContexts}
-use Rattle.rv_enclaves.proofs.Prelude.{AgreeOutside, Context, Contexts, Destroy, EnclaveState, IsSound, CreateArgs, Shared, SharedButFor, Slots, World, created}
-use Rattle.rv_enclaves.proofs.Prelude.{destroyed, is_live, is_private, kept_context, measured, with_context, with_state}
+use Rattle.rv_enclaves.specs.SharedEquivExcept.{SameContexts}
+use Rattle.rv_enclaves.proofs.Prelude.{EqualOutside, Context, Contexts, Destroy, EnclaveState, SharedInvariant, CreateArgs, Shared, SharedEquivExcept, Slots, World, created}
+use Rattle.rv_enclaves.proofs.Prelude.{destroyed, is_live, is_private, saved_context, measured, with_context, with_state}
 use Rattle.rv_enclaves.proofs.Alike.{itself, as_before, created_alike, destroyed_alike, measured_alike, switched_alike}
 use Rattle.rv_enclaves.proofs.Refusals.{MayCreate, IsTaken, may_create, may_take}
 
@@ -15,12 +15,12 @@ abbrev pub switched : Shared → ℕ → EnclaveState → Option Context → Sha
 switched shared k state c = record shared { table = with_state shared.table k state; contexts = with_context shared.contexts k c }
 
 pub record WorksAlike (e : ℕ) (one other : Shared) : Type 0 where
-  pub before : SharedButFor e one other
-  pub creates : (new : CreateArgs) → MayCreate one new → SharedButFor e (created one new) (created other new)
-  pub destroys : (k : ℕ) → IsTaken one.table Destroy k → SharedButFor e (destroyed one k) (destroyed other k)
-  pub measures : (k address : ℕ) → SharedButFor e (measured one k address) (measured other k address)
-  pub contexts : (k : ℕ) → k ≢ e → kept_context one.contexts k ≡ kept_context other.contexts k
-  pub switches : (k : ℕ) (state : EnclaveState) (c : Option Context) → SharedButFor e (switched one k state c) (switched other k state c)
+  pub before : SharedEquivExcept e one other
+  pub creates : (new : CreateArgs) → MayCreate one new → SharedEquivExcept e (created one new) (created other new)
+  pub destroys : (k : ℕ) → IsTaken one.table Destroy k → SharedEquivExcept e (destroyed one k) (destroyed other k)
+  pub measures : (k address : ℕ) → SharedEquivExcept e (measured one k address) (measured other k address)
+  pub contexts : (k : ℕ) → k ≢ e → saved_context one.contexts k ≡ saved_context other.contexts k
+  pub switches : (k : ℕ) (state : EnclaveState) (c : Option Context) → SharedEquivExcept e (switched one k state c) (switched other k state c)
 
 -- what is equal works alike
 equal_work : (e : ℕ) (shared : Shared) → WorksAlike e shared shared
@@ -34,34 +34,34 @@ equal_work e shared = record {
 }
 
 -- where e is live
-module _ (e : ℕ) (table : Slots) (m n : List ℕ) (cs ds : Contexts) (agree : AgreeOutside (is_private table e) m n) (saved : SameContexts e cs ds)
+module _ (e : ℕ) (table : Slots) (m n : List ℕ) (cs ds : Contexts) (equiv : EqualOutside (is_private table e) m n) (saved : SameContexts e cs ds)
     (live : is_live table e ≡ true) where
-  live_work : (worlds : List World) → IsSound (over table m cs) worlds → IsSound (over table n ds) worlds
+  live_work : (worlds : List World) → SharedInvariant (over table m cs) worlds → SharedInvariant (over table n ds) worlds
       → WorksAlike e (over table m cs) (over table n ds)
   live_work worlds one other = record {
-    before = as_before e table m n cs ds agree saved live;
-    creates = created_alike e table m n cs ds agree saved live;
-    destroys = λ k taken. destroyed_alike e table m n cs ds agree saved live k one.valid taken;
-    measures = measured_alike e table m n cs ds agree saved live;
+    before = as_before e table m n cs ds equiv saved live;
+    creates = created_alike e table m n cs ds equiv saved live;
+    destroys = λ k taken. destroyed_alike e table m n cs ds equiv saved live k one.valid taken;
+    measures = measured_alike e table m n cs ds equiv saved live;
     contexts = λ k other. let same = saved.others k other in rw same refl;
-    switches = switched_alike e table m n cs ds agree saved live one.valid.count;
+    switches = switched_alike e table m n cs ds equiv saved live one.valid.count;
   }
 
-pub works_alike : (e : ℕ) (one other : Shared) (worlds : List World) → IsSound one worlds → IsSound other worlds → SharedButFor e one other
+pub works_alike : (e : ℕ) (one other : Shared) (worlds : List World) → SharedInvariant one worlds → SharedInvariant other worlds → SharedEquivExcept e one other
     → WorksAlike e one other
-works_alike e one other worlds here there agree = elim (cases_Bool (is_live one.table e)) [
-  | inr dead ↦ subst (WorksAlike e one) (agree.gone dead) (equal_work e one)
+works_alike e one other worlds here there equiv = elim (cases_Bool (is_live one.table e)) [
+  | inr dead ↦ subst (WorksAlike e one) (equiv.gone dead) (equal_work e one)
   | inl live ↦
-      let tables = agree.table in
-      let there' : IsSound (over one.table other.memory other.contexts) worlds =
-      subst (λ (t : Slots). IsSound (over t other.memory other.contexts) worlds) (sym tables) there in
+      let tables = equiv.table in
+      let there' : SharedInvariant (over one.table other.memory other.contexts) worlds =
+      subst (λ (t : Slots). SharedInvariant (over t other.memory other.contexts) worlds) (sym tables) there in
       subst (λ (t : Slots). WorksAlike e one (over t other.memory other.contexts)) tables
-      (live_work e one.table one.memory other.memory one.contexts other.contexts agree.memory agree.contexts live worlds here there')
+      (live_work e one.table one.memory other.memory one.contexts other.contexts equiv.memory equiv.contexts live worlds here there')
 ]
 
 pub calls_alike : CallsAlikeLaw
-calls_alike e one other worlds here there agree =
-    let works = works_alike e one other worlds here there agree in
+calls_alike e one other worlds here there equiv =
+    let works = works_alike e one other worlds here there equiv in
     record {
       creates = λ new none. works.creates new (may_create one new none);
       destroys = λ k none. works.destroys k (may_take one.table Destroy k none);

@@ -7,8 +7,8 @@ use Rattle.rv_enclaves.specs.Destroy.{destroyed}
 use Rattle.rv_enclaves.specs.Measure.{measured}
 use Rattle.rv_enclaves.specs.Refusals.{first_refusal, state_refusals}
 use Rattle.rv_enclaves.specs.Scramble.{can_scramble, scrambled_shared}
-use Rattle.rv_enclaves.specs.SharedButFor.{SharedButFor}
-use Rattle.rv_enclaves.specs.Sound.{IsSound}
+use Rattle.rv_enclaves.specs.SharedEquivExcept.{SharedEquivExcept}
+use Rattle.rv_enclaves.specs.SharedInvariant.{SharedInvariant}
 use Rattle.rv_enclaves.specs.Table.{runs}
 use Rattle.rv_enclaves.specs.declared.call.Call.TheVariants.{Destroy}
 use Rattle.rv_enclaves.specs.declared.create_args.CreateArgs.{CreateArgs}
@@ -17,33 +17,33 @@ use Rattle.rv_enclaves.specs.declared.world.World.{World}
 
 -- what is true in every state stays so after a call that is not refused
 pub record CallsKeep (shared : Shared) (worlds : List World) : Type 0 where
-  pub creates : (new : CreateArgs) → first_refusal (create_refusals shared new) ≡ None → IsSound (created shared new) worlds
-  pub destroys : (k : ℕ) → first_refusal (state_refusals shared.table Destroy k) ≡ None → IsSound (destroyed shared k) worlds
-  pub measures : (k address : ℕ) → IsSound (measured shared k address) worlds
+  pub creates : (new : CreateArgs) → first_refusal (create_refusals shared new) ≡ None → SharedInvariant (created shared new) worlds
+  pub destroys : (k : ℕ) → first_refusal (state_refusals shared.table Destroy k) ≡ None → SharedInvariant (destroyed shared k) worlds
+  pub measures : (k address : ℕ) → SharedInvariant (measured shared k address) worlds
 
 abbrev pub CallsKeepLaw : Type 0
-CallsKeepLaw = (shared : Shared) (worlds : List World) → IsSound shared worlds → CallsKeep shared worlds
+CallsKeepLaw = (shared : Shared) (worlds : List World) → SharedInvariant shared worlds → CallsKeep shared worlds
 
 -- nothing that a call leaves depends on what is private to slot e
 pub record CallsAlike (e : ℕ) (one other : Shared) : Type 0 where
-  pub creates : (new : CreateArgs) → first_refusal (create_refusals one new) ≡ None → SharedButFor e (created one new) (created other new)
-  pub destroys : (k : ℕ) → first_refusal (state_refusals one.table Destroy k) ≡ None → SharedButFor e (destroyed one k) (destroyed other k)
-  pub measures : (k address : ℕ) → SharedButFor e (measured one k address) (measured other k address)
+  pub creates : (new : CreateArgs) → first_refusal (create_refusals one new) ≡ None → SharedEquivExcept e (created one new) (created other new)
+  pub destroys : (k : ℕ) → first_refusal (state_refusals one.table Destroy k) ≡ None → SharedEquivExcept e (destroyed one k) (destroyed other k)
+  pub measures : (k address : ℕ) → SharedEquivExcept e (measured one k address) (measured other k address)
 
 abbrev pub CallsAlikeLaw : Type 0
 CallsAlikeLaw =
-    (e : ℕ) (one other : Shared) (worlds : List World) → IsSound one worlds → IsSound other worlds → SharedButFor e one other
+    (e : ℕ) (one other : Shared) (worlds : List World) → SharedInvariant one worlds → SharedInvariant other worlds → SharedEquivExcept e one other
     → CallsAlike e one other
 
 -- only an enclave that does not run is scrambled, and nothing but what is private to it
 pub record IsScrambled (shared : Shared) (worlds : List World) (k : ℕ) : Type 0 where
-  pub rests : runs shared.table k ≡ false
-  pub sound : IsSound (scrambled_shared shared k) worlds
-  pub agrees : SharedButFor k shared (scrambled_shared shared k)
+  pub not_running : runs shared.table k ≡ false
+  pub sound : SharedInvariant (scrambled_shared shared k) worlds
+  pub equivalent : SharedEquivExcept k shared (scrambled_shared shared k)
 
 abbrev pub ScrambledLaw : Type 0
 ScrambledLaw =
-    (shared : Shared) (worlds : List World) (k : ℕ) → IsSound shared worlds → can_scramble shared.table k ≡ true
+    (shared : Shared) (worlds : List World) (k : ℕ) → SharedInvariant shared worlds → can_scramble shared.table k ≡ true
     → IsScrambled shared worlds k
 
 -- what is scrambled twice is as it was, over bytes and words

@@ -41,13 +41,13 @@ is_offered (Enclave k) Exit = true
 is_offered (Enclave k) _ = false
 
 -- the call that a world asks for by a7 and a6, if there is one
-unfoldable pub asked_call : World → ℕ → ℕ → Option Call
-asked_call world a7 a6 =
+unfoldable pub call_requested : World → ℕ → ℕ → Option Call
+call_requested world a7 a6 =
     if a7 == call_key then find (λ call. call_number call == a6 && is_offered world call) calls else None
 
 -- the call that its registers ask for
-abbrev pub asked_in : World → List ℕ → Option Call
-asked_in world regs = asked_call world (register regs 17) (register regs 16)
+abbrev pub requested_call : World → List ℕ → Option Call
+requested_call world regs = call_requested world (register regs 17) (register regs 16)
 
 -- the states that a call takes an enclave in; none takes one that runs
 abbrev pub takes : Call → EnclaveState → Bool

@@ -27,13 +27,13 @@ no_supervisor = record {
 }
 
 -- registers that pass two words: a0 and a1
-abbrev pub with_answer : List ℕ → ℕ → ℕ → List ℕ
-with_answer regs a0 a1 = with_register (with_register regs 10 a0) 11 a1
+abbrev pub with_return_values : List ℕ → ℕ → ℕ → List ℕ
+with_return_values regs a0 a1 = with_register (with_register regs 10 a0) 11 a1
 
 -- the first entry: a0 to a3 tell the enclave its region and its window
 unfoldable pub first_context : SlotInfo → Context
 first_context info = record {
-  regs = with_register (with_register (with_answer (replicate 32 0) info.region.base info.region.size) 12 info.window.base) 13 info.window.size;
+  regs = with_register (with_register (with_return_values (replicate 32 0) info.region.base info.region.size) 12 info.window.base) 13 info.window.size;
   pc = info.entry;
   mode = S;
   supervisor = no_supervisor;
@@ -44,7 +44,7 @@ abbrev pub exited_context : Context
 exited_context = record { regs = replicate 32 0; pc = 0; mode = U; supervisor = no_supervisor }
 
 -- registers of mode S as a hart holds them
-pub record IsStored (s : SContext) : Type 0 where
+pub record IsLegal (s : SContext) : Type 0 where
   pub stvec : vector_of s.stvec ≡ s.stvec
   pub sepc : aligned_to_4 s.sepc ≡ s.sepc
 
@@ -64,8 +64,8 @@ abbrev pub context_at : Contexts → ℕ → Option Context
 context_at contexts k = slice_index_or contexts k None
 
 -- the context kept for a slot; all 0 where none is (one is kept for each enclave that run or resume takes)
-abbrev pub kept_context : Contexts → ℕ → Context
-kept_context contexts k = option_case (context_at contexts k) exited_context (λ context. context)
+abbrev pub saved_context : Contexts → ℕ → Context
+saved_context contexts k = option_case (context_at contexts k) exited_context (λ context. context)
 
 abbrev pub with_context : Contexts → ℕ → Option Context → Contexts
 with_context contexts k context = slice_set contexts k context

@@ -9,9 +9,9 @@ pub mod Destroy
 pub mod Measure
 pub mod Layout
 pub mod Unlocked
-pub mod Reach
-pub mod Sound
-pub mod SharedButFor
+pub mod AccessibleMemory
+pub mod SharedInvariant
+pub mod SharedEquivExcept
 pub mod Scramble
 pub mod CallLaws
 pub mod Examples

@@ -5,7 +5,7 @@ use Rattle.std.specs.Option.{option_map}
 use Rattle.rv_word.specs.Cases.{option_case}
 use Rattle.rv_memory.specs.Complement.{complemented}
 use Rattle.rv_enclaves.specs.Contexts.{context_at, with_context}
-use Rattle.rv_enclaves.specs.Sound.{is_held}
+use Rattle.rv_enclaves.specs.SharedInvariant.{is_held}
 use Rattle.rv_enclaves.specs.Table.{Slots, slot_at, region}
 use Rattle.rv_platform.specs.declared.block.Block.{Block}
 use Rattle.rv_enclaves.specs.declared.context.Context.{Context}

@@ -1,7 +1,7 @@
 //! The monitor's calls.
 
 ghost use Rattle.std.specs.Prelude.{◌≡◌};
-ghost use Rattle.rv_enclaves.specs.Calls.{asked_call as asked_call_of, takes};
+ghost use Rattle.rv_enclaves.specs.Calls.{call_requested as call_requested_of, takes};
 
 use crate::slot_info::EnclaveState;
 use crate::world::World;
@@ -43,9 +43,9 @@ impl Call {
 const CALL_KEY: u32 = 0x0A45_4E43;
 
 /// The call that a world asks for by a7, which holds 0A454E43, and a6, which holds its number, if there is one.
-#[tactic(auto, unfolding(crate::specs::Calls::asked_call))]
-pub fn asked_call(world: &World, a7: u32, a6: u32) -> Option<Call>
-    ensures { result ≡ asked_call_of world.now a7 a6 }
+#[tactic(auto, unfolding(crate::specs::Calls::call_requested))]
+pub fn call_requested(world: &World, a7: u32, a6: u32) -> Option<Call>
+    ensures { result ≡ call_requested_of world.now a7 a6 }
 {
     if a7 != CALL_KEY {
         return None;

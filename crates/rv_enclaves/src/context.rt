@@ -2,7 +2,7 @@
 
 ghost use Rattle.std.specs.Prelude.{◌≡◌, Some};
 ghost use Rattle.rv_enclaves.specs.Table.{running_slot};
-ghost use Rattle.rv_enclaves.specs.Contexts.{first_context as first_context_of, exited_context as exited_context_of, no_supervisor as no_supervisor_of, with_context, context_at as context_at_of, kept_context as kept_context_of, with_answer};
+ghost use Rattle.rv_enclaves.specs.Contexts.{first_context as first_context_of, exited_context as exited_context_of, no_supervisor as no_supervisor_of, with_context, context_at as context_at_of, saved_context as saved_context_of, with_return_values};
 
 use crate::slot::{SLOT_COUNT, Slot};
 use crate::slot_info::SlotInfo;
@@ -45,8 +45,8 @@ const fn no_supervisor() -> SContext
 }
 
 /// Puts two words into a0 and a1.
-pub fn set_answer(regs: &mut Regs, a0: u32, a1: u32)
-    ensures { regs.new ≡ with_answer regs.old a0 a1 }
+pub fn set_return_values(regs: &mut Regs, a0: u32, a1: u32)
+    ensures { regs.new ≡ with_return_values regs.old a0 a1 }
 {
     regs.set(Reg::new(10), a0);
     regs.set(Reg::new(11), a1);
@@ -58,7 +58,7 @@ pub(crate) fn first_context(info: &SlotInfo) -> Context
     ensures { result ≡ first_context_of info.now }
 {
     let mut regs = Regs::new();
-    set_answer(&mut regs, info.region.base, info.region.size);
+    set_return_values(&mut regs, info.region.base, info.region.size);
     regs.set(Reg::new(12), info.window.base);
     regs.set(Reg::new(13), info.window.size);
     Context {
@@ -89,15 +89,15 @@ pub(crate) fn context_at(contexts: &Contexts, slot: Slot) -> Option<Context>
 }
 
 /// The context that is kept for a slot; all 0 where none is.
-pub fn kept_context(contexts: &Contexts, slot: Slot) -> Context
-    ensures { result ≡ kept_context_of contexts.now slot }
+pub fn saved_context(contexts: &Contexts, slot: Slot) -> Context
+    ensures { result ≡ saved_context_of contexts.now slot }
 {
     context_at(contexts, slot).unwrap_or(exited_context())
 }
 
 /// Keeps the context of the enclave that runs in a world; where the host does, there is none.
 #[tactic(auto, using(crate::proofs::Slots::context_past))]
-pub fn keep_running(contexts: &mut Contexts, world: &World, context: Context)
+pub fn save_running(contexts: &mut Contexts, world: &World, context: Context)
     ensures { contexts.new ≡ with_context contexts.old (running_slot world.now) (Some context) }
 {
     if let Some(slot) = world.slot() {

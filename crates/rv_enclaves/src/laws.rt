@@ -1,11 +1,11 @@
 //! Laws of the table of enclaves and of its entries, for any crate above to cite. Each is proved of the definitions in `specs/`.
 
 ghost use Rattle.rv_enclaves.specs.CallLaws.{CallsAlikeLaw, CallsKeepLaw, ScrambledLaw, ScrambledTwiceLaw};
-ghost use Rattle.rv_enclaves.specs.Reach.{ApartLaw, ReachLaw};
+ghost use Rattle.rv_enclaves.specs.AccessibleMemory.{ApartLaw, LayoutAccessLaw};
 
 /// Reach: under the entries of a valid table and a world, S and U do an access to bytes in RAM exactly where it is in reach.
-pub const fn reach()
-    ensures { ReachLaw }
+pub const fn accessible()
+    ensures { LayoutAccessLaw }
 {}
 
 /// No access that S or U does has a byte in the region of another enclave than the one that runs.
@@ -19,7 +19,7 @@ pub const fn calls_keep()
 {}
 
 /// Nothing that a create, a destroy or a measure leaves depends on what is private to an enclave.
-pub const fn calls_are_blind()
+pub const fn calls_noninterference()
     ensures { CallsAlikeLaw }
 {}
 

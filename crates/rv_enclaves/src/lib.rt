@@ -22,9 +22,9 @@ mod table;
 mod valid_block;
 mod world;
 
-pub use call::{Call, asked_call};
+pub use call::{Call, call_requested};
 pub use context::{
-    Context, Contexts, exited_context, keep_running, kept_context, set_answer, set_context,
+    Context, Contexts, exited_context, save_running, saved_context, set_context, set_return_values,
 };
 pub use create_args::CreateArgs;
 pub use layout::write_layout;

@@ -25,7 +25,7 @@ impl Shared {
             Some(info) if info.state != EnclaveState::Running => {
                 complement(&mut self.memory, info.region);
                 let context = context_at(&self.contexts, slot);
-                set_context(&mut self.contexts, slot, complement_kept(context));
+                set_context(&mut self.contexts, slot, complement_saved(context));
                 true
             }
             _ => false,
@@ -44,7 +44,7 @@ fn complement(memory: &mut Ram, block: Block)
 }
 
 /// What is kept, with its registers complemented; where nothing is, nothing.
-fn complement_kept(context: Option<Context>) -> Option<Context>
+fn complement_saved(context: Option<Context>) -> Option<Context>
     ensures { result ≡ option_map complemented_context context }
 {
     let mut context = context?;

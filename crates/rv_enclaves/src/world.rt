@@ -38,7 +38,7 @@ impl World {
     }
 
     /// The value of mie while the world runs: the timer's interrupt, MTIE, is on while an enclave does.
-    #[tactic(auto, using(crate::proofs::Kept::mie_stored))]
+    #[tactic(auto, using(crate::proofs::InvariantLemmas::mie_stored))]
     pub const fn mie(&self) -> u32
         ensures value { result ≡ mie_of self.now }
         ensures stored { enabled_of (mie_of self.now) ≡ mie_of self.now }

@@ -4,7 +4,7 @@ use Rattle.std.specs.Prelude.{◌==◌, map, find, slice_get, Option, IfSome, Al
 use Rattle.std.specs.Option.{option_map}
 use Rattle.std.proofs.lemmas.Option.{slice_get-get_or}
 use Rattle.rv_word.specs.Logic.{and_by_bits}
-use Rattle.rv_encoding.specs.Rows.{row_of_instr, word_of, fields_at, Spells}
+use Rattle.rv_encoding.specs.Rows.{row_of_instr, word_of, fields_at, Encodes}
 use Rattle.rv_encoding.specs.Listing.{Listed, listing, listed_of}
 use Rattle.rv_encoding.specs.Decoding.{samples, with_fields_of, decoded}
 use Rattle.rv_encoding.proofs.ReadingLemmas.{only_read}
@@ -64,7 +64,7 @@ unlisted : (word : ℕ) → find (fits_row word) samples ≡ None → (place : �
 unlisted word none place row is =
     none_fit word samples none place row (ap (λ (rows : List Listed). slice_get rows place) (sym listing_of_samples) ∙ is)
 
-unfound : (word : ℕ) (result : Option Instr) → word < 2 ^ 32 → IfSome result (Spells word) → find (fits_row word) samples ≡ None → result ≡ None
+unfound : (word : ℕ) (result : Option Instr) → word < 2 ^ 32 → IfSome result (Encodes word) → find (fits_row word) samples ≡ None → result ≡ None
 unfound word None fits found none = refl
 unfound word (Some i) fits found none =
     let below : word_of i < 2 ^ 32 = omega (arith, found.1) in
@@ -72,7 +72,7 @@ unfound word (Some i) fits found none =
     absurd (unlisted word none (is_listed i).0 (listed_of i) (is_listed i).1 masked)
 
 -- what is spelled by the word, and alone is, is what the listing gives
-pub decoded_is : (word : ℕ) (result : Option Instr) → word < 2 ^ 32 → IfSome result (Spells word) → ((i : Instr) → Spells word i → result ≡ Some i)
+pub decoded_is : (word : ℕ) (result : Option Instr) → word < 2 ^ 32 → IfSome result (Encodes word) → ((i : Instr) → Encodes word i → result ≡ Some i)
     → result ≡ decoded word
 unfolding decoded
 decoded_is word result fits found only = by_row (find (fits_row word) samples) refl
@@ -81,15 +81,15 @@ decoded_is word result fits found only = by_row (find (fits_row word) samples) r
     by_row (Some s) is = only (with_fields_of word s) (spelled_by_mask s word fits (found_fits word samples s is))
     by_row None is = unfound word result fits found is
 
-pub only_spelled : (word : ℕ) (i other : Instr) → Spells word i → Spells word other → other ≡ i
-only_spelled word i other spells spells_other =
-    let first = only_read word i spells in
+pub only_spelled : (word : ℕ) (i other : Instr) → Encodes word i → Encodes word other → other ≡ i
+only_spelled word i other encodes spells_other =
+    let first = only_read word i encodes in
     let second = only_read word other spells_other in
     cc
 
-pub decoded_spelled : (word : ℕ) (i : Instr) → word < 2 ^ 32 → Spells word i → decoded word ≡ Some i
-decoded_spelled word i fits spells =
-    sym (decoded_is word (Some i) fits spells (λ other spells_other. ap Some (sym (only_spelled word i other spells spells_other))))
+pub decoded_spelled : (word : ℕ) (i : Instr) → word < 2 ^ 32 → Encodes word i → decoded word ≡ Some i
+decoded_spelled word i fits encodes =
+    sym (decoded_is word (Some i) fits encodes (λ other spells_other. ap Some (sym (only_spelled word i other encodes spells_other))))
 
 -- where nothing is decoded, no row of the listing fits
 pub none_listed : (word : ℕ) → decoded word ≡ None → All (λ row. and_by_bits word row.mask ≢ row.match) listing

@@ -4,7 +4,7 @@ use Rattle.std.proofs.lemmas.Nat.{and_mask, and_block, div-add-mod'}
 use Rattle.rv_word.specs.Logic.{and_by_bits}
 use Rattle.rv_word.proofs.LogicLemmas.{bit_and_is}
 use Rattle.rv_encoding.specs.Codes.{branch_funct3, load_funct3, store_funct3, op_imm_funct3, shift_functs, op_functs, csr_funct3, csr_imm_funct3}
-use Rattle.rv_encoding.specs.Rows.{row_of_instr, IsInstr, word_of, Spells}
+use Rattle.rv_encoding.specs.Rows.{row_of_instr, IsInstr, word_of, Encodes}
 use Rattle.rv_encoding.specs.Decoding.{with_fields_of}
 use Rattle.rv_encoding.proofs.CodeLemmas.{branch_funct3-lt, load_funct3-lt, store_funct3-lt, op_imm_funct3-lt, shift_functs-lt}
 use Rattle.rv_encoding.proofs.CodeLemmas.{op_functs-lt, csr_funct3-lt, csr_imm_funct3-lt}
@@ -47,7 +47,7 @@ mask_word word fits = and_mask word 32 ∙ omega arith
 
 -- ---- a word that equals the match under the mask is spelled, with the fields that it has
 
-spelled_by_and : (i : Instr) (word : ℕ) → word < 2 ^ 32 → bit_and word (row_of_instr i).mask ≡ (row_of_instr i).match → Spells word (with_fields_of word i)
+spelled_by_and : (i : Instr) (word : ℕ) → word < 2 ^ 32 → bit_and word (row_of_instr i).mask ≡ (row_of_instr i).match → Encodes word (with_fields_of word i)
 unfolding word_of
 spelled_by_and (Lui rd imm) word fits masked =
     let code = sym (and_mask word 7) ∙ masked in
@@ -160,7 +160,7 @@ and_mask_is : (i : Instr) (word : ℕ) → word < 2 ^ 32 → bit_and word (row_o
 and_mask_is i word fits = bit_and_is word (row_of_instr i).mask fits (mask-lt i)
 
 pub spelled_by_mask : (i : Instr) (word : ℕ) → word < 2 ^ 32 → and_by_bits word (row_of_instr i).mask ≡ (row_of_instr i).match
-    → Spells word (with_fields_of word i)
+    → Encodes word (with_fields_of word i)
 spelled_by_mask i word fits masked = spelled_by_and i word fits (and_mask_is i word fits ∙ masked)
 
 pub masked_word_of : (i : Instr) → IsInstr i → word_of i < 2 ^ 32 → and_by_bits (word_of i) (row_of_instr i).mask ≡ (row_of_instr i).match

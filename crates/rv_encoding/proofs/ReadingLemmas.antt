@@ -5,7 +5,7 @@ use Rattle.rv_encoding.specs.Places.{rd_at, rs1_at, rs2_at, i_immediate_at, s_im
 use Rattle.rv_encoding.specs.Places.{fm_at, pred_at, succ_at, csr_at, uimm_at, taken}
 use Rattle.rv_encoding.specs.Codes.{branch_funct3, load_funct3, store_funct3, op_imm_funct3, shift_functs, op_functs, csr_funct3, csr_imm_funct3}
 use Rattle.rv_encoding.specs.Codes.{branch_kind, load_kind, store_kind, op_imm_kind, shift_kind, op_kind, csr_kind, csr_imm_kind}
-use Rattle.rv_encoding.specs.Rows.{IsInstr, word_of, Spells}
+use Rattle.rv_encoding.specs.Rows.{IsInstr, word_of, Encodes}
 use Rattle.rv_encoding.proofs.Reading.{read, read_jalr, read_branch, read_load, read_store, read_op_imm, read_op, read_fence, read_whole, read_system}
 use Rattle.rv_encoding.proofs.CodeLemmas.{branch_kind_found, branch_funct3-lt, load_kind_found, load_funct3-lt, store_kind_found, store_funct3-lt}
 use Rattle.rv_encoding.proofs.CodeLemmas.{op_imm_kind_found, op_imm_funct3-lt, csr_kind_found, csr_funct3-lt, csr_imm_kind_found, csr_imm_funct3-lt}
@@ -140,33 +140,33 @@ read_word_of (SfenceVma rs1 rs2) valid =
 
 -- ---- so whatever a word spells is what the step for its opcode reads
 
-pub only_read : (word : ℕ) (i : Instr) → Spells word i → read word ≡ Some i
-only_read word i spells = ap read (sym spells.1) ∙ read_word_of i spells.0
+pub only_read : (word : ℕ) (i : Instr) → Encodes word i → read word ≡ Some i
+only_read word i encodes = ap read (sym encodes.1) ∙ read_word_of i encodes.0
 
-pub only_jalr : (word : ℕ) (i : Instr) → bits word 6 0 ≡ 0b1100111 → Spells word i → read_jalr word ≡ Some i
-only_jalr word i opcode spells = let is = only_read word i spells in rw opcode at is
+pub only_jalr : (word : ℕ) (i : Instr) → bits word 6 0 ≡ 0b1100111 → Encodes word i → read_jalr word ≡ Some i
+only_jalr word i opcode encodes = let is = only_read word i encodes in rw opcode at is
 
-pub only_branch : (word : ℕ) (i : Instr) → bits word 6 0 ≡ 0b1100011 → Spells word i → read_branch word ≡ Some i
-only_branch word i opcode spells = let is = only_read word i spells in rw opcode at is
+pub only_branch : (word : ℕ) (i : Instr) → bits word 6 0 ≡ 0b1100011 → Encodes word i → read_branch word ≡ Some i
+only_branch word i opcode encodes = let is = only_read word i encodes in rw opcode at is
 
-pub only_load : (word : ℕ) (i : Instr) → bits word 6 0 ≡ 0b0000011 → Spells word i → read_load word ≡ Some i
-only_load word i opcode spells = let is = only_read word i spells in rw opcode at is
+pub only_load : (word : ℕ) (i : Instr) → bits word 6 0 ≡ 0b0000011 → Encodes word i → read_load word ≡ Some i
+only_load word i opcode encodes = let is = only_read word i encodes in rw opcode at is
 
-pub only_store : (word : ℕ) (i : Instr) → bits word 6 0 ≡ 0b0100011 → Spells word i → read_store word ≡ Some i
-only_store word i opcode spells = let is = only_read word i spells in rw opcode at is
+pub only_store : (word : ℕ) (i : Instr) → bits word 6 0 ≡ 0b0100011 → Encodes word i → read_store word ≡ Some i
+only_store word i opcode encodes = let is = only_read word i encodes in rw opcode at is
 
-pub only_op_imm : (word : ℕ) (i : Instr) → bits word 6 0 ≡ 0b0010011 → Spells word i → read_op_imm word ≡ Some i
-only_op_imm word i opcode spells = let is = only_read word i spells in rw opcode at is
+pub only_op_imm : (word : ℕ) (i : Instr) → bits word 6 0 ≡ 0b0010011 → Encodes word i → read_op_imm word ≡ Some i
+only_op_imm word i opcode encodes = let is = only_read word i encodes in rw opcode at is
 
-pub only_op : (word : ℕ) (i : Instr) → bits word 6 0 ≡ 0b0110011 → Spells word i → read_op word ≡ Some i
-only_op word i opcode spells = let is = only_read word i spells in rw opcode at is
+pub only_op : (word : ℕ) (i : Instr) → bits word 6 0 ≡ 0b0110011 → Encodes word i → read_op word ≡ Some i
+only_op word i opcode encodes = let is = only_read word i encodes in rw opcode at is
 
-pub only_fence : (word : ℕ) (i : Instr) → bits word 6 0 ≡ 0b0001111 → Spells word i → read_fence word ≡ Some i
-only_fence word i opcode spells = let is = only_read word i spells in rw opcode at is
+pub only_fence : (word : ℕ) (i : Instr) → bits word 6 0 ≡ 0b0001111 → Encodes word i → read_fence word ≡ Some i
+only_fence word i opcode encodes = let is = only_read word i encodes in rw opcode at is
 
-pub only_system : (word : ℕ) (i : Instr) → bits word 6 0 ≡ 0b1110011 → Spells word i → read_system word ≡ Some i
-only_system word i opcode spells = let is = only_read word i spells in rw opcode at is
+pub only_system : (word : ℕ) (i : Instr) → bits word 6 0 ≡ 0b1110011 → Encodes word i → read_system word ≡ Some i
+only_system word i opcode encodes = let is = only_read word i encodes in rw opcode at is
 
 pub only_whole : (word : ℕ) (i : Instr) → bits word 6 0 ≡ 0b1110011 → csr_kind (bits word 14 12) ≡ None → csr_imm_kind (bits word 14 12) ≡ None
-    → Spells word i → read_whole word ≡ Some i
-only_whole word i opcode no_register no_immediate spells = let is = only_system word i opcode spells in grind arith
+    → Encodes word i → read_whole word ≡ Some i
+only_whole word i opcode no_register no_immediate encodes = let is = only_system word i opcode encodes in grind arith

@@ -105,5 +105,5 @@ IsInstr Wfi = Unit {0}
 IsInstr (SfenceVma rs1 rs2) = (rs1 < 32) × (rs2 < 32)
 
 -- An instruction, each field in its range, is spelled by a word.
-abbrev pub Spells : ℕ → Instr → Type 0
-Spells word instr = IsInstr instr × (word_of instr ≡ word)
+abbrev pub Encodes : ℕ → Instr → Type 0
+Encodes word instr = IsInstr instr × (word_of instr ≡ word)

@@ -8,7 +8,7 @@ ghost use Rattle.std.specs.Prelude.{◌≡◌, ◌≢◌, ◌*◌, ◌^◌, IfSo
 ghost use Rattle.rv_word.specs.BitFields.{bits as bits_of};
 ghost use Rattle.rv_word.specs.Logic.{and_by_bits};
 ghost use Rattle.rv_encoding.specs.Codes.{csr_kind as csr_kind_of, csr_imm_kind as csr_imm_kind_of};
-ghost use Rattle.rv_encoding.specs.Rows.{Spells};
+ghost use Rattle.rv_encoding.specs.Rows.{Encodes};
 ghost use Rattle.rv_encoding.specs.Listing.{listing, listed_of};
 ghost use Rattle.rv_encoding.specs.Decoding.{samples, decoded};
 ghost use Rattle.rv_encoding.specs.declared.instr.Instr.{Instr};
@@ -29,9 +29,9 @@ use word_fields::{
 pub fn decode(word: u32) -> Option<Instr>
     ensures value { result ≡ decoded word }
     // What is decoded is spelled by the word.
-    ensures found { IfSome result (Spells word) }
+    ensures found { IfSome result (Encodes word) }
     // Whatever the word spells is decoded, so it spells one instruction at most.
-    ensures only { (instr : Instr) → Spells word instr → result ≡ Some instr }
+    ensures only { (instr : Instr) → Encodes word instr → result ≡ Some instr }
     // Where nothing is decoded, the word is no row's match under its mask.
     ensures none { IfNone result (All (λ row. and_by_bits word row.mask ≢ row.match) listing) }
     // The listing is the rows of the instructions, no more and no fewer.
@@ -44,8 +44,8 @@ pub fn decode(word: u32) -> Option<Instr>
 #[inline(always)]
 #[tactic(auto, using(crate::proofs::ReadingLemmas::only_read), unfolding(crate::specs::Rows::word_of))]
 fn read(word: u32) -> Option<Instr>
-    ensures found { IfSome result (Spells word) }
-    ensures only { (instr : Instr) → Spells word instr → result ≡ Some instr }
+    ensures found { IfSome result (Encodes word) }
+    ensures only { (instr : Instr) → Encodes word instr → result ≡ Some instr }
 {
     match bits(word, 6, 0) {
         0b0110111 => Some(Instr::Lui {
@@ -77,8 +77,8 @@ fn read(word: u32) -> Option<Instr>
 #[tactic(auto, using(crate::proofs::ReadingLemmas::only_jalr), unfolding(crate::specs::Rows::word_of))]
 fn jalr(word: u32) -> Option<Instr>
     requires { bits_of word 6 0 ≡ 0b1100111 }
-    ensures found { IfSome result (Spells word) }
-    ensures only { (instr : Instr) → Spells word instr → result ≡ Some instr }
+    ensures found { IfSome result (Encodes word) }
+    ensures only { (instr : Instr) → Encodes word instr → result ≡ Some instr }
 {
     if bits(word, 14, 12) != 0 {
         return None;
@@ -95,8 +95,8 @@ fn jalr(word: u32) -> Option<Instr>
 #[tactic(auto, unfolding(crate::specs::Rows::word_of))]
 fn branch(word: u32) -> Option<Instr>
     requires { bits_of word 6 0 ≡ 0b1100011 }
-    ensures found { IfSome result (Spells word) }
-    ensures only { (instr : Instr) → Spells word instr → result ≡ Some instr }
+    ensures found { IfSome result (Encodes word) }
+    ensures only { (instr : Instr) → Encodes word instr → result ≡ Some instr }
 {
     let kind = branch_kind(bits(word, 14, 12))?;
     Some(Instr::Branch {
@@ -112,8 +112,8 @@ fn branch(word: u32) -> Option<Instr>
 #[tactic(auto, unfolding(crate::specs::Rows::word_of))]
 fn load(word: u32) -> Option<Instr>
     requires { bits_of word 6 0 ≡ 0b0000011 }
-    ensures found { IfSome result (Spells word) }
-    ensures only { (instr : Instr) → Spells word instr → result ≡ Some instr }
+    ensures found { IfSome result (Encodes word) }
+    ensures only { (instr : Instr) → Encodes word instr → result ≡ Some instr }
 {
     let kind = load_kind(bits(word, 14, 12))?;
     Some(Instr::Load {
@@ -129,8 +129,8 @@ fn load(word: u32) -> Option<Instr>
 #[tactic(auto, unfolding(crate::specs::Rows::word_of))]
 fn store(word: u32) -> Option<Instr>
     requires { bits_of word 6 0 ≡ 0b0100011 }
-    ensures found { IfSome result (Spells word) }
-    ensures only { (instr : Instr) → Spells word instr → result ≡ Some instr }
+    ensures found { IfSome result (Encodes word) }
+    ensures only { (instr : Instr) → Encodes word instr → result ≡ Some instr }
 {
     let kind = store_kind(bits(word, 14, 12))?;
     Some(Instr::Store {
@@ -146,8 +146,8 @@ fn store(word: u32) -> Option<Instr>
 #[tactic(auto, using(crate::proofs::ReadingLemmas::only_op_imm), unfolding(crate::specs::Rows::word_of))]
 fn op_imm(word: u32) -> Option<Instr>
     requires { bits_of word 6 0 ≡ 0b0010011 }
-    ensures found { IfSome result (Spells word) }
-    ensures only { (instr : Instr) → Spells word instr → result ≡ Some instr }
+    ensures found { IfSome result (Encodes word) }
+    ensures only { (instr : Instr) → Encodes word instr → result ≡ Some instr }
 {
     let funct3 = bits(word, 14, 12);
     if let Some(kind) = shift_kind(funct3, bits(word, 31, 25)) {
@@ -172,8 +172,8 @@ fn op_imm(word: u32) -> Option<Instr>
 #[tactic(auto, unfolding(crate::specs::Rows::word_of))]
 fn op(word: u32) -> Option<Instr>
     requires { bits_of word 6 0 ≡ 0b0110011 }
-    ensures found { IfSome result (Spells word) }
-    ensures only { (instr : Instr) → Spells word instr → result ≡ Some instr }
+    ensures found { IfSome result (Encodes word) }
+    ensures only { (instr : Instr) → Encodes word instr → result ≡ Some instr }
 {
     let kind = op_kind(bits(word, 14, 12), bits(word, 31, 25))?;
     Some(Instr::Op {
@@ -189,8 +189,8 @@ fn op(word: u32) -> Option<Instr>
 #[tactic(auto, using(crate::proofs::ReadingLemmas::only_fence), unfolding(crate::specs::Rows::word_of))]
 fn fence(word: u32) -> Option<Instr>
     requires { bits_of word 6 0 ≡ 0b0001111 }
-    ensures found { IfSome result (Spells word) }
-    ensures only { (instr : Instr) → Spells word instr → result ≡ Some instr }
+    ensures found { IfSome result (Encodes word) }
+    ensures only { (instr : Instr) → Encodes word instr → result ≡ Some instr }
 {
     if bits(word, 14, 12) != 0 {
         return None;
@@ -209,8 +209,8 @@ fn fence(word: u32) -> Option<Instr>
 #[tactic(auto, using(crate::proofs::ReadingLemmas::only_system), unfolding(crate::specs::Rows::word_of))]
 fn system(word: u32) -> Option<Instr>
     requires { bits_of word 6 0 ≡ 0b1110011 }
-    ensures found { IfSome result (Spells word) }
-    ensures only { (instr : Instr) → Spells word instr → result ≡ Some instr }
+    ensures found { IfSome result (Encodes word) }
+    ensures only { (instr : Instr) → Encodes word instr → result ≡ Some instr }
 {
     let funct3 = bits(word, 14, 12);
     if let Some(kind) = csr_kind(funct3) {
@@ -239,8 +239,8 @@ fn whole(word: u32) -> Option<Instr>
     requires opcode { bits_of word 6 0 ≡ 0b1110011 }
     requires no_register { csr_kind_of (bits_of word 14 12) ≡ None }
     requires no_immediate { csr_imm_kind_of (bits_of word 14 12) ≡ None }
-    ensures found { IfSome result (Spells word) }
-    ensures only { (instr : Instr) → Spells word instr → result ≡ Some instr }
+    ensures found { IfSome result (Encodes word) }
+    ensures only { (instr : Instr) → Encodes word instr → result ≡ Some instr }
 {
     match word {
         0x0000_0073 => Some(Instr::Ecall),

@@ -5,7 +5,7 @@ mod places;
 
 ghost use Rattle.std.specs.Prelude.{◌≡◌, ◌+◌, ◌*◌, ◌%◌, ◌^◌, ◌<◌, Some};
 ghost use Rattle.rv_word.specs.Logic.{and_by_bits};
-ghost use Rattle.rv_encoding.specs.Rows.{IsInstr, Spells, row_of_instr, word_of, fields_at};
+ghost use Rattle.rv_encoding.specs.Rows.{IsInstr, Encodes, row_of_instr, word_of, fields_at};
 ghost use Rattle.rv_encoding.specs.Listing.{IsListed};
 ghost use Rattle.rv_encoding.specs.Decoding.{decoded};
 ghost use Rattle.rv_encoding.specs.declared.instr.Instr.{Instr};
@@ -26,7 +26,7 @@ pub const fn encode(instr: &Instr) -> u32
     ensures value { result ≡ word_of instr.now }
     ensures in_range { IsInstr instr.now }
     // The word spells no other instruction.
-    ensures only { (other : Instr) → Spells result other → other ≡ instr.now }
+    ensures only { (other : Instr) → Encodes result other → other ≡ instr.now }
     ensures round_trip { decoded result ≡ Some instr.now }
     // The instruction's row is one of the listing, and the word is the row's match under its mask.
     ensures listed { IsListed instr.now }

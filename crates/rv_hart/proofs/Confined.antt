@@ -10,41 +10,41 @@ use Rattle.rv_memory.specs.declared.access_fault.AccessFault.{AccessFault}
 use Rattle.rv_memory.specs.declared.touched.Touched.{Touched}
 use Rattle.rv_memory.proofs.AccessLaws.{store_done, fetch_refused_too, load_refused_too, store_refused_too, store_done_too, fetch_same, load_same}
 use Rattle.rv_memory.proofs.MemoryLaws.{length-bytes_of, write_at}
-use Rattle.rv_hart.specs.Confinement.{SameIn, AgreeOn, EndAlike, IsConfined}
+use Rattle.rv_hart.specs.Confinement.{SameIn, EqualOn, EndAlike, IsConfined}
 use Rattle.rv_hart.specs.HartState.{Hart}
-use Rattle.rv_hart.specs.State.{State, Ended, over}
+use Rattle.rv_hart.specs.Machine.{Machine, Ended, over}
 use Rattle.rv_hart.specs.Step.{step, from_fetch, from_decode, from_access, retired_or_trapped, data_mode, from_execute, span, fetch_of, load_of, store_of}
 use Rattle.rv_hart.specs.declared.request.Request.{Request}
 use Rattle.rv_hart.specs.declared.request.Request.TheVariants.{Nothing, Load, Store}
 use Rattle.rv_hart.specs.declared.trap.Trap.{Trap}
-use Rattle.rv_hart.proofs.StepCases.{Fetches, Decodes, Asks, Loads, Stores, asked_step, by_ways}
+use Rattle.rv_hart.proofs.StepCases.{Fetches, Decodes, Requests, Loads, Stores, requested_step, step_ways}
 
 -- the same hart over another memory
-abbrev with_memory : State → List ℕ → State
+abbrev with_memory : Machine → List ℕ → Machine
 with_memory state memory = record state { memory = memory }
 
 -- ---- the other memory goes the same way
 
-fetches-too : (state : State) (n : List ℕ) (given : Result ℕ AccessFault) → SameIn state.memory n (span state.hart.pc Word) → Fetches state given
+fetches-too : (state : Machine) (n : List ℕ) (given : Result ℕ AccessFault) → SameIn state.memory n (span state.hart.pc Word) → Fetches state given
     → Fetches (with_memory state n) given
 fetches-too state n given same here = record {
   pending = here.pending;
   fetched = sym (fetch_same state.memory n state.hart.csrs.pmp state.hart.mode state.hart.pc same) ∙ here.fetched;
 }
 
-decodes-too : (state : State) (n : List ℕ) (word : ℕ) (given : Option Instr) → SameIn state.memory n (span state.hart.pc Word) → Decodes state word given
+decodes-too : (state : Machine) (n : List ℕ) (word : ℕ) (given : Option Instr) → SameIn state.memory n (span state.hart.pc Word) → Decodes state word given
     → Decodes (with_memory state n) word given
 decodes-too state n word given same here = record { fetch = fetches-too state n (Ok word) same here.fetch; decoded = here.decoded }
 
-asks-too : (state : State) (n : List ℕ) (word : ℕ) (instr : Instr) (access : Request) → SameIn state.memory n (span state.hart.pc Word)
-    → Asks state word instr access
-    → Asks (with_memory state n) word instr access
-asks-too state n word instr access same here = record { decode = decodes-too state n word (Some instr) same here.decode; request = here.request }
+op_request-too : (state : Machine) (n : List ℕ) (word : ℕ) (instr : Instr) (access : Request) → SameIn state.memory n (span state.hart.pc Word)
+    → Requests state word instr access
+    → Requests (with_memory state n) word instr access
+op_request-too state n word instr access same here = record { decode = decodes-too state n word (Some instr) same here.decode; request = here.request }
 
 -- ---- the ends
 
 -- no memory changes
-unchanged : (state : State) (n : List ℕ) (ended : Ended) → ended.outcome.touched.stored ≡ None → step (with_memory state n) ≡ over n ended
+unchanged : (state : Machine) (n : List ℕ) (ended : Ended) → ended.outcome.touched.stored ≡ None → step (with_memory state n) ≡ over n ended
     → EndAlike state.memory n [] (over state.memory ended) (step (with_memory state n))
 unchanged state n ended none other = rw other (record { hart = refl; outcome = refl; here = rw none refl; there = rw none refl })
 
@@ -59,7 +59,7 @@ none-stored : (hart : Hart) (touched : Touched) (written : Option ℕ) (finish :
 none-stored hart touched written finish none = ap (λ (t : Touched). t.stored) (touched-ended hart touched written finish) ∙ none
 
 -- both memories take a store
-stored-alike : (state : State) (n : List ℕ) (word : ℕ) (instr : Instr) (address : ℕ) (width : Width) (value : ℕ) (memory : List ℕ)
+stored-alike : (state : Machine) (n : List ℕ) (word : ℕ) (instr : Instr) (address : ℕ) (width : Width) (value : ℕ) (memory : List ℕ)
     → length state.memory ≡ length n → Stores state address width value (Ok memory)
     → step (with_memory state n)
     ≡ over (write_bytes n (address - ram_base) (bytes_of (bytes_in width) value)) (from_execute state.hart (store_of state.hart address width) word instr 0)
@@ -78,9 +78,9 @@ stored-alike state n word instr address width value memory sizes is other =
 
 -- ---- the step
 
-pub confined : (state : State) → IsConfined state (step state)
+pub confined : (state : Machine) → IsConfined state (step state)
 unfolding step from_fetch from_decode from_access
-confined state = by_ways state (IsConfined state) (record {
+confined state = step_ways state (IsConfined state) (record {
   interrupt = λ interrupt is. record { bytes = []; alike = λ n agree. unchanged state n _ refl (rw is refl) };
   fetch_refused = λ fault here. record {
     bytes = [];
@@ -97,15 +97,15 @@ confined state = by_ways state (IsConfined state) (record {
   no_access = λ word instr here. record {
     bytes = [];
     alike = λ n agree.
-        let reads : AgreeOn state.memory n (fetch_of state.hart) = rw touched-ended at agree in
+        let reads : EqualOn state.memory n (fetch_of state.hart) = rw touched-ended at agree in
         unchanged state n _ (none-stored state.hart (fetch_of state.hart) _ _ refl)
-        (asked_step _ word instr Nothing (asks-too state n word instr Nothing reads.fetched here));
+        (requested_step _ word instr Nothing (op_request-too state n word instr Nothing reads.fetched here));
   };
   load = λ word instr address width number here is. record {
     bytes = [];
     alike = λ n agree.
-        let reads : AgreeOn state.memory n (load_of state.hart address width) = rw touched-ended at agree in
-        let there = asked_step _ word instr (Load address width) (asks-too state n word instr (Load address width) reads.fetched here) in
+        let reads : EqualOn state.memory n (load_of state.hart address width) = rw touched-ended at agree in
+        let there = requested_step _ word instr (Load address width) (op_request-too state n word instr (Load address width) reads.fetched here) in
         let loads : Loads (with_memory state n) address width (Ok number) =
         sym (load_same state.memory n state.hart.csrs.pmp (data_mode state.hart) address width reads.loaded) ∙ is in
         unchanged state n _ (none-stored state.hart (load_of state.hart address width) _ _ refl) (rw loads at there);
@@ -113,22 +113,22 @@ confined state = by_ways state (IsConfined state) (record {
   load_refused = λ word instr address width fault here is. record {
     bytes = [];
     alike = λ n agree.
-        let there = asked_step _ word instr (Load address width) (asks-too state n word instr (Load address width) agree.fetched here) in
+        let there = requested_step _ word instr (Load address width) (op_request-too state n word instr (Load address width) agree.fetched here) in
         let refused = load_refused_too state.memory n state.hart.csrs.pmp (data_mode state.hart) address width fault agree.size is in
         unchanged state n _ refl (rw refused at there);
   };
   store = λ word instr address width value memory here is. record {
     bytes = bytes_of (bytes_in width) value;
     alike = λ n agree.
-        let reads : AgreeOn state.memory n (store_of state.hart address width) = rw touched-ended at agree in
-        let there = asked_step _ word instr (Store address width value) (asks-too state n word instr (Store address width value) reads.fetched here) in
+        let reads : EqualOn state.memory n (store_of state.hart address width) = rw touched-ended at agree in
+        let there = requested_step _ word instr (Store address width value) (op_request-too state n word instr (Store address width value) reads.fetched here) in
         let stores = store_done_too state.memory n state.hart.csrs.pmp (data_mode state.hart) address width value memory reads.size is in
         stored-alike state n word instr address width value memory reads.size is (rw stores at there);
   };
   store_refused = λ word instr address width value fault here is. record {
     bytes = [];
     alike = λ n agree.
-        let there = asked_step _ word instr (Store address width value) (asks-too state n word instr (Store address width value) agree.fetched here) in
+        let there = requested_step _ word instr (Store address width value) (op_request-too state n word instr (Store address width value) agree.fetched here) in
         let refused = store_refused_too state.memory n state.hart.csrs.pmp (data_mode state.hart) address width value fault agree.size is in
         unchanged state n _ refl (rw refused at there);
   };

@@ -18,7 +18,7 @@ use Rattle.rv_hart.specs.Hart.{advanced}
 use Rattle.rv_hart.specs.HartState.{Hart}
 use Rattle.rv_hart.specs.Instructions.{request, executed}
 use Rattle.rv_hart.specs.Permitted.{MayTouchAll}
-use Rattle.rv_hart.specs.State.{State, Ended, Stepped, over}
+use Rattle.rv_hart.specs.Machine.{Machine, Ended, Stepped, over}
 use Rattle.rv_hart.specs.Step.{step, unless_interrupted, from_fetch, from_decode, from_access, retired_or_trapped, data_mode, from_execute}
 use Rattle.rv_hart.specs.Step.{trap_end, retired_end, fetch_of, load_of, store_of, nothing}
 use Rattle.rv_hart.specs.declared.request.Request.{Request}
@@ -28,81 +28,81 @@ use Rattle.rv_hart.specs.declared.trap.Trap.{Trap}
 -- ---- the ways of a step
 
 -- no interrupt is taken, and the fetch at pc gives this
-pub record Fetches (state : State) (given : Result ℕ AccessFault) : Type 0 where
+pub record Fetches (state : Machine) (given : Result ℕ AccessFault) : Type 0 where
   pub pending : pending state.hart.csrs state.hart.mode ≡ None
   pub fetched : fetched state.memory state.hart.csrs.pmp state.hart.mode state.hart.pc ≡ given
 
 -- and the fetched word is decoded, or spells nothing
-pub record Decodes (state : State) (word : ℕ) (given : Option Instr) : Type 0 where
+pub record Decodes (state : Machine) (word : ℕ) (given : Option Instr) : Type 0 where
   pub fetch : Fetches state (Ok word)
   pub decoded : decoded word ≡ given
 
 -- and the instruction asks for this access
-pub record Asks (state : State) (word : ℕ) (instr : Instr) (access : Request) : Type 0 where
+pub record Requests (state : Machine) (word : ℕ) (instr : Instr) (access : Request) : Type 0 where
   pub decode : Decodes state word (Some instr)
   pub request : request instr state.hart ≡ access
 
-abbrev pub Loads : State → ℕ → Width → Result ℕ AccessFault → Type 0
+abbrev pub Loads : Machine → ℕ → Width → Result ℕ AccessFault → Type 0
 Loads state address width given = loaded state.memory state.hart.csrs.pmp (data_mode state.hart) address width ≡ given
 
-abbrev pub Stores : State → ℕ → Width → ℕ → Result (List ℕ) AccessFault → Type 0
+abbrev pub Stores : Machine → ℕ → Width → ℕ → Result (List ℕ) AccessFault → Type 0
 Stores state address width value given = stored state.memory state.hart.csrs.pmp (data_mode state.hart) address width value ≡ given
 
 -- the ways of a step
-pub record Ways (state : State) (P : Stepped → Type 0) : Type 0 where
+pub record StepWays (state : Machine) (P : Stepped → Type 0) : Type 0 where
   pub interrupt : (interrupt : Interrupt) → pending state.hart.csrs state.hart.mode ≡ Some interrupt
       → P (over state.memory (trap_end state.hart nothing (interrupted interrupt)))
   pub fetch_refused : (fault : AccessFault) → Fetches state (Err fault)
       → P (over state.memory (trap_end state.hart nothing (access_fault InstructionAccessFault state.hart.pc)))
   pub illegal : (word : ℕ) → Decodes state word None → P (over state.memory (trap_end state.hart (fetch_of state.hart) (illegal word)))
-  pub no_access : (word : ℕ) (instr : Instr) → Asks state word instr Nothing
+  pub no_access : (word : ℕ) (instr : Instr) → Requests state word instr Nothing
       → P (over state.memory (from_execute state.hart (fetch_of state.hart) word instr 0))
-  pub load : (word : ℕ) (instr : Instr) (address : ℕ) (width : Width) (number : ℕ) → Asks state word instr (Load address width)
+  pub load : (word : ℕ) (instr : Instr) (address : ℕ) (width : Width) (number : ℕ) → Requests state word instr (Load address width)
       → Loads state address width (Ok number) → P (over state.memory (from_execute state.hart (load_of state.hart address width) word instr number))
-  pub load_refused : (word : ℕ) (instr : Instr) (address : ℕ) (width : Width) (fault : AccessFault) → Asks state word instr (Load address width)
+  pub load_refused : (word : ℕ) (instr : Instr) (address : ℕ) (width : Width) (fault : AccessFault) → Requests state word instr (Load address width)
       → Loads state address width (Err fault) → P (over state.memory (trap_end state.hart (fetch_of state.hart) (access_fault LoadAccessFault address)))
-  pub store : (word : ℕ) (instr : Instr) (address : ℕ) (width : Width) (value : ℕ) (memory : List ℕ) → Asks state word instr (Store address width value)
+  pub store : (word : ℕ) (instr : Instr) (address : ℕ) (width : Width) (value : ℕ) (memory : List ℕ) → Requests state word instr (Store address width value)
       → Stores state address width value (Ok memory) → P (over memory (from_execute state.hart (store_of state.hart address width) word instr 0))
   pub store_refused : (word : ℕ) (instr : Instr) (address : ℕ) (width : Width) (value : ℕ) (fault : AccessFault)
-      → Asks state word instr (Store address width value)
+      → Requests state word instr (Store address width value)
       → Stores state address width value (Err fault) → P (over state.memory (trap_end state.hart (fetch_of state.hart) (access_fault StoreAccessFault address)))
 
-by-load : (state : State) (P : Stepped → Type 0) → Ways state P → (word : ℕ) (instr : Instr) (address : ℕ) (width : Width)
-    → Asks state word instr (Load address width) → (r : Result ℕ AccessFault) → Loads state address width r
+by-load : (state : Machine) (P : Stepped → Type 0) → StepWays state P → (word : ℕ) (instr : Instr) (address : ℕ) (width : Width)
+    → Requests state word instr (Load address width) → (r : Result ℕ AccessFault) → Loads state address width r
     → P (result_case r (λ number. over state.memory (from_execute state.hart (load_of state.hart address width) word instr number))
     (λ _. over state.memory (trap_end state.hart (fetch_of state.hart) (access_fault LoadAccessFault address))))
 by-load state P ways word instr address width here (Ok number) is = ways.load word instr address width number here is
 by-load state P ways word instr address width here (Err fault) is = ways.load_refused word instr address width fault here is
 
-by-store : (state : State) (P : Stepped → Type 0) → Ways state P → (word : ℕ) (instr : Instr) (address : ℕ) (width : Width) (value : ℕ)
-    → Asks state word instr (Store address width value) → (r : Result (List ℕ) AccessFault) → Stores state address width value r
+by-store : (state : Machine) (P : Stepped → Type 0) → StepWays state P → (word : ℕ) (instr : Instr) (address : ℕ) (width : Width) (value : ℕ)
+    → Requests state word instr (Store address width value) → (r : Result (List ℕ) AccessFault) → Stores state address width value r
     → P (result_case r (λ after. over after (from_execute state.hart (store_of state.hart address width) word instr 0))
     (λ _. over state.memory (trap_end state.hart (fetch_of state.hart) (access_fault StoreAccessFault address))))
 by-store state P ways word instr address width value here (Ok memory) is = ways.store word instr address width value memory here is
 by-store state P ways word instr address width value here (Err fault) is = ways.store_refused word instr address width value fault here is
 
-by-request : (state : State) (P : Stepped → Type 0) → Ways state P → (word : ℕ) (instr : Instr) (access : Request) → Asks state word instr access
+by-request : (state : Machine) (P : Stepped → Type 0) → StepWays state P → (word : ℕ) (instr : Instr) (access : Request) → Requests state word instr access
     → P (from_access state.hart state.memory word instr access)
 unfolding from_access
 by-request state P ways word instr Nothing here = ways.no_access word instr here
 by-request state P ways word instr (Load address width) here = by-load state P ways word instr address width here _ refl
 by-request state P ways word instr (Store address width value) here = by-store state P ways word instr address width value here _ refl
 
-by-decode : (state : State) (P : Stepped → Type 0) → Ways state P → (word : ℕ) → Fetches state (Ok word) → (o : Option Instr) → decoded word ≡ o
+by-decode : (state : Machine) (P : Stepped → Type 0) → StepWays state P → (word : ℕ) → Fetches state (Ok word) → (o : Option Instr) → decoded word ≡ o
     → P (option_case o (over state.memory (trap_end state.hart (fetch_of state.hart) (illegal word)))
     (λ instr. from_access state.hart state.memory word instr (request instr state.hart)))
 by-decode state P ways word here None is = ways.illegal word (record { fetch = here; decoded = is })
 by-decode state P ways word here (Some instr) is =
     by-request state P ways word instr _ (record { decode = record { fetch = here; decoded = is }; request = refl })
 
-by-fetch : (state : State) (P : Stepped → Type 0) → Ways state P → (r : Result ℕ AccessFault) → Fetches state r
+by-fetch : (state : Machine) (P : Stepped → Type 0) → StepWays state P → (r : Result ℕ AccessFault) → Fetches state r
     → P (result_case r (from_decode state.hart state.memory)
     (λ _. over state.memory (trap_end state.hart nothing (access_fault InstructionAccessFault state.hart.pc))))
 unfolding from_decode
 by-fetch state P ways (Ok word) here = by-decode state P ways word here _ refl
 by-fetch state P ways (Err fault) here = ways.fetch_refused fault here
 
-by-interrupt : (state : State) (P : Stepped → Type 0) → Ways state P → (o : Option Interrupt) → pending state.hart.csrs state.hart.mode ≡ o
+by-interrupt : (state : Machine) (P : Stepped → Type 0) → StepWays state P → (o : Option Interrupt) → pending state.hart.csrs state.hart.mode ≡ o
     → P (option_case o (from_fetch state.hart state.memory)
     (λ interrupt. over state.memory (trap_end state.hart nothing (interrupted interrupt))))
 unfolding from_fetch
@@ -110,24 +110,24 @@ by-interrupt state P ways None is = by-fetch state P ways _ (record { pending = 
 by-interrupt state P ways (Some interrupt) is = ways.interrupt interrupt is
 
 -- the step by its parts
-pub step_is : (state : State) → step state ≡ unless_interrupted state.hart state.memory (from_fetch state.hart state.memory)
+pub step_is : (state : Machine) → step state ≡ unless_interrupted state.hart state.memory (from_fetch state.hart state.memory)
 unfolding step from_fetch from_decode from_access
 step_is state = refl
 
-pub by_ways : (state : State) (P : Stepped → Type 0) → Ways state P → P (step state)
-by_ways state P ways = rw (step_is state) (by-interrupt state P ways _ refl)
+pub step_ways : (state : Machine) (P : Stepped → Type 0) → StepWays state P → P (step state)
+step_ways state P ways = rw (step_is state) (by-interrupt state P ways _ refl)
 
 -- the step of an instruction that asks for an access
-pub asked_step : (state : State) (word : ℕ) (instr : Instr) (access : Request) → Asks state word instr access
+pub requested_step : (state : Machine) (word : ℕ) (instr : Instr) (access : Request) → Requests state word instr access
     → step state ≡ from_access state.hart state.memory word instr access
 unfolding step from_access
-asked_step state word instr access here = rw (here.decode.fetch.pending, here.decode.fetch.fetched, here.decode.decoded, here.request) refl
+requested_step state word instr access here = rw (here.decode.fetch.pending, here.decode.fetch.fetched, here.decode.decoded, here.request) refl
 
 -- ---- in four cases
 
 -- It ends in a trap; or an instruction retires that asked for no access, that loaded, or that stored. In each the entries permit
 -- all that is touched.
-pub record Cases (state : State) (P : Stepped → Type 0) : Type 0 where
+pub record Cases (state : Machine) (P : Stepped → Type 0) : Type 0 where
   pub trap : (touched : Touched) (trap : Trap) → MayTouchAll state touched → touched.stored ≡ None
       → P (over state.memory (trap_end state.hart touched trap))
   pub no_access : (instr : Instr) (word : ℕ) (after : Hart) → MayTouchAll state (fetch_of state.hart) → executed state.hart word 0 instr ≡ Ok after
@@ -148,34 +148,34 @@ unfolding retired_or_trapped
 by-end hart touched written P (Ok after) retires traps = retires after refl
 by-end hart touched written P (Err trap) retires traps = traps trap refl
 
-touches-nothing : (state : State) → MayTouchAll state nothing
+touches-nothing : (state : Machine) → MayTouchAll state nothing
 touches-nothing state = record { fetched = tt; loaded = tt; stored = tt }
 
-touches-fetch : (state : State) (word : ℕ) → Fetches state (Ok word) → MayTouchAll state (fetch_of state.hart)
+touches-fetch : (state : Machine) (word : ℕ) → Fetches state (Ok word) → MayTouchAll state (fetch_of state.hart)
 touches-fetch state word here =
     record { fetched = fetch_done state.memory state.hart.csrs.pmp state.hart.mode state.hart.pc word here.fetched; loaded = tt; stored = tt }
 
-touches-load : (state : State) (word address : ℕ) (width : Width) (number : ℕ) → Fetches state (Ok word) → Loads state address width (Ok number)
+touches-load : (state : Machine) (word address : ℕ) (width : Width) (number : ℕ) → Fetches state (Ok word) → Loads state address width (Ok number)
     → MayTouchAll state (load_of state.hart address width)
 touches-load state word address width number here is =
     let read = load_done state.memory state.hart.csrs.pmp (data_mode state.hart) address width number is in
     record { fetched = (touches-fetch state word here).fetched; loaded = read; stored = tt }
 
-touches-store : (state : State) (word address : ℕ) (width : Width) (value : ℕ) (memory : List ℕ) → Fetches state (Ok word)
+touches-store : (state : Machine) (word address : ℕ) (width : Width) (value : ℕ) (memory : List ℕ) → Fetches state (Ok word)
     → Stores state address width value (Ok memory)
     → MayTouchAll state (store_of state.hart address width)
 touches-store state word address width value memory here is =
     let done = store_done state.memory state.hart.csrs.pmp (data_mode state.hart) address width value memory is in
     record { fetched = (touches-fetch state word here).fetched; loaded = tt; stored = (done.0, done.1) }
 
-stores-without-trap : (state : State) (word : ℕ) (instr : Instr) (address : ℕ) (width : Width) (value : ℕ) (trap : Trap) (P : Type 0)
-    → Asks state word instr (Store address width value) → executed state.hart word 0 instr ≡ Err trap → P
+stores-without-trap : (state : Machine) (word : ℕ) (instr : Instr) (address : ℕ) (width : Width) (value : ℕ) (trap : Trap) (P : Type 0)
+    → Requests state word instr (Store address width value) → executed state.hart word 0 instr ≡ Err trap → P
 stores-without-trap state word instr address width value trap P here is =
     let done : executed state.hart word 0 instr ≡ Ok (advanced state.hart) = store_retires instr state.hart address value word width here.request in
     let never : Ok (advanced state.hart) ≡ Err trap = sym done ∙ is in cc
 
-pub by_cases : (state : State) (P : Stepped → Type 0) → Cases state P → P (step state)
-by_cases state P cases = by_ways state P (record {
+pub step_cases : (state : Machine) (P : Stepped → Type 0) → Cases state P → P (step state)
+step_cases state P cases = step_ways state P (record {
   interrupt = λ interrupt is. cases.trap nothing _ (touches-nothing state) refl;
   fetch_refused = λ fault is. cases.trap nothing _ (touches-nothing state) refl;
   illegal = λ word here. cases.trap (fetch_of state.hart) _ (touches-fetch state word here.fetch) refl;
@@ -197,12 +197,12 @@ by_cases state P cases = by_ways state P (record {
 })
 
 -- a law of the hart alone: the step ends in a trap, or an instruction retires
-pub by_hart : (state : State) (P : Stepped → Type 0)
+pub by_hart : (state : Machine) (P : Stepped → Type 0)
     → ((touched : Touched) (trap : Trap) → P (over state.memory (trap_end state.hart touched trap)))
     → ((memory : List ℕ) (touched : Touched) (instr : Instr) (word loaded : ℕ) (after : Hart) → executed state.hart word loaded instr ≡ Ok after
     → P (over memory (retired_end state.hart touched (written_csr instr) after)))
     → P (step state)
-by_hart state P traps retires = by_cases state P (record {
+by_hart state P traps retires = step_cases state P (record {
   trap = λ touched trap may none. traps touched trap;
   no_access = λ instr word after may is. retires _ _ instr word 0 after is;
   load = λ instr word address width number after may done is. retires _ _ instr word number after is;

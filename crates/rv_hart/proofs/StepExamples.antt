@@ -9,7 +9,7 @@ use Rattle.rv_memory.specs.Memory.{ram_base, read}
 use Rattle.rv_hart.specs.Hart.{at_reset}
 use Rattle.rv_hart.specs.HartState.{Hart}
 use Rattle.rv_hart.specs.Instructions.{request, executed}
-use Rattle.rv_hart.specs.State.{State}
+use Rattle.rv_hart.specs.Machine.{Machine}
 use Rattle.rv_hart.specs.Step.{step, retired_or_trapped, fetch_of}
 use Rattle.rv_hart.specs.CsrInstructions.{csr_changed, written_csr}
 use Rattle.rv_state.specs.CsrState.{at_reset as csrs_at_reset}
@@ -18,7 +18,7 @@ use Rattle.rv_state.specs.Mstatus.{mstatus_at_reset}
 use Rattle.rv_pmp.specs.declared.mode.Mode.TheVariants.{M}
 use Rattle.rv_hart.specs.Exceptions.{misaligned, illegal}
 
-abbrev over_bytes : List ℕ → Hart → State
+abbrev over_bytes : List ℕ → Hart → Machine
 over_bytes memory hart = record { hart = hart; memory = memory }
 
 abbrev reset : Hart

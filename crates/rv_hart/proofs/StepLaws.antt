@@ -11,19 +11,19 @@ use Rattle.rv_state.proofs.MachinePartsLemmas.{write_keeps_parts, same_mprv}
 use Rattle.rv_hart.specs.HartState.{Hart}
 use Rattle.rv_hart.specs.Instructions.{returned_from_supervisor}
 use Rattle.rv_hart.specs.Permitted.{TouchesPermitted}
-use Rattle.rv_hart.specs.State.{State, Stepped}
+use Rattle.rv_hart.specs.Machine.{Machine, Stepped}
 use Rattle.rv_hart.specs.Step.{step, data_mode}
 use Rattle.rv_hart.specs.StepLaws.{TrapKeeps, MprvIsClear, KeepsMprvClear, StaysBelow, KeepsMachineParts, ChangesStored}
 use Rattle.rv_hart.proofs.InstructionCases.{Changes, by_changes}
-use Rattle.rv_hart.proofs.StepCases.{by_cases, by_hart}
+use Rattle.rv_hart.proofs.StepCases.{step_cases, by_hart}
 
 -- a trap changes nothing but what every trap changes
-pub trap_keeps : (state : State) → TrapKeeps state (step state)
+pub trap_keeps : (state : Machine) → TrapKeeps state (step state)
 trap_keeps state = by_hart state (TrapKeeps state) (λ touched trap. (refl, refl)) (λ memory touched instr word loaded after is. tt)
 
 -- a step touches nothing that the entries do not permit
-pub touches_permitted : (state : State) → TouchesPermitted state (step state)
-touches_permitted state = by_cases state (TouchesPermitted state) (record {
+pub touches_permitted : (state : Machine) → TouchesPermitted state (step state)
+touches_permitted state = step_cases state (TouchesPermitted state) (record {
   trap = λ touched trap may none. may;
   no_access = λ instr word after may is. may;
   load = λ instr word address width number after may done is. may;
@@ -44,7 +44,7 @@ changes-keep-mprv hart = record {
   sret = λ clear below. refl;
 }
 
-pub keeps_mprv_clear : (state : State) → KeepsMprvClear state (step state)
+pub keeps_mprv_clear : (state : Machine) → KeepsMprvClear state (step state)
 keeps_mprv_clear state = by_hart state (KeepsMprvClear state) (λ touched trap clear below. cc)
     (λ memory touched instr word loaded after is. by_changes state.hart _ (changes-keep-mprv state.hart) instr word loaded after is)
 
@@ -66,15 +66,15 @@ changes-keep-parts hart below clear = record {
   sret = sret-has_word-parts hart clear;
 }
 
-pub keeps_machine_parts : (state : State) → KeepsMachineParts state (step state)
+pub keeps_machine_parts : (state : Machine) → KeepsMachineParts state (step state)
 unfolding machine_parts
 keeps_machine_parts state = by_hart state (KeepsMachineParts state) (λ touched trap below clear. tt)
     (λ memory touched instr word loaded after is below clear. by_changes state.hart _ (changes-keep-parts state.hart below clear) instr word loaded after is)
 
 -- ---- the memory changes where the step stored
 
-pub changes_stored : (state : State) → ChangesStored state (step state)
-changes_stored state = by_cases state (ChangesStored state) (record {
+pub changes_stored : (state : Machine) → ChangesStored state (step state)
+changes_stored state = step_cases state (ChangesStored state) (record {
   trap = λ touched trap may none. (refl, rw none refl);
   no_access = λ instr word after may is. (refl, refl);
   load = λ instr word address width number after may done is. (refl, refl);
@@ -85,6 +85,6 @@ changes_stored state = by_cases state (ChangesStored state) (record {
 })
 
 -- what holds of every step holds of one that is named
-pub after_step : (P : State → Stepped → Type 0) → ((state : State) → P state (step state))
-    → (before : State) (after : Stepped) → step before ≡ after → P before after
+pub after_step : (P : Machine → Stepped → Type 0) → ((state : Machine) → P state (step state))
+    → (before : Machine) (after : Stepped) → step before ≡ after → P before after
 after_step P law before after stepped = subst (P before) stepped (law before)

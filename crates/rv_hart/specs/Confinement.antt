@@ -5,7 +5,7 @@ use Rattle.rv_word.specs.Widths.{bytes_in}
 use Rattle.rv_memory.specs.Memory.{read, write}
 use Rattle.rv_memory.specs.declared.touched.Span.{Span}
 use Rattle.rv_memory.specs.declared.touched.Touched.{Touched}
-use Rattle.rv_hart.specs.State.{State, Stepped}
+use Rattle.rv_hart.specs.Machine.{Machine, Stepped}
 use Rattle.rv_hart.specs.Step.{step}
 
 -- two memories have the same bytes in a span, if there is one
@@ -14,7 +14,7 @@ SameIn m n None = Unit {0}
 SameIn m n (Some span) = read m span.addr (bytes_in span.len) ≡ read n span.addr (bytes_in span.len)
 
 -- two memories of one size have the same bytes where a step reads
-pub record AgreeOn (m n : List ℕ) (touched : Touched) : Type 0 where
+pub record EqualOn (m n : List ℕ) (touched : Touched) : Type 0 where
   pub size : length m ≡ length n
   pub fetched : SameIn m n touched.fetched
   pub loaded : SameIn m n touched.loaded
@@ -32,7 +32,7 @@ pub record EndAlike (m n bytes : List ℕ) (one other : Stepped) : Type 0 where
   pub there : Stores bytes n other.state.memory one.outcome.touched.stored
 
 -- a step ends so from every memory that agrees with this one where the step reads
-pub record IsConfined (state : State) (after : Stepped) : Type 0 where
+pub record IsConfined (state : Machine) (after : Stepped) : Type 0 where
   pub bytes : List ℕ
-  pub alike : (memory : List ℕ) → AgreeOn state.memory memory after.outcome.touched
+  pub alike : (memory : List ℕ) → EqualOn state.memory memory after.outcome.touched
       → EndAlike state.memory memory bytes after (step (record state { memory = memory }))

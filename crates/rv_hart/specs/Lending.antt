@@ -3,7 +3,7 @@ use Rattle.std.specs.Prelude.{ℕ, List}
 use Rattle.std.specs.Borrow.{Lends, MutBor, Fml}
 use Rattle.rv_memory.specs.contracts.ram.Ram.{the_row as ram_row}
 use Rattle.rv_hart.specs.HartState.{Hart}
-use Rattle.rv_hart.specs.State.{State}
+use Rattle.rv_hart.specs.Machine.{Machine}
 use Rattle.rv_hart.specs.contracts.hart.Hart.{the_row as hart_row}
 use Rattle.rv_hart.specs.contracts.machine.Machine.{the_row as machine_row}
 use Rattle.rv_state.specs.contracts.csrs.Csrs.{the_row as csrs_row}
@@ -19,14 +19,14 @@ abbrev pub HartLendsCsrs : MutBor Hart → MutBor CsrState → Fml
 HartLendsCsrs hart csrs = Lends hart_row csrs_row hart csrs (λ left. record hart.now { csrs = left })
 
 -- so does the machine
-abbrev pub MachineLendsRegs : MutBor State → MutBor (List ℕ) → Fml
+abbrev pub MachineLendsRegs : MutBor Machine → MutBor (List ℕ) → Fml
 MachineLendsRegs machine regs =
     Lends machine_row regs_row machine regs (λ left. record machine.now { hart = record machine.now.hart { regs = left } })
 
-abbrev pub MachineLendsCsrs : MutBor State → MutBor CsrState → Fml
+abbrev pub MachineLendsCsrs : MutBor Machine → MutBor CsrState → Fml
 MachineLendsCsrs machine csrs =
     Lends machine_row csrs_row machine csrs (λ left. record machine.now { hart = record machine.now.hart { csrs = left } })
 
 -- the machine ends with the memory that is left
-abbrev pub MachineLendsRam : MutBor State → MutBor (List ℕ) → Fml
+abbrev pub MachineLendsRam : MutBor Machine → MutBor (List ℕ) → Fml
 MachineLendsRam machine ram = Lends machine_row ram_row machine ram (λ left. record machine.now { memory = left })

@@ -9,6 +9,6 @@ pub mod HartState
 pub mod Instructions
 pub mod Lending
 pub mod Permitted
-pub mod State
+pub mod Machine
 pub mod Step
 pub mod StepLaws

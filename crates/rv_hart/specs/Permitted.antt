@@ -10,21 +10,21 @@ use Rattle.rv_memory.specs.Accesses.{verdict_on}
 use Rattle.rv_memory.specs.Memory.{is_inside}
 use Rattle.rv_memory.specs.declared.touched.Span.{Span}
 use Rattle.rv_memory.specs.declared.touched.Touched.{Touched}
-use Rattle.rv_hart.specs.State.{State, Stepped}
+use Rattle.rv_hart.specs.Machine.{Machine, Stepped}
 use Rattle.rv_hart.specs.Step.{data_mode}
 
 -- the bytes of a span, if there is one, are in RAM, and an access of this kind to them is permitted
-abbrev pub MayTouch : State → Mode → Access → Option Span → Type 0
+abbrev pub MayTouch : Machine → Mode → Access → Option Span → Type 0
 MayTouch state mode access None = Unit {0}
 MayTouch state mode access (Some span) =
     (is_inside state.memory span.addr (bytes_in span.len) ≡ true)
     × (permits (verdict_on state.hart.csrs.pmp mode access span.addr span.len) ≡ true)
 
-pub record MayTouchAll (state : State) (touched : Touched) : Type 0 where
+pub record MayTouchAll (state : Machine) (touched : Touched) : Type 0 where
   pub fetched : MayTouch state state.hart.mode Fetch touched.fetched
   pub loaded : MayTouch state (data_mode state.hart) Read touched.loaded
   pub stored : MayTouch state (data_mode state.hart) Write touched.stored
 
 -- a step touches nothing else
-abbrev pub TouchesPermitted : State → Stepped → Type 0
+abbrev pub TouchesPermitted : Machine → Stepped → Type 0
 TouchesPermitted before after = MayTouchAll before after.outcome.touched

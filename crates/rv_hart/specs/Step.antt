@@ -17,7 +17,7 @@ use Rattle.rv_hart.specs.Exceptions.{access_fault, illegal, interrupted}
 use Rattle.rv_hart.specs.Hart.{trapped, step_counted}
 use Rattle.rv_hart.specs.HartState.{Hart}
 use Rattle.rv_hart.specs.Instructions.{request, executed}
-use Rattle.rv_hart.specs.State.{State, Ended, Stepped, over}
+use Rattle.rv_hart.specs.Machine.{Machine, Ended, Stepped, over}
 use Rattle.rv_state.specs.declared.cause.Exception.TheVariants.{InstructionAccessFault, LoadAccessFault, StoreAccessFault}
 use Rattle.rv_hart.specs.declared.request.Request.{Request}
 use Rattle.rv_hart.specs.declared.request.Request.TheVariants.{Nothing, Load, Store}
@@ -100,7 +100,7 @@ from_execute hart touched word instr loaded =
 
 -- ---- the step
 
-unfoldable pub step : State → Stepped
+unfoldable pub step : Machine → Stepped
 step state =
     let hart = state.hart in
     unless_interrupted hart state.memory (

@@ -11,11 +11,11 @@ use Rattle.rv_hart.specs.Confinement.{IsConfined}
 use Rattle.rv_hart.specs.Hart.{trapped, step_counted}
 use Rattle.rv_hart.specs.HartState.{Hart}
 use Rattle.rv_hart.specs.Permitted.{TouchesPermitted}
-use Rattle.rv_hart.specs.State.{State, Stepped}
+use Rattle.rv_hart.specs.Machine.{Machine, Stepped}
 
 -- Where a step ends in a trap, the hart is as before but for the trap and the counting of the step, and every byte is as before:
 -- no integer register changes, and no instruction both writes a register and traps.
-abbrev pub TrapKeeps : State → Stepped → Type 0
+abbrev pub TrapKeeps : Machine → Stepped → Type 0
 TrapKeeps before after =
     IfSome after.outcome.trap (λ trap.
     (after.state.hart ≡ step_counted (trapped before.hart trap) false before.hart.csrs.mcountinhibit None)
@@ -26,7 +26,7 @@ abbrev pub MprvIsClear : Hart → Type 0
 MprvIsClear hart = is_machine hart.mode ≡ false → hart.csrs.mstatus.mprv ≡ false
 
 -- and stays so
-abbrev pub KeepsMprvClear : State → Stepped → Type 0
+abbrev pub KeepsMprvClear : Machine → Stepped → Type 0
 KeepsMprvClear before after = MprvIsClear before.hart → MprvIsClear after.state.hart
 
 -- the machine's parts of the registers are as before, and the mode is below M
@@ -34,7 +34,7 @@ abbrev pub StaysBelow : Hart → Hart → Type 0
 StaysBelow before after = (machine_parts after.csrs ≡ machine_parts before.csrs) × (is_machine after.mode ≡ false)
 
 -- Below mode M, with MPRV 0, no instruction changes the machine's parts, and none but by a trap leads to M.
-abbrev pub KeepsMachineParts : State → Stepped → Type 0
+abbrev pub KeepsMachineParts : Machine → Stepped → Type 0
 KeepsMachineParts before after =
     is_machine before.hart.mode ≡ false → before.hart.csrs.mstatus.mprv ≡ false
     → IfNone after.outcome.trap (StaysBelow before.hart after.state.hart)
@@ -45,12 +45,12 @@ ChangesIn old new None = new ≡ old
 ChangesIn old new (Some span) = ChangesOnly old new span.addr (bytes_in span.len)
 
 -- The memory keeps its size, and changes in the bytes that the step stored alone.
-abbrev pub ChangesStored : State → Stepped → Type 0
+abbrev pub ChangesStored : Machine → Stepped → Type 0
 ChangesStored before after =
     (length after.state.memory ≡ length before.memory) × ChangesIn before.memory after.state.memory after.outcome.touched.stored
 
 -- all of it, by the state before a step and what the step leaves and shows
-pub record ObeysHartLaws (before : State) (after : Stepped) : Type 0 where
+pub record ObeysHartLaws (before : Machine) (after : Stepped) : Type 0 where
   pub x0 : register after.state.hart.regs 0 ≡ 0
   pub aligned : after.state.hart.pc % 4 ≡ 0
   pub trap_keeps : TrapKeeps before after

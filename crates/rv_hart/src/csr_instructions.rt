@@ -48,7 +48,7 @@ impl Hart {
     ghost use Rattle.rv_hart.specs.Hart.{with_result, step_counted};
     ghost use Rattle.rv_hart.specs.Instructions.{unless_illegal};
     ghost use Rattle.rv_state.specs.Registers.{register};
-    ghost use Rattle.rv_hart.specs.State.{ended_in};
+    ghost use Rattle.rv_hart.specs.Machine.{ended_in};
     ghost use Rattle.rv_hart.specs.Step.{retired_or_trapped};
 
     /// Changes a register by a word of an integer register.

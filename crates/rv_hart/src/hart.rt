@@ -43,7 +43,7 @@ impl Hart {
     ghost use Rattle.rv_hart.specs.Instructions.{request, executed, made_even};
     ghost use Rattle.rv_hart.specs.Lending.{HartLendsRegs, HartLendsCsrs};
     ghost use Rattle.rv_state.specs.Registers.{register};
-    ghost use Rattle.rv_hart.specs.State.{state_of, ended_in, over, stepped};
+    ghost use Rattle.rv_hart.specs.Machine.{machine_of, ended_in, over, stepped};
     ghost use Rattle.rv_hart.specs.StepLaws.{ObeysHartLaws};
     ghost use Rattle.rv_hart.specs.Step.{step, from_decode, from_access, retired_or_trapped, from_execute, trap_end, retired_end, fetch_of, data_mode};
 
@@ -141,8 +141,8 @@ impl Hart {
     /// - `confined`: the step depends on no byte of memory but those that it says it fetched and loaded.
     #[inline(always)]
     pub fn step(&mut self, ram: &mut Ram) -> StepOutcome
-        ensures meaning { step (state_of self.old ram.old) ≡ stepped self.new ram.new result }
-        ensures laws { ObeysHartLaws (state_of self.old ram.old) (stepped self.new ram.new result) }
+        ensures meaning { step (machine_of self.old ram.old) ≡ stepped self.new ram.new result }
+        ensures laws { ObeysHartLaws (machine_of self.old ram.old) (stepped self.new ram.new result) }
     {
         self.step_at::<Self>(ram)
     }
@@ -151,8 +151,8 @@ impl Hart {
     /// once.
     #[inline(always)]
     pub(crate) fn step_at<Site>(&mut self, ram: &mut Ram) -> StepOutcome
-        ensures meaning { step (state_of self.old ram.old) ≡ stepped self.new ram.new result }
-        ensures laws { ObeysHartLaws (state_of self.old ram.old) (stepped self.new ram.new result) }
+        ensures meaning { step (machine_of self.old ram.old) ≡ stepped self.new ram.new result }
+        ensures laws { ObeysHartLaws (machine_of self.old ram.old) (stepped self.new ram.new result) }
     {
         let outcome = self.step_once::<Site>(ram);
         self.invariant();
@@ -163,7 +163,7 @@ impl Hart {
     #[inline(always)]
     #[tactic(auto, unfolding(crate::specs::Step::from_fetch), using(crate::proofs::StepCases::step_is))]
     fn step_once<Site>(&mut self, ram: &mut Ram) -> StepOutcome
-        ensures { step (state_of self.old ram.old) ≡ stepped self.new ram.new result }
+        ensures { step (machine_of self.old ram.old) ≡ stepped self.new ram.new result }
     {
         if let Some(interrupt) = self.csrs.pending_interrupt(self.mode) {
             return self.trap(interrupted(interrupt), Touched::default());

@@ -2,7 +2,7 @@
 //! ISA 20191213, chapters 1, 2, 7 and 9; Privileged Architecture 20211203, chapters 3 and 4).
 //!
 //! `Step` in the specs is one step, and `Instructions` what each row of the instruction table means. What holds of every step,
-//! in whatever state, is a clause of `Hart::step` and a lemma of `StepLaws` or `Confined` in the proofs, where `by_cases` in
+//! in whatever state, is a clause of `Hart::step` and a lemma of `StepLaws` or `Confined` in the proofs, where `step_cases` in
 //! `StepCases` is the principle for more such laws.
 //!
 //! `Hart::run_fast` does many steps at once of those that end in no trap, and its contract says that they are steps; it stops before any

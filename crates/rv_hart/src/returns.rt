@@ -26,7 +26,7 @@ impl Hart {
     ghost use Rattle.std.specs.Prelude.{◌≡◌, None, true};
     ghost use Rattle.rv_hart.specs.Hart.{advanced, step_counted};
     ghost use Rattle.rv_hart.specs.Instructions.{where_allowed, unless_refused as unless_refused_of, returned_from_machine, returned_from_supervisor};
-    ghost use Rattle.rv_hart.specs.State.{ended_in};
+    ghost use Rattle.rv_hart.specs.Machine.{ended_in};
     ghost use Rattle.rv_state.specs.Interrupts.{is_machine};
     ghost use Rattle.rv_hart.specs.Step.{retired_or_trapped};
 

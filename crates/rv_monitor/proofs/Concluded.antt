@@ -1,11 +1,11 @@
 -- What a call that switches no world tells its caller.
 use Rattle.std.proofs.Common.{◌≡◌, ℕ, Option, Some, None, Result, Ok, Err, MatchResult, refl}
-use Rattle.rv_monitor.specs.Prelude.{Refusal, Seat, Shared, option_case, result_case}
-use Rattle.rv_monitor.proofs.Prelude.{answered, refused}
+use Rattle.rv_monitor.specs.Prelude.{Refusal, HartState, Shared, option_case, result_case}
+use Rattle.rv_monitor.proofs.Prelude.{returned_to_caller, refused}
 
 -- the first row that holds, or what is done where none does, by the result and by what is shared after it
-pub concluded : (seat : Seat) (rows : Option Refusal) (r : Result ℕ Refusal) (before after done : Shared) (value : ℕ)
+pub concluded : (hart_state : HartState) (rows : Option Refusal) (r : Result ℕ Refusal) (before after done : Shared) (value : ℕ)
     → MatchResult r (λ v. (rows ≡ None) × (v ≡ value) × (after ≡ done)) (λ refusal. (rows ≡ Some refusal) × (after ≡ before))
-    → option_case rows (answered seat done 0 value) (refused seat before) ≡ result_case r (answered seat after 0) (refused seat after)
-concluded seat rows (Ok v) before after done value (none, is, same) = rw (none, is, same) refl
-concluded seat rows (Err refusal) before after done value (some, same) = rw (some, same) refl
+    → option_case rows (returned_to_caller hart_state done 0 value) (refused hart_state before) ≡ result_case r (returned_to_caller hart_state after 0) (refused hart_state after)
+concluded hart_state rows (Ok v) before after done value (none, is, same) = rw (none, is, same) refl
+concluded hart_state rows (Err refusal) before after done value (some, same) = rw (some, same) refl

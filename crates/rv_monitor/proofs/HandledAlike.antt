@@ -3,80 +3,80 @@
 use Rattle.std.proofs.Common.{◌≡◌, ℕ, List, length, Some, None, refl, sym, ap, subst, inl, inr}
 use Rattle.rv_enclaves.specs.declared.slot_info.EnclaveState.TheVariants as states
 use Rattle.rv_enclaves.proofs.WorksAlike.{WorksAlike, works_alike}
-use Rattle.rv_monitor.specs.Prelude.{Contexts, Running, Seat, Shared, SharedButFor, Slots, Trap}
+use Rattle.rv_monitor.specs.Prelude.{Contexts, Running, HartState, Shared, SharedEquivExcept, Slots, Trap}
 use Rattle.rv_monitor.specs.Prelude.{measured_slot, new_slot, create_args_of, running_slot}
-use Rattle.rv_monitor.proofs.Prelude.{HandledAlike, HandlerLaw, a0, a1, answered, both_ways, cases_eq, enclave_state_after, entered_slot}
-use Rattle.rv_monitor.proofs.Prelude.{eq-eqb, going_on_from, handled, left, with_layout}
-use Rattle.rv_monitor.proofs.Works.{by_work_of_both, entering, kept_by, leaving, over}
+use Rattle.rv_monitor.proofs.Prelude.{HandledAlike, HandlerLaw, a0, a1, returned_to_caller, both_ways, cases_eq, enclave_state_after, entered_slot}
+use Rattle.rv_monitor.proofs.Prelude.{eq-eqb, continuing_from, handled, left, with_reprogrammed_hart}
+use Rattle.rv_monitor.proofs.HandlerCases.{handler_cases_of_both, entering, saved_by, leaving, over}
 
 -- ---- the work
 
-module _ (e : ℕ) (table : Slots) (m n : List ℕ) (cs ds : Contexts) (works : WorksAlike e (over table m cs) (over table n ds))
-    (seat : Seat) (trap : Trap) where
+module _ (e : ℕ) (table : Slots) (m n : List ℕ) (cs ds : Contexts) (cases : WorksAlike e (over table m cs) (over table n ds))
+    (hart_state : HartState) (trap : Trap) where
   abbrev here : Shared
   here = over table m cs
 
   abbrev there : Shared
   there = over table n ds
 
-  answered_alike : (one other : Shared) (status result : ℕ) → SharedButFor e one other
-      → HandledAlike e (with_layout (answered seat one status result)) (with_layout (answered seat other status result))
-  answered_alike one other status result agree = record {
+  returned_alike : (one other : Shared) (status result : ℕ) → SharedEquivExcept e one other
+      → HandledAlike e (with_reprogrammed_hart (returned_to_caller hart_state one status result)) (with_reprogrammed_hart (returned_to_caller hart_state other status result))
+  returned_alike one other status result equiv = record {
     entered = refl;
-    seat = record {
+    hart_state = record {
       world = refl;
-      same = λ rests.
-          ap (λ (slots : Slots). going_on_from (with_layout (answered seat (over slots one.memory one.contexts) status result))) agree.table;
+      same = λ not_running.
+          ap (λ (slots : Slots). continuing_from (with_reprogrammed_hart (returned_to_caller hart_state (over slots one.memory one.contexts) status result))) equiv.table;
     };
-    shared = agree;
+    shared = equiv;
   }
 
   -- a slot other than e
-  enters_other : (a0 seat ≡ e → ⊥) → HandledAlike e (with_layout (entering seat here)) (with_layout (entering seat there))
+  enters_other : (a0 hart_state ≡ e → ⊥) → HandledAlike e (with_reprogrammed_hart (entering hart_state here)) (with_reprogrammed_hart (entering hart_state there))
   unfolding entered_slot
   enters_other other =
-      let same = works.contexts (a0 seat) other in
+      let same = cases.contexts (a0 hart_state) other in
       rw (← same) (record {
         entered = refl;
-        seat = record { world = refl; same = λ rests. refl };
-        shared = works.switches (a0 seat) states.Running None;
+        hart_state = record { world = refl; same = λ not_running. refl };
+        shared = cases.switches (a0 hart_state) states.Running None;
       })
 
   -- slot e
-  enters_own : a0 seat ≡ e → HandledAlike e (with_layout (entering seat here)) (with_layout (entering seat there))
+  enters_own : a0 hart_state ≡ e → HandledAlike e (with_reprogrammed_hart (entering hart_state here)) (with_reprogrammed_hart (entering hart_state there))
   unfolding entered_slot
   enters_own own = record {
     entered = refl;
-    seat = record { world = refl; same = λ rests. absurd (both_ways _ rests (eq-eqb (a0 seat) e own)) };
-    shared = works.switches (a0 seat) states.Running None;
+    hart_state = record { world = refl; same = λ not_running. absurd (both_ways _ not_running (eq-eqb (a0 hart_state) e own)) };
+    shared = cases.switches (a0 hart_state) states.Running None;
   }
 
-  enters_alike : HandledAlike e (with_layout (entering seat here)) (with_layout (entering seat there))
-  enters_alike = elim (cases_eq (a0 seat) e) [ inl own ↦ enters_own own | inr other ↦ enters_other other ]
+  enters_alike : HandledAlike e (with_reprogrammed_hart (entering hart_state here)) (with_reprogrammed_hart (entering hart_state there))
+  enters_alike = elim (cases_eq (a0 hart_state) e) [ inl own ↦ enters_own own | inr other ↦ enters_other other ]
 
-  leaves_alike : HandledAlike e (with_layout (leaving trap.cause seat here)) (with_layout (leaving trap.cause seat there))
+  leaves_alike : HandledAlike e (with_reprogrammed_hart (leaving trap.cause hart_state here)) (with_reprogrammed_hart (leaving trap.cause hart_state there))
   unfolding left
   leaves_alike = record {
     entered = refl;
-    seat = record { world = refl; same = λ rests. refl };
-    shared = works.switches (running_slot seat.world) (enclave_state_after trap.cause seat.hart.regs) (Some (kept_by trap.cause seat));
+    hart_state = record { world = refl; same = λ not_running. refl };
+    shared = cases.switches (running_slot hart_state.world) (enclave_state_after trap.cause hart_state.hart.regs) (Some (saved_by trap.cause hart_state));
   }
 
-  handled_alike : length m ≡ length n → HandledAlike e (handled seat here trap) (handled seat there trap)
-  handled_alike = by_work_of_both seat trap table m n cs ds (HandledAlike e) (record {
-    answers = λ status result. answered_alike here there status result works.before;
-    creates = λ asks may. answered_alike _ _ 0 (new_slot table) (works.creates (create_args_of seat.hart.regs) may);
-    destroys = λ asks taken. answered_alike _ _ 0 0 (works.destroys (a0 seat) taken);
-    measures = λ asks may. answered_alike _ _ 0 0 (works.measures (measured_slot seat.world (a0 seat)) (a1 seat));
-    enters = λ call asks enters host taken. enters_alike;
+  handled_alike : length m ≡ length n → HandledAlike e (handled hart_state here trap) (handled hart_state there trap)
+  handled_alike = handler_cases_of_both hart_state trap table m n cs ds (HandledAlike e) (record {
+    answers = λ status result. returned_alike here there status result cases.before;
+    creates = λ reads may. returned_alike _ _ 0 (new_slot table) (cases.creates (create_args_of hart_state.hart.regs) may);
+    destroys = λ reads taken. returned_alike _ _ 0 0 (cases.destroys (a0 hart_state) taken);
+    measures = λ reads may. returned_alike _ _ 0 0 (cases.measures (measured_slot hart_state.world (a0 hart_state)) (a1 hart_state));
+    enters = λ call reads enters host taken. enters_alike;
     leaves = leaves_alike;
-    forwards = record { entered = refl; seat = record { world = refl; same = λ rests. refl }; shared = works.before };
+    forwards = record { entered = refl; hart_state = record { world = refl; same = λ not_running. refl }; shared = cases.before };
   })
 
 pub handler_law : HandlerLaw
-handler_law e worlds seat one other trap here there rests agree =
-    let tables = agree.table in
-    let works = works_alike e one other worlds here there agree in
-    let works' = subst (λ (t : Slots). WorksAlike e one (over t other.memory other.contexts)) (sym tables) works in
-    subst (λ (t : Slots). HandledAlike e (handled seat one trap) (handled seat (over t other.memory other.contexts) trap)) tables
-    (handled_alike e one.table one.memory other.memory one.contexts other.contexts works' seat trap agree.memory.size)
+handler_law e worlds hart_state one other trap here there not_running equiv =
+    let tables = equiv.table in
+    let cases = works_alike e one other worlds here there equiv in
+    let cases' = subst (λ (t : Slots). WorksAlike e one (over t other.memory other.contexts)) (sym tables) cases in
+    subst (λ (t : Slots). HandledAlike e (handled hart_state one trap) (handled hart_state (over t other.memory other.contexts) trap)) tables
+    (handled_alike e one.table one.memory other.memory one.contexts other.contexts cases' hart_state trap equiv.memory.size)

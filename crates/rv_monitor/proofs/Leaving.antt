@@ -2,84 +2,85 @@
 use Rattle.std.proofs.Common.{◌≡◌, ℕ, ◌⊎◌, true, Option, Some, None, IfSome, refl, sym, ◌∙◌, ap, subst, inl, inr}
 use Rattle.std.proofs.Math.Bool.{or-false}
 use Rattle.rv_state.specs.declared.cause.Cause.TheVariants as causes
-use Rattle.rv_monitor.specs.Prelude.{Cause, Context, Enclave, Host, Outcome, Seat, StepOutcome, Trap, can_go_on, is_set, step}
-use Rattle.rv_monitor.proofs.Prelude.{Handled, IsOwn, LeaveLaw, MonitoredState, MonitoredStepped, bare_state, handled, kept_after, left_hart}
-use Rattle.rv_monitor.proofs.Prelude.{left, left_shared, monitored_step, returned, seen_by, with_layout}
-use Rattle.rv_monitor.proofs.Kept.{own_kept}
-use Rattle.rv_monitor.proofs.Places.{is_trapping, laid_by, step_seen}
+use Rattle.rv_monitor.specs.Prelude.{Cause, Context, Enclave, Host, Outcome, HartState, StepOutcome, Trap, can_go_on, is_set, step}
+use Rattle.rv_monitor.specs.Leaving.{LeavesOnly}
+use Rattle.rv_monitor.proofs.Prelude.{Handled, HartViewInvariant, HartView, HartViewStepped, bare_machine, handled, saved_after, left_hart}
+use Rattle.rv_monitor.proofs.Prelude.{left, left_shared, monitored_step, returned, hart_view, with_reprogrammed_hart, Invariant, MonitoredMachine, step_of}
+use Rattle.rv_monitor.proofs.InvariantLemmas.{hart_view_invariant}
+use Rattle.rv_monitor.proofs.HartCases.{is_trapping, programmed_by, step_seen}
 use Rattle.rv_monitor.proofs.Switched.{aligned_again}
-use Rattle.rv_monitor.proofs.TrapSteps.{seat_after, trapped_step}
-use Rattle.rv_monitor.proofs.Works.{by_work, kept_by, leave_of, lowered_by}
+use Rattle.rv_monitor.proofs.TrapSteps.{hart_state_after, trapped_step}
+use Rattle.rv_monitor.proofs.HandlerCases.{handler_cases, saved_by, enclave_exit_of, lowered_by}
 
 -- ---- the monitor's work
 
 -- of the seat after a trap of the enclave of slot k
-module _ (before : MonitoredState) (k : ℕ) (host : Context) (runs : before.seat.world ≡ Enclave k) (kept : before.seat.host_context ≡ Some host)
+module _ (before : HartView) (k : ℕ) (host : Context) (runs : before.hart_state.world ≡ Enclave k) (kept : before.hart_state.host_context ≡ Some host)
     (trap : Trap) where
-  abbrev seat : Seat
-  seat = seat_after before.seat trap
+  abbrev hart_state : HartState
+  hart_state = hart_state_after before.hart_state trap
 
   abbrev leaving_with : Context → Handled
-  leaving_with context = left (lowered_by trap.cause seat) before.shared (record (leave_of trap.cause seat) { kept = context })
+  leaving_with context = left (lowered_by trap.cause hart_state) before.shared (record (enclave_exit_of trap.cause hart_state) { kept = context })
 
   abbrev leaving_now : Handled
-  leaving_now = leaving_with (kept_after trap.cause before.seat.hart)
+  leaving_now = leaving_with (saved_after trap.cause before.hart_state.hart)
 
   -- what is kept of the enclave, by its hart before the trap
-  kept_is : (cause : Cause) → kept_by cause seat ≡ kept_after cause before.seat.hart
+  kept_is : (cause : Cause) → saved_by cause hart_state ≡ saved_after cause before.hart_state.hart
   kept_is (causes.Interrupt interrupt) = refl
   kept_is (causes.Exception exception) = refl
 
   -- the enclave goes on, or leaves so
   abbrev Goes : Handled → Type 0
-  Goes h = (h.seat.world ≡ Enclave k) ⊎ (h ≡ with_layout leaving_now)
+  Goes h = (h.hart_state.world ≡ Enclave k) ⊎ (h ≡ with_reprogrammed_hart leaving_now)
 
-  enters_never : before.seat.world ≡ Host → (P : Type 0) → P
+  enters_never : before.hart_state.world ≡ Host → (P : Type 0) → P
   enters_never is P = let never : Host ≡ Enclave k = sym is ∙ runs in cc
 
-  work_goes : Goes (handled seat before.shared trap)
-  work_goes = by_work seat trap before.shared Goes (record {
+  work_goes : Goes (handled hart_state before.shared trap)
+  work_goes = handler_cases hart_state trap before.shared Goes (record {
     answers = λ status result. inl runs;
-    creates = λ asks may. inl runs;
-    destroys = λ asks taken. inl runs;
-    measures = λ asks may. inl runs;
-    enters = λ call asks enters is taken. enters_never is _;
-    leaves = inr (ap (λ (kept : Context). with_layout (leaving_with kept)) (kept_is trap.cause));
+    creates = λ reads may. inl runs;
+    destroys = λ reads taken. inl runs;
+    measures = λ reads may. inl runs;
+    enters = λ call reads enters is taken. enters_never is _;
+    leaves = inr (ap (λ (kept : Context). with_reprogrammed_hart (leaving_with kept)) (kept_is trap.cause));
     forwards = inl runs;
   })
 
   -- ---- the step
 
-  abbrev left_state : MonitoredState
+  abbrev left_state : HartView
   left_state =
-      let shared = left_shared before.shared k trap.cause before.seat.hart in
-      record { seat = record { hart = left_hart before.seat.hart shared.table trap host; host_context = None; world = Host }; shared = shared }
+      let shared = left_shared before.shared k trap.cause before.hart_state.hart in
+      record { hart_state = record { hart = left_hart before.hart_state.hart shared.table trap host; host_context = None; world = Host }; shared = shared }
 
-  abbrev Left : MonitoredStepped → Type 0
+  abbrev Left : HartViewStepped → Type 0
   Left after = (after.state ≡ left_state) × (after.outcome.entered ≡ None)
 
-  returned_left : (outcome : StepOutcome) → IsOwn before → Left (returned outcome (with_layout leaving_now))
+  returned_left : (outcome : StepOutcome) → HartViewInvariant before → Left (returned outcome (with_reprogrammed_hart leaving_now))
   unfolding left
   returned_left outcome all =
       let P : Option Context → Type 0 = λ o. IfSome o (λ c. can_go_on c ≡ true) in
-      let aligned = aligned_again host.mode host.pc (subst P kept all.host.held) in
-      let mprv = all.layout.mprv in
-      (rw (runs, kept, aligned, or-false (is_set before.seat.hart.csrs.mcountinhibit 0), mprv) refl, refl)
+      let aligned = aligned_again host.mode host.pc (subst P kept all.hart.host.held) in
+      let mprv = all.hart.layout.mprv in
+      (rw (runs, kept, aligned, or-false (is_set before.hart_state.hart.csrs.mcountinhibit 0), mprv) refl, refl)
 
-  left_or_not : (outcome : StepOutcome) (h : Handled) → IsOwn before → Goes h → h.seat.world ≡ Host → Left (returned outcome h)
+  left_or_not : (outcome : StepOutcome) (h : Handled) → HartViewInvariant before → Goes h → h.hart_state.world ≡ Host → Left (returned outcome h)
   left_or_not outcome h all (inl stays) gone = let never : Enclave k ≡ Host = sym stays ∙ gone in cc
   left_or_not outcome h all (inr same) gone = subst (λ (x : Handled). Left (returned outcome x)) (sym same) (returned_left outcome all)
 
-  left_one : IsOwn before → (monitored_step before).outcome.step.trap ≡ Some trap → (monitored_step before).state.seat.world ≡ Host
+  left_one : HartViewInvariant before → (monitored_step before).outcome.step.trap ≡ Some trap → (monitored_step before).state.hart_state.world ≡ Host
       → Left (monitored_step before)
   left_one all is gone =
       let step_is = trapped_step before trap is in
-      let there = subst (λ (after : MonitoredStepped). after.state.seat.world ≡ Host) step_is gone in
-      subst Left (sym step_is) (left_or_not (step (bare_state before)).outcome _ all work_goes there)
+      let there = subst (λ (after : HartViewStepped). after.state.hart_state.world ≡ Host) step_is gone in
+      subst Left (sym step_is) (left_or_not (step (bare_machine before)).outcome _ all work_goes there)
 
-pub leave_law : LeaveLaw
-leave_law hart machine kept k host trap runs kept_host is gone =
+pub leave_law : (hart : ℕ) (machine : MonitoredMachine) → Invariant machine → LeavesOnly hart machine (step_of hart machine)
+leave_law hart machine kept k host trap runs saved_host is gone =
     let trapping = is_trapping hart machine trap is in
-    let there = sym (ap (λ (after : MonitoredStepped). after.state.seat.world) (step_seen hart machine trapping.has)) ∙ gone in
-    let one = left_one (seen_by hart machine) k host runs kept_host trap (own_kept hart machine kept trapping.has) trapping.trapped there in
-    (trapping.state ∙ ap (laid_by hart machine) one.0, ap (λ (outcome : Outcome). outcome.entered) trapping.outcome ∙ one.1)
+    let there = sym (ap (λ (after : HartViewStepped). after.state.hart_state.world) (step_seen hart machine trapping.has)) ∙ gone in
+    let one = left_one (hart_view hart machine) k host runs saved_host trap (hart_view_invariant hart machine kept trapping.has) trapping.trapped there in
+    (trapping.state ∙ ap (programmed_by hart machine) one.0, ap (λ (outcome : Outcome). outcome.entered) trapping.outcome ∙ one.1)

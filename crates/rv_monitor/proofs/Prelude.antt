@@ -1,36 +1,36 @@
 -- The names that the proofs cite beside those of specs/Prelude, passed on from one place. Declares nothing.
-pub use Rattle.rv_enclaves.proofs.Reaches.{inside_is, permitted_apart, reach_law, reached_apart, small_ram, some_bytes}
+pub use Rattle.rv_enclaves.proofs.AccessLemmas.{inside_is, permitted_apart, reach_law, accessible_apart, small_ram, some_bytes}
 pub use Rattle.rv_enclaves.proofs.Refusals.{IsTaken, MayCreate, MayMeasure, may_create, may_measure, may_take, same_create_refusals}
 pub use Rattle.rv_enclaves.proofs.Refusals.{same_measure_refusals, takes_rests}
 pub use Rattle.rv_enclaves.proofs.Slots.{at_other, at_same, or-first, or-second}
-pub use Rattle.rv_enclaves.proofs.Sound.{created_sound, destroyed_sound, entered_sound, free_slot_from, left_sound, live_in_range}
-pub use Rattle.rv_enclaves.proofs.Sound.{measured_sound, sound_by_size}
+pub use Rattle.rv_enclaves.proofs.SharedInvariantLemmas.{created_sound, destroyed_sound, entered_sound, free_slot_from, left_sound, live_in_range}
+pub use Rattle.rv_enclaves.proofs.SharedInvariantLemmas.{measured_sound, sound_by_size}
 pub use Rattle.rv_enclaves.specs.Unlocked.{IsUnlocked}
 pub use Rattle.rv_enclaves.specs.declared.slot_info.SlotInfo.{SlotInfo}
 pub use Rattle.rv_hart.proofs.Confined.{confined}
 pub use Rattle.rv_hart.proofs.StepLaws.{keeps_machine_parts, keeps_mprv_clear, touches_permitted, trap_keeps}
-pub use Rattle.rv_hart.specs.Confinement.{AgreeOn, IsConfined, SameIn, Stores}
+pub use Rattle.rv_hart.specs.Confinement.{EqualOn, IsConfined, SameIn, Stores}
 pub use Rattle.rv_hart.specs.Permitted.{MayTouch, MayTouchAll, TouchesPermitted}
-pub use Rattle.rv_monitor.specs.AgreeBut.{AgreeBut, SeatsAgreeBut, runs_on}
-pub use Rattle.rv_monitor.specs.Asked.{AskedLaw, AskedStepLaw, SameAsked, SameWhereSame, SameWork, asked_by, is_call, is_entering}
+pub use Rattle.rv_monitor.specs.EquivExcept.{EquivExcept, HartStatesEquivExcept, runs_on}
+pub use Rattle.rv_monitor.specs.HandlerReads.{HandlerReadsLaw, SameRead, SameWhereSame, SameHandling, requested_by, is_call, is_entering}
 pub use Rattle.rv_monitor.specs.CallRefusals.{a0, a1, call_refusals}
-pub use Rattle.rv_monitor.specs.Changes.{ByMonitor, ChangeLaw, ChangesInReach, IsChanged, IsMeasured, IsStoredInReach}
-pub use Rattle.rv_monitor.specs.Confidentiality.{BareLaw, ConfidentialityLaw, HandledAlike, HandlerLaw, StepAlike, bare_state, going_on_from}
-pub use Rattle.rv_monitor.specs.Debugger.{changed, reg_set, seat_timer_set}
-pub use Rattle.rv_monitor.specs.HartLaws.{EntryLaw, IsLeftAlone, KeptLaw, NotOwnLaw, RunningLaw, RunsOnNone, SchedChangeLaw, SchedKeptLaw}
-pub use Rattle.rv_monitor.specs.HartLaws.{SchedLaw, SchedSparesLaw, sched}
-pub use Rattle.rv_monitor.specs.Integrity.{GoOnLaw, GoesOn, IntegrityLaw, IsSpared, IsUntouched, enters}
-pub use Rattle.rv_monitor.specs.Leaving.{LeaveLaw, kept_after, left_hart, left_shared, line_after, enclave_state_after}
-pub use Rattle.rv_monitor.specs.State.{AreStored, HasLayout, HostIsStored, IsKept, IsOwn, IsSeated, KeepsHost, Machine, MonitoredState}
-pub use Rattle.rv_monitor.specs.State.{count_of, held_by, seat_at_start, seat_of, seated, seats_at_start, seen_by, with_seat, worlds}
-unfoldable pub use Rattle.rv_monitor.specs.State.{at_start}
-pub use Rattle.rv_monitor.specs.Step.{MachineStepped, MonitoredStepped, answered, forwarded, handled_cause, handled_exception, not_stepped}
-pub use Rattle.rv_monitor.specs.Step.{past_call, refused, returned, returned_to, seats_behind, seen_after, stepped_by, stopped_context}
-pub use Rattle.rv_monitor.specs.Step.{trapped_mode, trapped_pc, unhandled, with_layout}
+pub use Rattle.rv_monitor.specs.Changes.{ByMonitor, ChangesAccessible, IsChanged, IsMeasured, IsStoredAccessible}
+pub use Rattle.rv_monitor.specs.Noninterference.{BareLaw, HandledAlike, HandlerLaw, StepAlike, bare_machine, continuing_from}
+pub use Rattle.rv_monitor.specs.Debugger.{changed, reg_set, timer_line_set}
+pub use Rattle.rv_monitor.specs.HartLaws.{EntryLaw, IsUndisturbed, LowStepsLaw, RunningLaw, RunsOnNone, SchedChangeLaw, SchedInvariantLaw}
+pub use Rattle.rv_monitor.specs.HartLaws.{SchedLaw, SchedIntegrityLaw, sched}
+pub use Rattle.rv_monitor.specs.Integrity.{KeepsRunning, IsPreserved, IsUntouched, enters}
+pub use Rattle.rv_monitor.specs.Leaving.{saved_after, left_hart, left_shared, line_after, enclave_state_after}
+pub use Rattle.rv_monitor.specs.MonitoredMachine.{HostContextsAreLegal, HasPmpLayout, HostContextIsLegal, Invariant, HartViewInvariant, HartInvariant, HostContextInvariant, MonitoredMachine, HartView}
+pub use Rattle.rv_monitor.specs.MonitoredMachine.{count_of, machine_of_parts, hart_state_at_start, hart_state_of, reprogrammed, hart_states_at_start, hart_view, with_hart_state, worlds}
+unfoldable pub use Rattle.rv_monitor.specs.MonitoredMachine.{at_start}
+pub use Rattle.rv_monitor.specs.Step.{MonitoredStepped, HartViewStepped, returned_to_caller, forwarded, handled_cause, handled_exception, not_stepped}
+pub use Rattle.rv_monitor.specs.Step.{past_call, refused, returned, returned_to, hart_states_reprogrammed, hart_view_after, stepped_by, stopped_context}
+pub use Rattle.rv_monitor.specs.Step.{trapped_mode, trapped_pc, unhandled, with_reprogrammed_hart}
 unfoldable pub use Rattle.rv_monitor.specs.Step.{call_handled, called, forwarded_csrs, handled, monitored_step, performed, step_of}
 unfoldable pub use Rattle.rv_monitor.specs.Step.{timer_stopped}
-pub use Rattle.rv_monitor.specs.SwitchLaws.{StaysOrSwitches, SwitchLaw, reason, value}
-pub use Rattle.rv_monitor.specs.Switches.{Handled, kept_host, saved}
+pub use Rattle.rv_monitor.specs.SwitchLaws.{StaysOrSwitches, reason, value}
+pub use Rattle.rv_monitor.specs.Switches.{Handled, saved_host, saved}
 unfoldable pub use Rattle.rv_monitor.specs.Switches.{entered_slot, left}
 pub use Rattle.rv_pmp.specs.Entries.{Entries, cfg_of}
 pub use Rattle.std.proofs.lemmas.Bool.{and_from, and_parts, both_ways, cases_Bool, cases_eq, cases_lt, cond-false, cond-true, eq-eqb}

@@ -2,14 +2,14 @@
 -- between.
 use Rattle.std.proofs.Common.{◌≡◌, ◌<◌, ℕ, true, false, List, [], ◌∷◌, Option, Some, None, refl, sym, ap, ◌∙◌, subst, inl, inr}
 use Rattle.std.specs.Prelude.{not, is_some}
-use Rattle.rv_monitor.specs.Prelude.{Context, S, Seat, is_host, with_answer}
+use Rattle.rv_monitor.specs.Prelude.{Context, S, HartState, is_host, with_return_values}
 use Rattle.rv_monitor.specs.Refused.{past_ecall}
-use Rattle.rv_monitor.specs.Returns.{RunsThrough, HostComesBack, ReturnLaw}
-use Rattle.rv_monitor.proofs.Prelude.{HostIsStored, IsKept, KeepsHost, Machine, MonitoredState, MonitoredStepped, StaysOrSwitches}
-use Rattle.rv_monitor.proofs.Prelude.{both_ways, cases_eq, cases_lt, count_of, monitored_step, reason, saved, sched, seat_of, seen_by}
+use Rattle.rv_monitor.specs.Returns.{RunsThrough, HostIsRestored, ReturnLaw}
+use Rattle.rv_monitor.proofs.Prelude.{HostContextIsLegal, Invariant, HostContextInvariant, MonitoredMachine, HartView, HartViewStepped, StaysOrSwitches}
+use Rattle.rv_monitor.proofs.Prelude.{both_ways, cases_eq, cases_lt, count_of, monitored_step, reason, saved, sched, hart_state_of, hart_view}
 use Rattle.rv_monitor.proofs.Prelude.{step_of, value}
-use Rattle.rv_monitor.proofs.Kept.{kept_law, sched_kept}
-use Rattle.rv_monitor.proofs.Places.{past_seat, step_beside, step_count, step_seen}
+use Rattle.rv_monitor.proofs.InvariantLemmas.{invariant_law, sched_invariant}
+use Rattle.rv_monitor.proofs.HartCases.{past_hart_state, step_beside, step_count, step_seen}
 use Rattle.rv_monitor.proofs.Switched.{KeptStored, kept_between, switch_law}
 
 -- while the host runs nothing is kept of it
@@ -17,118 +17,118 @@ nothing_kept : (o : Option Context) → is_some o ≡ false → KeptStored o
 nothing_kept None is = tt
 nothing_kept (Some context) is = cc
 
-pub host_stored : (seat : Seat) → KeepsHost seat → is_host seat.world ≡ true → HostIsStored seat
-host_stored seat keeps host = nothing_kept seat.host_context (keeps.kept ∙ ap not host)
+pub host_stored : (hart_state : HartState) → HostContextInvariant hart_state → is_host hart_state.world ≡ true → HostContextIsLegal hart_state
+host_stored hart_state keeps host = nothing_kept hart_state.host_context (keeps.kept ∙ ap not host)
 
 -- the step that enters keeps the host as it was
-pub entered_from : (state : MonitoredState) (after : MonitoredStepped) → StaysOrSwitches state after → is_host state.seat.world ≡ true
-    → is_host after.state.seat.world ≡ false
-    → after.state.seat.host_context ≡ Some (saved state.seat.hart (past_ecall state.seat.hart) S)
+pub entered_from : (state : HartView) (after : HartViewStepped) → StaysOrSwitches state after → is_host state.hart_state.world ≡ true
+    → is_host after.state.hart_state.world ≡ false
+    → after.state.hart_state.host_context ≡ Some (saved state.hart_state.hart (past_ecall state.hart_state.hart) S)
 entered_from state after (inl stays) host other = absurd (both_ways _ other (ap is_host stays.world ∙ host))
 entered_from state after (inr (inl enters)) host other = enters.host
 entered_from state after (inr (inr leaves)) host other = absurd (both_ways _ other (ap is_host leaves.world))
 
 -- the step that leaves puts it back
-pub back_from : (before state : MonitoredState) (after : MonitoredStepped) → StaysOrSwitches state after
-    → state.seat.host_context ≡ Some (saved before.seat.hart (past_ecall before.seat.hart) S)
-    → is_host state.seat.world ≡ false → is_host after.state.seat.world ≡ true → HostComesBack before state after
+pub back_from : (before state : HartView) (after : HartViewStepped) → StaysOrSwitches state after
+    → state.hart_state.host_context ≡ Some (saved before.hart_state.hart (past_ecall before.hart_state.hart) S)
+    → is_host state.hart_state.world ≡ false → is_host after.state.hart_state.world ≡ true → HostIsRestored before state after
 back_from before state after (inl stays) kept other host = absurd (both_ways _ other (sym (ap is_host stays.world) ∙ host))
 back_from before state after (inr (inl enters)) kept other host = absurd (both_ways _ other (ap is_host enters.from_host))
 back_from before state after (inr (inr leaves)) kept other host =
     let both = sym leaves.kept ∙ kept in
-    let same : leaves.host ≡ saved before.seat.hart (past_ecall before.seat.hart) S = cc in
-    let x = reason leaves.trap.cause state.seat.hart.regs in
-    let y = value leaves.trap.cause state.seat.hart.regs in
+    let same : leaves.host ≡ saved before.hart_state.hart (past_ecall before.hart_state.hart) S = cc in
+    let x = reason leaves.trap.cause state.hart_state.hart.regs in
+    let y = value leaves.trap.cause state.hart_state.hart.regs in
     record {
       trap = leaves.trap;
       trapped = leaves.trapped;
-      again = leaves.again ∙ ap (λ (host : Context). record host { regs = with_answer host.regs x y }) same;
+      again = leaves.again ∙ ap (λ (host : Context). record host { regs = with_return_values host.regs x y }) same;
     }
 
 -- what is kept of the host of a hart
-abbrev pub host_on : ℕ → Machine → Option Context
-host_on hart machine = (seat_of hart machine).host_context
+abbrev pub host_on : ℕ → MonitoredMachine → Option Context
+host_on hart machine = (hart_state_of hart machine).host_context
 
 -- a hart on which an enclave runs is one that there is
-pub runs_there : (hart : ℕ) (machine : Machine) → is_host (seat_of hart machine).world ≡ false → hart < count_of machine
+pub runs_there : (hart : ℕ) (machine : MonitoredMachine) → is_host (hart_state_of hart machine).world ≡ false → hart < count_of machine
 runs_there hart machine runs = elim (cases_lt hart (count_of machine)) [
   | inl inside ↦ inside
   | inr past ↦
-      let never : true ≡ false = sym (ap (λ (s : Seat). is_host s.world) (past_seat machine.seats hart past)) ∙ runs in
+      let never : true ≡ false = sym (ap (λ (s : HartState). is_host s.world) (past_hart_state machine.hart_states hart past)) ∙ runs in
       cc
 ]
 
 -- ---- a step of a hart
 
-own_keeps : (hart : ℕ) (machine : Machine) → is_host (seat_of hart machine).world ≡ false
-    → is_host (seat_of hart (step_of hart machine).state).world ≡ false → host_on hart (step_of hart machine).state ≡ host_on hart machine
+own_keeps : (hart : ℕ) (machine : MonitoredMachine) → is_host (hart_state_of hart machine).world ≡ false
+    → is_host (hart_state_of hart (step_of hart machine).state).world ≡ false → host_on hart (step_of hart machine).state ≡ host_on hart machine
 own_keeps hart machine runs still =
     let seen = step_seen hart machine (runs_there hart machine runs) in
-    ap (λ (after : MonitoredStepped). after.state.seat.host_context) seen
-    ∙ kept_between (seen_by hart machine) runs (sym (ap (λ (after : MonitoredStepped). is_host after.state.seat.world) seen) ∙ still)
+    ap (λ (after : HartViewStepped). after.state.hart_state.host_context) seen
+    ∙ kept_between (hart_view hart machine) runs (sym (ap (λ (after : HartViewStepped). is_host after.state.hart_state.world) seen) ∙ still)
 
-step_keeps : (hart named : ℕ) (machine : Machine) → is_host (seat_of hart machine).world ≡ false
-    → is_host (seat_of hart (step_of named machine).state).world ≡ false → host_on hart (step_of named machine).state ≡ host_on hart machine
+step_keeps : (hart named : ℕ) (machine : MonitoredMachine) → is_host (hart_state_of hart machine).world ≡ false
+    → is_host (hart_state_of hart (step_of named machine).state).world ≡ false → host_on hart (step_of named machine).state ≡ host_on hart machine
 step_keeps hart named machine runs still = elim (cases_eq hart named) [
   | inl same ↦
-      subst (λ (h : ℕ). is_host (seat_of hart (step_of h machine).state).world ≡ false → host_on hart (step_of h machine).state ≡ host_on hart machine)
+      subst (λ (h : ℕ). is_host (hart_state_of hart (step_of h machine).state).world ≡ false → host_on hart (step_of h machine).state ≡ host_on hart machine)
       same (own_keeps hart machine runs) still
-  | inr other ↦ step_beside (λ (seat : Seat). seat.host_context) (λ slots seat. refl) named hart machine other
+  | inr other ↦ step_beside (λ (hart_state : HartState). hart_state.host_context) (λ slots hart_state. refl) named hart machine other
 ]
 
 -- ---- steps of harts in their order
 
-pub first_runs : (hart : ℕ) (harts : List ℕ) (machine : Machine) → RunsThrough hart harts machine → is_host (seat_of hart machine).world ≡ false
+pub first_runs : (hart : ℕ) (harts : List ℕ) (machine : MonitoredMachine) → RunsThrough hart harts machine → is_host (hart_state_of hart machine).world ≡ false
 first_runs hart [] machine runs = runs
 first_runs hart (named ∷ harts) machine runs = runs.0
 
-pub steps_keep : (hart : ℕ) (harts : List ℕ) (machine : Machine) → RunsThrough hart harts machine
+pub steps_keep : (hart : ℕ) (harts : List ℕ) (machine : MonitoredMachine) → RunsThrough hart harts machine
     → host_on hart (sched harts machine).state ≡ host_on hart machine
 steps_keep hart [] machine runs = refl
 steps_keep hart (named ∷ harts) machine runs =
     let after = (step_of named machine).state in
     steps_keep hart harts after runs.1 ∙ step_keeps hart named machine runs.0 (first_runs hart harts after runs.1)
 
-pub last_runs : (hart : ℕ) (harts : List ℕ) (machine : Machine) → RunsThrough hart harts machine
-    → is_host (seat_of hart (sched harts machine).state).world ≡ false
+pub last_runs : (hart : ℕ) (harts : List ℕ) (machine : MonitoredMachine) → RunsThrough hart harts machine
+    → is_host (hart_state_of hart (sched harts machine).state).world ≡ false
 last_runs hart [] machine runs = runs
 last_runs hart (named ∷ harts) machine runs = last_runs hart harts (step_of named machine).state runs.1
 
 -- ---- from the step that enters to the one that leaves
 
 -- a hart that runs the host and then an enclave is one that there is
-enters_there : (hart : ℕ) (machine : Machine) → is_host (seat_of hart (step_of hart machine).state).world ≡ false → hart < count_of machine
+enters_there : (hart : ℕ) (machine : MonitoredMachine) → is_host (hart_state_of hart (step_of hart machine).state).world ≡ false → hart < count_of machine
 enters_there hart machine runs =
     let after = (step_of hart machine).state in
     let has = runs_there hart after runs in
     subst (λ (n : ℕ). hart < n) (step_count hart machine) has
 
 -- the host is kept as it was
-pub entered_is : (hart : ℕ) (machine : Machine) → IsKept machine → is_host (seat_of hart machine).world ≡ true
-    → is_host (seat_of hart (step_of hart machine).state).world ≡ false
-    → host_on hart (step_of hart machine).state ≡ Some (saved (seat_of hart machine).hart (past_ecall (seat_of hart machine).hart) S)
+pub entered_is : (hart : ℕ) (machine : MonitoredMachine) → Invariant machine → is_host (hart_state_of hart machine).world ≡ true
+    → is_host (hart_state_of hart (step_of hart machine).state).world ≡ false
+    → host_on hart (step_of hart machine).state ≡ Some (saved (hart_state_of hart machine).hart (past_ecall (hart_state_of hart machine).hart) S)
 entered_is hart machine kept host other =
     let has = enters_there hart machine other in
     let seen = step_seen hart machine has in
-    let own = seen_by hart machine in
-    let keeps = (kept.seats hart has).host in
-    ap (λ (after : MonitoredStepped). after.state.seat.host_context) seen
-    ∙ entered_from own (monitored_step own) (switch_law own keeps (host_stored own.seat keeps host)) host
-    (sym (ap (λ (after : MonitoredStepped). is_host after.state.seat.world) seen) ∙ other)
+    let own = hart_view hart machine in
+    let keeps = (kept.hart_states hart has).host in
+    ap (λ (after : HartViewStepped). after.state.hart_state.host_context) seen
+    ∙ entered_from own (monitored_step own) (switch_law own keeps (host_stored own.hart_state keeps host)) host
+    (sym (ap (λ (after : HartViewStepped). is_host after.state.hart_state.world) seen) ∙ other)
 
 -- and comes back
-pub comes_back : (hart : ℕ) (before : MonitoredState) (machine : Machine) → IsKept machine → HostIsStored (seat_of hart machine)
-    → host_on hart machine ≡ Some (saved before.seat.hart (past_ecall before.seat.hart) S) → is_host (seat_of hart machine).world ≡ false
-    → is_host (monitored_step (seen_by hart machine)).state.seat.world ≡ true
-    → HostComesBack before (seen_by hart machine) (monitored_step (seen_by hart machine))
+pub comes_back : (hart : ℕ) (before : HartView) (machine : MonitoredMachine) → Invariant machine → HostContextIsLegal (hart_state_of hart machine)
+    → host_on hart machine ≡ Some (saved before.hart_state.hart (past_ecall before.hart_state.hart) S) → is_host (hart_state_of hart machine).world ≡ false
+    → is_host (monitored_step (hart_view hart machine)).state.hart_state.world ≡ true
+    → HostIsRestored before (hart_view hart machine) (monitored_step (hart_view hart machine))
 comes_back hart before machine kept stored is runs host =
-    let own = seen_by hart machine in
-    back_from before own (monitored_step own) (switch_law own (kept.seats hart (runs_there hart machine runs)).host stored) is runs host
+    let own = hart_view hart machine in
+    back_from before own (monitored_step own) (switch_law own (kept.hart_states hart (runs_there hart machine runs)).host stored) is runs host
 
 pub return_law : ReturnLaw
 return_law hart harts machine kept stored host runs again =
     let first = (step_of hart machine).state in
     let last = (sched harts first).state in
     let same = steps_keep hart harts first runs in
-    comes_back hart (seen_by hart machine) last (sched_kept harts first (kept_law hart machine kept)) (subst KeptStored (sym same) stored)
+    comes_back hart (hart_view hart machine) last (sched_invariant harts first (invariant_law hart machine kept)) (subst KeptStored (sym same) stored)
     (same ∙ entered_is hart machine kept host (first_runs hart harts first runs)) (last_runs hart harts first runs) again

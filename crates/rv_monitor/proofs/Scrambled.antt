@@ -7,41 +7,41 @@ use Rattle.rv_enclaves.proofs.ScrambledTwice.{shared_twice}
 use Rattle.rv_enclaves.proofs.Alike.{itself}
 use Rattle.rv_monitor.specs.Prelude.{Shared}
 use Rattle.rv_monitor.specs.Scrambled.{scrambled, ScrambleLaw}
-use Rattle.rv_monitor.proofs.Prelude.{AgreeBut, IsKept, Machine, worlds}
-use Rattle.rv_monitor.proofs.Agreeing.{agrees_itself, shared_agree}
+use Rattle.rv_monitor.proofs.Prelude.{EquivExcept, Invariant, MonitoredMachine, worlds}
+use Rattle.rv_monitor.proofs.EquivLemmas.{equiv_itself, shared_equiv}
 
 -- ---- the machine
 
-pub scramble_kept : (machine : Machine) (k : ℕ) → IsKept machine → can_scramble machine.shared.table k ≡ true → IsKept (scrambled machine k)
+pub scramble_invariant : (machine : MonitoredMachine) (k : ℕ) → Invariant machine → can_scramble machine.shared.table k ≡ true → Invariant (scrambled machine k)
 unfolding scrambled_shared
-scramble_kept machine k kept may = record {
+scramble_invariant machine k kept may = record {
   shared = scrambled_sound machine.shared (worlds machine) k kept.shared may;
-  seats = kept.seats;
+  hart_states = kept.hart_states;
 }
 
-pub scramble_agrees : (machine : Machine) (k : ℕ) → IsKept machine → can_scramble machine.shared.table k ≡ true
-    → AgreeBut k machine (scrambled machine k)
-scramble_agrees machine k kept may =
-    shared_agree k machine machine machine.shared (scrambled_shared machine.shared k) (agrees_itself k machine (itself k machine.shared))
+pub scramble_equiv : (machine : MonitoredMachine) (k : ℕ) → Invariant machine → can_scramble machine.shared.table k ≡ true
+    → EquivExcept k machine (scrambled machine k)
+scramble_equiv machine k kept may =
+    shared_equiv k machine machine machine.shared (scrambled_shared machine.shared k) (equiv_itself k machine (itself k machine.shared))
     (scrambled_agrees machine.shared (worlds machine) k kept.shared may)
 
 -- ---- the call: done where it may be, and else nothing
 
-abbrev seated_with : Machine → Shared → Machine
+abbrev seated_with : MonitoredMachine → Shared → MonitoredMachine
 seated_with machine shared = record machine { shared = shared }
 
-abbrev pub perhaps : Bool → Machine → ℕ → Shared
+abbrev pub perhaps : Bool → MonitoredMachine → ℕ → Shared
 perhaps done machine k = if done then scrambled_shared machine.shared k else machine.shared
 
-pub perhaps_kept : (done : Bool) (machine : Machine) (k : ℕ) → done ≡ can_scramble machine.shared.table k → IsKept machine
-    → IsKept (seated_with machine (perhaps done machine k))
-perhaps_kept true machine k asked kept = scramble_kept machine k kept (sym asked)
+pub perhaps_kept : (done : Bool) (machine : MonitoredMachine) (k : ℕ) → done ≡ can_scramble machine.shared.table k → Invariant machine
+    → Invariant (seated_with machine (perhaps done machine k))
+perhaps_kept true machine k asked kept = scramble_invariant machine k kept (sym asked)
 perhaps_kept false machine k asked kept = kept
 
-pub perhaps_agrees : (done : Bool) (machine : Machine) (k : ℕ) → done ≡ can_scramble machine.shared.table k → IsKept machine
-    → AgreeBut k machine (seated_with machine (perhaps done machine k))
-perhaps_agrees true machine k asked kept = scramble_agrees machine k kept (sym asked)
-perhaps_agrees false machine k asked kept = agrees_itself k machine (itself k machine.shared)
+pub perhaps_equiv : (done : Bool) (machine : MonitoredMachine) (k : ℕ) → done ≡ can_scramble machine.shared.table k → Invariant machine
+    → EquivExcept k machine (seated_with machine (perhaps done machine k))
+perhaps_equiv true machine k asked kept = scramble_equiv machine k kept (sym asked)
+perhaps_equiv false machine k asked kept = equiv_itself k machine (itself k machine.shared)
 
 pub scramble_law : ScrambleLaw
 scramble_law machine k bytes words = ap (λ (shared : Shared). record machine { shared = shared }) (shared_twice machine.shared k bytes words)

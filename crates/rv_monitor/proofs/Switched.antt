@@ -2,91 +2,91 @@
 use Rattle.std.proofs.Common.{◌≡◌, ℕ, ◌==◌, ◌⊎◌, true, false, List, Option, Some, None, IfSome, refl, sym, ap, ◌∙◌, subst, inl, inr, arith}
 use Rattle.std.specs.Prelude.{◌%◌, ◌&&◌, is_some, not}
 use Rattle.rv_state.specs.declared.s_context.SContext.{SContext}
-use Rattle.rv_monitor.specs.Prelude.{Context, CsrState, Enclave, Host, IsStored, KeepsOwn, Mode, S, Seat, Shared, StepOutcome, Trap, World}
-use Rattle.rv_monitor.specs.Prelude.{aligned_to_4, can_go_on, is_host, is_machine, s_context, step, with_answer, with_s_context}
-use Rattle.rv_monitor.proofs.Prelude.{Handled, HostIsStored, KeepsHost, MonitoredState, StaysOrSwitches, SwitchLaw, a0, and_parts, bare_state}
-use Rattle.rv_monitor.proofs.Prelude.{both_ways, entered_slot, handled, kept_host, left, monitored_step, nat_tests, past_call, reason, returned}
+use Rattle.rv_monitor.specs.Prelude.{Context, CsrState, Enclave, Host, IsLegal, KeepsOwn, Mode, S, HartState, Shared, StepOutcome, Trap, World}
+use Rattle.rv_monitor.specs.Prelude.{aligned_to_4, can_go_on, is_host, is_machine, s_context, step, with_return_values, with_s_context}
+use Rattle.rv_monitor.proofs.Prelude.{Handled, HostContextIsLegal, HostContextInvariant, HartView, StaysOrSwitches, a0, and_parts, bare_machine}
+use Rattle.rv_monitor.proofs.Prelude.{both_ways, entered_slot, handled, saved_host, left, monitored_step, nat_tests, past_call, reason, returned}
 use Rattle.rv_monitor.proofs.Prelude.{saved, value}
-use Rattle.rv_monitor.proofs.TrapSteps.{by_step, seat_after}
-use Rattle.rv_monitor.proofs.Works.{by_work}
+use Rattle.rv_monitor.proofs.TrapSteps.{step_cases, hart_state_after}
+use Rattle.rv_monitor.proofs.HandlerCases.{handler_cases}
 
 -- ---- what the monitor's work does to a seat
 
-pub record StaysIn (seat : Seat) (h : Handled) : Type 0 where
-  pub world : h.seat.world ≡ seat.world
-  pub host : h.seat.host_context ≡ seat.host_context
+pub record StaysIn (hart_state : HartState) (h : Handled) : Type 0 where
+  pub world : h.hart_state.world ≡ hart_state.world
+  pub host : h.hart_state.host_context ≡ hart_state.host_context
   pub entered : h.next.entered ≡ None
 
-pub record EntersFrom (seat : Seat) (h : Handled) : Type 0 where
+pub record EntersFrom (hart_state : HartState) (h : Handled) : Type 0 where
   pub slot : ℕ
-  pub from_host : seat.world ≡ Host
-  pub world : h.seat.world ≡ Enclave slot
-  pub host : h.seat.host_context ≡ Some (saved seat.hart (past_call seat) S)
+  pub from_host : hart_state.world ≡ Host
+  pub world : h.hart_state.world ≡ Enclave slot
+  pub host : h.hart_state.host_context ≡ Some (saved hart_state.hart (past_call hart_state) S)
   pub entered : h.next.entered ≡ Some slot
 
 -- the host is told two words
-pub record LeavesFor (seat : Seat) (trap : Trap) (h : Handled) : Type 0 where
-  pub world : h.seat.world ≡ Host
-  pub regs : h.seat.hart.regs ≡ with_answer (kept_host seat).regs (reason trap.cause seat.hart.regs) (value trap.cause seat.hart.regs)
-  pub pc : h.next.pc ≡ (kept_host seat).pc
-  pub mode : h.next.mode ≡ (kept_host seat).mode
-  pub supervisor : s_context h.seat.hart.csrs ≡ s_context (with_s_context seat.hart.csrs (kept_host seat).supervisor)
-  pub forgotten : h.seat.host_context ≡ None
+pub record LeavesFor (hart_state : HartState) (trap : Trap) (h : Handled) : Type 0 where
+  pub world : h.hart_state.world ≡ Host
+  pub regs : h.hart_state.hart.regs ≡ with_return_values (saved_host hart_state).regs (reason trap.cause hart_state.hart.regs) (value trap.cause hart_state.hart.regs)
+  pub pc : h.next.pc ≡ (saved_host hart_state).pc
+  pub mode : h.next.mode ≡ (saved_host hart_state).mode
+  pub supervisor : s_context h.hart_state.hart.csrs ≡ s_context (with_s_context hart_state.hart.csrs (saved_host hart_state).supervisor)
+  pub forgotten : h.hart_state.host_context ≡ None
   pub entered : h.next.entered ≡ None
 
-abbrev pub Turns : Seat → Trap → Handled → Type 0
-Turns seat trap h = StaysIn seat h ⊎ (EntersFrom seat h ⊎ LeavesFor seat trap h)
+abbrev pub Turns : HartState → Trap → Handled → Type 0
+Turns hart_state trap h = StaysIn hart_state h ⊎ (EntersFrom hart_state h ⊎ LeavesFor hart_state trap h)
 
-pub handled_turns : (seat : Seat) (shared : Shared) (trap : Trap) → Turns seat trap (handled seat shared trap)
+pub handled_turns : (hart_state : HartState) (shared : Shared) (trap : Trap) → Turns hart_state trap (handled hart_state shared trap)
 unfolding entered_slot left
-handled_turns seat shared trap = by_work seat trap shared (Turns seat trap) (record {
+handled_turns hart_state shared trap = handler_cases hart_state trap shared (Turns hart_state trap) (record {
   answers = λ status result. inl (record { world = refl; host = refl; entered = refl });
-  creates = λ asks may. inl (record { world = refl; host = refl; entered = refl });
-  destroys = λ asks taken. inl (record { world = refl; host = refl; entered = refl });
-  measures = λ asks may. inl (record { world = refl; host = refl; entered = refl });
-  enters = λ call asks enters host taken. inr (inl (record { slot = a0 seat; from_host = host; world = refl; host = refl; entered = refl }));
+  creates = λ reads may. inl (record { world = refl; host = refl; entered = refl });
+  destroys = λ reads taken. inl (record { world = refl; host = refl; entered = refl });
+  measures = λ reads may. inl (record { world = refl; host = refl; entered = refl });
+  enters = λ call reads enters host taken. inr (inl (record { slot = a0 hart_state; from_host = host; world = refl; host = refl; entered = refl }));
   leaves = inr (inr (record { world = refl; regs = refl; pc = refl; mode = refl; supervisor = refl; forgotten = refl; entered = refl }));
   forwards = inl (record { world = refl; host = refl; entered = refl });
 })
 
 -- ---- what is kept of the host is as a hart holds it
 
-pub own_stored : (c : CsrState) → KeepsOwn c → IsStored (s_context c)
+pub own_stored : (c : CsrState) → KeepsOwn c → IsLegal (s_context c)
 own_stored c own = record { stvec = ap (λ (x : CsrState). x.stvec) own; sepc = ap (λ (x : CsrState). x.sepc) own }
 
 abbrev pub KeptStored : Option Context → Type 0
-KeptStored o = IfSome o (λ context. IsStored context.supervisor)
+KeptStored o = IfSome o (λ context. IsLegal context.supervisor)
 
-stored_by : (seat : Seat) (trap : Trap) (h : Handled) → Turns seat trap h → HostIsStored seat → KeepsOwn seat.hart.csrs
-    → HostIsStored h.seat
-stored_by seat trap h (inl stays) stored own = subst KeptStored (sym stays.host) stored
-stored_by seat trap h (inr (inl enters)) stored own = subst KeptStored (sym enters.host) (own_stored seat.hart.csrs own)
-stored_by seat trap h (inr (inr leaves)) stored own = subst KeptStored (sym leaves.forgotten) tt
+stored_by : (hart_state : HartState) (trap : Trap) (h : Handled) → Turns hart_state trap h → HostContextIsLegal hart_state → KeepsOwn hart_state.hart.csrs
+    → HostContextIsLegal h.hart_state
+stored_by hart_state trap h (inl stays) stored own = subst KeptStored (sym stays.host) stored
+stored_by hart_state trap h (inr (inl enters)) stored own = subst KeptStored (sym enters.host) (own_stored hart_state.hart.csrs own)
+stored_by hart_state trap h (inr (inr leaves)) stored own = subst KeptStored (sym leaves.forgotten) tt
 
-pub handled_stored : (seat : Seat) (shared : Shared) (trap : Trap) → HostIsStored seat → KeepsOwn seat.hart.csrs
-    → HostIsStored (handled seat shared trap).seat
-handled_stored seat shared trap stored own =
-    stored_by seat trap (handled seat shared trap) (handled_turns seat shared trap) stored own
+pub handled_stored : (hart_state : HartState) (shared : Shared) (trap : Trap) → HostContextIsLegal hart_state → KeepsOwn hart_state.hart.csrs
+    → HostContextIsLegal (handled hart_state shared trap).hart_state
+handled_stored hart_state shared trap stored own =
+    stored_by hart_state trap (handled hart_state shared trap) (handled_turns hart_state shared trap) stored own
 
 -- ---- an enclave that runs before and after leaves it
 
-runs_on : (seat : Seat) (trap : Trap) (h : Handled) → Turns seat trap h → is_host seat.world ≡ false → is_host h.seat.world ≡ false
-    → h.seat.host_context ≡ seat.host_context
-runs_on seat trap h (inl stays) before after = stays.host
-runs_on seat trap h (inr (inl enters)) before after = absurd (both_ways _ before (ap is_host enters.from_host))
-runs_on seat trap h (inr (inr leaves)) before after = absurd (both_ways _ after (ap is_host leaves.world))
+runs_on : (hart_state : HartState) (trap : Trap) (h : Handled) → Turns hart_state trap h → is_host hart_state.world ≡ false → is_host h.hart_state.world ≡ false
+    → h.hart_state.host_context ≡ hart_state.host_context
+runs_on hart_state trap h (inl stays) before after = stays.host
+runs_on hart_state trap h (inr (inl enters)) before after = absurd (both_ways _ before (ap is_host enters.from_host))
+runs_on hart_state trap h (inr (inr leaves)) before after = absurd (both_ways _ after (ap is_host leaves.world))
 
-pub kept_between : (state : MonitoredState) → is_host state.seat.world ≡ false → is_host (monitored_step state).state.seat.world ≡ false
-    → (monitored_step state).state.seat.host_context ≡ state.seat.host_context
-kept_between state before = by_step state (λ after. is_host after.state.seat.world ≡ false → after.state.seat.host_context ≡ state.seat.host_context)
+pub kept_between : (state : HartView) → is_host state.hart_state.world ≡ false → is_host (monitored_step state).state.hart_state.world ≡ false
+    → (monitored_step state).state.hart_state.host_context ≡ state.hart_state.host_context
+kept_between state before = step_cases state (λ after. is_host after.state.hart_state.world ≡ false → after.state.hart_state.host_context ≡ state.hart_state.host_context)
     (λ none after. refl)
     (λ trap is after.
-    let seat = seat_after state.seat trap in
-    runs_on seat trap (handled seat state.shared trap) (handled_turns seat state.shared trap) before after)
+    let hart_state = hart_state_after state.hart_state trap in
+    runs_on hart_state trap (handled hart_state state.shared trap) (handled_turns hart_state state.shared trap) before after)
 
 -- ---- the step
 
-stored_again : (c : CsrState) (s : SContext) → IsStored s → s_context (with_s_context c s) ≡ s
+stored_again : (c : CsrState) (s : SContext) → IsLegal s → s_context (with_s_context c s) ≡ s
 stored_again c s stored = let stvec = stored.stvec in let sepc = stored.sepc in rw (stvec, sepc) refl
 
 pub aligned_again : (mode : Mode) (pc : ℕ) → (not (is_machine mode) && pc % 4 == 0) ≡ true → aligned_to_4 pc ≡ pc
@@ -101,10 +101,10 @@ same_context : (host : Context) (regs : List ℕ) (pc : ℕ) (mode : Mode) (supe
     → (let made : Context = record { regs = regs; pc = pc; mode = mode; supervisor = supervisor } in made) ≡ record host { regs = told_regs }
 same_context host regs pc mode supervisor told_regs regs_is pc_is mode_is supervisor_is = rw (regs_is, pc_is, mode_is, supervisor_is) refl
 
-module _ (state : MonitoredState) (kept : KeepsHost state.seat) (stored : HostIsStored state.seat) (trap : Trap) where
+module _ (state : HartView) (kept : HostContextInvariant state.hart_state) (stored : HostContextIsLegal state.hart_state) (trap : Trap) where
   -- the host's context is kept just where an enclave leaves
-  returned_leaves : (outcome : StepOutcome) (h : Handled) → outcome.trap ≡ Some trap → LeavesFor (seat_after state.seat trap) trap h
-      → (world : World) (o : Option Context) → state.seat.world ≡ world → state.seat.host_context ≡ o → is_some o ≡ not (is_host world)
+  returned_leaves : (outcome : StepOutcome) (h : Handled) → outcome.trap ≡ Some trap → LeavesFor (hart_state_after state.hart_state trap) trap h
+      → (world : World) (o : Option Context) → state.hart_state.world ≡ world → state.hart_state.host_context ≡ o → is_some o ≡ not (is_host world)
       → StaysOrSwitches state (returned outcome h)
   returned_leaves outcome h trapped_is leaves Host None runs kept_is same =
       inl (record { world = leaves.world ∙ sym runs; host = leaves.forgotten ∙ sym kept_is; entered = leaves.entered })
@@ -113,7 +113,7 @@ module _ (state : MonitoredState) (kept : KeepsHost state.seat) (stored : HostIs
   returned_leaves outcome h trapped_is leaves (Enclave k) (Some host) runs kept_is same =
       let P : Option Context → Type 0 = λ o. IfSome o (λ c. can_go_on c ≡ true) in
       let held : can_go_on host ≡ true = subst P kept_is kept.held in
-      let host_stored : IsStored host.supervisor = subst KeptStored kept_is stored in
+      let host_stored : IsLegal host.supervisor = subst KeptStored kept_is stored in
       let told = rw kept_is at leaves in
       inr (inr (record {
         slot = k;
@@ -123,22 +123,22 @@ module _ (state : MonitoredState) (kept : KeepsHost state.seat) (stored : HostIs
         kept = kept_is;
         trapped = trapped_is;
         world = told.world;
-        again = same_context host h.seat.hart.regs (aligned_to_4 h.next.pc) h.next.mode (s_context h.seat.hart.csrs) _ told.regs
+        again = same_context host h.hart_state.hart.regs (aligned_to_4 h.next.pc) h.next.mode (s_context h.hart_state.hart.csrs) _ told.regs
             (ap aligned_to_4 told.pc ∙ aligned_again host.mode host.pc held) told.mode
-            (told.supervisor ∙ stored_again state.seat.hart.csrs host.supervisor host_stored);
+            (told.supervisor ∙ stored_again state.hart_state.hart.csrs host.supervisor host_stored);
         forgotten = told.forgotten;
         entered = told.entered;
       }))
 
   returned_turns : (outcome : StepOutcome) (h : Handled) → outcome.trap ≡ Some trap
-      → Turns (seat_after state.seat trap) trap h → StaysOrSwitches state (returned outcome h)
+      → Turns (hart_state_after state.hart_state trap) trap h → StaysOrSwitches state (returned outcome h)
   returned_turns outcome h trapped_is (inl stays) = inl (record { world = stays.world; host = stays.host; entered = stays.entered })
   returned_turns outcome h trapped_is (inr (inl enters)) =
       inr (inl (record { slot = enters.slot; from_host = enters.from_host; world = enters.world; host = enters.host; entered = enters.entered }))
   returned_turns outcome h trapped_is (inr (inr leaves)) =
-      returned_leaves outcome h trapped_is leaves state.seat.world state.seat.host_context refl refl kept.kept
+      returned_leaves outcome h trapped_is leaves state.hart_state.world state.hart_state.host_context refl refl kept.kept
 
-pub switch_law : SwitchLaw
-switch_law state kept stored = by_step state (StaysOrSwitches state)
+pub switch_law : (state : HartView) → HostContextInvariant state.hart_state → HostContextIsLegal state.hart_state → StaysOrSwitches state (monitored_step state)
+switch_law state kept stored = step_cases state (StaysOrSwitches state)
     (λ none. inl (record { world = refl; host = refl; entered = refl }))
-    (λ trap is. returned_turns state kept stored trap (step (bare_state state)).outcome _ is (handled_turns (seat_after state.seat trap) state.shared trap))
+    (λ trap is. returned_turns state kept stored trap (step (bare_machine state)).outcome _ is (handled_turns (hart_state_after state.hart_state trap) state.shared trap))

@@ -2,35 +2,35 @@
 use Rattle.std.proofs.Common.{◌≡◌, ℕ, false, List, Option, Some, None, IfSome, refl, sym, ap, ◌∙◌}
 use Rattle.rv_hart.specs.Hart.{step_counted}
 use Rattle.rv_hart.specs.Hart.{trapped}
-use Rattle.rv_monitor.specs.Prelude.{Hart, Seat, StepOutcome, Trap, option_case, step}
-use Rattle.rv_monitor.proofs.Prelude.{MonitoredState, MonitoredStepped, bare_state, handled, monitored_step, returned, trap_keeps, unhandled}
+use Rattle.rv_monitor.specs.Prelude.{Hart, HartState, StepOutcome, Trap, option_case, step}
+use Rattle.rv_monitor.proofs.Prelude.{HartView, HartViewStepped, bare_machine, handled, monitored_step, returned, trap_keeps, unhandled}
 
 -- a hart after a trap that was counted
 abbrev pub hart_after : Hart → Trap → Hart
 hart_after hart trap = step_counted (trapped hart trap) false hart.csrs.mcountinhibit None
 
-abbrev pub seat_after : Seat → Trap → Seat
-seat_after seat trap = record seat { hart = hart_after seat.hart trap }
+abbrev pub hart_state_after : HartState → Trap → HartState
+hart_state_after hart_state trap = record hart_state { hart = hart_after hart_state.hart trap }
 
 -- ---- the two ways of a step
 
 -- without a trap
-abbrev pub untrapped : MonitoredState → MonitoredStepped
+abbrev pub untrapped : HartView → HartViewStepped
 untrapped state =
-    let after = step (bare_state state) in
-    unhandled after.outcome (record state.seat { hart = after.state.hart }) (record state.shared { memory = after.state.memory })
+    let after = step (bare_machine state) in
+    unhandled after.outcome (record state.hart_state { hart = after.state.hart }) (record state.shared { memory = after.state.memory })
 
 -- with one, which the monitor handles
-abbrev pub trapped_to : MonitoredState → Trap → MonitoredStepped
-trapped_to state trap = returned (step (bare_state state)).outcome (handled (seat_after state.seat trap) state.shared trap)
+abbrev pub trapped_to : HartView → Trap → HartViewStepped
+trapped_to state trap = returned (step (bare_machine state)).outcome (handled (hart_state_after state.hart_state trap) state.shared trap)
 
-by-end : (state : MonitoredState) (P : MonitoredStepped → Type 0) (o : Option Trap) (outcome : StepOutcome) (hart : Hart) (memory : List ℕ)
-    → IfSome o (λ t. (hart ≡ hart_after state.seat.hart t) × (memory ≡ state.shared.memory))
-    → (let seat = record state.seat { hart = hart } in
+by-end : (state : HartView) (P : HartViewStepped → Type 0) (o : Option Trap) (outcome : StepOutcome) (hart : Hart) (memory : List ℕ)
+    → IfSome o (λ t. (hart ≡ hart_after state.hart_state.hart t) × (memory ≡ state.shared.memory))
+    → (let hart_state = record state.hart_state { hart = hart } in
     let shared = record state.shared { memory = memory } in
-    (o ≡ None → P (unhandled outcome seat shared))
-    → ((trap : Trap) → o ≡ Some trap → P (returned outcome (handled (seat_after state.seat trap) state.shared trap)))
-    → P (option_case o (unhandled outcome seat shared) (λ t. returned outcome (handled seat shared t))))
+    (o ≡ None → P (unhandled outcome hart_state shared))
+    → ((trap : Trap) → o ≡ Some trap → P (returned outcome (handled (hart_state_after state.hart_state trap) state.shared trap)))
+    → P (option_case o (unhandled outcome hart_state shared) (λ t. returned outcome (handled hart_state shared t))))
 by-end state P None outcome hart memory keeps quiet traps = quiet refl
 by-end state P (Some trap) outcome hart memory keeps quiet traps =
     let hart_is = keeps.0 in
@@ -38,22 +38,22 @@ by-end state P (Some trap) outcome hart memory keeps quiet traps =
     rw (hart_is, memory_is) (traps trap refl)
 
 -- what holds of each holds of the step
-pub by_step : (state : MonitoredState) (P : MonitoredStepped → Type 0) → ((step (bare_state state)).outcome.trap ≡ None → P (untrapped state))
-    → ((trap : Trap) → (step (bare_state state)).outcome.trap ≡ Some trap → P (trapped_to state trap)) → P (monitored_step state)
+pub step_cases : (state : HartView) (P : HartViewStepped → Type 0) → ((step (bare_machine state)).outcome.trap ≡ None → P (untrapped state))
+    → ((trap : Trap) → (step (bare_machine state)).outcome.trap ≡ Some trap → P (trapped_to state trap)) → P (monitored_step state)
 unfolding monitored_step
-by_step state P quiet traps =
-    let after = step (bare_state state) in
-    by-end state P after.outcome.trap after.outcome after.state.hart after.state.memory (trap_keeps (bare_state state)) quiet traps
+step_cases state P quiet traps =
+    let after = step (bare_machine state) in
+    by-end state P after.outcome.trap after.outcome after.state.hart after.state.memory (trap_keeps (bare_machine state)) quiet traps
 
 -- what the step shows of the hart's own
-pub same_outcome : (state : MonitoredState) → (monitored_step state).outcome.step ≡ (step (bare_state state)).outcome
+pub same_outcome : (state : HartView) → (monitored_step state).outcome.step ≡ (step (bare_machine state)).outcome
 same_outcome state =
-    by_step state (λ after. after.outcome.step ≡ (step (bare_state state)).outcome) (λ none. refl) (λ trap is. refl)
+    step_cases state (λ after. after.outcome.step ≡ (step (bare_machine state)).outcome) (λ none. refl) (λ trap is. refl)
 
-pub trapped_step : (state : MonitoredState) (trap : Trap) → (monitored_step state).outcome.step.trap ≡ Some trap
+pub trapped_step : (state : HartView) (trap : Trap) → (monitored_step state).outcome.step.trap ≡ Some trap
     → monitored_step state ≡ trapped_to state trap
 trapped_step state trap =
-    by_step state (λ after. after.outcome.step.trap ≡ Some trap → after ≡ trapped_to state trap)
+    step_cases state (λ after. after.outcome.step.trap ≡ Some trap → after ≡ trapped_to state trap)
     (λ none is. let never : None ≡ Some trap = sym none ∙ is in cc)
     (λ other there is.
     let traps : Some other ≡ Some trap = sym there ∙ is in

@@ -4,12 +4,12 @@
 use Rattle.std.specs.Prelude.{◌≡◌, ℕ, ◌==◌, Bool, false, List, map, slice_set, Some, None, if◌then◌else◌}
 use Rattle.rv_state.specs.declared.cause.Cause.TheVariants as causes
 use Rattle.rv_monitor.specs.Prelude.{Cause, Context, CsrState, Enclave, EnclaveState, Exit, Exited, Hart, Host, S, Shared, Slots, Stopped}
-use Rattle.rv_monitor.specs.Prelude.{Trap, aligned_to_4, call_number, exited_context, layout, mie_of, register, with_answer, with_context}
+use Rattle.rv_monitor.specs.Prelude.{Trap, aligned_to_4, call_number, exited_context, layout, mie_of, register, with_return_values, with_context}
 use Rattle.rv_monitor.specs.Prelude.{with_s_context, with_state}
 use Rattle.rv_monitor.specs.Switches.{saved}
 use Rattle.rv_monitor.specs.Refused.{passed_csrs, past_ecall}
-use Rattle.rv_monitor.specs.State.{Machine, IsKept, seat_of, seated}
-use Rattle.rv_monitor.specs.Step.{MachineStepped, step_of}
+use Rattle.rv_monitor.specs.MonitoredMachine.{MonitoredMachine, hart_state_of, reprogrammed}
+use Rattle.rv_monitor.specs.Step.{MonitoredStepped}
 use Rattle.rv_monitor.specs.SwitchLaws.{reason, value}
 
 -- ---- what is kept of the enclave
@@ -21,17 +21,17 @@ enclave_state_after (causes.Exception exception) regs = if register regs 16 == c
 
 -- after stop it goes on past its ecall with a0 and a1 0
 abbrev pub stopped_at : Hart → Context
-stopped_at hart = record (saved hart (past_ecall hart) S) { regs = with_answer hart.regs 0 0 }
+stopped_at hart = record (saved hart (past_ecall hart) S) { regs = with_return_values hart.regs 0 0 }
 
 -- after the timer it goes on where it was, and after exit nothing is kept
-abbrev pub kept_after : Cause → Hart → Context
-kept_after (causes.Interrupt interrupt) hart = saved hart (aligned_to_4 hart.pc) hart.mode
-kept_after (causes.Exception exception) hart = if register hart.regs 16 == call_number Exit then exited_context else stopped_at hart
+abbrev pub saved_after : Cause → Hart → Context
+saved_after (causes.Interrupt interrupt) hart = saved hart (aligned_to_4 hart.pc) hart.mode
+saved_after (causes.Exception exception) hart = if register hart.regs 16 == call_number Exit then exited_context else stopped_at hart
 
 abbrev pub left_shared : Shared → ℕ → Cause → Hart → Shared
 left_shared shared k cause hart = record shared {
   table = with_state shared.table k (enclave_state_after cause hart.regs);
-  contexts = with_context shared.contexts k (Some (kept_after cause hart));
+  contexts = with_context shared.contexts k (Some (saved_after cause hart));
 }
 
 -- ---- the host's hart
@@ -52,7 +52,7 @@ left_csrs csrs slots trap host = record (with_s_context (passed_csrs csrs trap h
 
 abbrev pub left_hart : Hart → Slots → Trap → Context → Hart
 left_hart hart slots trap host = record {
-  regs = with_answer host.regs (reason trap.cause hart.regs) (value trap.cause hart.regs);
+  regs = with_return_values host.regs (reason trap.cause hart.regs) (value trap.cause hart.regs);
   csrs = left_csrs hart.csrs slots trap host;
   pc = host.pc;
   mode = host.mode;
@@ -61,22 +61,19 @@ left_hart hart slots trap host = record {
 -- ---- the machine
 
 -- no byte changes, and of every other hart the entries and mie alone
-abbrev pub left_machine : ℕ → Machine → ℕ → Trap → Context → Machine
+abbrev pub left_machine : ℕ → MonitoredMachine → ℕ → Trap → Context → MonitoredMachine
 left_machine own before k trap host =
-    let hart = (seat_of own before).hart in
+    let hart = (hart_state_of own before).hart in
     let shared = left_shared before.shared k trap.cause hart in
     record {
-      seats = slice_set (map (seated shared.table) before.seats) own
+      hart_states = slice_set (map (reprogrammed shared.table) before.hart_states) own
           (record { hart = left_hart hart shared.table trap host; host_context = None; world = Host });
       shared = shared;
     }
 
 -- where an enclave runs and the host is kept, and the step traps and leads to the host
-abbrev pub LeavesOnly : ℕ → Machine → MachineStepped → Type 0
+abbrev pub LeavesOnly : ℕ → MonitoredMachine → MonitoredStepped → Type 0
 LeavesOnly hart before after =
-    (k : ℕ) (host : Context) (trap : Trap) → (seat_of hart before).world ≡ Enclave k → (seat_of hart before).host_context ≡ Some host
-    → after.outcome.step.trap ≡ Some trap → (seat_of hart after.state).world ≡ Host
+    (k : ℕ) (host : Context) (trap : Trap) → (hart_state_of hart before).world ≡ Enclave k → (hart_state_of hart before).host_context ≡ Some host
+    → after.outcome.step.trap ≡ Some trap → (hart_state_of hart after.state).world ≡ Host
     → (after.state ≡ left_machine hart before k trap host) × (after.outcome.entered ≡ None)
-
-abbrev pub LeaveLaw : Type 0
-LeaveLaw = (hart : ℕ) (machine : Machine) → IsKept machine → LeavesOnly hart machine (step_of hart machine)

@@ -1,7 +1,7 @@
 pub mod Prelude
 pub mod CallRefusals
 pub mod Refused
-pub mod State
+pub mod MonitoredMachine
 pub mod HartLaws
 pub mod Step
 pub mod FastSteps
@@ -11,10 +11,10 @@ pub mod StepLaws
 pub mod Leaving
 pub mod Returns
 pub mod Debugger
-pub mod AgreeBut
-pub mod Asked
-pub mod Confidentiality
-pub mod Access
+pub mod EquivExcept
+pub mod HandlerReads
+pub mod Noninterference
+pub mod AccessControl
 pub mod Integrity
 pub mod Changes
 pub mod Touches

@@ -1,8 +1,8 @@
 -- The names of other crates and of the Rust types that definitions and proofs here cite, passed on from one place. Declares nothing.
 pub use Rattle.rv_platform.specs.Blocks.{has}
-pub use Rattle.rv_enclaves.specs.Calls.{asked_in, call_key, call_number, calls, is_offered, status_of}
-unfoldable pub use Rattle.rv_enclaves.specs.Calls.{asked_call}
-pub use Rattle.rv_enclaves.specs.Contexts.{Contexts, IsStored, can_go_on, context_at, exited_context, kept_context, with_answer}
+pub use Rattle.rv_enclaves.specs.Calls.{requested_call, call_key, call_number, calls, is_offered, status_of}
+unfoldable pub use Rattle.rv_enclaves.specs.Calls.{call_requested}
+pub use Rattle.rv_enclaves.specs.Contexts.{Contexts, IsLegal, can_go_on, context_at, exited_context, saved_context, with_return_values}
 pub use Rattle.rv_enclaves.specs.Contexts.{with_context}
 unfoldable pub use Rattle.rv_enclaves.specs.Contexts.{first_context}
 pub use Rattle.rv_enclaves.specs.Create.{bytes_of_block, new_slot, create_args_of, recorded}
@@ -13,11 +13,11 @@ pub use Rattle.rv_enclaves.specs.Layout.{mie_of}
 unfoldable pub use Rattle.rv_enclaves.specs.Layout.{entry_at, layout}
 pub use Rattle.rv_enclaves.specs.Measure.{may_store, measured_slot, measurement_at, with_bytes_at}
 unfoldable pub use Rattle.rv_enclaves.specs.Measure.{may_store_all, measure_refusals, measured}
-unfoldable pub use Rattle.rv_enclaves.specs.Reach.{in_reach}
+unfoldable pub use Rattle.rv_enclaves.specs.AccessibleMemory.{is_accessible}
 pub use Rattle.rv_enclaves.specs.Refusals.{first_refusal}
 unfoldable pub use Rattle.rv_enclaves.specs.Refusals.{state_refusals}
-pub use Rattle.rv_enclaves.specs.SharedButFor.{AgreeOutside, SharedButFor, is_private}
-pub use Rattle.rv_enclaves.specs.Sound.{AreApart, IsSound, shared_at_start}
+pub use Rattle.rv_enclaves.specs.SharedEquivExcept.{EqualOutside, SharedEquivExcept, is_private}
+pub use Rattle.rv_enclaves.specs.SharedInvariant.{AreApart, SharedInvariant, shared_at_start}
 pub use Rattle.rv_enclaves.specs.Table.{IsValidSlot, IsValid, Slots, is_host, is_live, is_running, is_world_of, no_slots, region}
 pub use Rattle.rv_enclaves.specs.Table.{region_of, running_slot, slot_at, with_slot, with_state}
 pub use Rattle.rv_enclaves.specs.declared.call.Call.{Call}
@@ -32,7 +32,7 @@ pub use Rattle.rv_enclaves.specs.declared.world.World.{World}
 pub use Rattle.rv_enclaves.specs.declared.world.World.TheVariants.{Enclave, Host}
 pub use Rattle.rv_hart.specs.Arithmetic.{sum_of}
 pub use Rattle.rv_hart.specs.HartState.{Hart}
-pub use Rattle.rv_hart.specs.State.{State, Stepped}
+pub use Rattle.rv_hart.specs.Machine.{Machine, Stepped}
 pub use Rattle.rv_hart.specs.Step.{data_mode, span}
 unfoldable pub use Rattle.rv_hart.specs.Step.{retired_or_trapped, step}
 pub use Rattle.rv_hart.specs.declared.limits.Limits.{Limits}
@@ -42,7 +42,7 @@ pub use Rattle.rv_memory.specs.Memory.{byte_at, is_inside, is_ram_size, ram_base
 unfoldable pub use Rattle.rv_memory.specs.Memory.{write}
 pub use Rattle.rv_memory.specs.declared.touched.Span.{Span}
 pub use Rattle.rv_monitor.specs.declared.outcome.Outcome.{Outcome}
-pub use Rattle.rv_monitor.specs.declared.seat.Seat.{Seat}
+pub use Rattle.rv_monitor.specs.declared.hart_state.HartState.{HartState}
 pub use Rattle.rv_pmp.specs.Verdicts.{bytes_from, permits}
 unfoldable pub use Rattle.rv_pmp.specs.Verdicts.{verdict}
 pub use Rattle.rv_pmp.specs.declared.access.Access.{Access}

@@ -5,17 +5,17 @@ use Rattle.std.specs.Prelude.{◌≡◌, ℕ, true, Option, Some, None}
 use Rattle.rv_state.specs.Causes.{cause_code}
 use Rattle.rv_state.specs.Counters.{incremented}
 use Rattle.rv_state.specs.declared.cause.Cause.TheVariants as causes
-use Rattle.rv_monitor.specs.Prelude.{CsrState, EnvironmentCallFromS, Hart, NotSupported, Refusal, S, Seat, Shared, Trap, U, aligned_to_4}
-use Rattle.rv_monitor.specs.Prelude.{asked_in, first_refusal, is_set, option_case, status_of, sum_of, with_answer}
+use Rattle.rv_monitor.specs.Prelude.{CsrState, EnvironmentCallFromS, Hart, NotSupported, Refusal, S, HartState, Shared, Trap, U, aligned_to_4}
+use Rattle.rv_monitor.specs.Prelude.{requested_call, first_refusal, is_set, option_case, status_of, sum_of, with_return_values}
 use Rattle.rv_monitor.specs.CallRefusals.{call_refusals}
-use Rattle.rv_monitor.specs.State.{Machine, IsKept, seat_of, with_seat}
-use Rattle.rv_monitor.specs.Step.{MachineStepped, step_of}
+use Rattle.rv_monitor.specs.MonitoredMachine.{MonitoredMachine, hart_state_of, with_hart_state}
+use Rattle.rv_monitor.specs.Step.{MonitoredStepped}
 
 -- why an ecall from S is refused, if it is: where a7 and a6 ask for no call of the world, or by the table of the call
-unfoldable pub refusal_of : Seat → Shared → Option Refusal
-refusal_of seat shared =
-    option_case (asked_in seat.world seat.hart.regs) (Some NotSupported)
-    (λ call. first_refusal (call_refusals seat shared call))
+unfoldable pub refusal_of : HartState → Shared → Option Refusal
+refusal_of hart_state shared =
+    option_case (requested_call hart_state.world hart_state.hart.regs) (Some NotSupported)
+    (λ call. first_refusal (call_refusals hart_state shared call))
 
 -- ---- what a refused call leaves
 
@@ -36,23 +36,20 @@ past_ecall hart = sum_of (aligned_to_4 hart.pc) 4
 -- the hart goes on in S past its ecall, with the status in a0 and 0 in a1; all else is as it was
 abbrev pub refused_hart : Hart → Trap → Refusal → Hart
 refused_hart hart trap refusal = record {
-  regs = with_answer hart.regs (status_of refusal) 0;
+  regs = with_return_values hart.regs (status_of refusal) 0;
   csrs = passed_csrs hart.csrs trap (past_ecall hart);
   pc = past_ecall hart;
   mode = S;
 }
 
 -- that hart is all that a refused call changes
-abbrev pub refused_machine : ℕ → Machine → Trap → Refusal → Machine
+abbrev pub refused_machine : ℕ → MonitoredMachine → Trap → Refusal → MonitoredMachine
 refused_machine own before trap refusal =
-    let seat = seat_of own before in with_seat own (record seat { hart = refused_hart seat.hart trap refusal }) before
+    let hart_state = hart_state_of own before in with_hart_state own (record hart_state { hart = refused_hart hart_state.hart trap refusal }) before
 
 -- where the step traps by an ecall from S, and the call is refused
-abbrev pub RefusesOnly : ℕ → Machine → MachineStepped → Type 0
+abbrev pub RefusesOnly : ℕ → MonitoredMachine → MonitoredStepped → Type 0
 RefusesOnly hart before after =
     (trap : Trap) (refusal : Refusal) → after.outcome.step.trap ≡ Some trap → trap.cause ≡ causes.Exception EnvironmentCallFromS
-    → refusal_of (seat_of hart before) before.shared ≡ Some refusal
+    → refusal_of (hart_state_of hart before) before.shared ≡ Some refusal
     → (after.state ≡ refused_machine hart before trap refusal) × (after.outcome.entered ≡ None)
-
-abbrev pub RefusalLaw : Type 0
-RefusalLaw = (hart : ℕ) (machine : Machine) → IsKept machine → RefusesOnly hart machine (step_of hart machine)

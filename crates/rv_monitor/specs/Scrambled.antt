@@ -3,14 +3,14 @@
 use Rattle.std.specs.Prelude.{◌≡◌, ℕ, ◌<◌, ◌^◌, slice_index, IfSome}
 use Rattle.rv_enclaves.specs.Scramble.{scrambled_shared}
 use Rattle.rv_monitor.specs.Prelude.{context_at}
-use Rattle.rv_monitor.specs.State.{Machine}
+use Rattle.rv_monitor.specs.MonitoredMachine.{MonitoredMachine}
 
-abbrev pub scrambled : Machine → ℕ → Machine
+abbrev pub scrambled : MonitoredMachine → ℕ → MonitoredMachine
 scrambled machine k = record machine { shared = scrambled_shared machine.shared k }
 
 -- what is scrambled twice is as it was, over bytes and words
 abbrev pub ScrambleLaw : Type 0
 ScrambleLaw =
-    (machine : Machine) (k : ℕ) → ((i : ℕ) → slice_index machine.shared.memory i < 2 ^ 8)
+    (machine : MonitoredMachine) (k : ℕ) → ((i : ℕ) → slice_index machine.shared.memory i < 2 ^ 8)
     → IfSome (context_at machine.shared.contexts k) (λ context. (n : ℕ) → slice_index context.regs n < 2 ^ 32)
     → scrambled (scrambled machine k) k ≡ machine

@@ -3,7 +3,7 @@
 mod followed;
 
 use followed::{Line, run};
-use rv_enclaves::{Call, EnclaveState, Slot, World, asked_call};
+use rv_enclaves::{Call, EnclaveState, Slot, World, call_requested};
 use std::test::Fail;
 
 /// What a7 holds at a call.
@@ -54,7 +54,7 @@ fn slots_have_numbers() -> Result<(), Fail> {
 
 /// The number of the call that a world asks for.
 fn asked(world: &World, a7: u32, a6: u32) -> Option<u8> {
-    asked_call(world, a7, a6).map(|call| match call {
+    call_requested(world, a7, a6).map(|call| match call {
         Call::Create => 1,
         Call::Destroy => 2,
         Call::Run => 3,

@@ -63,7 +63,7 @@ fn expect_range(rt: &impl Abort, pmp: &Pmp, number: u8, range: Option<(u64, u64)
 }
 
 /// Asserts that the entries, each a number, a cfg byte and a pmpaddr, give the verdicts of the rows.
-fn agrees(rt: &impl Abort, entries: &[(u8, u8, u32)], rows: &[Row]) {
+fn equivalent(rt: &impl Abort, entries: &[(u8, u8, u32)], rows: &[Row]) {
     let mut pmp = Pmp::new();
     for (number, _, addr) in entries {
         pmp.write_addr(index(*number), *addr);
@@ -86,42 +86,42 @@ fn modes_are_numbered(rt: HostRuntime) {
 
 #[test]
 fn napot_in_tor(rt: HostRuntime) {
-    agrees(&rt, &NAPOT_IN_TOR_ENTRIES, &NAPOT_IN_TOR);
+    equivalent(&rt, &NAPOT_IN_TOR_ENTRIES, &NAPOT_IN_TOR);
 }
 
 #[test]
 fn na4_at_border(rt: HostRuntime) {
-    agrees(&rt, &NA4_AT_BORDER_ENTRIES, &NA4_AT_BORDER);
+    equivalent(&rt, &NA4_AT_BORDER_ENTRIES, &NA4_AT_BORDER);
 }
 
 #[test]
 fn locked(rt: HostRuntime) {
-    agrees(&rt, &LOCKED_ENTRIES, &LOCKED);
+    equivalent(&rt, &LOCKED_ENTRIES, &LOCKED);
 }
 
 #[test]
 fn all_ones(rt: HostRuntime) {
-    agrees(&rt, &ALL_ONES_ENTRIES, &ALL_ONES);
+    equivalent(&rt, &ALL_ONES_ENTRIES, &ALL_ONES);
 }
 
 #[test]
 fn past_the_top(rt: HostRuntime) {
-    agrees(&rt, &PAST_THE_TOP_ENTRIES, &PAST_THE_TOP);
+    equivalent(&rt, &PAST_THE_TOP_ENTRIES, &PAST_THE_TOP);
 }
 
 #[test]
 fn side_by_side(rt: HostRuntime) {
-    agrees(&rt, &SIDE_BY_SIDE_ENTRIES, &SIDE_BY_SIDE);
+    equivalent(&rt, &SIDE_BY_SIDE_ENTRIES, &SIDE_BY_SIDE);
 }
 
 #[test]
 fn overlapping_tors(rt: HostRuntime) {
-    agrees(&rt, &OVERLAPPING_TORS_ENTRIES, &OVERLAPPING_TORS);
+    equivalent(&rt, &OVERLAPPING_TORS_ENTRIES, &OVERLAPPING_TORS);
 }
 
 #[test]
 fn sixteen_apart(rt: HostRuntime) {
-    agrees(&rt, &SIXTEEN_APART_ENTRIES, &SIXTEEN_APART);
+    equivalent(&rt, &SIXTEEN_APART_ENTRIES, &SIXTEEN_APART);
 }
 
 /// Whether a word may be read in mode U, by the verdict and by the cache.

@@ -10,20 +10,20 @@ use Rattle.rv_streams.specs.Calls.{SinkFailed, SinkWorked}
 use Rattle.rv_streams.specs.Device.{counted_if, one_more, HasRisen}
 use Rattle.rv_streams.specs.Script.{ReadsThroughSeparator}
 use Rattle.rv_streams.specs.Separator.{has_separator}
-use Rattle.rv_streams.specs.Unread.{unread, HasEnded, TellsEnd}
+use Rattle.rv_streams.specs.Unread.{unread, HasEnded, EndsWithSource}
 
 -- nothing has changed
-pub TellsEnd-none : {S : Type 0} {g : Ghosts S} (lines : Lines S g) → TellsEnd lines lines
-TellsEnd-none lines = record {
+pub EndsWithSource-none : {S : Type 0} {g : Ghosts S} (lines : Lines S g) → EndsWithSource lines lines
+EndsWithSource-none lines = record {
   stays = λ e. (e, refl);
   going = λ _. refl;
   ended = λ e. inl e;
 }
 
 -- the source has just answered its end
-pub TellsEnd-ends : {S : Type 0} {g : Ghosts S} (old new : Lines S g) → old.is_at_end ≡ false → new.is_at_end ≡ true
-    → g.ends new.source ≡ one_more (g.ends old.source) → TellsEnd old new
-TellsEnd-ends {S} {g} old new before after count =
+pub EndsWithSource-ends : {S : Type 0} {g : Ghosts S} (old new : Lines S g) → old.is_at_end ≡ false → new.is_at_end ≡ true
+    → g.ends new.source ≡ one_more (g.ends old.source) → EndsWithSource old new
+EndsWithSource-ends {S} {g} old new before after count =
     let risen : HasRisen (g.ends old.source) (g.ends new.source) = omega (arith, count) in record {
       stays = λ e. cc;
       going = λ e. cc;
@@ -44,8 +44,8 @@ pub is_flushed-at_ok : {A E : Type 0} (old new : Bool) (r : Result A E) (a : A) 
 is_flushed-at_ok old new r a is ok = is ∙ (ap (λ r. old || is_ok r) ok ∙ or-true old)
 
 -- one call and another
-pub TellsEnd-more : {S : Type 0} {g : Ghosts S} (old mid new : Lines S g) → TellsEnd old mid → TellsEnd mid new → TellsEnd old new
-TellsEnd-more {S} {g} old mid new first next = record {
+pub EndsWithSource-more : {S : Type 0} {g : Ghosts S} (old mid new : Lines S g) → EndsWithSource old mid → EndsWithSource mid new → EndsWithSource old new
+EndsWithSource-more {S} {g} old mid new first next = record {
   stays = λ e. let was = first.stays e in let is = next.stays was.0 in (is.0, is.1 ∙ was.1);
   going = λ e. go_on mid.is_at_end refl e;
   ended = λ e. go_to mid.is_at_end refl e;
@@ -65,9 +65,9 @@ TellsEnd-more {S} {g} old mid new first next = record {
   ]
 
 -- what was read through a separator, and not to the end of the input, has one
-pub separator_read : {S : Type 0} {g : Ghosts S} (old mid new : Lines S g) → ReadsThroughSeparator old mid → TellsEnd mid new → new.is_at_end ≡ false
-    → g.tells → IsTrue (has_separator (unread old))
-separator_read old mid new reads end going tells = elim reads.ended [
+pub separator_read : {S : Type 0} {g : Ghosts S} (old mid new : Lines S g) → ReadsThroughSeparator old mid → EndsWithSource mid new → new.is_at_end ≡ false
+    → g.is_specified → IsTrue (has_separator (unread old))
+separator_read old mid new reads end going is_specified = elim reads.ended [
   | inl at_end ↦ absurd (false≢true (sym going ∙ (end.stays at_end).0))
-  | inr has ↦ has tells
+  | inr has ↦ has is_specified
 ]

@@ -11,7 +11,7 @@ use Rattle.rv_streams.specs.declared.separator.ScriptEnd.TheVariants.{Separator}
 use Rattle.rv_text.specs.Lines.{lines_of}
 use Rattle.rv_streams.specs.LineText.{ReadsLineText, TakesLine, ReadsLines}
 use Rattle.rv_streams.specs.Image.{bytes_of_digits, line_bytes, is_image_line, bytes_of_lines, image_of, image_in, ReadsInImage, ReadsUnmarked}
-use Rattle.rv_streams.specs.Image.{ReadsFrontOfImage}
+use Rattle.rv_streams.specs.Image.{ReadsPrefixOfImage}
 use Rattle.rv_streams.specs.Image.{StopsAtFault}
 use Rattle.rv_streams.specs.Separator.{line_word, is_separator, before_separator}
 use Rattle.rv_streams.proofs.LineTextLemmas.{ReadsLines-more}
@@ -20,7 +20,7 @@ use Rattle.rv_streams.proofs.ScriptLemmas.{line_word-take, ends_script-shown, Re
 use Rattle.rv_streams.proofs.TakeWhileLemmas.{take_while-all, take_while-stop, take_while-pass, list_all-push, list_all-stop}
 
 -- The lines that were taken are no separator and spell the image so far.
-pub record SpellsImage (unread left : List ℕ) (is_at_end : Bool) (image : List ℕ) : Type 0 where
+pub record EncodesImage (unread left : List ℕ) (is_at_end : Bool) (image : List ℕ) : Type 0 where
   pub lines : List (List ℕ)
   pub reads : ReadsLines unread left is_at_end lines
   pub unmarked : list_all (λ line. not (is_separator line)) lines ≡ true
@@ -28,13 +28,13 @@ pub record SpellsImage (unread left : List ℕ) (is_at_end : Bool) (image : List
   pub spelled : image ≡ bytes_of_lines lines
 
 -- the lines are not at their end
-pub SpellsImage-going : (unread left : List ℕ) (is_at_end : Bool) (image : List ℕ) → SpellsImage unread left is_at_end image → is_at_end ≡ false
-    → SpellsImage unread left false image
-SpellsImage-going unread left is_at_end image so_far going = subst (λ b. SpellsImage unread left b image) going so_far
+pub EncodesImage-going : (unread left : List ℕ) (is_at_end : Bool) (image : List ℕ) → EncodesImage unread left is_at_end image → is_at_end ≡ false
+    → EncodesImage unread left false image
+EncodesImage-going unread left is_at_end image so_far going = subst (λ b. EncodesImage unread left b image) going so_far
 
 -- The lines so far spell an image that is not too long, and one more that is no separator was taken, of which the front is shown.
 pub record TakesInImage (unread left rest : List ℕ) (ends : Bool) (image shown : List ℕ) : Type 0 where
-  pub so_far : SpellsImage unread left false image
+  pub so_far : EncodesImage unread left false image
   pub takes : TakesLine left rest ends shown
   pub other : is_separator shown ≡ false
   pub few : length image ≤ 33554432
@@ -62,9 +62,9 @@ bytes_of_lines-append xs ys = flat_map-append (λ line. unwrap_or (line_bytes li
 
 bytes_of_lines-push : (lines : List (List ℕ)) (line bytes : List ℕ) → line_bytes line ≡ Some bytes
     → bytes_of_lines (lines ++ line ∷ []) ≡ bytes_of_lines lines ++ bytes
-bytes_of_lines-push lines line bytes spells =
+bytes_of_lines-push lines line bytes encodes =
     bytes_of_lines-append lines (line ∷ [])
-    ∙ (ap (λ o. bytes_of_lines lines ++ (unwrap_or o [] ++ [])) spells ∙ ap (λ t. bytes_of_lines lines ++ t) (append-nil bytes))
+    ∙ (ap (λ o. bytes_of_lines lines ++ (unwrap_or o [] ++ [])) encodes ∙ ap (λ t. bytes_of_lines lines ++ t) (append-nil bytes))
 
 -- too many bytes before it decide first
 image_of-many : (lines others : List (List ℕ)) (line bytes : List ℕ) → list_all is_image_line lines ≡ true → line_bytes line ≡ Some bytes
@@ -88,14 +88,14 @@ before_separator-other lines others line unmarked e = take_while-pass (λ l. not
 -- the word of the line that was taken is that of what is shown
 pub TakesLine-word : (left rest : List ℕ) (ends : Bool) (shown : List ℕ) (word : Option (List ℕ)) → (takes : TakesLine left rest ends shown)
     → word ≡ line_word shown → line_word takes.line ≡ word
-TakesLine-word left rest ends shown word takes is = sym (line_word-take takes.line) ∙ (ap line_word (sym takes.front) ∙ sym is)
+TakesLine-word left rest ends shown word takes is = sym (line_word-take takes.line) ∙ (ap line_word (sym takes.prefix) ∙ sym is)
 
-lines_with : (unread left rest : List ℕ) (ends : Bool) (image shown : List ℕ) → (so_far : SpellsImage unread left false image)
+lines_with : (unread left rest : List ℕ) (ends : Bool) (image shown : List ℕ) → (so_far : EncodesImage unread left false image)
     → (takes : TakesLine left rest ends shown)
     → lines_of unread ≡ so_far.lines ++ takes.line ∷ lines_of rest
 lines_with unread left rest ends image shown so_far takes = so_far.reads.all ∙ ap (λ t. so_far.lines ++ t) takes.lines
 
-before_separator_with : (unread left rest : List ℕ) (ends : Bool) (image shown : List ℕ) → (so_far : SpellsImage unread left false image)
+before_separator_with : (unread left rest : List ℕ) (ends : Bool) (image shown : List ℕ) → (so_far : EncodesImage unread left false image)
     → (takes : TakesLine left rest ends shown) → is_separator takes.line ≡ false
     → before_separator (lines_of unread) ≡ so_far.lines ++ takes.line ∷ before_separator (lines_of rest)
 before_separator_with unread left rest ends image shown so_far takes other =
@@ -107,9 +107,9 @@ some_and None P h = absurd h
 some_and (Some bytes) P h = (bytes, refl, h)
 
 -- a failed read leaves sound lines and the front of one
-pub SpellsImage-read : (unread left rest kept image : List ℕ) → SpellsImage unread left false image → length image ≤ 33554432
+pub EncodesImage-read : (unread left rest kept image : List ℕ) → EncodesImage unread left false image → length image ≤ 33554432
     → ReadsLineText left rest kept → ReadsInImage unread rest kept
-SpellsImage-read unread left rest kept image so_far few begun = record {
+EncodesImage-read unread left rest kept image so_far few begun = record {
   lines = so_far.lines;
   others = left;
   reads = so_far.reads;
@@ -119,10 +119,10 @@ SpellsImage-read unread left rest kept image so_far few begun = record {
 }
 
 -- a line more that is no separator was read
-SpellsImage-unmarked : (unread left rest : List ℕ) (ends : Bool) (image shown : List ℕ) → (so_far : SpellsImage unread left false image)
+EncodesImage-unmarked : (unread left rest : List ℕ) (ends : Bool) (image shown : List ℕ) → (so_far : EncodesImage unread left false image)
     → (takes : TakesLine left rest ends shown)
     → is_separator takes.line ≡ false → ReadsUnmarked unread rest (so_far.lines ++ takes.line ∷ [])
-SpellsImage-unmarked unread left rest ends image shown so_far takes other =
+EncodesImage-unmarked unread left rest ends image shown so_far takes other =
     let reads = ReadsLines-more unread left rest ends shown so_far.lines so_far.reads takes in record {
       all = reads.all;
       rest = reads.rest;
@@ -130,10 +130,10 @@ SpellsImage-unmarked unread left rest ends image shown so_far takes other =
     }
 
 -- a line that is no separator and has no bytes is the first faulty one
-pub SpellsImage-faulty : (unread left rest : List ℕ) (ends : Bool) (image shown : List ℕ) → SpellsImage unread left false image
+pub EncodesImage-faulty : (unread left rest : List ℕ) (ends : Bool) (image shown : List ℕ) → EncodesImage unread left false image
     → (takes : TakesLine left rest ends shown) → length image ≤ 33554432
     → is_separator takes.line ≡ false → line_bytes takes.line ≡ None → (image_in unread ≡ Err Hex) × StopsAtFault unread rest Hex
-SpellsImage-faulty unread left rest ends image shown so_far takes few other none =
+EncodesImage-faulty unread left rest ends image shown so_far takes few other none =
     let short : length (bytes_of_lines so_far.lines) ≤ 33554432 = omega (arith, few, ap length so_far.spelled) in
     let faulty : is_image_line takes.line ≡ false = ap is_some none in (
       ap image_of (before_separator_with unread left rest ends image shown so_far takes other)
@@ -141,7 +141,7 @@ SpellsImage-faulty unread left rest ends image shown so_far takes few other none
       record {
         sound = so_far.lines;
         line = takes.line;
-        reads = SpellsImage-unmarked unread left rest ends image shown so_far takes other;
+        reads = EncodesImage-unmarked unread left rest ends image shown so_far takes other;
         image = image_of-sound so_far.lines so_far.sound short;
         fails = image_of-faulty so_far.lines [] takes.line so_far.sound short faulty;
       },
@@ -151,91 +151,91 @@ SpellsImage-faulty unread left rest ends image shown so_far takes few other none
 
 module _ {unread left rest : List ℕ} {ends : Bool} {image shown : List ℕ} where
   -- a line that is no separator and has bytes adds them
-  pub SpellsImage-more : {word new : List ℕ} → TakesInImage unread left rest ends image shown
-      → Some word ≡ line_word shown → IsSomeAnd (bytes_of_digits word) (λ bytes. new ≡ image ++ bytes) → SpellsImage unread rest ends new
-  SpellsImage-more {word = word} {new = new} at is gives =
+  pub EncodesImage-more : {word new : List ℕ} → TakesInImage unread left rest ends image shown
+      → Some word ≡ line_word shown → IsSomeAnd (bytes_of_digits word) (λ bytes. new ≡ image ++ bytes) → EncodesImage unread rest ends new
+  EncodesImage-more {word = word} {new = new} at is gives =
       let so_far = at.so_far in
       let takes = at.takes in
       let (bytes, writes, grown) = some_and (bytes_of_digits word) (λ bytes. new ≡ image ++ bytes) gives in
       let line = takes.line in
       let has = TakesLine-word left rest ends shown (Some word) takes is in
       let unmarked : is_separator line ≡ false = not_separator at in
-      let spells : line_bytes line ≡ Some bytes = ap (option_and_then bytes_of_digits) has ∙ writes in
-      let passes : is_image_line line ≡ true = ap is_some spells in record {
+      let encodes : line_bytes line ≡ Some bytes = ap (option_and_then bytes_of_digits) has ∙ writes in
+      let passes : is_image_line line ≡ true = ap is_some encodes in record {
         lines = so_far.lines ++ line ∷ [];
         reads = ReadsLines-more unread left rest ends shown so_far.lines so_far.reads takes;
         unmarked = list_all-push (λ l. not (is_separator l)) so_far.lines line so_far.unmarked (ap not unmarked);
         sound = list_all-push is_image_line so_far.lines line so_far.sound passes;
-        spelled = grown ∙ (ap (λ t. t ++ bytes) so_far.spelled ∙ sym (bytes_of_lines-push so_far.lines line bytes spells));
+        spelled = grown ∙ (ap (λ t. t ++ bytes) so_far.spelled ∙ sym (bytes_of_lines-push so_far.lines line bytes encodes));
       }
 
   -- memory for the bytes of one line more was refused
-  pub SpellsImage-refused : {word : List ℕ} → TakesInImage unread left rest ends image shown
+  pub EncodesImage-refused : {word : List ℕ} → TakesInImage unread left rest ends image shown
       → Some word ≡ line_word shown → IsSomeAnd (bytes_of_digits word) (λ bytes. (0 < length bytes) × (length image + length bytes ≤ 33554432))
-      → ReadsFrontOfImage unread rest
-  SpellsImage-refused {word = word} at is gives =
+      → ReadsPrefixOfImage unread rest
+  EncodesImage-refused {word = word} at is gives =
       let so_far = at.so_far in
       let takes = at.takes in
       let (bytes, writes, (some, few)) = some_and (bytes_of_digits word) (λ bytes. (0 < length bytes) × (length image + length bytes ≤ 33554432)) gives in
       let line = takes.line in
       let has = TakesLine-word left rest ends shown (Some word) takes is in
-      let spells : line_bytes line ≡ Some bytes = ap (option_and_then bytes_of_digits) has ∙ writes in
-      let sound = list_all-push is_image_line so_far.lines line so_far.sound (ap is_some spells) in
-      let all = bytes_of_lines-push so_far.lines line bytes spells in
+      let encodes : line_bytes line ≡ Some bytes = ap (option_and_then bytes_of_digits) has ∙ writes in
+      let sound = list_all-push is_image_line so_far.lines line so_far.sound (ap is_some encodes) in
+      let all = bytes_of_lines-push so_far.lines line bytes encodes in
       let short : length (bytes_of_lines (so_far.lines ++ line ∷ [])) ≤ 33554432 =
       omega (arith, few, ap length all, length-append (bytes_of_lines so_far.lines) bytes, ap length so_far.spelled) in record {
         lines = so_far.lines ++ line ∷ [];
         some = omega (arith, some, ap length all, length-append (bytes_of_lines so_far.lines) bytes);
-        reads = SpellsImage-unmarked unread left rest ends image shown so_far takes (not_separator at);
+        reads = EncodesImage-unmarked unread left rest ends image shown so_far takes (not_separator at);
         image = image_of-sound (so_far.lines ++ line ∷ []) sound short;
       }
 
   -- a line without one word is the first faulty one
-  pub SpellsImage-no_word : TakesInImage unread left rest ends image shown
+  pub EncodesImage-no_word : TakesInImage unread left rest ends image shown
       → None ≡ line_word shown → (image_in unread ≡ Err Hex) × StopsAtFault unread rest Hex
-  SpellsImage-no_word at is =
+  EncodesImage-no_word at is =
       let has = TakesLine-word left rest ends shown None at.takes is in
-      SpellsImage-faulty unread left rest ends image shown at.so_far at.takes at.few (not_separator at) (ap (option_and_then bytes_of_digits) has)
+      EncodesImage-faulty unread left rest ends image shown at.so_far at.takes at.few (not_separator at) (ap (option_and_then bytes_of_digits) has)
 
   -- and so is one whose word is not of such digits
-  pub SpellsImage-no_digits : {word : List ℕ} → TakesInImage unread left rest ends image shown
+  pub EncodesImage-no_digits : {word : List ℕ} → TakesInImage unread left rest ends image shown
       → Some word ≡ line_word shown → bytes_of_digits word ≡ None → (image_in unread ≡ Err Hex) × StopsAtFault unread rest Hex
-  SpellsImage-no_digits {word = word} at is none =
+  EncodesImage-no_digits {word = word} at is none =
       let has = TakesLine-word left rest ends shown (Some word) at.takes is in
-      SpellsImage-faulty unread left rest ends image shown at.so_far at.takes at.few (not_separator at) (ap (option_and_then bytes_of_digits) has ∙ none)
+      EncodesImage-faulty unread left rest ends image shown at.so_far at.takes at.few (not_separator at) (ap (option_and_then bytes_of_digits) has ∙ none)
 
   -- a line whose bytes are too many decides
-  pub SpellsImage-many : {word : List ℕ} → TakesInImage unread left rest ends image shown
+  pub EncodesImage-many : {word : List ℕ} → TakesInImage unread left rest ends image shown
       → Some word ≡ line_word shown → IsSomeAnd (bytes_of_digits word) (λ bytes. 33554432 < length image + length bytes)
       → (image_in unread ≡ Err TooLong) × StopsAtFault unread rest TooLong
-  SpellsImage-many {word = word} at is gives =
+  EncodesImage-many {word = word} at is gives =
       let so_far = at.so_far in
       let takes = at.takes in
       let few = at.few in
       let (bytes, writes, many) = some_and (bytes_of_digits word) (λ bytes. 33554432 < length image + length bytes) gives in
       let has = TakesLine-word left rest ends shown (Some word) takes is in
       let other = not_separator at in
-      let spells : line_bytes takes.line ≡ Some bytes = ap (option_and_then bytes_of_digits) has ∙ writes in
+      let encodes : line_bytes takes.line ≡ Some bytes = ap (option_and_then bytes_of_digits) has ∙ writes in
       let short : length (bytes_of_lines so_far.lines) ≤ 33554432 = omega (arith, few, ap length so_far.spelled) in
       let long : 33554432 < length (bytes_of_lines so_far.lines) + length bytes = omega (arith, many, ap length so_far.spelled) in (
         ap image_of (before_separator_with unread left rest ends image shown so_far takes other)
-            ∙ image_of-many so_far.lines (before_separator (lines_of rest)) takes.line bytes so_far.sound spells long,
+            ∙ image_of-many so_far.lines (before_separator (lines_of rest)) takes.line bytes so_far.sound encodes long,
         record {
           sound = so_far.lines;
           line = takes.line;
-          reads = SpellsImage-unmarked unread left rest ends image shown so_far takes other;
+          reads = EncodesImage-unmarked unread left rest ends image shown so_far takes other;
           image = image_of-sound so_far.lines so_far.sound short;
-          fails = image_of-many so_far.lines [] takes.line bytes so_far.sound spells long;
+          fails = image_of-many so_far.lines [] takes.line bytes so_far.sound encodes long;
         },
       )
 
 -- the lines so far, as a script's
-pub SpellsImage-taken : {unread left : List ℕ} {is_at_end : Bool} {image : List ℕ} → (so_far : SpellsImage unread left is_at_end image)
+pub EncodesImage-taken : {unread left : List ℕ} {is_at_end : Bool} {image : List ℕ} → (so_far : EncodesImage unread left is_at_end image)
     → TakesScript Separator unread left is_at_end so_far.lines
-SpellsImage-taken so_far = record { reads = so_far.reads; inside = so_far.unmarked }
+EncodesImage-taken so_far = record { reads = so_far.reads; inside = so_far.unmarked }
 
 -- where no line of the image was left, it is whole
-pub SpellsImage-whole : (unread left rest : List ℕ) (is_at_end : Bool) (image : List ℕ) → (so_far : SpellsImage unread left is_at_end image)
+pub EncodesImage-whole : (unread left rest : List ℕ) (is_at_end : Bool) (image : List ℕ) → (so_far : EncodesImage unread left is_at_end image)
     → length image ≤ 33554432 → ReadsScript Separator unread rest so_far.lines → image_in unread ≡ Ok image
-SpellsImage-whole unread left rest is_at_end image so_far few whole =
+EncodesImage-whole unread left rest is_at_end image so_far few whole =
     ap image_of whole.all ∙ (image_of-sound so_far.lines so_far.sound (omega (arith, few, ap length so_far.spelled)) ∙ ap Ok (sym so_far.spelled))

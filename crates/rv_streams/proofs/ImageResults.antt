@@ -12,8 +12,8 @@ use Rattle.rv_streams.specs.ReadImage.{ReadsImage}
 use Rattle.rv_streams.specs.Script.{FindsEnd}
 use Rattle.rv_streams.specs.Separator.{is_dashes, is_separator, line_word}
 use Rattle.rv_streams.specs.Unread.{held, unread}
-use Rattle.rv_streams.proofs.ImageLemmas.{SpellsImage, TakesInImage, SpellsImage-refused, SpellsImage-no_digits, SpellsImage-many}
-use Rattle.rv_streams.proofs.ImageLemmas.{SpellsImage-taken, SpellsImage-whole}
+use Rattle.rv_streams.proofs.ImageLemmas.{EncodesImage, TakesInImage, EncodesImage-refused, EncodesImage-no_digits, EncodesImage-many}
+use Rattle.rv_streams.proofs.ImageLemmas.{EncodesImage-taken, EncodesImage-whole}
 use Rattle.rv_streams.proofs.ScriptLemmas.{FindsEnd-whole, FindsEnd-separator}
 
 -- a line without a word, and one whose word is another, is no separator
@@ -26,31 +26,31 @@ other_word line word is other = ap is_dashes (sym is) ∙ other
 module _ {S : Type 0} {g : Ghosts S} (Z : Type 0) (old new : Lines S g) (source : SourceWorked g old.source new.source) (emptied : held new ≡ []) where
   -- a line whose bytes are not added
   pub refused : (left image added shown word : List ℕ) (fault : BenchFault)
-      → (g.tells → TakesInImage (unread old) left (unread new) new.is_at_end image shown)
+      → (g.is_specified → TakesInImage (unread old) left (unread new) new.is_at_end image shown)
       → Some word ≡ line_word shown → AddsBytes word image added (Err fault)
       → ReadsImage {Z = Z} old new (Err fault)
   refused left image added shown word Hex at is adds = record {
     source = source;
     emptied = emptied;
-    image = λ tells. (SpellsImage-no_digits (at tells) is adds.0).0;
-    reads = λ tells. (SpellsImage-no_digits (at tells) is adds.0).1;
+    image = λ is_specified. (EncodesImage-no_digits (at is_specified) is adds.0).0;
+    reads = λ is_specified. (EncodesImage-no_digits (at is_specified) is adds.0).1;
   }
   refused left image added shown word TooLong at is adds = record {
     source = source;
     emptied = emptied;
-    image = λ tells. (SpellsImage-many (at tells) is adds.0).0;
-    reads = λ tells. (SpellsImage-many (at tells) is adds.0).1;
+    image = λ is_specified. (EncodesImage-many (at is_specified) is adds.0).0;
+    reads = λ is_specified. (EncodesImage-many (at is_specified) is adds.0).1;
   }
   refused left image added shown word NoMemory at is adds =
-      record { source = source; emptied = emptied; reads = λ tells. SpellsImage-refused (at tells) is adds.0 }
+      record { source = source; emptied = emptied; reads = λ is_specified. EncodesImage-refused (at is_specified) is adds.0 }
   refused left image added shown word _ at is adds = absurd adds
 
   -- no line of the image was left
   pub image_read : (mid : Lines S g) (image : Vec ℕ Z) → FindsEnd Separator mid new → vec_len image ≤ 33554432
-      → (g.tells → SpellsImage (unread old) (unread mid) mid.is_at_end image.items) → ReadsImage old new (Ok image)
-  image_read mid image found few spells = (
-    FindsEnd-separator old mid new source emptied found (λ tells. ((spells tells).lines, SpellsImage-taken (spells tells))),
+      → (g.is_specified → EncodesImage (unread old) (unread mid) mid.is_at_end image.items) → ReadsImage old new (Ok image)
+  image_read mid image found few encodes = (
+    FindsEnd-separator old mid new source emptied found (λ is_specified. ((encodes is_specified).lines, EncodesImage-taken (encodes is_specified))),
     few,
-    λ tells. SpellsImage-whole _ _ _ _ _ (spells tells) (omega arith)
-        (FindsEnd-whole old mid new Separator _ found (SpellsImage-taken (spells tells)) tells),
+    λ is_specified. EncodesImage-whole _ _ _ _ _ (encodes is_specified) (omega arith)
+        (FindsEnd-whole old mid new Separator _ found (EncodesImage-taken (encodes is_specified)) is_specified),
   )

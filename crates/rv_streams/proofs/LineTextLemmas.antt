@@ -10,7 +10,7 @@ use Rattle.rv_text.proofs.LineLemmas.{after_line-feed, after_line-open, after_li
 
 -- what is held is read already
 pub ReadsText-none : (held left : List ℕ) → length held ≤ 122 → has_feed held ≡ false → ReadsLineText (held ++ left) left held
-ReadsText-none held left short open_ = record { text = held; split = refl; unfinished = open_; front = sym (take_all 122 held short) }
+ReadsText-none held left short open_ = record { text = held; split = refl; unfinished = open_; prefix = sym (take_all 122 held short) }
 
 pub has_feed-push : (text : List ℕ) (byte : ℕ) → has_feed text ≡ false → byte ≢ 10 → has_feed (text ++ byte ∷ []) ≡ false
 has_feed-push text byte h ne = rw (has_feed-append text (byte ∷ []), h, eq_false byte 10 ne) refl
@@ -18,29 +18,29 @@ has_feed-push text byte h ne = rw (has_feed-append text (byte ∷ []), h, eq_fal
 pub ReadsText-push : (unread old left kept : List ℕ) (byte : ℕ) → ReadsLineText unread old kept → old ≡ byte ∷ left → byte ≢ 10
     → length kept < 122 → ReadsLineText unread left (kept ++ byte ∷ [])
 ReadsText-push unread old left kept byte reads next ne room =
-    let len : min 122 (length reads.text) < 122 = omega (arith, ap length reads.front, length-take 122 reads.text) in
-    let all : kept ≡ reads.text = reads.front ∙ take_all 122 reads.text (omega arith) in
+    let len : min 122 (length reads.text) < 122 = omega (arith, ap length reads.prefix, length-take 122 reads.text) in
+    let all : kept ≡ reads.text = reads.prefix ∙ take_all 122 reads.text (omega arith) in
     let short : length (reads.text ++ byte ∷ []) ≤ 122 = omega (arith, length-append reads.text (byte ∷ [])) in record {
       text = reads.text ++ byte ∷ [];
       split = reads.split ∙ (ap (λ t. reads.text ++ t) next ∙ sym (append_assoc reads.text (byte ∷ []) left));
       unfinished = has_feed-push reads.text byte reads.unfinished ne;
-      front = ap (λ t. t ++ byte ∷ []) all ∙ sym (take_all 122 (reads.text ++ byte ∷ []) short);
+      prefix = ap (λ t. t ++ byte ∷ []) all ∙ sym (take_all 122 (reads.text ++ byte ∷ []) short);
     }
 
 pub ReadsText-skip : (unread old left kept : List ℕ) (byte : ℕ) → ReadsLineText unread old kept → old ≡ byte ∷ left → byte ≢ 10
     → length kept ≡ 122 → ReadsLineText unread left kept
 ReadsText-skip unread old left kept byte reads next ne full =
-    let long : 122 ≤ length reads.text = omega (arith, ap length reads.front, length-take 122 reads.text) in record {
+    let long : 122 ≤ length reads.text = omega (arith, ap length reads.prefix, length-take 122 reads.text) in record {
       text = reads.text ++ byte ∷ [];
       split = reads.split ∙ (ap (λ t. reads.text ++ t) next ∙ sym (append_assoc reads.text (byte ∷ []) left));
       unfinished = has_feed-push reads.text byte reads.unfinished ne;
-      front = reads.front ∙ sym (take-append-le 122 reads.text (byte ∷ []) long);
+      prefix = reads.prefix ∙ sym (take-append-le 122 reads.text (byte ∷ []) long);
     }
 
 -- up to a line feed, a line is taken
 pub TakesLine-feed : (unread left kept shown : List ℕ) (is_at_end : Bool) → ReadsLineText unread (10 ∷ left) kept → shown ≡ take 121 (without_return kept)
     → TakesLine unread left is_at_end shown
-TakesLine-feed unread left kept shown is_at_end reads front =
+TakesLine-feed unread left kept shown is_at_end reads prefix =
     let text = reads.text in
     let split : unread ≡ (text ++ 10 ∷ []) ++ left = reads.split ∙ sym (append_assoc text (10 ∷ []) left) in
     let is_line = lines_of-line text reads.unfinished in
@@ -52,7 +52,7 @@ TakesLine-feed unread left kept shown is_at_end reads front =
       whole = λ _. whole;
       lines = ap lines_of split ∙ (lines_of-append (text ++ 10 ∷ []) left whole ∙ ap (λ t. t ++ lines_of left) is_line);
       rest = sym (ap after_line reads.split ∙ after_line-feed text left reads.unfinished);
-      front = front ∙ (ap (λ t. take 121 (without_return t)) reads.front ∙ cut-kept text);
+      prefix = prefix ∙ (ap (λ t. take 121 (without_return t)) reads.prefix ∙ cut-kept text);
     }
 
 last_line : (text : List ℕ) → has_feed text ≡ false → 0 < length text → lines_of text ≡ text ∷ []
@@ -62,9 +62,9 @@ last_line (x ∷ xs) h some = lines_of-last x xs h
 -- at the end, what is left is a line if it is not empty
 pub TakesLine-end : (unread left kept shown : List ℕ) → ReadsLineText unread left kept → left ≡ [] → 0 < length kept → shown ≡ take 121 kept
     → TakesLine unread [] true shown
-TakesLine-end unread left kept shown reads none some front =
+TakesLine-end unread left kept shown reads none some prefix =
     let text = reads.text in
-    let nonempty : 0 < length text = omega (arith, ap length reads.front, length-take 122 text) in
+    let nonempty : 0 < length text = omega (arith, ap length reads.prefix, length-take 122 text) in
     let split : unread ≡ text ++ [] = reads.split ∙ ap (λ t. text ++ t) none in
     let is_line = last_line text reads.unfinished nonempty in record {
       text = text;
@@ -74,7 +74,7 @@ TakesLine-end unread left kept shown reads none some front =
       whole = λ e. cc;
       lines = ap lines_of (split ∙ append-nil text) ∙ is_line;
       rest = sym (ap after_line (split ∙ append-nil text) ∙ after_line-open text reads.unfinished);
-      front = front ∙ (ap (take 121) reads.front ∙ take-take 121 122 text (omega arith));
+      prefix = prefix ∙ (ap (take 121) reads.prefix ∙ take-take 121 122 text (omega arith));
     }
 
 -- no line is taken yet

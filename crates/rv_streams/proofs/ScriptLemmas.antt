@@ -18,7 +18,7 @@ use Rattle.rv_streams.specs.Unread.{held, unread}
 use Rattle.rv_text.proofs.CutLines.{if_good-take}
 use Rattle.rv_text.proofs.LineLemmas.{after_lines-more}
 use Rattle.rv_streams.proofs.LineTextLemmas.{ReadsLines-more}
-use Rattle.rv_streams.proofs.TakeWhileLemmas.{take_while-all, take_while-stop, take_while-front}
+use Rattle.rv_streams.proofs.TakeWhileLemmas.{take_while-all, take_while-stop, take_while-prefix}
 
 -- ---- the lines of a script, and the one that ends it
 
@@ -31,7 +31,7 @@ line_word-take line = if_good-take (λ l. only_word (words_of l)) None line
 pub ends_script-shown : (end : ScriptEnd) (left rest : List ℕ) (ends : Bool) (shown : List ℕ) → (takes : TakesLine left rest ends shown)
     → ends_script end takes.line ≡ ends_script end shown
 ends_script-shown Input left rest ends shown takes = refl
-ends_script-shown Separator left rest ends shown takes = ap is_dashes (sym (line_word-take takes.line) ∙ ap line_word (sym takes.front))
+ends_script-shown Separator left rest ends shown takes = ap is_dashes (sym (line_word-take takes.line) ∙ ap line_word (sym takes.prefix))
 
 all_within : (lines : List (List ℕ)) → list_all (is_script_line Input) lines ≡ true
 all_within [] = refl
@@ -50,10 +50,10 @@ script_lines-stop end lines others line inside e = script_lines-is end (lines ++
     ∙ take_while-stop (is_script_line end) lines line others inside (ap not e)
 
 -- the script's lines in a front are a front of all of them
-pub script_lines-front : (end : ScriptEnd) (xs ys : List (List ℕ))
+pub script_lines-prefix : (end : ScriptEnd) (xs ys : List (List ℕ))
     → (others : List (List ℕ)) × (script_lines end (xs ++ ys) ≡ script_lines end xs ++ others)
-script_lines-front Input xs ys = (ys, refl)
-script_lines-front Separator xs ys = take_while-front (is_script_line Separator) xs ys
+script_lines-prefix Input xs ys = (ys, refl)
+script_lines-prefix Separator xs ys = take_while-prefix (is_script_line Separator) xs ys
 
 or_true : (b : Bool) → (b || true) ≡ true
 or_true true = refl
@@ -123,35 +123,35 @@ ReadsScript-through end unread left rest ends shown lines so_far takes e =
 module _ {S : Type 0} {g : Ghosts S} (old mid new : Lines S g) where
   -- where no line of the script was left, these are all
   pub FindsEnd-whole : (end : ScriptEnd) (lines : List (List ℕ)) → FindsEnd end mid new → TakesScript end (unread old) (unread mid) mid.is_at_end lines
-      → g.tells → ReadsScript end (unread old) (unread new) lines
-  FindsEnd-whole end lines (inl at_end) so_far tells =
-      ReadsScript-ended end (unread old) (unread mid) (unread new) mid.is_at_end lines so_far (at_end.none tells) (at_end.left tells)
-  FindsEnd-whole end lines (inr reads) so_far tells =
+      → g.is_specified → ReadsScript end (unread old) (unread new) lines
+  FindsEnd-whole end lines (inl at_end) so_far is_specified =
+      ReadsScript-ended end (unread old) (unread mid) (unread new) mid.is_at_end lines so_far (at_end.none is_specified) (at_end.left is_specified)
+  FindsEnd-whole end lines (inr reads) so_far is_specified =
       ReadsScript-through end (unread old) (unread mid) (unread new) new.is_at_end reads.shown lines
-      (subst (λ b. TakesScript end (unread old) (unread mid) b lines) reads.going so_far) (reads.takes tells) reads.ends
+      (subst (λ b. TakesScript end (unread old) (unread mid) b lines) reads.going so_far) (reads.takes is_specified) reads.ends
 
   -- the line that ended the script is in the input
   ends-there : (lines : List (List ℕ)) → ReadsScriptEnd Separator mid new → TakesScript Separator (unread old) (unread mid) mid.is_at_end lines
-      → g.tells → IsTrue (has_separator (unread old))
-  ends-there lines reads so_far tells =
-      let takes = reads.takes tells in
+      → g.is_specified → IsTrue (has_separator (unread old))
+  ends-there lines reads so_far is_specified =
+      let takes = reads.takes is_specified in
       has_separator-there lines (lines_of (unread new)) takes.line (unread old)
       (lines_with (unread old) (unread mid) (unread new) mid.is_at_end new.is_at_end reads.shown lines so_far.reads takes)
       (ends_script-shown Separator (unread mid) (unread new) new.is_at_end reads.shown takes ∙ reads.ends)
 
   -- what follows the separator is left
   pub FindsEnd-separator : SourceWorked g old.source new.source → held new ≡ [] → FindsEnd Separator mid new
-      → (g.tells → (lines : List (List ℕ)) × TakesScript Separator (unread old) (unread mid) mid.is_at_end lines)
+      → (g.is_specified → (lines : List (List ℕ)) × TakesScript Separator (unread old) (unread mid) mid.is_at_end lines)
       → ReadsThroughSeparator old new
   FindsEnd-separator source emptied found taken = record {
     source = source;
     emptied = emptied;
-    rest = λ tells.
-        let (lines, so_far) = taken tells in
-        let whole = FindsEnd-whole Separator lines found so_far tells in
+    rest = λ is_specified.
+        let (lines, so_far) = taken is_specified in
+        let whole = FindsEnd-whole Separator lines found so_far is_specified in
         whole.rest ∙ ap (λ ls. after_lines (length ls + 1) (unread old)) (sym whole.all);
     ended = elim found [
       | inl at_end ↦ inl at_end.at_end
-      | inr reads ↦ inr (λ tells. let (lines, so_far) = taken tells in ends-there lines reads so_far tells)
+      | inr reads ↦ inr (λ is_specified. let (lines, so_far) = taken is_specified in ends-there lines reads so_far is_specified)
     ];
   }

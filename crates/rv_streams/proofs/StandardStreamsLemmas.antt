@@ -12,6 +12,6 @@ ahead_given buffer rest given start end count room is copied =
     let split : take (end - start) (drop start buffer) ≡ take count (drop start buffer) ++ take (end - (start + count)) (drop (start + count) buffer) =
     ap (λ n. take n (drop start buffer)) (omega arith) ∙ (take-add count (end - (start + count)) (drop start buffer)
     ∙ ap (λ t. take count (drop start buffer) ++ take (end - (start + count)) t) (drop-drop count start buffer)) in
-    let front : take count (drop start buffer) ≡ given = sym (copied ∙ take-take count (end - start) (drop start buffer) few) in
+    let prefix : take count (drop start buffer) ≡ given = sym (copied ∙ take-take count (end - start) (drop start buffer) few) in
     ap (λ t. t ++ rest) split ∙ (append_assoc (take count (drop start buffer)) _ rest
-    ∙ ap (λ t. t ++ (take (end - (start + count)) (drop (start + count) buffer) ++ rest)) front)
+    ∙ ap (λ t. t ++ (take (end - (start + count)) (drop (start + count) buffer) ++ rest)) prefix)

@@ -39,11 +39,11 @@ pub list_all-stop : (p : List ℕ → Bool) (xs : List (List ℕ)) (x : List ℕ
 list_all-stop p xs x ys all e = list_all-append p xs (x ∷ ys) ∙ (rw (all, e) refl)
 
 -- those of a front are a front of those of all
-pub take_while-front : (p : List ℕ → Bool) (xs ys : List (List ℕ))
+pub take_while-prefix : (p : List ℕ → Bool) (xs ys : List (List ℕ))
     → (others : List (List ℕ)) × (take_while p (xs ++ ys) ≡ take_while p xs ++ others)
-take_while-front p [] ys = (take_while p ys, refl)
-take_while-front p (x ∷ xs) ys =
-    let (others, more) = take_while-front p xs ys in
+take_while-prefix p [] ys = (take_while p ys, refl)
+take_while-prefix p (x ∷ xs) ys =
+    let (others, more) = take_while-prefix p xs ys in
     let (rest, is) = go (p x) others more in
     (rest, take_while-cons p x (xs ++ ys) ∙ (is ∙ ap (λ t. t ++ rest) (sym (take_while-cons p x xs)))) where
       go : (b : Bool) (others : List (List ℕ)) → take_while p (xs ++ ys) ≡ take_while p xs ++ others

@@ -4,7 +4,7 @@ use Rattle.std.proofs.Common.{◌∙◌, ap}
 use Rattle.std.specs.List.{flat_map}
 use Rattle.std.proofs.lemmas.Grind.{flat_map-append}
 use Rattle.std.proofs.lemmas.List.{take_all, take_more, take-append-drop}
-use Rattle.rv_streams.specs.Transfer.{WritesUpTo, WritesFront}
+use Rattle.rv_streams.specs.Transfer.{WritesUpTo, WritesPrefix}
 use Rattle.rv_streams.proofs.Writing.{WritesUpTo-on, WritesUpTo-line, WritesUpTo-stopped, WritesUpTo-all}
 
 module _ {X : Type 0} (line : X → List ℕ) (items : List X) where
@@ -19,8 +19,8 @@ module _ {X : Type 0} (line : X → List ℕ) (items : List X) where
       ∙ ap (λ t. flat_map line (take k items) ++ t) (append-nil (line (get_or items k d))))) is
 
   -- the sink stops within the lines so far
-  pub lines-stopped : (k : ℕ) (old mid new before : List ℕ) → WritesUpTo old mid (flat_map line (take k items)) before → WritesFront mid new before
-      → WritesFront old new (flat_map line items)
+  pub lines-stopped : (k : ℕ) (old mid new before : List ℕ) → WritesUpTo old mid (flat_map line (take k items)) before → WritesPrefix mid new before
+      → WritesPrefix old new (flat_map line items)
   lines-stopped k old mid new before so_far stops =
       WritesUpTo-stopped old mid new _ before (flat_map line (drop k items)) _ so_far stops
       (ap (flat_map line) (sym (take-append-drop k items)) ∙ flat_map-append line (take k items) (drop k items))

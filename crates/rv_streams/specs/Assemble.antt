@@ -2,7 +2,7 @@
 use Rattle.std.specs.Prelude.{◌≡◌, ◌⊎◌, ℕ, ◌+◌, ◌<◌, ◌≤◌, List, [], ◌++◌, length, IsOkAnd, Result}
 use Rattle.std.specs.Prelude.{Ok, Err, Vec}
 use Rattle.rv_text.specs.Lines.{lines_of}
-use Rattle.rv_asm.specs.Lacking.{LacksMemory}
+use Rattle.rv_asm.specs.OutOfMemory.{RunsOutOfMemory}
 use Rattle.rv_asm.specs.declared.fault.AsmFault.{AsmFault}
 use Rattle.rv_streams.specs.declared.device.Sink.{Ghosts as SinkGhosts}
 use Rattle.rv_streams.specs.declared.device.Source.{Ghosts as SourceGhosts}
@@ -12,7 +12,7 @@ use Rattle.rv_streams.specs.AssemblyText.{asm_output}
 use Rattle.rv_streams.specs.Calls.{SourceWorked, SourceFailed, SinkFlushed, SinkFailed}
 use Rattle.rv_streams.specs.Device.{HasRisen}
 use Rattle.rv_streams.specs.Faults.{Outcome}
-use Rattle.rv_streams.specs.Transfer.{ReadsAtMost, ReadsMoreThan, WritesFront}
+use Rattle.rv_streams.specs.Transfer.{ReadsAtMost, ReadsMoreThan, WritesPrefix}
 
 -- what each result of adding a part to a text means
 abbrev pub AddsPart : List ℕ → List ℕ → List ℕ → Outcome → Type 0
@@ -26,39 +26,39 @@ module _ {S : Type 0} (g : SourceGhosts S) where
   pub record ReadsWholeText (old new : S) : Type 0 where
     pub source : SourceWorked g old new
     pub ended : HasRisen (g.ends old) (g.ends new)
-    pub few : g.tells → length (g.remaining old) ≤ 4194304
-    pub used_up : g.tells → g.remaining new ≡ []
+    pub few : g.is_specified → length (g.remaining old) ≤ 4194304
+    pub used_up : g.is_specified → g.remaining new ≡ []
 
   -- The source failed before it answered an end.
   pub record FailsInText (old new : S) : Type 0 where
     pub source : SourceFailed g old new
     pub going : g.ends new ≡ g.ends old
-    pub reads : g.tells → ReadsAtMost 4194304 (g.remaining old) (g.remaining new)
+    pub reads : g.is_specified → ReadsAtMost 4194304 (g.remaining old) (g.remaining new)
 
   -- The text is too long, which was found before the source answered an end.
   pub record FindsTooMuch (old new : S) : Type 0 where
     pub source : SourceWorked g old new
     pub going : g.ends new ≡ g.ends old
-    pub reads : g.tells → ReadsMoreThan 4194304 (g.remaining old) (g.remaining new)
+    pub reads : g.is_specified → ReadsMoreThan 4194304 (g.remaining old) (g.remaining new)
 
   -- Memory was refused for the text, of which a byte was read, before the source answered an end.
-  pub record LacksMemoryForText (old new : S) : Type 0 where
+  pub record RunsOutOfMemoryForText (old new : S) : Type 0 where
     pub source : SourceWorked g old new
     pub going : g.ends new ≡ g.ends old
-    pub some : g.tells → length (g.remaining new) < length (g.remaining old)
-    pub reads : g.tells → ReadsAtMost 4194304 (g.remaining old) (g.remaining new)
+    pub some : g.is_specified → length (g.remaining new) < length (g.remaining old)
+    pub reads : g.is_specified → ReadsAtMost 4194304 (g.remaining old) (g.remaining new)
 
   -- what each result of reading a text means
   abbrev pub ReadsText : {Z : Type 0} → S → S → Result (Vec ℕ Z) BenchFault → Type 0
-  ReadsText old new (Ok text) = ReadsWholeText old new × (length text.items ≤ 4194304) × (g.tells → text.items ≡ g.remaining old)
+  ReadsText old new (Ok text) = ReadsWholeText old new × (length text.items ≤ 4194304) × (g.is_specified → text.items ≡ g.remaining old)
   ReadsText old new (Err Read) = FailsInText old new
   ReadsText old new (Err TooLong) = FindsTooMuch old new
-  ReadsText old new (Err NoMemory) = LacksMemoryForText old new
+  ReadsText old new (Err NoMemory) = RunsOutOfMemoryForText old new
   ReadsText old new (Err _) = ⊥
 
 -- the fault is what is put out in place of the words, or memory was refused at a line that has none
 abbrev pub FailsAsm : List ℕ → AsmFault → Type 0
-FailsAsm text fault = (asm_output text ≡ Err (Asm fault)) ⊎ LacksMemory text fault
+FailsAsm text fault = (asm_output text ≡ Err (Asm fault)) ⊎ RunsOutOfMemory text fault
 
 module _ {S W : Type 0} (g : SourceGhosts S) (h : SinkGhosts W) (old new : S) (before after : W) where
   -- What each result of `run_asm` means: nothing is written before the whole text was read and assembled. Where memory is refused at a line of
@@ -66,16 +66,16 @@ module _ {S W : Type 0} (g : SourceGhosts S) (h : SinkGhosts W) (old new : S) (b
   abbrev pub RunsAsm : Outcome → Type 0
   RunsAsm (Ok _) =
       ReadsWholeText g old new × SinkFlushed h before after
-      × (g.tells → IsOkAnd (asm_output (g.remaining old)) (λ text. h.tells → h.taken after ≡ h.taken before ++ text))
+      × (g.is_specified → IsOkAnd (asm_output (g.remaining old)) (λ text. h.is_specified → h.taken after ≡ h.taken before ++ text))
   RunsAsm (Err Read) = FailsInText g old new × (after ≡ before)
-  RunsAsm (Err TooLong) = FindsTooMuch g old new × (g.tells → asm_output (g.remaining old) ≡ Err TooLong) × (after ≡ before)
-  RunsAsm (Err NoMemory) = LacksMemoryForText g old new × (after ≡ before)
+  RunsAsm (Err TooLong) = FindsTooMuch g old new × (g.is_specified → asm_output (g.remaining old) ≡ Err TooLong) × (after ≡ before)
+  RunsAsm (Err NoMemory) = RunsOutOfMemoryForText g old new × (after ≡ before)
   RunsAsm (Err (Asm fault)) =
       ReadsWholeText g old new
-      × (g.tells → (1 ≤ fault.line) × (fault.line ≤ length (lines_of (g.remaining old))))
-      × (g.tells → FailsAsm (g.remaining old) fault)
+      × (g.is_specified → (1 ≤ fault.line) × (fault.line ≤ length (lines_of (g.remaining old))))
+      × (g.is_specified → FailsAsm (g.remaining old) fault)
       × (after ≡ before)
   RunsAsm (Err Write) =
       ReadsWholeText g old new × SinkFailed h before after
-      × (g.tells → IsOkAnd (asm_output (g.remaining old)) (λ text. h.tells → WritesFront (h.taken before) (h.taken after) text))
+      × (g.is_specified → IsOkAnd (asm_output (g.remaining old)) (λ text. h.is_specified → WritesPrefix (h.taken before) (h.taken after) text))
   RunsAsm (Err _) = ⊥

@@ -7,28 +7,28 @@ use Rattle.rv_streams.specs.declared.lines.Lines.{Lines}
 use Rattle.rv_streams.specs.Calls.{SinkFlushed, SinkFailed}
 use Rattle.rv_streams.specs.DisassemblyText.{dis_output}
 use Rattle.rv_streams.specs.Image.{image_in}
-use Rattle.rv_streams.specs.ReadImage.{FailsInImage, FindsFault, LacksMemory}
+use Rattle.rv_streams.specs.ReadImage.{FailsInImage, FindsFault, RunsOutOfMemory}
 use Rattle.rv_streams.specs.Faults.{Outcome}
 use Rattle.rv_streams.specs.Script.{ReadsThroughSeparator}
-use Rattle.rv_streams.specs.Transfer.{WritesFront}
+use Rattle.rv_streams.specs.Transfer.{WritesPrefix}
 use Rattle.rv_streams.specs.Unread.{unread}
 
 module _ {S W : Type 0} {g : SourceGhosts S} (h : SinkGhosts W) (old new : Lines S g) (before after : W) where
   -- The number of the image's bytes is no multiple of 4, which is asked of the whole image.
   abbrev pub FindsPartOfWord : Type 0
-  FindsPartOfWord = ReadsThroughSeparator old new × (g.tells → IsOk (image_in (unread old)))
+  FindsPartOfWord = ReadsThroughSeparator old new × (g.is_specified → IsOk (image_in (unread old)))
 
   -- what each result of `run_dis` means: nothing is written before the whole image was read
   abbrev pub RunsDis : Outcome → Type 0
   RunsDis (Ok _) =
       ReadsThroughSeparator old new × SinkFlushed h before after
-      × (g.tells → IsOkAnd (dis_output (unread old)) (λ text. h.tells → h.taken after ≡ h.taken before ++ text))
+      × (g.is_specified → IsOkAnd (dis_output (unread old)) (λ text. h.is_specified → h.taken after ≡ h.taken before ++ text))
   RunsDis (Err Read) = FailsInImage old new × (after ≡ before)
   RunsDis (Err Hex) =
-      (FindsFault Hex old new ⊎ FindsPartOfWord) × (g.tells → dis_output (unread old) ≡ Err Hex) × (after ≡ before)
-  RunsDis (Err TooLong) = FindsFault TooLong old new × (g.tells → dis_output (unread old) ≡ Err TooLong) × (after ≡ before)
-  RunsDis (Err NoMemory) = LacksMemory old new × (after ≡ before)
+      (FindsFault Hex old new ⊎ FindsPartOfWord) × (g.is_specified → dis_output (unread old) ≡ Err Hex) × (after ≡ before)
+  RunsDis (Err TooLong) = FindsFault TooLong old new × (g.is_specified → dis_output (unread old) ≡ Err TooLong) × (after ≡ before)
+  RunsDis (Err NoMemory) = RunsOutOfMemory old new × (after ≡ before)
   RunsDis (Err Write) =
       ReadsThroughSeparator old new × SinkFailed h before after
-      × (g.tells → IsOkAnd (dis_output (unread old)) (λ text. h.tells → WritesFront (h.taken before) (h.taken after) text))
+      × (g.is_specified → IsOkAnd (dis_output (unread old)) (λ text. h.is_specified → WritesPrefix (h.taken before) (h.taken after) text))
   RunsDis (Err _) = ⊥

@@ -57,7 +57,7 @@ pub record ReadsUnmarked (unread left : List ℕ) (lines : List (List ℕ)) : Ty
   pub unmarked : before_separator lines ≡ lines
 
 -- Lines of the image were read, with one byte or more, none of them `--`, none faulty and not too many.
-pub record ReadsFrontOfImage (unread left : List ℕ) : Type 0 where
+pub record ReadsPrefixOfImage (unread left : List ℕ) : Type 0 where
   pub lines : List (List ℕ)
   pub some : 0 < length (bytes_of_lines lines)
   pub reads : ReadsUnmarked unread left lines

@@ -10,7 +10,7 @@ pub record ReadsLineText (unread left kept : List ℕ) : Type 0 where
   pub text : List ℕ
   pub split : unread ≡ text ++ left
   pub unfinished : has_feed text ≡ false
-  pub front : kept ≡ take 122 text
+  pub prefix : kept ≡ take 122 text
 
 -- The first line of the unread bytes was taken, up to those that are left, and its first 121 bytes are shown. Its text ends
 -- with a line feed, or else with the last byte there is.
@@ -22,7 +22,7 @@ pub record TakesLine (unread left : List ℕ) (is_at_end : Bool) (shown : List �
   pub whole : is_at_end ≡ false → through_last_feed text ≡ text
   pub lines : lines_of unread ≡ line ∷ lines_of left
   pub rest : left ≡ after_line unread
-  pub front : shown ≡ take 121 line
+  pub prefix : shown ≡ take 121 line
 
 -- These lines were taken one by one, up to the bytes that are left.
 pub record ReadsLines (unread left : List ℕ) (is_at_end : Bool) (lines : List (List ℕ)) : Type 0 where

@@ -5,7 +5,7 @@ use Rattle.rv_streams.specs.declared.fault.BenchFault.{BenchFault}
 use Rattle.rv_streams.specs.declared.fault.BenchFault.TheVariants.{Read, Hex, TooLong, NoMemory}
 use Rattle.rv_streams.specs.declared.lines.Lines.{Lines}
 use Rattle.rv_streams.specs.Calls.{SourceWorked, SourceFailed}
-use Rattle.rv_streams.specs.Image.{image_in, ReadsInImage, ReadsFrontOfImage, StopsAtFault}
+use Rattle.rv_streams.specs.Image.{image_in, ReadsInImage, ReadsPrefixOfImage, StopsAtFault}
 use Rattle.rv_streams.specs.Script.{ReadsThroughSeparator}
 use Rattle.rv_streams.specs.Unread.{held, unread}
 
@@ -14,27 +14,27 @@ module _ {S : Type 0} {g : Ghosts S} where
   pub record FailsInImage (old new : Lines S g) : Type 0 where
     pub source : SourceFailed g old.source new.source
     pub going : new.is_at_end ≡ false
-    pub reads : g.tells → ReadsInImage (unread old) (g.remaining new.source) (held new)
+    pub reads : g.is_specified → ReadsInImage (unread old) (g.remaining new.source) (held new)
 
   -- The text of the image has this fault, at the last line that was read.
   pub record FindsFault (fault : BenchFault) (old new : Lines S g) : Type 0 where
     pub source : SourceWorked g old.source new.source
     pub emptied : held new ≡ []
-    pub image : g.tells → image_in (unread old) ≡ Err fault
-    pub reads : g.tells → StopsAtFault (unread old) (unread new) fault
+    pub image : g.is_specified → image_in (unread old) ≡ Err fault
+    pub reads : g.is_specified → StopsAtFault (unread old) (unread new) fault
 
   -- Memory was refused for the last line that was read.
-  pub record LacksMemory (old new : Lines S g) : Type 0 where
+  pub record RunsOutOfMemory (old new : Lines S g) : Type 0 where
     pub source : SourceWorked g old.source new.source
     pub emptied : held new ≡ []
-    pub reads : g.tells → ReadsFrontOfImage (unread old) (unread new)
+    pub reads : g.is_specified → ReadsPrefixOfImage (unread old) (unread new)
 
   -- what each result of `read_image` means
   abbrev pub ReadsImage : {Z : Type 0} → Lines S g → Lines S g → Result (Vec ℕ Z) BenchFault → Type 0
   ReadsImage old new (Ok image) =
-      ReadsThroughSeparator old new × (vec_len image ≤ 33554432) × (g.tells → image_in (unread old) ≡ Ok image.items)
+      ReadsThroughSeparator old new × (vec_len image ≤ 33554432) × (g.is_specified → image_in (unread old) ≡ Ok image.items)
   ReadsImage old new (Err Read) = FailsInImage old new
   ReadsImage old new (Err Hex) = FindsFault Hex old new
   ReadsImage old new (Err TooLong) = FindsFault TooLong old new
-  ReadsImage old new (Err NoMemory) = LacksMemory old new
+  ReadsImage old new (Err NoMemory) = RunsOutOfMemory old new
   ReadsImage old new (Err _) = ⊥

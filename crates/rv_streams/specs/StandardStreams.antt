@@ -6,8 +6,8 @@ use Rattle.rv_streams.specs.declared.stdio.StandardSource.{StandardSource}
 use Rattle.rv_streams.specs.declared.stdio.StandardSink.{StandardSink}
 
 -- the bytes are told of each value of the type
-abbrev pub TellsAll : {A : Type 0} → (A → Option (List ℕ)) → Type 0
-TellsAll {A} bytes = (a : A) → IsTrue (is_some (bytes a))
+abbrev pub AreSpecified : {A : Type 0} → (A → Option (List ℕ)) → Type 0
+AreSpecified {A} bytes = (a : A) → IsTrue (is_some (bytes a))
 
 -- the bytes, where they are told
 abbrev pub known : Option (List ℕ) → List ℕ

@@ -15,16 +15,16 @@ answers_end (Err e) = false
 
 -- the text was written up to this rest of it
 abbrev pub WritesUpTo : List ℕ → List ℕ → List ℕ → List ℕ → Type 0
-WritesUpTo old new text rest = (front : List ℕ) × (new ≡ old ++ front) × (text ≡ front ++ rest)
+WritesUpTo old new text rest = (prefix : List ℕ) × (new ≡ old ++ prefix) × (text ≡ prefix ++ rest)
 
 -- what was written is a beginning of the text
-abbrev pub WritesFront : List ℕ → List ℕ → List ℕ → Type 0
-WritesFront old new text = (rest : List ℕ) × WritesUpTo old new text rest
+abbrev pub WritesPrefix : List ℕ → List ℕ → List ℕ → Type 0
+WritesPrefix old new text = (rest : List ℕ) × WritesUpTo old new text rest
 
 -- a front of the unread bytes was read, of at most so many bytes
 abbrev pub ReadsAtMost : ℕ → List ℕ → List ℕ → Type 0
-ReadsAtMost most unread left = (front : List ℕ) × (unread ≡ front ++ left) × (length front ≤ most)
+ReadsAtMost most unread left = (prefix : List ℕ) × (unread ≡ prefix ++ left) × (length prefix ≤ most)
 
 -- a front of the unread bytes was read, of more than so many bytes
 abbrev pub ReadsMoreThan : ℕ → List ℕ → List ℕ → Type 0
-ReadsMoreThan most unread left = (front : List ℕ) × (unread ≡ front ++ left) × (most < length front)
+ReadsMoreThan most unread left = (prefix : List ℕ) × (unread ≡ prefix ++ left) × (most < length prefix)

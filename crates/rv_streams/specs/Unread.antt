@@ -22,7 +22,7 @@ module _ {S : Type 0} {g : Ghosts S} where
   HasEnded old new = (old.is_at_end ≡ true) ⊎ HasRisen (g.ends old.source) (g.ends new.source)
 
   -- The lines come to their end only by an end that the source answers. It answers none before that, and none is asked for after it.
-  pub record TellsEnd (old new : Lines S g) : Type 0 where
+  pub record EndsWithSource (old new : Lines S g) : Type 0 where
     pub stays : old.is_at_end ≡ true → (new.is_at_end ≡ true) × (g.ends new.source ≡ g.ends old.source)
     pub going : new.is_at_end ≡ false → g.ends new.source ≡ g.ends old.source
     pub ended : new.is_at_end ≡ true → HasEnded old new

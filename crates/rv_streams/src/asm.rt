@@ -5,7 +5,7 @@ ghost use Rattle.arrayvec.specs.ArrayVec.{array_vec_len};
 ghost use Rattle.rv_streams.specs.Assemble.{RunsAsm};
 ghost use Rattle.rv_streams.specs.AssemblyText.{word_line, asm_text};
 ghost use Rattle.rv_streams.specs.Device.{HasRisen};
-ghost use Rattle.rv_streams.specs.Transfer.{WritesFront};
+ghost use Rattle.rv_streams.specs.Transfer.{WritesPrefix};
 
 use crate::device::{DeviceFault, Sink, Source};
 use crate::fault::BenchFault;
@@ -41,8 +41,8 @@ fn push_word(out: &mut Reply, word: u32)
 /// Only where the sink failed in this call, or took no byte of a part that was not empty. A beginning of the lines is
 /// written then.
 fn write_words<W: Sink>(words: &[u32], sink: &mut W) -> Result<(), DeviceFault>
-    ensures written { OnOk result (W.tells → W.taken sink.new ≡ W.taken sink.old ++ asm_text words.now) }
-    ensures front { W.tells → WritesFront (W.taken sink.old) (W.taken sink.new) (asm_text words.now) }
+    ensures written { OnOk result (W.is_specified → W.taken sink.new ≡ W.taken sink.old ++ asm_text words.now) }
+    ensures prefix { W.is_specified → WritesPrefix (W.taken sink.old) (W.taken sink.new) (asm_text words.now) }
     ensures flushed { OnOk result (W.is_flushed sink.new ≡ true) }
     ensures ok { OnOk result ((W.failures sink.new ≡ W.failures sink.old) × (W.refusals sink.new ≡ W.refusals sink.old)) }
     ensures err { OnErr result (HasRisen (W.failures sink.old) (W.failures sink.new) ⊎ HasRisen (W.refusals sink.old) (W.refusals sink.new)) }

@@ -9,7 +9,7 @@ pub struct DeviceFault;
 /// A device that gives bytes.
 pub trait Source {
     // That it is known which bytes will come.
-    ghost tells: { Type 0 };
+    ghost is_specified: { Type 0 };
 
     // The bytes still to come, where they are known.
     ghost remaining: { Self → List ℕ };
@@ -31,8 +31,8 @@ pub trait Source {
     /// Where the device failed. No byte is lost then, and a later call goes on.
     fn read_some(&mut self, buffer: &mut [u8]) -> Result<usize, DeviceFault>
         ensures room { moved_count result ≤ length buffer.new }
-        ensures bytes { tells → remaining self.old ≡ take (moved_count result) buffer.new ++ remaining self.new }
-        ensures end { tells → IsTrue (answers_none result (length buffer.new)) → remaining self.new ≡ [] }
+        ensures bytes { is_specified → remaining self.old ≡ take (moved_count result) buffer.new ++ remaining self.new }
+        ensures end { is_specified → IsTrue (answers_none result (length buffer.new)) → remaining self.new ≡ [] }
         ensures ends { ends self.new ≡ counted_if (answers_none result (length buffer.new)) (ends self.old) }
         ensures failures { failures self.new ≡ counted_if (is_err result) (failures self.old) }
         ensures failing { failures self.old ≡ 2 ^ 64 - 1 → result ≡ Err record {} }
@@ -42,7 +42,7 @@ pub trait Source {
 /// A device that takes bytes.
 pub trait Sink {
     // That it is known which bytes have been taken.
-    ghost tells: { Type 0 };
+    ghost is_specified: { Type 0 };
 
     // The bytes taken so far, where they are known.
     ghost taken: { Self → List ℕ };
@@ -63,7 +63,7 @@ pub trait Sink {
     /// Where the device failed. No byte of the part is taken then.
     fn write_some(&mut self, part: &[u8]) -> Result<usize, DeviceFault>
         ensures bound { moved_count result ≤ length part.now }
-        ensures bytes { tells → taken self.new ≡ taken self.old ++ take (moved_count result) part.now }
+        ensures bytes { is_specified → taken self.new ≡ taken self.old ++ take (moved_count result) part.now }
         ensures flushed { is_flushed self.new ≡ (is_flushed self.old && (moved_count result == 0)) }
         ensures refusals { refusals self.new ≡ counted_if (answers_none result (length part.now)) (refusals self.old) }
         ensures failures { failures self.new ≡ counted_if (is_err result) (failures self.old) }
@@ -75,7 +75,7 @@ pub trait Sink {
     ///
     /// Where the device failed. What was not passed on is still held.
     fn flush(&mut self) -> Result<(), DeviceFault>
-        ensures bytes { tells → taken self.new ≡ taken self.old }
+        ensures bytes { is_specified → taken self.new ≡ taken self.old }
         ensures flushed { is_flushed self.new ≡ (is_flushed self.old || is_ok result) }
         ensures refusals { refusals self.new ≡ refusals self.old }
         ensures failures { failures self.new ≡ counted_if (is_err result) (failures self.old) }

@@ -6,8 +6,8 @@ ghost use Rattle.rv_word.specs.ByteOrder.{word_of_bytes};
 ghost use Rattle.rv_streams.specs.Device.{HasRisen};
 ghost use Rattle.rv_streams.specs.Disassemble.{RunsDis};
 ghost use Rattle.rv_streams.specs.DisassemblyText.{dis_line, disassembly_text};
-ghost use Rattle.rv_streams.specs.Transfer.{WritesFront};
-ghost use Rattle.rv_streams.specs.Unread.{TellsEnd};
+ghost use Rattle.rv_streams.specs.Transfer.{WritesPrefix};
+ghost use Rattle.rv_streams.specs.Unread.{EndsWithSource};
 
 use crate::device::{DeviceFault, Sink, Source};
 use crate::fault::BenchFault;
@@ -45,8 +45,8 @@ fn push_disassembly(out: &mut Reply, word: u32)
 /// Only where the sink failed in this call, or took no byte of a part that was not empty. A beginning of the lines is
 /// written then.
 fn write_disassembly<W: Sink>(words: &[[u8; 4]], sink: &mut W) -> Result<(), DeviceFault>
-    ensures written { OnOk result (W.tells → W.taken sink.new ≡ W.taken sink.old ++ disassembly_text (map word_of_bytes words.now)) }
-    ensures front { W.tells → WritesFront (W.taken sink.old) (W.taken sink.new) (disassembly_text (map word_of_bytes words.now)) }
+    ensures written { OnOk result (W.is_specified → W.taken sink.new ≡ W.taken sink.old ++ disassembly_text (map word_of_bytes words.now)) }
+    ensures prefix { W.is_specified → WritesPrefix (W.taken sink.old) (W.taken sink.new) (disassembly_text (map word_of_bytes words.now)) }
     ensures flushed { OnOk result (W.is_flushed sink.new ≡ true) }
     ensures ok { OnOk result ((W.failures sink.new ≡ W.failures sink.old) × (W.refusals sink.new ≡ W.refusals sink.old)) }
     ensures err { OnErr result (HasRisen (W.failures sink.old) (W.failures sink.new) ⊎ HasRisen (W.refusals sink.old) (W.refusals sink.new)) }
@@ -75,7 +75,7 @@ pub fn run_dis<S: Source, W: Sink>(
     sink: &mut W,
 ) -> Result<(), BenchFault>
     ensures outcome { RunsDis W.Sink lines.old lines.new sink.old sink.new result }
-    ensures end { TellsEnd lines.old lines.new }
+    ensures end { EndsWithSource lines.old lines.new }
 {
     let image = read_image(alloc, lines)?;
     let (words, rest) = image.as_slice().as_chunks::<4>();

@@ -3,7 +3,7 @@
 ghost use Rattle.std.specs.Prelude.{◌≡◌, ◌+◌, ◌≤◌, ◌++◌, ◌⊎◌, true, OnOk, OnErr};
 ghost use Rattle.arrayvec.specs.ArrayVec.{array_vec_len};
 ghost use Rattle.rv_streams.specs.Device.{HasRisen};
-ghost use Rattle.rv_streams.specs.Transfer.{WritesUpTo, WritesFront};
+ghost use Rattle.rv_streams.specs.Transfer.{WritesUpTo, WritesPrefix};
 
 use crate::device::{DeviceFault, Sink};
 use crate::transfer::write_all;
@@ -22,8 +22,8 @@ pub(crate) fn make_room<W: Sink>(
 ) -> Result<(), DeviceFault>
     requires { room ≤ 2048 }
     ensures room { OnOk result (array_vec_len gathered.new + room ≤ 2048) }
-    ensures written { W.tells → OnOk result (WritesUpTo (W.taken sink.old) (W.taken sink.new) gathered.old.items gathered.new.items) }
-    ensures front { W.tells → WritesFront (W.taken sink.old) (W.taken sink.new) gathered.old.items }
+    ensures written { W.is_specified → OnOk result (WritesUpTo (W.taken sink.old) (W.taken sink.new) gathered.old.items gathered.new.items) }
+    ensures prefix { W.is_specified → WritesPrefix (W.taken sink.old) (W.taken sink.new) gathered.old.items }
     ensures ok { OnOk result ((W.failures sink.new ≡ W.failures sink.old) × (W.refusals sink.new ≡ W.refusals sink.old)) }
     ensures err { OnErr result (HasRisen (W.failures sink.old) (W.failures sink.new) ⊎ HasRisen (W.refusals sink.old) (W.refusals sink.new)) }
 {
@@ -41,8 +41,8 @@ pub(crate) fn make_room<W: Sink>(
 /// Only where the sink failed in this call, or took no byte of a part that was not empty. A beginning of what is gathered
 /// is written then.
 pub fn write_last<W: Sink>(gathered: &Reply, sink: &mut W) -> Result<(), DeviceFault>
-    ensures written { OnOk result (W.tells → W.taken sink.new ≡ W.taken sink.old ++ gathered.now.items) }
-    ensures front { W.tells → WritesFront (W.taken sink.old) (W.taken sink.new) gathered.now.items }
+    ensures written { OnOk result (W.is_specified → W.taken sink.new ≡ W.taken sink.old ++ gathered.now.items) }
+    ensures prefix { W.is_specified → WritesPrefix (W.taken sink.old) (W.taken sink.new) gathered.now.items }
     ensures flushed { OnOk result (W.is_flushed sink.new ≡ true) }
     ensures ok { OnOk result ((W.failures sink.new ≡ W.failures sink.old) × (W.refusals sink.new ≡ W.refusals sink.old)) }
     ensures err { OnErr result (HasRisen (W.failures sink.old) (W.failures sink.new) ⊎ HasRisen (W.refusals sink.old) (W.refusals sink.new)) }

@@ -2,7 +2,7 @@
 ghost use Rattle.std.specs.Prelude.{◌≤◌, vec_len, length};
 ghost use Rattle.rv_streams.specs.Image.{AddsBytes};
 ghost use Rattle.rv_streams.specs.ReadImage.{ReadsImage};
-ghost use Rattle.rv_streams.specs.Unread.{TellsEnd};
+ghost use Rattle.rv_streams.specs.Unread.{EndsWithSource};
 
 use crate::device::Source;
 use crate::fault::BenchFault;
@@ -51,7 +51,7 @@ fn add_bytes(image: &mut Vec<u8>, word: &[u8]) -> Result<(), BenchFault>
 /// - `NoMemory` where memory was refused.
 pub fn read_image<S: Source>(alloc: Global, lines: &mut Lines<S>) -> Result<Vec<u8>, BenchFault>
     ensures outcome { ReadsImage lines.old lines.new result }
-    ensures end { TellsEnd lines.old lines.new }
+    ensures end { EndsWithSource lines.old lines.new }
 {
     let mut image = Vec::new(alloc);
     while let Some(line) = lines.next_line().map_err(|_| BenchFault::Read)? {

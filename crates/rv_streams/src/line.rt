@@ -39,8 +39,8 @@ pub(crate) enum Stop {
 pub(crate) fn read_text<S: Source>(source: &mut S, line: &mut Line) -> Result<Stop, DeviceFault>
     requires short { length line.old.items ≤ 122 }
     requires unfinished { has_feed line.old.items ≡ false }
-    ensures bytes { S.tells → ReadsLineText (line.old.items ++ S.remaining source.old) (left_from result (S.remaining source.new)) line.new.items }
-    ensures end { S.tells → result ≡ Ok Stop.End → S.remaining source.new ≡ [] }
+    ensures bytes { S.is_specified → ReadsLineText (line.old.items ++ S.remaining source.old) (left_from result (S.remaining source.new)) line.new.items }
+    ensures end { S.is_specified → result ≡ Ok Stop.End → S.remaining source.new ≡ [] }
     ensures ends { S.ends source.new ≡ counted_if (stops_at_end result) (S.ends source.old) }
     ensures failures { S.failures source.new ≡ counted_if (is_err result) (S.failures source.old) }
     ensures short { length line.new.items ≤ 122 }
@@ -61,13 +61,13 @@ pub(crate) fn read_text<S: Source>(source: &mut S, line: &mut Line) -> Result<St
 
 /// Takes the front of a line out, and leaves none.
 #[inline(always)]
-pub(crate) fn take_front(line: &mut Line, count: usize) -> Line
+pub(crate) fn take_prefix(line: &mut Line, count: usize) -> Line
     ensures taken { result.items ≡ take count line.old.items }
     ensures rest { line.new.items ≡ [] }
 {
-    let mut front = mem::replace(line, ArrayVec::new());
-    front.truncate(count);
-    front
+    let mut prefix = mem::replace(line, ArrayVec::new());
+    prefix.truncate(count);
+    prefix
 }
 
 /// How many bytes of a text before a line feed are shown as its line.
@@ -76,7 +76,7 @@ pub(crate) fn shown_len(text: &[u8]) -> usize
     ensures { take result text.now ≡ take 121 (without_return text.now) }
 {
     match text.split_last() {
-        Some((last, front)) if *last == CARRIAGE_RETURN => front.len(),
+        Some((last, prefix)) if *last == CARRIAGE_RETURN => prefix.len(),
         _ => text.len().min(SHOWN_MAX),
     }
 }

@@ -3,7 +3,7 @@ ghost use Rattle.std.specs.Prelude.{◌≡◌, ◌<◌, ◌≤◌, true, false, 
 ghost use Rattle.rv_text.specs.Lines.{has_feed};
 
 use crate::device::{DeviceFault, Source};
-use crate::line::{KEPT_MAX, Line, SHOWN_MAX, Stop, read_text, shown_len, take_front};
+use crate::line::{KEPT_MAX, Line, SHOWN_MAX, Stop, read_text, shown_len, take_prefix};
 use crate::separator::ScriptEnd;
 use arrayvec::ArrayVec;
 
@@ -20,7 +20,7 @@ pub struct Lines<S: Source> {
     ghost unfinished: { has_feed line.items ≡ false },
     ghost told: { is_at_end ≡ true → 0 < S.ends source },
     ghost empty: { is_at_end ≡ true → line.items ≡ [] },
-    ghost none_left: { is_at_end ≡ true → S.tells → S.remaining source ≡ [] },
+    ghost none_left: { is_at_end ≡ true → S.is_specified → S.remaining source ≡ [] },
 }
 
 impl<S: Source> Lines<S> {
@@ -28,7 +28,7 @@ impl<S: Source> Lines<S> {
     ghost use Rattle.rv_streams.specs.Device.{counted_if};
     ghost use Rattle.rv_streams.specs.LineText.{ReadsLineText, TakesLine};
     ghost use Rattle.rv_streams.specs.Script.{ends_script, FindsEnd};
-    ghost use Rattle.rv_streams.specs.Unread.{held, unread, calls_left, TellsEnd};
+    ghost use Rattle.rv_streams.specs.Unread.{held, unread, calls_left, EndsWithSource};
 
     /// The lines of this source.
     pub fn new(source: S) -> Lines<S>
@@ -66,7 +66,7 @@ impl<S: Source> Lines<S> {
     pub fn is_at_end(&self) -> bool
         ensures end { result ≡ self.now.is_at_end }
         ensures told { IsTrue result → 0 < S.ends self.now.source }
-        ensures nothing { IsTrue result → S.tells → unread self.now ≡ [] }
+        ensures nothing { IsTrue result → S.is_specified → unread self.now ≡ [] }
     {
         self.is_at_end
     }
@@ -80,15 +80,15 @@ impl<S: Source> Lines<S> {
     /// on from there.
     #[inline(always)]
     pub fn next_line(&mut self) -> Result<Option<Line>, DeviceFault>
-        ensures line { S.tells → IfOk result (λ found. IfSome found (λ line.
+        ensures line { S.is_specified → IfOk result (λ found. IfSome found (λ line.
             TakesLine (unread self.old) (unread self.new) self.new.is_at_end line.items)) }
         ensures going { IfOk result (λ found. OnSome found (self.old.is_at_end ≡ false)) }
         ensures none { IfOk result (λ found. IfNone found (self.new.is_at_end ≡ true)) }
-        ensures nothing { S.tells → IfOk result (λ found. IfNone found ((unread self.old ≡ []) × (unread self.new ≡ []))) }
-        ensures end { TellsEnd self.old self.new }
+        ensures nothing { S.is_specified → IfOk result (λ found. IfNone found ((unread self.old ≡ []) × (unread self.new ≡ []))) }
+        ensures end { EndsWithSource self.old self.new }
         ensures failures { S.failures self.new.source ≡ counted_if (is_err result) (S.failures self.old.source) }
         ensures err { OnErr result ((self.old.is_at_end ≡ false) × (self.new.is_at_end ≡ false)) }
-        ensures kept { S.tells → OnErr result (ReadsLineText (unread self.old) (S.remaining self.new.source) (held self.new)) }
+        ensures kept { S.is_specified → OnErr result (ReadsLineText (unread self.old) (S.remaining self.new.source) (held self.new)) }
         ensures emptied { OnOk result (held self.new ≡ []) }
         ensures falls { IfOk result (λ found. OnSome found (calls_left self.new < calls_left self.old)) }
     {
@@ -98,14 +98,14 @@ impl<S: Source> Lines<S> {
         match read_text(&mut self.source, &mut self.line)? {
             Stop::LineFeed => {
                 let count = shown_len(self.line.as_slice());
-                Ok(Some(take_front(&mut self.line, count)))
+                Ok(Some(take_prefix(&mut self.line, count)))
             }
             Stop::End => {
                 self.is_at_end = true;
                 if self.line.is_empty() {
                     return Ok(None);
                 }
-                Ok(Some(take_front(&mut self.line, SHOWN_MAX)))
+                Ok(Some(take_prefix(&mut self.line, SHOWN_MAX)))
             }
         }
     }
@@ -118,15 +118,15 @@ impl<S: Source> Lines<S> {
     /// As `next_line`.
     #[inline(always)]
     pub fn next_line_before(&mut self, end: ScriptEnd) -> Result<Option<Line>, DeviceFault>
-        ensures line { S.tells → IfOk result (λ found. IfSome found (λ line.
+        ensures line { S.is_specified → IfOk result (λ found. IfSome found (λ line.
             TakesLine (unread self.old) (unread self.new) self.new.is_at_end line.items)) }
         ensures inside { IfOk result (λ found. IfSome found (λ line. ends_script end line.items ≡ false)) }
         ensures going { IfOk result (λ found. OnSome found (self.old.is_at_end ≡ false)) }
         ensures none { IfOk result (λ found. IfNone found (FindsEnd end self.old self.new)) }
-        ensures end { TellsEnd self.old self.new }
+        ensures end { EndsWithSource self.old self.new }
         ensures failures { S.failures self.new.source ≡ counted_if (is_err result) (S.failures self.old.source) }
         ensures err { OnErr result ((self.old.is_at_end ≡ false) × (self.new.is_at_end ≡ false)) }
-        ensures kept { S.tells → OnErr result (ReadsLineText (unread self.old) (S.remaining self.new.source) (held self.new)) }
+        ensures kept { S.is_specified → OnErr result (ReadsLineText (unread self.old) (S.remaining self.new.source) (held self.new)) }
         ensures emptied { OnOk result (held self.new ≡ []) }
         ensures falls { IfOk result (λ found. OnSome found (calls_left self.new < calls_left self.old)) }
     {

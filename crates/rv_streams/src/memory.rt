@@ -33,7 +33,7 @@ impl<'a> MemorySource<'a> {
 }
 
 impl<'a> Source for MemorySource<'a> {
-    ghost tells = { ⊤ };
+    ghost is_specified = { ⊤ };
 
     ghost remaining = { rest_in_memory };
 
@@ -112,7 +112,7 @@ impl<'a> MemorySink<'a> {
 }
 
 impl<'a> Sink for MemorySink<'a> {
-    ghost tells = { ⊤ };
+    ghost is_specified = { ⊤ };
 
     ghost taken = { bytes_taken };
 

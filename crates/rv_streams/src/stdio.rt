@@ -42,7 +42,7 @@ pub struct StandardSource<R: Read> {
 impl<R: Read> StandardSource<R> {
     ghost use Rattle.std.specs.Prelude.{◌≡◌, ◌-◌, ◌^◌, ◌<◌, [], OnOk, is_err};
     ghost use Rattle.rv_streams.specs.Device.{counted_if};
-    ghost use Rattle.rv_streams.specs.StandardStreams.{TellsAll, known, rest_of};
+    ghost use Rattle.rv_streams.specs.StandardStreams.{AreSpecified, known, rest_of};
 
     /// A source over this reader, of which nothing is read yet.
     pub fn new(reader: R) -> StandardSource<R>
@@ -72,8 +72,8 @@ impl<R: Read> StandardSource<R> {
     fn fill(&mut self) -> Result<(), DeviceFault>
         requires nothing { self.old.start ≡ self.old.end }
         requires working { self.old.failed_calls < 2 ^ 64 - 1 }
-        ensures bytes { TellsAll R.remaining → rest_of self.new ≡ rest_of self.old }
-        ensures end { OnOk result (TellsAll R.remaining → self.new.start ≡ self.new.end → rest_of self.new ≡ []) }
+        ensures bytes { AreSpecified R.remaining → rest_of self.new ≡ rest_of self.old }
+        ensures end { OnOk result (AreSpecified R.remaining → self.new.start ≡ self.new.end → rest_of self.new ≡ []) }
         ensures calls { self.new.calls_left ≡ self.old.calls_left }
         ensures ends { self.new.end_count ≡ self.old.end_count }
         ensures failures { self.new.failed_calls ≡ counted_if (is_err result) self.old.failed_calls }
@@ -99,8 +99,8 @@ impl<R: Read> StandardSource<R> {
     #[inline(always)]
     fn read_ahead(&mut self) -> Result<(), DeviceFault>
         requires { self.old.failed_calls < 2 ^ 64 - 1 }
-        ensures bytes { TellsAll R.remaining → rest_of self.new ≡ rest_of self.old }
-        ensures end { OnOk result (TellsAll R.remaining → self.new.start ≡ self.new.end → rest_of self.new ≡ []) }
+        ensures bytes { AreSpecified R.remaining → rest_of self.new ≡ rest_of self.old }
+        ensures end { OnOk result (AreSpecified R.remaining → self.new.start ≡ self.new.end → rest_of self.new ≡ []) }
         ensures calls { self.new.calls_left ≡ self.old.calls_left }
         ensures ends { self.new.end_count ≡ self.old.end_count }
         ensures failures { self.new.failed_calls ≡ counted_if (is_err result) self.old.failed_calls }
@@ -113,9 +113,9 @@ impl<R: Read> StandardSource<R> {
 }
 
 impl<R: Read> Source for StandardSource<R> {
-    ghost use Rattle.rv_streams.specs.StandardStreams.{TellsAll, rest_of};
+    ghost use Rattle.rv_streams.specs.StandardStreams.{AreSpecified, rest_of};
 
-    ghost tells = { TellsAll R.remaining };
+    ghost is_specified = { AreSpecified R.remaining };
 
     ghost remaining = { rest_of };
 
@@ -190,9 +190,9 @@ impl<W: Write> StandardSink<W> {
 }
 
 impl<W: Write> Sink for StandardSink<W> {
-    ghost use Rattle.rv_streams.specs.StandardStreams.{TellsAll, passed_on};
+    ghost use Rattle.rv_streams.specs.StandardStreams.{AreSpecified, passed_on};
 
-    ghost tells = { TellsAll W.contents };
+    ghost is_specified = { AreSpecified W.contents };
 
     ghost taken = { passed_on W.contents };
 

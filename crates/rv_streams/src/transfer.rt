@@ -1,7 +1,7 @@
 //! One byte from a source, and all of a text to a sink.
 ghost use Rattle.std.specs.Prelude.{◌≡◌, ◌++◌, ◌⊎◌, ◌+◌, ◌≤◌, [], length, IsTrue, IfOk, OnOk, OnErr, IfNone, is_err};
 ghost use Rattle.rv_streams.specs.Device.{counted_if, HasRisen};
-ghost use Rattle.rv_streams.specs.Transfer.{byte_given, answers_end, WritesFront};
+ghost use Rattle.rv_streams.specs.Transfer.{byte_given, answers_end, WritesPrefix};
 
 use crate::device::{DeviceFault, Sink, Source};
 
@@ -11,8 +11,8 @@ use crate::device::{DeviceFault, Sink, Source};
 ///
 /// Where the source failed in this call.
 pub(crate) fn read_byte<S: Source>(source: &mut S) -> Result<Option<u8>, DeviceFault>
-    ensures bytes { S.tells → S.remaining source.old ≡ byte_given result ++ S.remaining source.new }
-    ensures end { S.tells → IfOk result (λ byte. IfNone byte (S.remaining source.new ≡ [])) }
+    ensures bytes { S.is_specified → S.remaining source.old ≡ byte_given result ++ S.remaining source.new }
+    ensures end { S.is_specified → IfOk result (λ byte. IfNone byte (S.remaining source.new ≡ [])) }
     ensures ends { S.ends source.new ≡ counted_if (answers_end result) (S.ends source.old) }
     ensures failures { S.failures source.new ≡ counted_if (is_err result) (S.failures source.old) }
     ensures falls { S.calls_left source.new + length (byte_given result) ≤ S.calls_left source.old }
@@ -32,8 +32,8 @@ pub(crate) fn read_byte<S: Source>(source: &mut S) -> Result<Option<u8>, DeviceF
 /// Only where the sink failed in this call, or took no byte of a part that was not empty. A beginning of the text is
 /// written then.
 pub fn write_all<W: Sink>(sink: &mut W, text: &[u8]) -> Result<(), DeviceFault>
-    ensures written { OnOk result (W.tells → W.taken sink.new ≡ W.taken sink.old ++ text.now) }
-    ensures front { W.tells → WritesFront (W.taken sink.old) (W.taken sink.new) text.now }
+    ensures written { OnOk result (W.is_specified → W.taken sink.new ≡ W.taken sink.old ++ text.now) }
+    ensures prefix { W.is_specified → WritesPrefix (W.taken sink.old) (W.taken sink.new) text.now }
     ensures ok { OnOk result ((W.failures sink.new ≡ W.failures sink.old) × (W.refusals sink.new ≡ W.refusals sink.old)) }
     ensures err { OnErr result (HasRisen (W.failures sink.old) (W.failures sink.new) ⊎ HasRisen (W.refusals sink.old) (W.refusals sink.new)) }
 {

@@ -26,13 +26,13 @@ no_feed (x ∷ xs) = no_feed-step (is_feed x) (prefix_len (λ y. not (is_feed y)
 ten : (n : ℕ) → is_feed n ≡ true → n ≡ 10
 ten n is = grind (arith, nat_tests)
 
-whole_line : (front : List ℕ) → through_last_feed (front ++ 10 ∷ []) ≡ front ++ 10 ∷ []
-whole_line front = through_last_feed-append_feed front (10 ∷ []) refl
+whole_line : (prefix : List ℕ) → through_last_feed (prefix ++ 10 ∷ []) ≡ prefix ++ 10 ∷ []
+whole_line prefix = through_last_feed-append_feed prefix (10 ∷ []) refl
 
-cut : (front rest : List ℕ) → has_feed front ≡ false → lines_of (front ++ 10 ∷ rest) ≡ without_return front ∷ lines_of rest
-cut front rest none =
-    ap lines_of (sym (append_assoc front (10 ∷ []) rest)) ∙ lines_of-append (front ++ 10 ∷ []) rest (whole_line front)
-    ∙ ap (λ ls. ls ++ lines_of rest) (lines_of-line front none)
+cut : (prefix rest : List ℕ) → has_feed prefix ≡ false → lines_of (prefix ++ 10 ∷ rest) ≡ without_return prefix ∷ lines_of rest
+cut prefix rest none =
+    ap lines_of (sym (append_assoc prefix (10 ∷ []) rest)) ∙ lines_of-append (prefix ++ 10 ∷ []) rest (whole_line prefix)
+    ∙ ap (λ ls. ls ++ lines_of rest) (lines_of-line prefix none)
 
 pub lines-cut : (text : List ℕ) → position_or_len is_feed text < length text
     → lines_of text ≡ without_return (before_first is_feed text) ∷ lines_of (after_first is_feed text)
@@ -50,5 +50,5 @@ pub lines-whole : (text : List ℕ) → 0 < length text → position_or_len is_f
 lines-whole [] some is = absurd (omega arith)
 lines-whole (x ∷ xs) some is = lines_of-last x xs (all_taken (x ∷ xs) is)
 
-pub no_return-other : (line front : List ℕ) (last : ℕ) → line ≡ front ++ last ∷ [] → last ≢ 13 → line ≡ without_return line
-no_return-other line front last is other = rw is (sym (without_return-other front last other))
+pub no_return-other : (line prefix : List ℕ) (last : ℕ) → line ≡ prefix ++ last ∷ [] → last ≢ 13 → line ≡ without_return line
+no_return-other line prefix last is other = rw is (sym (without_return-other prefix last other))

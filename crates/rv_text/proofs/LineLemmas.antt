@@ -173,20 +173,20 @@ take-min n xs = elim (cases_lt n (length xs)) [
 ]
 
 -- a carriage return at the end is not shown
-pub shown-return : (text front : List ℕ) → text ≡ front ++ 13 ∷ [] → length text ≤ 122 → take (length front) text ≡ take 121 (without_return text)
-shown-return text front e h =
-    let short : length front ≤ 121 = omega (arith, simp length-append at (ap length e)) in
+pub shown-return : (text prefix : List ℕ) → text ≡ prefix ++ 13 ∷ [] → length text ≤ 122 → take (length prefix) text ≡ take 121 (without_return text)
+shown-return text prefix e h =
+    let short : length prefix ≤ 121 = omega (arith, simp length-append at (ap length e)) in
     rw (
       e,
-      without_return-return front,
-      take-append-le (length front) front (13 ∷ []) (omega arith),
-      take_all (length front) front (omega arith),
-      take_all 121 front short,
+      without_return-return prefix,
+      take-append-le (length prefix) prefix (13 ∷ []) (omega arith),
+      take_all (length prefix) prefix (omega arith),
+      take_all 121 prefix short,
     ) refl
 
 -- any other end is
-pub shown-other : (text front : List ℕ) (last : ℕ) → text ≡ front ++ last ∷ [] → last ≢ 13 → take (min (length text) 121) text ≡ take 121 (without_return text)
-shown-other text front last e h = take-min 121 text ∙ ap (take 121) (e ∙ (sym (without_return-other front last h) ∙ ap without_return (sym e)))
+pub shown-other : (text prefix : List ℕ) (last : ℕ) → text ≡ prefix ++ last ∷ [] → last ≢ 13 → take (min (length text) 121) text ≡ take 121 (without_return text)
+shown-other text prefix last e h = take-min 121 text ∙ ap (take 121) (e ∙ (sym (without_return-other prefix last h) ∙ ap without_return (sym e)))
 
 pub shown-empty : (text : List ℕ) → length text ≡ 0 → take (min (length text) 121) text ≡ take 121 (without_return text)
 shown-empty [] h = refl

@@ -10,7 +10,7 @@ fn without_return(line: &[u8]) -> &[u8]
     ensures { result.now ≡ without_return_of line.now }
 {
     match line.split_last() {
-        Some((last, front)) if *last == b'\r' => front,
+        Some((last, prefix)) if *last == b'\r' => prefix,
         _ => line,
     }
 }

@@ -1,10 +1,10 @@
 //! The machine of the tests, and what a test does with it.
 
 ghost use Rattle.std.specs.Prelude.{◌<◌};
-ghost use Rattle.rv_monitor.specs.State.{count_of};
+ghost use Rattle.rv_monitor.specs.MonitoredMachine.{count_of};
 
 use rv_memory::Ram;
-use rv_monitor::{EnclaveState, Harts, Monitored, Slot, SlotInfo, World};
+use rv_monitor::{EnclaveState, Harts, MonitoredMachine, Slot, SlotInfo, World};
 use rv_pmp::{Mode, PmpIndex};
 use rv_word::{Reg, le_bytes};
 use std::test::Fail;
@@ -119,7 +119,7 @@ fn number(slot: Slot) -> u32 {
 /// a hart: a run shows what they do, and the proof of a test is small as long as it need not carry what each call ensures.
 #[derive(Drop)]
 struct Machine {
-    monitored: Monitored,
+    monitored: MonitoredMachine,
     named: u8,
     entered: Option<Slot>,
     trapped: bool,
@@ -137,7 +137,7 @@ impl Machine {
             }
         }
         Ok(Machine {
-            monitored: Monitored::new(ram, FIRST, harts),
+            monitored: MonitoredMachine::new(ram, FIRST, harts),
             named: 0,
             entered: None,
             trapped: false,

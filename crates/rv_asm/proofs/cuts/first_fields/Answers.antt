@@ -23,11 +23,11 @@ returns-in-None c =
 pub returns-then-is_full : goal.returns-then-is_full
 unfolding comma_fields
 returns-then-is_full c =
-    let front =
+    let prefix =
     YieldsList-so_far (YieldsList-at c.into_iter-field-iterator.ensures.into_iter_gives
     (YieldsList-from_map_by _ (λ x. x.now) trimmed
     (YieldsList-at c.map-field-items.ensures.source
     (YieldsList-from_slice_split _ (λ b. b == 44) c.args.text.now c.split.ensures.rest c.split.ensures.done c.split.ensures.closure
     (λ x b q k. search rules))) c.map-field-items.ensures.closure (λ x b q k. search rules))) c.loop-field.yielded _ c.loop-field.yielded_by in
     let full : length c.loop-field.yielded ≡ 4 = grind (arith, nat_tests, ap length c.loop-field.invariant.kept) in
-    rw c.loop-field.invariant.kept (rw full at front)
+    rw c.loop-field.invariant.kept (rw full at prefix)

@@ -1,10 +1,10 @@
 use Rattle.std.proofs.Common.{arith}
-use Rattle.rv_asm.proofs.WordLemmas.{fails_or_lacks, writes_on}
+use Rattle.rv_asm.proofs.WordLemmas.{fails_or_out_of_memory, writes_on}
 use Rattle.rv_asm.proofs.second_pass.words_of.Goals as goal
 
 pub returns-in-Err-clause-fault : goal.returns-in-Err-clause-fault
 returns-in-Err-clause-fault c =
-    fails_or_lacks _ c.loop-line.words.items c.loop-line.lines c.args.text.now c.loop-line.rest.now c.in-Some.after.now c.in-Some.line.now c.in-Err.kind
+    fails_or_out_of_memory _ c.loop-line.words.items c.loop-line.lines c.args.text.now c.loop-line.rest.now c.in-Some.after.now c.in-Some.line.now c.in-Err.kind
     c.loop-line.invariant.written c.in-Some.ensures.lines c.in-Err.ensures.fault
 
 pub loop-line-preserved : goal.loop-line-preserved

@@ -1,45 +1,45 @@
 use Rattle.std.proofs.Common.{rules, ◌≡◌, ◌++◌, ◌∙◌, refl, sym, ap, subst, Ok, Err}
 use Rattle.std.proofs.lemmas.Result.{IfOk-at_ok, IfErr-at_err}
 use Rattle.rv_streams.specs.declared.fault.BenchFault.TheVariants.{Read, Write}
-use Rattle.rv_streams.specs.Transfer.{WritesFront}
-use Rattle.rv_streams.proofs.Ends.{no_failure, TellsEnd-more}
+use Rattle.rv_streams.specs.Transfer.{WritesPrefix}
+use Rattle.rv_streams.proofs.Ends.{no_failure, EndsWithSource-more}
 use Rattle.rv_streams.proofs.Mapped.{ok_mapped, err_mapped}
-use Rattle.rv_bench.specs.Replies.{Answering}
-use Rattle.rv_bench.proofs.Runs.{AnswersLine-same}
-use Rattle.rv_bench.proofs.Turns.{Turn, SoFar-none, SoFar-ended, SoFar-read, Turn-goes, Turn-over, Turn-stops}
+use Rattle.rv_bench.specs.Replies.{Responding}
+use Rattle.rv_bench.proofs.Runs.{RespondsToLine-same}
+use Rattle.rv_bench.proofs.LoopTurns.{Turn, SoFar-none, SoFar-ended, SoFar-read, Turn-goes, Turn-over, Turn-stops}
 use Rattle.rv_bench.proofs.run.run_lines.Given as given
 use Rattle.rv_bench.proofs.run.run_lines.Goals as goal
-use Rattle.rv_bench.proofs.run.run_lines.Goals.{After-answer_line, After-is_over}
+use Rattle.rv_bench.proofs.run.run_lines.Goals.{After-respond_to_line, After-is_over}
 
 -- a line was taken and answered
-turn : (g : given.Over) (c : After-answer_line g) → Turn g.W.Sink (g.T.Answers.answering c.args.answering.now) c.args.end
-    (g.T.Answers.state c.args.answering.now) c.args.lines.now c.args.sink.now (g.T.Answers.state c.loop-told.answering) c.loop-told.lines c.loop-told.sink
-    (g.T.Answers.state c.answer_line.new.self) c.next_line_before.new.self (g.T.Told.AsSlice.items c.answer_line.new.out)
+turn : (g : given.Over) (c : After-respond_to_line g) → Turn g.W.Sink (g.T.Responder.responding c.args.responding.now) c.args.end
+    (g.T.Responder.state c.args.responding.now) c.args.lines.now c.args.sink.now (g.T.Responder.state c.loop-told.responding) c.loop-told.lines c.loop-told.sink
+    (g.T.Responder.state c.respond_to_line.new.self) c.next_line_before.new.self (g.T.Told.AsSlice.items c.respond_to_line.new.out)
 turn g c =
     let found = ok_mapped _ c.next_line_before.result c.map_err.result _ c.map_err.ensures.cases c.in_ok-line.was ∙ ap Ok c.in-Some.is in record {
       so_far = c.loop-told.invariant.so_far;
       shown = c.in-Some.line.items;
       going = IfOk-at_ok _ found c.next_line_before.ensures.going;
-      takes = λ tells. IfOk-at_ok _ found (c.next_line_before.ensures.line tells);
+      takes = λ is_specified. IfOk-at_ok _ found (c.next_line_before.ensures.line is_specified);
       inside = IfOk-at_ok _ found c.next_line_before.ensures.inside;
-      answers = AnswersLine-same c.loop-told.invariant.kept c.as_slice.ensures.value c.answer_line.ensures.answer;
+      responds = RespondsToLine-same c.loop-told.invariant.kept c.as_slice.ensures.value c.respond_to_line.ensures.respond;
       ends = c.next_line_before.ensures.end;
       source = no_failure _ _ _ _ _ c.next_line_before.ensures.failures found refl;
       emptied = search rules;
     }
 
 -- its reply was written
-wrote : (g : given.Over) (c : After-is_over g) → g.W.Sink.tells
-    → g.W.Sink.taken c.write_all.new.sink ≡ g.W.Sink.taken c.loop-told.sink ++ g.T.Told.AsSlice.items c.answer_line.new.out
+wrote : (g : given.Over) (c : After-is_over g) → g.W.Sink.is_specified
+    → g.W.Sink.taken c.write_all.new.sink ≡ g.W.Sink.taken c.loop-told.sink ++ g.T.Told.AsSlice.items c.respond_to_line.new.out
 wrote g c told =
     let done = ok_mapped _ c.write_all.result c.map_err-in-Some.result _ c.map_err-in-Some.ensures.cases c.in_ok-map_err.was in
     IfOk-at_ok _ done c.write_all.ensures.written told ∙ ap (λ t. g.W.Sink.taken c.loop-told.sink ++ t) c.as_slice-in-Some.ensures
 
 -- whether it is over then
 over : (g : given.Over) (c : After-is_over g)
-    → (g.T.Answers.answering c.args.answering.now).is_over (g.T.Answers.state c.answer_line.new.self) ≡ c.is_over.result
-over g c = ap (λ (by : Answering g.row.T-State.Denot). by.is_over (g.T.Answers.state c.answer_line.new.self))
-    (sym (c.answer_line.ensures.kept ∙ c.loop-told.invariant.kept)) ∙ sym c.is_over.ensures
+    → (g.T.Responder.responding c.args.responding.now).is_over (g.T.Responder.state c.respond_to_line.new.self) ≡ c.is_over.result
+over g c = ap (λ (by : Responding g.row.T-State.Denot). by.is_over (g.T.Responder.state c.respond_to_line.new.self))
+    (sym (c.respond_to_line.ensures.kept ∙ c.loop-told.invariant.kept)) ∙ sym c.is_over.ensures
 
 pub loop-told-init : goal.loop-told-init
 loop-told-init g c = record { kept = refl; so_far = SoFar-none c.requires }
@@ -47,8 +47,8 @@ loop-told-init g c = record { kept = refl; so_far = SoFar-none c.requires }
 pub loop-told-preserved : goal.loop-told-preserved
 loop-told-preserved g c =
     let at = goal.at.loop-told-preserved g c in record {
-      kept = c.answer_line.ensures.kept ∙ c.loop-told.invariant.kept;
-      so_far = Turn-goes (turn g at.After-answer_line) (search rules) (wrote g at.After-is_over) (over g at.After-is_over ∙ c.if-is_over.false);
+      kept = c.respond_to_line.ensures.kept ∙ c.loop-told.invariant.kept;
+      so_far = Turn-goes (turn g at.After-respond_to_line) (search rules) (wrote g at.After-is_over) (over g at.After-is_over ∙ c.if-is_over.false);
     }
 
 pub returns-in_err-line-clause-outcome : goal.returns-in_err-line-clause-outcome
@@ -56,22 +56,22 @@ returns-in_err-line-clause-outcome g c =
     let is : c.from_residual.result ≡ Err Read = search rules in
     let failed = err_mapped _ c.next_line_before.result c.map_err.result _ c.map_err.ensures.cases c.in_err-line.was in
     rw is (SoFar-read c.next_line_before.new.self c.loop-told.invariant.so_far (IfErr-at_err _ failed.1 c.next_line_before.ensures.err)
-    (search rules) (λ tells. IfErr-at_err _ failed.1 (c.next_line_before.ensures.kept tells)))
+    (search rules) (λ is_specified. IfErr-at_err _ failed.1 (c.next_line_before.ensures.kept is_specified)))
 
 pub returns-in_err-line-clause-end : goal.returns-in_err-line-clause-end
-returns-in_err-line-clause-end g c = TellsEnd-more _ _ _ c.loop-told.invariant.so_far.ends c.next_line_before.ensures.end
+returns-in_err-line-clause-end g c = EndsWithSource-more _ _ _ c.loop-told.invariant.so_far.ends c.next_line_before.ensures.end
 
 pub returns-in_err-map_err-clause-outcome : goal.returns-in_err-map_err-clause-outcome
 returns-in_err-map_err-clause-outcome g c =
     let is : c.from_residual-in_err-map_err.result ≡ Err Write = search rules in
-    let front = subst (WritesFront (g.W.Sink.taken c.loop-told.sink) (g.W.Sink.taken c.write_all.new.sink)) c.as_slice-in-Some.ensures in
-    rw is (Turn-stops (turn g (goal.at.returns-in_err-map_err-clause-outcome g c).After-answer_line) c.write_all.new.sink (search rules)
-    (λ told. front (c.write_all.ensures.front told)))
+    let prefix = subst (WritesPrefix (g.W.Sink.taken c.loop-told.sink) (g.W.Sink.taken c.write_all.new.sink)) c.as_slice-in-Some.ensures in
+    rw is (Turn-stops (turn g (goal.at.returns-in_err-map_err-clause-outcome g c).After-respond_to_line) c.write_all.new.sink (search rules)
+    (λ told. prefix (c.write_all.ensures.prefix told)))
 
 pub returns-then-is_over-clause-outcome : goal.returns-then-is_over-clause-outcome
 returns-then-is_over-clause-outcome g c =
     let at = goal.at.returns-then-is_over-clause-outcome g c in
-    Turn-over (turn g at.After-answer_line) (search rules) (wrote g at.After-is_over) (over g at.After-is_over ∙ c.if-is_over.true)
+    Turn-over (turn g at.After-respond_to_line) (search rules) (wrote g at.After-is_over) (over g at.After-is_over ∙ c.if-is_over.true)
 
 pub returns-clause-outcome : goal.returns-clause-outcome
 returns-clause-outcome g c =

@@ -1,13 +1,13 @@
 use Rattle.std.proofs.Common.{◌≡◌}
 use Rattle.rv_streams.specs.Unread.{calls_left}
-use Rattle.rv_bench.proofs.Turns.{SoFar}
+use Rattle.rv_bench.proofs.LoopTurns.{SoFar}
 use Rattle.rv_bench.proofs.run.run_lines.Given as goal
 
 abbrev pub invariant-loop-told : goal.invariant-loop-told
 invariant-loop-told g l = record {
-  kept : g.T.Answers.answering l.answering ≡ g.T.Answers.answering l.initial.answering;
-  so_far : SoFar g.W.Sink (g.T.Answers.answering l.initial.answering) l.end (g.T.Answers.state l.initial.answering) l.initial.lines l.initial.sink
-      (g.T.Answers.state l.answering) l.lines l.sink;
+  kept : g.T.Responder.responding l.responding ≡ g.T.Responder.responding l.initial.responding;
+  so_far : SoFar g.W.Sink (g.T.Responder.responding l.initial.responding) l.end (g.T.Responder.state l.initial.responding) l.initial.lines l.initial.sink
+      (g.T.Responder.state l.responding) l.lines l.sink;
 }
 
 abbrev pub decreases-loop-told : goal.decreases-loop-told

@@ -9,10 +9,10 @@ use Rattle.rv_bench.proofs.run.run_script.Goals as goal
 
 pub returns-clause-outcome : goal.returns-clause-outcome
 returns-clause-outcome g c =
-    let answers = c.in_ok-run_lines.ensures.outcome in
+    let responds = c.in_ok-run_lines.ensures.outcome in
     let ends = c.run_lines.ensures.end in
     let same = c.flush.ensures.bytes in
     mapped (RunsLines g.W.Sink Input c.args.bench.now c.args.lines.now c.run_lines.new.lines c.args.sink.now c.flush.new.self)
     _ Write c.flush.result c.map_err.result c.map_err.ensures.cases (λ e d is. search rules)
-    (λ _ flushed. one_bench-runs g.W.Sink answers ends same (search rules) (λ _. is_flushed-at_ok _ _ _ _ c.flush.ensures.flushed flushed))
-    (λ _ failed. one_bench-fails g.W.Sink answers ends same (search rules))
+    (λ _ flushed. one_bench-runs g.W.Sink responds ends same (search rules) (λ _. is_flushed-at_ok _ _ _ _ c.flush.ensures.flushed flushed))
+    (λ _ failed. one_bench-fails g.W.Sink responds ends same (search rules))

@@ -1,56 +1,56 @@
 use Rattle.std.proofs.Common.{rules, ◌++◌, ◌∙◌, refl, sym, ap, subst, inl, inr, ℕ, Option, None, Some}
 use Rattle.std.proofs.lemmas.Result.{IfOk-at_ok}
 use Rattle.rv_streams.specs.declared.fault.BenchFault.TheVariants.{Write}
-use Rattle.rv_streams.specs.Transfer.{WritesFront}
+use Rattle.rv_streams.specs.Transfer.{WritesPrefix}
 use Rattle.rv_streams.proofs.Mapped.{mapped, passed_on}
-use Rattle.rv_bench.specs.declared.apart.Apart.{Apart}
+use Rattle.rv_bench.specs.declared.pair.Pair.{Pair}
 use Rattle.rv_bench.specs.Twin.{RunsSecond}
-use Rattle.rv_bench.proofs.Entering.{two_benches-fail, two_benches-stop, two_benches-tell}
-use Rattle.rv_bench.proofs.Twins.{set_apart_at}
+use Rattle.rv_bench.proofs.Entering.{two_benches-fail, two_benches-stop, two_benches-report}
+use Rattle.rv_bench.proofs.Twins.{make_pair_at}
 use Rattle.rv_bench.proofs.twin.run_second.Goals as goal
 
 pub returns-in_default-clause-outcome : goal.returns-in_default-clause-outcome
 returns-in_default-clause-outcome g c =
     let before = g.W.Sink.taken c.args.sink.now in
-    let gone = rw c.in_default.is at c.set_apart.ensures.apart in
-    subst (λ apart. RunsSecond g.W.Sink c.args.number apart c.args.lines.now c.args.lines.now c.args.sink.now c.write_last.new.sink c.map_err.result)
+    let gone = rw c.in_default.is at c.make_pair.ensures.pair in
+    subst (λ pair. RunsSecond g.W.Sink c.args.number pair c.args.lines.now c.args.lines.now c.args.sink.now c.write_last.new.sink c.map_err.result)
     (sym gone)
     (mapped (RunsSecond g.W.Sink c.args.number None c.args.lines.now c.args.lines.now c.args.sink.now c.write_last.new.sink)
     _ Write c.write_last.result c.map_err.result c.map_err.ensures.cases (λ e d is. search rules)
     (λ _ wrote.
-    let text = λ (told : g.W.Sink.tells). IfOk-at_ok _ wrote c.write_last.ensures.written told ∙ ap (λ t. before ++ t) c.no_slot.ensures in record {
+    let text = λ (told : g.W.Sink.is_specified). IfOk-at_ok _ wrote c.write_last.ensures.written told ∙ ap (λ t. before ++ t) c.no_slot.ensures in record {
       source = refl;
       sink = record { worked = IfOk-at_ok _ wrote c.write_last.ensures.ok; flushed = IfOk-at_ok _ wrote c.write_last.ensures.flushed };
       emptied = c.requires;
-      read = inr (λ tells. refl, λ told. inl (before, text told));
-      written = λ tells told. text told;
+      read = inr (λ is_specified. refl, λ told. inl (before, text told));
+      written = λ is_specified told. text told;
     })
     (λ _ failed.
-    let front = λ (told : g.W.Sink.tells). subst (WritesFront before (g.W.Sink.taken c.write_last.new.sink)) c.no_slot.ensures
-    (c.write_last.ensures.front told) in (
-      record { source = refl; sink = search rules; emptied = c.requires; front = λ tells told. front told },
-      λ tells. (refl, front),
+    let prefix = λ (told : g.W.Sink.is_specified). subst (WritesPrefix before (g.W.Sink.taken c.write_last.new.sink)) c.no_slot.ensures
+    (c.write_last.ensures.prefix told) in (
+      record { source = refl; sink = search rules; emptied = c.requires; prefix = λ is_specified told. prefix told },
+      λ is_specified. (refl, prefix),
     )))
 
 pub returns-in_err-run_lines-clause-outcome : goal.returns-in_err-run_lines-clause-outcome
 returns-in_err-run_lines-clause-outcome g c =
-    let runs : ℕ → Option Apart → Type 0 = λ slot apart.
-    RunsSecond g.W.Sink slot apart c.args.lines.now c.run_lines.new.lines c.args.sink.now c.run_lines.new.sink c.from_residual.result in
-    set_apart_at runs c.args.number c.args.benches.first c.in-Some.found (rw c.in-Some.is at c.set_apart.ensures.apart)
+    let runs : ℕ → Option Pair → Type 0 = λ slot pair.
+    RunsSecond g.W.Sink slot pair c.args.lines.now c.run_lines.new.lines c.args.sink.now c.run_lines.new.sink c.from_residual.result in
+    make_pair_at runs c.args.number c.args.benches.first c.in-Some.found (rw c.in-Some.is at c.make_pair.ensures.pair)
     (passed_on
-    (RunsSecond g.W.Sink c.in-Some.found.slot (Some c.in-Some.found.apart) c.args.lines.now c.run_lines.new.lines c.args.sink.now c.run_lines.new.sink)
+    (RunsSecond g.W.Sink c.in-Some.found.slot (Some c.in-Some.found.pair) c.args.lines.now c.run_lines.new.lines c.args.sink.now c.run_lines.new.sink)
     c.from_residual.result _ c.from_residual.ensures.1 (two_benches-stop g.W.Sink c.in-Some.found.slot _ _ _ _ _ _ c.in_err-run_lines.ensures.outcome))
 
 pub returns-clause-outcome : goal.returns-clause-outcome
 returns-clause-outcome g c =
-    let answers = c.in_ok-run_lines.ensures.outcome in
-    let runs : ℕ → Option Apart → Type 0 = λ slot apart.
-    RunsSecond g.W.Sink slot apart c.args.lines.now c.run_lines.new.lines c.args.sink.now c.write_last-2.new.sink c.map_err-2.result in
-    set_apart_at runs c.args.number c.args.benches.first c.in-Some.found (rw c.in-Some.is at c.set_apart.ensures.apart)
+    let responds = c.in_ok-run_lines.ensures.outcome in
+    let runs : ℕ → Option Pair → Type 0 = λ slot pair.
+    RunsSecond g.W.Sink slot pair c.args.lines.now c.run_lines.new.lines c.args.sink.now c.write_last-2.new.sink c.map_err-2.result in
+    make_pair_at runs c.args.number c.args.benches.first c.in-Some.found (rw c.in-Some.is at c.make_pair.ensures.pair)
     (mapped
-    (RunsSecond g.W.Sink c.in-Some.found.slot (Some c.in-Some.found.apart) c.args.lines.now c.run_lines.new.lines c.args.sink.now c.write_last-2.new.sink)
+    (RunsSecond g.W.Sink c.in-Some.found.slot (Some c.in-Some.found.pair) c.args.lines.now c.run_lines.new.lines c.args.sink.now c.write_last-2.new.sink)
     _ Write c.write_last-2.result c.map_err-2.result c.map_err-2.ensures.cases (λ e d is. search rules)
-    (λ _ wrote. two_benches-tell g.W.Sink c.in-Some.found.slot answers c.last.ensures c.run_lines.ensures.end
+    (λ _ wrote. two_benches-report g.W.Sink c.in-Some.found.slot responds c.last.ensures c.run_lines.ensures.end
     (IfOk-at_ok _ wrote c.write_last-2.ensures.written)
     (record { worked = IfOk-at_ok _ wrote c.write_last-2.ensures.ok; flushed = IfOk-at_ok _ wrote c.write_last-2.ensures.flushed }))
-    (λ _ failed. two_benches-fail g.W.Sink c.in-Some.found.slot answers c.last.ensures c.write_last-2.ensures.front (search rules)))
+    (λ _ failed. two_benches-fail g.W.Sink c.in-Some.found.slot responds c.last.ensures c.write_last-2.ensures.prefix (search rules)))

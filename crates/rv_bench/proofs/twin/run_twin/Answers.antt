@@ -1,10 +1,10 @@
 use Rattle.std.proofs.Common.{◌∙◌, refl, sym, ap, Ok}
 use Rattle.rv_streams.specs.Unread.{unread}
-use Rattle.rv_streams.proofs.Ends.{TellsEnd-more}
+use Rattle.rv_streams.proofs.Ends.{EndsWithSource-more}
 use Rattle.rv_streams.proofs.Mapped.{passed_on}
 use Rattle.rv_bench.specs.Twin.{RunsTwin}
 use Rattle.rv_bench.proofs.Runs.{one_bench-runs, one_bench-state}
-use Rattle.rv_bench.proofs.TwinAlike.{twin_conceals, twin_spares}
+use Rattle.rv_bench.proofs.TwinAlike.{twin_noninterference, twin_integrity}
 use Rattle.rv_bench.proofs.Twins.{first_fails, not_started, second_part}
 use Rattle.rv_bench.proofs.twin.run_twin.Goals as goal
 
@@ -15,7 +15,7 @@ returns-in_err-benches-clause-outcome g c =
     (not_started g.W.Sink c.args.setup.now c.args.slot c.as_slice.result.now c.args.lines.now c.read_image.new.lines c.args.sink.now
     (record {
       through = c.in_ok-image.ensures.outcome.0;
-      gives = λ tells. c.in_ok-image.ensures.outcome.2 tells ∙ ap Ok (sym c.as_slice.ensures.value);
+      gives = λ is_specified. c.in_ok-image.ensures.outcome.2 is_specified ∙ ap Ok (sym c.as_slice.ensures.value);
       ends = c.in_ok-image.ensures.end;
     }) _ c.in_err-benches.ensures)
 
@@ -26,7 +26,7 @@ returns-in_err-run_lines-clause-outcome g c =
     (first_fails g.W.Sink c.args.setup.now c.args.slot c.as_slice.result.now c.args.lines.now c.read_image.new.lines c.args.sink.now
     (record {
       through = c.in_ok-image.ensures.outcome.0;
-      gives = λ tells. c.in_ok-image.ensures.outcome.2 tells ∙ ap Ok (sym c.as_slice.ensures.value);
+      gives = λ is_specified. c.in_ok-image.ensures.outcome.2 is_specified ∙ ap Ok (sym c.as_slice.ensures.value);
       ends = c.in_ok-image.ensures.end;
     })
     _ c.in_ok-benches.ensures _ _ c.run_lines.ensures.end _ c.in_err-run_lines.ensures.outcome)
@@ -37,7 +37,7 @@ returns-clause-outcome g c =
     second_part g.W.Sink c.args.setup.now c.args.slot c.as_slice.result.now c.args.lines.now c.read_image.new.lines c.args.sink.now
     (record {
       through = c.in_ok-image.ensures.outcome.0;
-      gives = λ tells. c.in_ok-image.ensures.outcome.2 tells ∙ ap Ok (sym c.as_slice.ensures.value);
+      gives = λ is_specified. c.in_ok-image.ensures.outcome.2 is_specified ∙ ap Ok (sym c.as_slice.ensures.value);
       ends = c.in_ok-image.ensures.end;
     })
     _ c.in_ok-benches.ensures
@@ -52,31 +52,31 @@ returns-clause-outcome g c =
     c.run_second.new.lines c.run_second.new.sink c.run_second.ensures.end c.run_second.result c.run_second.ensures.outcome
 
 pub returns-in_err-run_lines-clause-end : goal.returns-in_err-run_lines-clause-end
-returns-in_err-run_lines-clause-end g c = TellsEnd-more _ _ _ c.in_ok-image.ensures.end c.run_lines.ensures.end
+returns-in_err-run_lines-clause-end g c = EndsWithSource-more _ _ _ c.in_ok-image.ensures.end c.run_lines.ensures.end
 
 pub returns-clause-end : goal.returns-clause-end
-returns-clause-end g c = TellsEnd-more _ _ _ c.in_ok-image.ensures.end (TellsEnd-more _ _ _ c.run_lines.ensures.end c.run_second.ensures.end)
+returns-clause-end g c = EndsWithSource-more _ _ _ c.in_ok-image.ensures.end (EndsWithSource-more _ _ _ c.run_lines.ensures.end c.run_second.ensures.end)
 
-pub returns-in_err-image-clause-conceals : goal.returns-in_err-image-clause-conceals
-returns-in_err-image-clause-conceals g c = twin_conceals c.args.setup.now c.args.slot (unread c.args.lines.now)
+pub returns-in_err-image-clause-noninterference : goal.returns-in_err-image-clause-noninterference
+returns-in_err-image-clause-noninterference g c = twin_noninterference c.args.setup.now c.args.slot (unread c.args.lines.now)
 
-pub returns-in_err-benches-clause-conceals : goal.returns-in_err-benches-clause-conceals
-returns-in_err-benches-clause-conceals g c = twin_conceals c.args.setup.now c.args.slot (unread c.args.lines.now)
+pub returns-in_err-benches-clause-noninterference : goal.returns-in_err-benches-clause-noninterference
+returns-in_err-benches-clause-noninterference g c = twin_noninterference c.args.setup.now c.args.slot (unread c.args.lines.now)
 
-pub returns-in_err-run_lines-clause-conceals : goal.returns-in_err-run_lines-clause-conceals
-returns-in_err-run_lines-clause-conceals g c = twin_conceals c.args.setup.now c.args.slot (unread c.args.lines.now)
+pub returns-in_err-run_lines-clause-noninterference : goal.returns-in_err-run_lines-clause-noninterference
+returns-in_err-run_lines-clause-noninterference g c = twin_noninterference c.args.setup.now c.args.slot (unread c.args.lines.now)
 
-pub returns-clause-conceals : goal.returns-clause-conceals
-returns-clause-conceals g c = twin_conceals c.args.setup.now c.args.slot (unread c.args.lines.now)
+pub returns-clause-noninterference : goal.returns-clause-noninterference
+returns-clause-noninterference g c = twin_noninterference c.args.setup.now c.args.slot (unread c.args.lines.now)
 
 pub returns-in_err-image-clause-integrity : goal.returns-in_err-image-clause-integrity
-returns-in_err-image-clause-integrity g c = twin_spares c.args.setup.now c.args.slot (unread c.args.lines.now)
+returns-in_err-image-clause-integrity g c = twin_integrity c.args.setup.now c.args.slot (unread c.args.lines.now)
 
 pub returns-in_err-benches-clause-integrity : goal.returns-in_err-benches-clause-integrity
-returns-in_err-benches-clause-integrity g c = twin_spares c.args.setup.now c.args.slot (unread c.args.lines.now)
+returns-in_err-benches-clause-integrity g c = twin_integrity c.args.setup.now c.args.slot (unread c.args.lines.now)
 
 pub returns-in_err-run_lines-clause-integrity : goal.returns-in_err-run_lines-clause-integrity
-returns-in_err-run_lines-clause-integrity g c = twin_spares c.args.setup.now c.args.slot (unread c.args.lines.now)
+returns-in_err-run_lines-clause-integrity g c = twin_integrity c.args.setup.now c.args.slot (unread c.args.lines.now)
 
 pub returns-clause-integrity : goal.returns-clause-integrity
-returns-clause-integrity g c = twin_spares c.args.setup.now c.args.slot (unread c.args.lines.now)
+returns-clause-integrity g c = twin_integrity c.args.setup.now c.args.slot (unread c.args.lines.now)

@@ -1,15 +1,15 @@
 use Rattle.std.proofs.Common.{◌≡◌, ◌∙◌, sym, ap, true, false}
 use Rattle.rv_debug.specs.BothBenches.{can_scramble, scrambled}
-use Rattle.rv_bench.proofs.Twins.{not_apart, are_apart}
+use Rattle.rv_bench.proofs.Twins.{not_pair, are_pair}
 use Rattle.rv_bench.proofs.twin.scrambled.Goals as goal
 
-pub returns-then-not-scramble-clause-apart : goal.returns-then-not-scramble-clause-apart
-returns-then-not-scramble-clause-apart c =
+pub returns-then-not-scramble-clause-pair : goal.returns-then-not-scramble-clause-pair
+returns-then-not-scramble-clause-pair c =
     let none : can_scramble c.args.slot c.args.benches.second ≡ false = sym c.scramble.ensures.asked ∙ c.if-not-scramble.true in
-    not_apart c.args.slot c.args.benches.first (ap (can_scramble c.args.slot) (sym c.args.benches.equal) ∙ none)
+    not_pair c.args.slot c.args.benches.first (ap (can_scramble c.args.slot) (sym c.args.benches.equal) ∙ none)
 
-pub returns-clause-apart : goal.returns-clause-apart
-returns-clause-apart c =
+pub returns-clause-pair : goal.returns-clause-pair
+returns-clause-pair c =
     let can : can_scramble c.args.slot c.args.benches.second ≡ true = sym c.scramble.ensures.asked ∙ c.if-not-scramble.false in
-    are_apart c.args.slot c.args.benches.first c.scramble.new.self (ap (can_scramble c.args.slot) (sym c.args.benches.equal) ∙ can)
+    are_pair c.args.slot c.args.benches.first c.scramble.new.self (ap (can_scramble c.args.slot) (sym c.args.benches.equal) ∙ can)
     (c.scramble.ensures.meaning c.if-not-scramble.false ∙ ap (scrambled c.args.slot) c.args.benches.equal)

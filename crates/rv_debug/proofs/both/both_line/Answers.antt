@@ -1,8 +1,8 @@
-use Rattle.rv_debug.proofs.Answers.{both_line-front}
+use Rattle.rv_debug.proofs.Execution.{both_line-prefix}
 use Rattle.rv_debug.proofs.both.both_line.Goals as goal
 
-pub returns-in-Ok-clause-front : goal.returns-in-Ok-clause-front
-returns-in-Ok-clause-front c = λ other same. both_line-front _ _ _ other _ same
+pub returns-in-Ok-clause-prefix : goal.returns-in-Ok-clause-prefix
+returns-in-Ok-clause-prefix c = λ other same. both_line-prefix _ _ _ other _ same
 
-pub returns-in-Err-clause-front : goal.returns-in-Err-clause-front
-returns-in-Err-clause-front c = λ other same. both_line-front _ _ _ other _ same
+pub returns-in-Err-clause-prefix : goal.returns-in-Err-clause-prefix
+returns-in-Err-clause-prefix c = λ other same. both_line-prefix _ _ _ other _ same

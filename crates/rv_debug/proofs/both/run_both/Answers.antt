@@ -1,8 +1,6 @@
-use Rattle.std.proofs.Common.{sym, subst}
-use Rattle.rv_debug.proofs.Prelude.{BenchState, IsSparedIn}
-use Rattle.rv_debug.proofs.AtRest.{rest_all}
-use Rattle.rv_debug.proofs.BothAlike.{Folded, PassEnd, folded, run_alike}
-use Rattle.rv_debug.proofs.Isolation.{integrity}
+use Rattle.std.proofs.Common.{subst}
+use Rattle.rv_debug.proofs.NotRunning.{rest_all}
+use Rattle.rv_debug.proofs.BothAlike.{Folded, EndAlike, folded, run_alike}
 use Rattle.rv_debug.proofs.both.run_both.Goals as goal
 
 pub returns-clause-first : goal.returns-clause-first
@@ -16,19 +14,9 @@ returns-clause-second c =
     (folded c.args.slot c.args.a.now c.args.b.now c.args.commands.now)).1
 
 pub returns-clause-alike : goal.returns-clause-alike
-returns-clause-alike c agree =
-    subst (PassEnd c.args.slot c.args.a.now c.args.b.now c.args.commands.now) c.run_commands.ensures
-    (run_alike c.args.slot c.args.a.now c.args.b.now c.args.commands.now c.invariant.ensures c.invariant-2.ensures agree)
+returns-clause-alike c equiv =
+    subst (EndAlike c.args.slot c.args.a.now c.args.b.now c.args.commands.now) c.run_commands.ensures
+    (run_alike c.args.slot c.args.a.now c.args.b.now c.args.commands.now c.invariant.ensures.monitor c.invariant-2.ensures.monitor equiv)
 
-pub returns-clause-at_rest : goal.returns-clause-at_rest
-returns-clause-at_rest c = rest_all c.args.slot c.args.a.now c.args.commands.now c.invariant.ensures
-
-pub returns-clause-first_spares : goal.returns-clause-first_spares
-returns-clause-first_spares c k rests =
-    subst (λ (end : BenchState). IsSparedIn k c.args.a.now.target end.target) (sym (returns-clause-first c))
-    (integrity k c.args.a.now _ c.invariant.ensures rests)
-
-pub returns-clause-second_spares : goal.returns-clause-second_spares
-returns-clause-second_spares c k rests =
-    subst (λ (end : BenchState). IsSparedIn k c.args.b.now.target end.target) (sym (returns-clause-second c))
-    (integrity k c.args.b.now _ c.invariant-2.ensures rests)
+pub returns-clause-not_running : goal.returns-clause-not_running
+returns-clause-not_running c = rest_all c.args.slot c.args.a.now c.args.commands.now c.invariant.ensures.monitor

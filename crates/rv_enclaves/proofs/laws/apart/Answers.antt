@@ -1,4 +1,4 @@
-use Rattle.rv_enclaves.proofs.Reaches.{apart_law}
+use Rattle.rv_enclaves.proofs.AccessLemmas.{apart_law}
 use Rattle.rv_enclaves.proofs.laws.apart.Goals as goal
 
 pub returns : goal.returns

@@ -1,4 +1,4 @@
-use Rattle.rv_enclaves.proofs.Sound.{calls_keep}
+use Rattle.rv_enclaves.proofs.SharedInvariantLemmas.{calls_keep}
 use Rattle.rv_enclaves.proofs.laws.calls_keep.Goals as goal
 
 pub returns : goal.returns

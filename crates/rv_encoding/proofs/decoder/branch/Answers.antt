@@ -5,7 +5,7 @@ use Rattle.rv_encoding.proofs.decoder.branch.Goals as goal
 
 pub returns-in_err-kind-clause-only : goal.returns-in_err-kind-clause-only
 returns-in_err-kind-clause-only c =
-    λ instr spells. let is : read_branch c.args.word ≡ Some instr = only_branch c.args.word instr c.requires spells in grind arith
+    λ instr encodes. let is : read_branch c.args.word ≡ Some instr = only_branch c.args.word instr c.requires encodes in grind arith
 
 pub returns-clause-only : goal.returns-clause-only
-returns-clause-only c = λ instr spells. let is : read_branch c.args.word ≡ Some instr = only_branch c.args.word instr c.requires spells in grind arith
+returns-clause-only c = λ instr encodes. let is : read_branch c.args.word ≡ Some instr = only_branch c.args.word instr c.requires encodes in grind arith

@@ -4,4 +4,4 @@ use Rattle.rv_encoding.proofs.ReadingLemmas.{only_fence}
 use Rattle.rv_encoding.proofs.decoder.fence.Goals as goal
 
 pub returns-clause-only : goal.returns-clause-only
-returns-clause-only c = λ instr spells. let is : read_fence c.args.word ≡ Some instr = only_fence c.args.word instr c.requires spells in grind arith
+returns-clause-only c = λ instr encodes. let is : read_fence c.args.word ≡ Some instr = only_fence c.args.word instr c.requires encodes in grind arith

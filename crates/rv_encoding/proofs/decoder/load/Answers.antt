@@ -4,7 +4,7 @@ use Rattle.rv_encoding.proofs.ReadingLemmas.{only_load}
 use Rattle.rv_encoding.proofs.decoder.load.Goals as goal
 
 pub returns-in_err-kind-clause-only : goal.returns-in_err-kind-clause-only
-returns-in_err-kind-clause-only c = λ instr spells. let is : read_load c.args.word ≡ Some instr = only_load c.args.word instr c.requires spells in grind arith
+returns-in_err-kind-clause-only c = λ instr encodes. let is : read_load c.args.word ≡ Some instr = only_load c.args.word instr c.requires encodes in grind arith
 
 pub returns-clause-only : goal.returns-clause-only
-returns-clause-only c = λ instr spells. let is : read_load c.args.word ≡ Some instr = only_load c.args.word instr c.requires spells in grind arith
+returns-clause-only c = λ instr encodes. let is : read_load c.args.word ≡ Some instr = only_load c.args.word instr c.requires encodes in grind arith

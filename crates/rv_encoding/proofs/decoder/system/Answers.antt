@@ -4,7 +4,7 @@ use Rattle.rv_encoding.proofs.ReadingLemmas.{only_system}
 use Rattle.rv_encoding.proofs.decoder.system.Goals as goal
 
 pub returns-in-Some-clause-only : goal.returns-in-Some-clause-only
-returns-in-Some-clause-only c = λ instr spells. let is : read_system c.args.word ≡ Some instr = only_system c.args.word instr c.requires spells in grind arith
+returns-in-Some-clause-only c = λ instr encodes. let is : read_system c.args.word ≡ Some instr = only_system c.args.word instr c.requires encodes in grind arith
 
 pub returns-clause-only : goal.returns-clause-only
-returns-clause-only c = λ instr spells. let is : read_system c.args.word ≡ Some instr = only_system c.args.word instr c.requires spells in grind arith
+returns-clause-only c = λ instr encodes. let is : read_system c.args.word ≡ Some instr = only_system c.args.word instr c.requires encodes in grind arith

@@ -1,5 +1,5 @@
-use Rattle.rv_monitor.proofs.Kept.{sched_kept}
+use Rattle.rv_monitor.proofs.InvariantLemmas.{sched_invariant}
 use Rattle.rv_monitor.proofs.laws.any_order_keeps.Goals as goal
 
 pub returns : goal.returns
-returns c = sched_kept
+returns c = sched_invariant

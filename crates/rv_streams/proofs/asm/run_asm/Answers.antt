@@ -3,7 +3,7 @@ use Rattle.std.proofs.Common.{arith}
 use Rattle.std.proofs.lemmas.List.{length-append}
 use Rattle.std.proofs.lemmas.Result.{IfOk-at_ok, IfErr-at_err}
 use Rattle.rv_text.specs.Lines.{lines_of}
-use Rattle.rv_asm.specs.Lacking.{FailsFor}
+use Rattle.rv_asm.specs.OutOfMemory.{FailsFor}
 use Rattle.rv_asm.specs.declared.fault.AsmFault.{AsmFault}
 use Rattle.rv_streams.specs.declared.device.Sink.{Ghosts as SinkGhosts}
 use Rattle.rv_streams.specs.declared.device.Source.{Ghosts as SourceGhosts}
@@ -11,7 +11,7 @@ use Rattle.rv_streams.specs.declared.fault.BenchFault.{BenchFault}
 use Rattle.rv_streams.specs.declared.fault.BenchFault.TheVariants.{Read, Write, TooLong, NoMemory, Asm}
 use Rattle.rv_streams.specs.Assemble.{FailsAsm, ReadsText, ReadsWholeText, RunsAsm}
 use Rattle.rv_streams.specs.AssemblyText.{asm_text, asm_output}
-use Rattle.rv_streams.specs.Transfer.{WritesFront}
+use Rattle.rv_streams.specs.Transfer.{WritesPrefix}
 use Rattle.rv_streams.proofs.Assembling.{asm_output-ok, asm_output-fault, asm_output-too_long}
 use Rattle.rv_streams.proofs.Mapped.{mapped, passed_on, IsOkAnd-at}
 use Rattle.rv_streams.proofs.asm.run_asm.Given as given
@@ -24,7 +24,7 @@ unread : {S W : Type 0} (Z : Type 0) (g : SourceGhosts S) (h : SinkGhosts W) (ol
 unread Z g h old new sink Read reads = (reads, refl)
 unread Z g h old new sink TooLong reads = (
   reads,
-  λ tells. let (front, split, many) = reads.reads tells in asm_output-too_long _ (omega (arith, many, ap length split, length-append front (g.remaining new))),
+  λ is_specified. let (prefix, split, many) = reads.reads is_specified in asm_output-too_long _ (omega (arith, many, ap length split, length-append prefix (g.remaining new))),
   refl,
 )
 unread Z g h old new sink NoMemory reads = (reads, refl)
@@ -41,9 +41,9 @@ few : (text read : List ℕ) → read ≡ text → length text ≤ 4194304 → l
 few text read is short = subst (λ t. length t ≤ 4194304) (sym is) short
 
 -- the output is that of the words
-is_ok : (g : given.Over) (c : In-Ok g) → g.S.Source.tells → asm_output (g.S.Source.remaining c.args.source.now) ≡ Ok (asm_text c.in-Ok.words.items)
-is_ok g c tells =
-    let read = c.as_slice.ensures.value ∙ c.in_ok-text.ensures.2 tells in
+is_ok : (g : given.Over) (c : In-Ok g) → g.S.Source.is_specified → asm_output (g.S.Source.remaining c.args.source.now) ≡ Ok (asm_text c.in-Ok.words.items)
+is_ok g c is_specified =
+    let read = c.as_slice.ensures.value ∙ c.in_ok-text.ensures.2 is_specified in
     ap asm_output (sym read) ∙ asm_output-ok _ _ (few _ _ c.as_slice.ensures.value c.in_ok-text.ensures.1) c.in-Ok.ensures.ok
 
 pub returns-in-Ok : goal.returns-in-Ok
@@ -55,35 +55,35 @@ returns-in-Ok g c =
     (λ _ wrote. (
       c.in_ok-text.ensures.0,
       record { worked = IfOk-at_ok _ wrote c.write_words.ensures.ok; flushed = IfOk-at_ok _ wrote c.write_words.ensures.flushed },
-      λ tells. IsOkAnd-at _ _ _ (whole tells) (λ told. IfOk-at_ok _ wrote c.write_words.ensures.written told
+      λ is_specified. IsOkAnd-at _ _ _ (whole is_specified) (λ told. IfOk-at_ok _ wrote c.write_words.ensures.written told
           ∙ ap (λ ws. g.W.Sink.taken c.args.sink.now ++ asm_text ws) words),
     ))
     (λ _ failed. (
       c.in_ok-text.ensures.0,
       IfErr-at_err _ failed c.write_words.ensures.err,
-      λ tells. IsOkAnd-at _ _ _ (whole tells)
-          (λ told. subst (λ ws. WritesFront (g.W.Sink.taken c.args.sink.now) (g.W.Sink.taken c.write_words.new.sink) (asm_text ws)) words
-          (c.write_words.ensures.front told)),
+      λ is_specified. IsOkAnd-at _ _ _ (whole is_specified)
+          (λ told. subst (λ ws. WritesPrefix (g.W.Sink.taken c.args.sink.now) (g.W.Sink.taken c.write_words.new.sink) (asm_text ws)) words
+          (c.write_words.ensures.prefix told)),
     ))
 
 -- a text that has a fault
 fails : (text : List ℕ) (fault : AsmFault) → length text ≤ 4194304 → FailsFor text fault → FailsAsm text fault
 fails text fault short (inl told) = inl (asm_output-fault text fault short told)
-fails text fault short (inr lacks) = inr lacks
+fails text fault short (inr out_of_memory) = inr out_of_memory
 
 faulty : {S W : Type 0} (g : SourceGhosts S) (h : SinkGhosts W) (old new : S) (sink : W) (text : List ℕ) (fault : AsmFault)
-    → ReadsWholeText g old new → (g.tells → text ≡ g.remaining old) → length text ≤ 4194304
+    → ReadsWholeText g old new → (g.is_specified → text ≡ g.remaining old) → length text ≤ 4194304
     → (1 ≤ fault.line) × (fault.line ≤ length (lines_of text)) → FailsFor text fault
     → RunsAsm g h old new sink sink (Err (Asm fault))
 faulty g h old new sink text fault reads is short line told = (
   reads,
-  λ tells. subst (λ t. (1 ≤ fault.line) × (fault.line ≤ length (lines_of t))) (is tells) line,
-  λ tells. subst (λ t. FailsAsm t fault) (is tells) (fails text fault short told),
+  λ is_specified. subst (λ t. (1 ≤ fault.line) × (fault.line ≤ length (lines_of t))) (is is_specified) line,
+  λ is_specified. subst (λ t. FailsAsm t fault) (is is_specified) (fails text fault short told),
   refl,
 )
 
 pub returns : goal.returns
 returns g c =
     faulty g.S.Source g.W.Sink c.args.source.now c.read_whole.new.source c.args.sink.now c.as_slice.result.now c.in-Err.fault
-    c.in_ok-text.ensures.0 (λ tells. c.as_slice.ensures.value ∙ c.in_ok-text.ensures.2 tells) (few _ _ c.as_slice.ensures.value c.in_ok-text.ensures.1)
+    c.in_ok-text.ensures.0 (λ is_specified. c.as_slice.ensures.value ∙ c.in_ok-text.ensures.2 is_specified) (few _ _ c.as_slice.ensures.value c.in_ok-text.ensures.1)
     c.in-Err.ensures.line c.in-Err.ensures.fault

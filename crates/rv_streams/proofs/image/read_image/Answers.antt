@@ -5,8 +5,8 @@ use Rattle.rv_streams.specs.LineText.{TakesLine}
 use Rattle.rv_streams.specs.ReadImage.{FindsFault, ReadsImage}
 use Rattle.rv_streams.specs.Separator.{is_dashes, is_separator}
 use Rattle.rv_streams.specs.Unread.{unread}
-use Rattle.rv_streams.proofs.Ends.{TellsEnd-more}
-use Rattle.rv_streams.proofs.ImageLemmas.{TakesInImage, SpellsImage-going, SpellsImage-read, SpellsImage-more, SpellsImage-no_word}
+use Rattle.rv_streams.proofs.Ends.{EndsWithSource-more}
+use Rattle.rv_streams.proofs.ImageLemmas.{TakesInImage, EncodesImage-going, EncodesImage-read, EncodesImage-more, EncodesImage-no_word}
 use Rattle.rv_streams.proofs.ImageResults.{image_read, no_separator, other_word, refused}
 use Rattle.rv_streams.proofs.Mapped.{ok_mapped, err_mapped, passed_on}
 use Rattle.rv_streams.proofs.WordLengths.{length-line_word}
@@ -15,13 +15,13 @@ use Rattle.rv_streams.proofs.image.read_image.Goals as goal
 use Rattle.rv_streams.proofs.image.read_image.Goals.{After-as_slice}
 
 -- the lines so far, and the one that was taken
-taken : (g : given.Over) (c : After-as_slice g) → is_separator c.as_slice.result.now ≡ false → g.S.Source.tells
+taken : (g : given.Over) (c : After-as_slice g) → is_separator c.as_slice.result.now ≡ false → g.S.Source.is_specified
     → TakesInImage (unread c.args.lines.now) (unread c.loop-image.lines)
     (unread c.next_line.new.self) c.next_line.new.self.is_at_end c.loop-image.image.items c.as_slice.result.now
-taken g c other tells =
+taken g c other is_specified =
     let found = ok_mapped _ c.next_line.result c.map_err.result _ c.map_err.ensures.cases c.in_ok-line.was ∙ ap Ok c.in-Some.is in record {
-      so_far = SpellsImage-going _ _ _ _ (c.loop-image.invariant.image tells) (IfOk-at_ok _ found c.next_line.ensures.going);
-      takes = subst (TakesLine _ _ _) (sym c.as_slice.ensures.value) (IfOk-at_ok _ found (c.next_line.ensures.line tells));
+      so_far = EncodesImage-going _ _ _ _ (c.loop-image.invariant.image is_specified) (IfOk-at_ok _ found c.next_line.ensures.going);
+      takes = subst (TakesLine _ _ _) (sym c.as_slice.ensures.value) (IfOk-at_ok _ found (c.next_line.ensures.line is_specified));
       other = other;
       few = omega arith;
     }
@@ -34,8 +34,8 @@ returns-in_err-line-clause-outcome g c =
     rw is (record {
       source = search rules;
       going = going.1;
-      reads = λ tells. SpellsImage-read _ _ _ _ _ (SpellsImage-going _ _ _ _ (c.loop-image.invariant.image tells) going.0) (omega arith)
-          (IfErr-at_err _ failed.1 (c.next_line.ensures.kept tells));
+      reads = λ is_specified. EncodesImage-read _ _ _ _ _ (EncodesImage-going _ _ _ _ (c.loop-image.invariant.image is_specified) going.0) (omega arith)
+          (IfErr-at_err _ failed.1 (c.next_line.ensures.kept is_specified));
     })
 
 pub returns-in_default-only_word-clause-outcome : goal.returns-in_default-only_word-clause-outcome
@@ -44,8 +44,8 @@ returns-in_default-only_word-clause-outcome g c =
     let finds : FindsFault Hex c.args.lines.now c.next_line.new.self = record {
       source = search rules;
       emptied = search rules;
-      image = λ tells. (SpellsImage-no_word (at tells) c.in_default-only_word.ensures).0;
-      reads = λ tells. (SpellsImage-no_word (at tells) c.in_default-only_word.ensures).1;
+      image = λ is_specified. (EncodesImage-no_word (at is_specified) c.in_default-only_word.ensures).0;
+      reads = λ is_specified. (EncodesImage-no_word (at is_specified) c.in_default-only_word.ensures).1;
     } in
     finds
 
@@ -56,10 +56,10 @@ pub loop-image-preserved : goal.loop-image-preserved
 loop-image-preserved g c = record {
   short = search rules;
   failures = search rules;
-  end = TellsEnd-more _ _ _ c.loop-image.invariant.end c.next_line.ensures.end;
-  image = λ tells.
-      SpellsImage-more (taken g (goal.at.loop-image-preserved g c).After-as_slice
-      (other_word _ _ c.in-Some-only_word.ensures (sym c.is_dashes.ensures ∙ c.if-is_dashes.false)) tells)
+  end = EndsWithSource-more _ _ _ c.loop-image.invariant.end c.next_line.ensures.end;
+  image = λ is_specified.
+      EncodesImage-more (taken g (goal.at.loop-image-preserved g c).After-as_slice
+      (other_word _ _ c.in-Some-only_word.ensures (sym c.is_dashes.ensures ∙ c.if-is_dashes.false)) is_specified)
       c.in-Some-only_word.ensures c.in_ok-add_bytes.ensures.outcome;
 }
 
@@ -78,7 +78,7 @@ returns-then-is_dashes-clause-outcome g c =
     (inr (record {
       shown = c.in-Some.line.items;
       going = IfOk-at_ok _ found c.next_line.ensures.going;
-      takes = λ tells. IfOk-at_ok _ found (c.next_line.ensures.line tells);
+      takes = λ is_specified. IfOk-at_ok _ found (c.next_line.ensures.line is_specified);
       ends = ap is_separator (sym c.as_slice.ensures.value) ∙ (ap is_dashes (sym c.in-Some-only_word.ensures)
           ∙ (sym c.is_dashes.ensures ∙ c.if-is_dashes.true));
     }))
@@ -90,7 +90,7 @@ returns-clause-outcome g c =
     image_read Global c.args.lines.now c.next_line.new.self (search rules) (search rules) c.loop-image.lines c.loop-image.image
     (inl (record {
       at_end = IfOk-at_ok _ found c.next_line.ensures.none;
-      none = λ tells. (IfOk-at_ok _ found (c.next_line.ensures.nothing tells)).0;
-      left = λ tells. (IfOk-at_ok _ found (c.next_line.ensures.nothing tells)).1;
+      none = λ is_specified. (IfOk-at_ok _ found (c.next_line.ensures.nothing is_specified)).0;
+      left = λ is_specified. (IfOk-at_ok _ found (c.next_line.ensures.nothing is_specified)).1;
     }))
     c.loop-image.invariant.short c.loop-image.invariant.image

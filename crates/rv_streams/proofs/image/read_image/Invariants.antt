@@ -1,6 +1,6 @@
 use Rattle.std.proofs.Common.{◌≡◌, ◌≤◌, vec_len}
-use Rattle.rv_streams.specs.Unread.{unread, calls_left, TellsEnd}
-use Rattle.rv_streams.proofs.ImageLemmas.{SpellsImage}
+use Rattle.rv_streams.specs.Unread.{unread, calls_left, EndsWithSource}
+use Rattle.rv_streams.proofs.ImageLemmas.{EncodesImage}
 use Rattle.rv_streams.proofs.image.read_image.Given as goal
 
 -- the lines so far spell the image, and no call has failed
@@ -8,8 +8,8 @@ abbrev pub invariant-loop-image : goal.invariant-loop-image
 invariant-loop-image g l = record {
   short : vec_len l.image ≤ 33554432;
   failures : g.S.Source.failures l.lines.source ≡ g.S.Source.failures l.initial.lines.source;
-  end : TellsEnd l.initial.lines l.lines;
-  image : g.S.Source.tells → SpellsImage (unread l.initial.lines) (unread l.lines) l.lines.is_at_end l.image.items;
+  end : EndsWithSource l.initial.lines l.lines;
+  image : g.S.Source.is_specified → EncodesImage (unread l.initial.lines) (unread l.lines) l.lines.is_at_end l.image.items;
 }
 
 abbrev pub decreases-loop-image : goal.decreases-loop-image

@@ -21,9 +21,9 @@ loop-byte-init g c = record {
 pub loop-byte-preserved-then-not-is_full : goal.loop-byte-preserved-then-not-is_full
 loop-byte-preserved-then-not-is_full g c =
     let room = is_below _ _ c.is_full.ensures.value c.if-not-is_full.true c.loop-byte.invariant.short in record {
-      bytes = λ tells. rw c.push.ensures.items (
-          ReadsText-push _ _ _ _ c.in-Some.byte (c.loop-byte.invariant.bytes tells)
-          (rw c.in-Some.is at (c.in_ok-byte.ensures.bytes tells)) c.if-byte-eq-LINE_FEED.false room
+      bytes = λ is_specified. rw c.push.ensures.items (
+          ReadsText-push _ _ _ _ c.in-Some.byte (c.loop-byte.invariant.bytes is_specified)
+          (rw c.in-Some.is at (c.in_ok-byte.ensures.bytes is_specified)) c.if-byte-eq-LINE_FEED.false room
           );
       failures = search rules;
       ends = search rules;
@@ -34,8 +34,8 @@ loop-byte-preserved-then-not-is_full g c =
 
 pub loop-byte-preserved : goal.loop-byte-preserved
 loop-byte-preserved g c = record {
-  bytes = λ tells. ReadsText-skip _ _ _ _ c.in-Some.byte (c.loop-byte.invariant.bytes tells)
-      (rw c.in-Some.is at (c.in_ok-byte.ensures.bytes tells)) c.if-byte-eq-LINE_FEED.false (is_all _ _ c.is_full.ensures.value c.if-not-is_full.false);
+  bytes = λ is_specified. ReadsText-skip _ _ _ _ c.in-Some.byte (c.loop-byte.invariant.bytes is_specified)
+      (rw c.in-Some.is at (c.in_ok-byte.ensures.bytes is_specified)) c.if-byte-eq-LINE_FEED.false (is_all _ _ c.is_full.ensures.value c.if-not-is_full.false);
   failures = search rules;
   ends = search rules;
   short = search rules;

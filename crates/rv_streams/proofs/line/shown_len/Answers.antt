@@ -5,12 +5,12 @@ use Rattle.rv_streams.proofs.line.shown_len.Goals.{in_default-via-in-Some+else-l
 
 pub returns-in-Some : goal.returns-in-Some
 returns-in-Some c =
-    shown-return c.args.text.now c.in-Some.front.now (c.in-Some.ensures.cases.0
-    ∙ ap (λ last. c.in-Some.front.now ++ last ∷ []) c.if-last-eq-CARRIAGE_RETURN.true) c.requires
+    shown-return c.args.text.now c.in-Some.prefix.now (c.in-Some.ensures.cases.0
+    ∙ ap (λ last. c.in-Some.prefix.now ++ last ∷ []) c.if-last-eq-CARRIAGE_RETURN.true) c.requires
 
 pub returns-in_default : goal.returns-in_default
 returns-in_default c = rw c.min.ensures (elim c.in_default.branch [
   | in_default-via-in-Some+else-last-eq-CARRIAGE_RETURN w ↦
-      shown-other c.args.text.now w.in-Some.front.now w.in-Some.last.now w.in-Some.ensures.cases.0 w.if-last-eq-CARRIAGE_RETURN.false
+      shown-other c.args.text.now w.in-Some.prefix.now w.in-Some.last.now w.in-Some.ensures.cases.0 w.if-last-eq-CARRIAGE_RETURN.false
   | in_default-via-in_default w ↦ shown-empty c.args.text.now w.in_default.ensures.cases
 ])

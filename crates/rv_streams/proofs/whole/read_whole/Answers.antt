@@ -10,16 +10,16 @@ use Rattle.rv_streams.proofs.whole.read_whole.Goals as goal
 
 -- a part that is not added
 refused : {S : Type 0} (Z : Type 0) (g : Ghosts S) (old new : S) (text part added : List ℕ) (fault : BenchFault)
-    → SourceWorked g old new → g.ends new ≡ g.ends old → (g.tells → g.remaining old ≡ (text ++ part) ++ g.remaining new)
+    → SourceWorked g old new → g.ends new ≡ g.ends old → (g.is_specified → g.remaining old ≡ (text ++ part) ++ g.remaining new)
     → AddsPart part text added (Err fault) → ReadsText g {Z = Z} old new (Err fault)
 refused Z g old new text part added TooLong source going split adds =
-    record { source = source; going = going; reads = λ tells. (text ++ part, split tells, omega (arith, adds.0, length-append text part)) }
+    record { source = source; going = going; reads = λ is_specified. (text ++ part, split is_specified, omega (arith, adds.0, length-append text part)) }
 refused Z g old new text part added NoMemory source going split adds = record {
   source = source;
   going = going;
-  some = λ tells. let (some, few, same) = adds in
-      omega (arith, some, ap length (split tells), length-append (text ++ part) (g.remaining new), length-append text part);
-  reads = λ tells. let (some, few, same) = adds in (text ++ part, split tells, omega (arith, few, length-append text part));
+  some = λ is_specified. let (some, few, same) = adds in
+      omega (arith, some, ap length (split is_specified), length-append (text ++ part) (g.remaining new), length-append text part);
+  reads = λ is_specified. let (some, few, same) = adds in (text ++ part, split is_specified, omega (arith, few, length-append text part));
 }
 refused Z g old new text part added _ source going split adds = absurd adds
 
@@ -29,6 +29,6 @@ returns-in_err-add_part g c =
     passed_on (ReadsText g.S.Source c.args.source.now c.read_some.new.self) c.from_residual-in_err-add_part.result _ c.from_residual-in_err-add_part.ensures.1
     (refused Global g.S.Source c.args.source.now c.read_some.new.self c.loop-text.text.items (take c.in_ok-count.count c.read_some.new.buffer) _ _
     (search rules) (search rules)
-    (λ tells. c.loop-text.invariant.front tells
-    ∙ (ap (λ t. c.loop-text.text.items ++ t) (rw found at (c.read_some.ensures.bytes tells)) ∙ sym (append_assoc c.loop-text.text.items _ _)))
+    (λ is_specified. c.loop-text.invariant.prefix is_specified
+    ∙ (ap (λ t. c.loop-text.text.items ++ t) (rw found at (c.read_some.ensures.bytes is_specified)) ∙ sym (append_assoc c.loop-text.text.items _ _)))
     c.in_err-add_part.ensures)

@@ -6,8 +6,8 @@ use Rattle.rv_text.proofs.lines.without_return.Goals as goal
 
 pub returns-in-Some : goal.returns-in-Some
 returns-in-Some c =
-    sym (ap without_return (c.in-Some.ensures.cases.0 ∙ ap (λ last. c.in-Some.front.now ++ last ∷ []) c.if-last-eq13.true)
-    ∙ without_return-return c.in-Some.front.now)
+    sym (ap without_return (c.in-Some.ensures.cases.0 ∙ ap (λ last. c.in-Some.prefix.now ++ last ∷ []) c.if-last-eq13.true)
+    ∙ without_return-return c.in-Some.prefix.now)
 
 pub returns-in_default : goal.returns-in_default
-returns-in_default c = no_return-other c.args.line.now c.in-Some.front.now c.in-Some.last.now c.in-Some.ensures.cases.0 c.if-last-eq13.false
+returns-in_default c = no_return-other c.args.line.now c.in-Some.prefix.now c.in-Some.last.now c.in-Some.ensures.cases.0 c.if-last-eq13.false

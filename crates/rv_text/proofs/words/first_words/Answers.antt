@@ -23,11 +23,11 @@ returns-in-None c =
 pub returns-then-is_full : goal.returns-then-is_full
 unfolding words_of
 returns-then-is_full c =
-    let front =
+    let prefix =
     YieldsList-so_far (YieldsList-at c.into_iter-word-iterator.ensures.into_iter_gives
     (YieldsList-from_filter _ is_filled
     (YieldsList-at c.filter-word-items.ensures.source
     (YieldsList-from_slice_split _ is_blank c.args.line.now c.split.ensures.rest c.split.ensures.done c.split.ensures.closure
     (λ x b q k. search rules))) c.filter-word-items.ensures.closure (λ x b q k. search rules))) c.loop-word.yielded _ c.loop-word.yielded_by in
     let full : length c.loop-word.yielded ≡ 6 = grind (arith, nat_tests, ap length c.loop-word.invariant.kept) in
-    rw c.loop-word.invariant.kept (rw full at front)
+    rw c.loop-word.invariant.kept (rw full at prefix)

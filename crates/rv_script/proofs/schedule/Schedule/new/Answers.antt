@@ -5,8 +5,8 @@ use Rattle.rv_script.specs.declared.schedule.Schedule.{Schedule}
 use Rattle.rv_script.proofs.schedule.Schedule.new.Goals as goal
 
 -- zeros stay behind what is copied over the first
-copied : (most : ℕ) (word front : List ℕ) → front ≡ word → front ++ drop (length word) (replicate most 0) ≡ word ++ replicate (most - length word) 0
-copied most word front is = ap₂ (λ (a b : List ℕ). a ++ b) is (drop-replicate (length word) most 0)
+copied : (most : ℕ) (word prefix : List ℕ) → prefix ≡ word → prefix ++ drop (length word) (replicate most 0) ≡ word ++ replicate (most - length word) 0
+copied most word prefix is = ap₂ (λ (a b : List ℕ). a ++ b) is (drop-replicate (length word) most 0)
 
 pub returns : goal.returns
 unfolding schedule_of

@@ -1,0 +1,5 @@
+use Rattle.rv_bench.proofs.PairLemmas.{pair_line-prefix}
+use Rattle.rv_bench.proofs.pair.Pair.respond_to_line.Goals as goal
+
+pub returns-clause-prefix : goal.returns-clause-prefix
+returns-clause-prefix c = λ other same. pair_line-prefix _ _ other _ same

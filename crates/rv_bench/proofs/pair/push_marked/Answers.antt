@@ -1,0 +1,18 @@
+use Rattle.std.proofs.Common.{rules, ◌≡◌, ◌++◌, ◌∙◌, [], cond}
+use Rattle.rv_bench.proofs.PairLemmas.{marked_step}
+use Rattle.rv_bench.proofs.pair.push_marked.Goals as goal
+use Rattle.rv_bench.proofs.pair.push_marked.Goals.{then-begins, else-begins}
+
+pub loop-byte-preserved : goal.loop-byte-preserved
+loop-byte-preserved c =
+    let joined : c.if-begins.out.items ≡ c.loop-byte.out.items ++ cond c.loop-byte.begins c.args.mark.now [] = elim c.if-begins.branch [
+      | then-begins w ↦ search rules
+      | else-begins w ↦ search rules
+    ] in
+    record {
+      written =
+          marked_step c.args.mark.now c.loop-byte.begins c.args.text.now c.loop-byte.byte-index _ _ _ c.loop-byte-test.true joined
+          c.push_all-in-loop-byte.ensures.items
+          ∙ c.loop-byte.invariant.written;
+      room = search rules;
+    }

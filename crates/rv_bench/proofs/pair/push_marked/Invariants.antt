@@ -1,0 +1,10 @@
+use Rattle.std.proofs.Common.{◌≡◌, ◌≤◌, ◌+◌, ◌*◌, ◌++◌, true, drop, length}
+use Rattle.rv_bench.specs.Pair.{marked}
+use Rattle.rv_bench.proofs.pair.push_marked.Given as goal
+
+-- what is written, and what is still to be
+abbrev pub invariant-loop-byte : goal.invariant-loop-byte
+invariant-loop-byte l = record {
+  written : l.out.items ++ marked l.mark l.begins (drop l.byte-index l.text) ≡ l.initial.out.items ++ marked l.mark true l.text;
+  room : length l.out.items ≤ length l.initial.out.items + 4 * l.byte-index;
+}

@@ -1,0 +1,86 @@
+-- What two benches reply that differ in what is private to the enclave of a slot, line by line. (This project's own commands.)
+use Rattle.std.specs.Prelude.{ℕ, ◌==◌, Bool, true, false, List, [], ◌∷◌, ◌++◌, codes, decimal, Option, None, Some, if◌then◌else◌}
+use Rattle.rv_text.specs.Characters.{line_feed}
+use Rattle.rv_debug.specs.BenchState.{BenchState}
+use Rattle.rv_debug.specs.BothBenches.{BothLineExecuted, both_execute_line, can_scramble, scrambled}
+use Rattle.rv_debug.specs.declared.both.BothLine.{BothLine}
+use Rattle.rv_debug.specs.declared.both.BothLine.TheVariants.{Faulty, Given}
+use Rattle.rv_debug.specs.declared.both.BothWhy.TheVariants.{All, Entered, NotBlind}
+use Rattle.rv_streams.specs.Device.{one_more}
+use Rattle.rv_bench.specs.Replies.{Responding, Replied, replies, state_after}
+use Rattle.rv_bench.specs.declared.pair.Pair.{Pair}
+
+-- ---- the texts
+
+-- the text with the mark before each of its lines
+abbrev pub marked : List ℕ → Bool → List ℕ → List ℕ
+marked mark begins [] = []
+marked mark begins (byte ∷ text) = (if begins then mark else []) ++ byte ∷ marked mark (byte == line_feed) text
+
+-- the lines of the first bench's reply, and then those of the second's
+abbrev pub both_text : List ℕ → List ℕ → List ℕ
+both_text first second = marked (codes "a: ") true first ++ marked (codes "b: ") true second
+
+abbrev pub blind_text : List ℕ
+blind_text = codes "error blind\n"
+
+abbrev pub no_slot_text : List ℕ
+no_slot_text = codes "twin no slot\n"
+
+unfoldable pub entered_text : ℕ → List ℕ
+entered_text ran = codes "twin entered " ++ (decimal ran ++ codes "\n")
+
+unfoldable pub end_text : ℕ → List ℕ
+end_text ran = codes "twin end " ++ (decimal ran ++ codes "\n")
+
+-- ---- one line
+
+-- the commands that were run, and that of this line; a blank one has none
+abbrev pub with_line : Bool → ℕ → ℕ
+with_line is_blank ran = if is_blank then ran else one_more ran
+
+-- what both did with it
+abbrev pub done_by : BothLine → BothLineExecuted → ℕ → Replied Pair
+done_by Faulty both ran = record {
+  state = record { first = both.first; second = both.second; ran = ran; entered = false };
+  reply = both.first_reply;
+}
+done_by (Given All is_blank) both ran = record {
+  state = record { first = both.first; second = both.second; ran = with_line is_blank ran; entered = false };
+  reply = both_text both.first_reply both.second_reply;
+}
+done_by (Given Entered is_blank) both ran = record {
+  state = record { first = both.first; second = both.second; ran = one_more ran; entered = true };
+  reply = entered_text (one_more ran);
+}
+done_by (Given NotBlind is_blank) both ran = record {
+  state = record { first = both.first; second = both.second; ran = ran; entered = false };
+  reply = blind_text;
+}
+
+abbrev pub pair_replied : Pair → BothLineExecuted → Replied Pair
+pair_replied pair both = done_by both.line both pair.ran
+
+-- once the slot was entered no line is told anything
+unfoldable pub pair_line : ℕ → Pair → List ℕ → Replied Pair
+pair_line slot pair line =
+    if pair.entered then record { state = pair; reply = [] } else pair_replied pair (both_execute_line slot pair.first pair.second line)
+
+-- both benches are over once the slot was entered
+abbrev pub both_benches : ℕ → Responding Pair
+both_benches slot = record { respond = pair_line slot; is_over = λ pair. pair.entered }
+
+-- ---- a script
+
+-- the end of the input is told where the slot was not entered
+abbrev pub last_text : Pair → List ℕ
+last_text pair = if pair.entered then [] else end_text pair.ran
+
+abbrev pub script_text : ℕ → Pair → List (List ℕ) → List ℕ
+script_text slot pair script = replies (pair_line slot) pair script ++ last_text (state_after (pair_line slot) pair script)
+
+-- the second of two equal benches is scrambled, where that can be
+abbrev pub make_pair : ℕ → BenchState → Option Pair
+make_pair slot bench =
+    if can_scramble slot bench then Some (record { first = bench; second = scrambled slot bench; ran = 0; entered = false })
+    else None

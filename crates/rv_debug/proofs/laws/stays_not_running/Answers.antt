@@ -1,0 +1,5 @@
+use Rattle.rv_debug.proofs.NotRunning.{rest_law}
+use Rattle.rv_debug.proofs.laws.stays_not_running.Goals as goal
+
+pub returns : goal.returns
+returns c = rest_law

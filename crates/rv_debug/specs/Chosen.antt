@@ -1,7 +1,0 @@
--- A monitored machine, and the hart of it that commands work on. (This project's own debugger.)
-use Rattle.std.specs.Prelude.{ℕ}
-use Rattle.rv_monitor.specs.State.{Machine}
-
-pub record Chosen : Type 0 where
-  pub hart : ℕ
-  pub state : Machine

@@ -1,0 +1,7 @@
+-- A monitored machine, and the hart of it that commands work on. (This project's own debugger.)
+use Rattle.std.specs.Prelude.{ℕ}
+use Rattle.rv_monitor.specs.MonitoredMachine.{MonitoredMachine}
+
+pub record Selected : Type 0 where
+  pub hart : ℕ
+  pub state : MonitoredMachine

@@ -1,0 +1,408 @@
+-- S and U do an access exactly where it is in reach.
+use Rattle.std.proofs.Common.{◌≡◌, ◌≢◌, ℕ, ◌+◌, ◌-◌, ◌<◌, ◌≤◌, ◌⊎◌, ◌==◌, Bool, true, false, not, ◌&&◌, List, Option, Some, None, refl, sym, ◌∙◌, ap, inl}
+use Rattle.std.proofs.Common.{inr, arith, lit<, length}
+use Rattle.std.specs.Prelude.{nat_le, ◌%◌}
+use Rattle.std.proofs.lemmas.List.{get_or_past}
+use Rattle.std.specs.List.{list_any, list_all}
+use Rattle.std.proofs.lemmas.Bool.{cases_lt, cases_eq, cases_Bool, eqb-true, eq-eqb, ne_eqb, both_ways, false≢true, or_left, or_right, or_cases, and_from}
+use Rattle.std.proofs.lemmas.Bool.{and_parts, not-true, le-leb, leb-true, ltb-true, false_from_ne_true}
+use Rattle.rv_pmp.specs.declared.mode.Mode.TheVariants.{U}
+use Rattle.rv_pmp.specs.Cfg.{has_permission, grants}
+use Rattle.rv_pmp.specs.Verdicts.{match_verdict, no_match_verdict}
+use Rattle.rv_pmp.proofs.VerdictLemmas.{any_at, any_none, all_each, each_from_all, none_from_any, IsFirst, verdict_of_match}
+use Rattle.rv_enclaves.proofs.Prelude.{Access, Enclave, Entries, Fetch, Host, IsValid, M, Mode, Read, S, SlotInfo, Slots, World, Write, bytes_from, bytes_in}
+use Rattle.rv_enclaves.proofs.Prelude.{cfg_of, covers, has, host_entry, is_host, is_inside, is_ram_size, is_world_of, layout, monitor_block, permits}
+use Rattle.rv_enclaves.proofs.Prelude.{ram_base, region, region_entry, region_of, slot_at, verdict, window, window_entry, window_entry_of, window_of}
+use Rattle.rv_enclaves.proofs.Scans.{same_any, same_all, verdict_cases}
+use Rattle.rv_enclaves.specs.Table.{is_in_region}
+use Rattle.rv_enclaves.specs.Layout.{Entry, no_permission as nothing_cfg, all as all_cfg, read_write}
+use Rattle.rv_enclaves.specs.AccessibleMemory.{is_accessible, host_has, LayoutAccessLaw, ApartLaw}
+use Rattle.rv_word.specs.declared.width.Width.{Width}
+use Rattle.rv_word.specs.declared.width.Width.TheVariants.{Byte, Half, Word}
+use Rattle.rv_enclaves.proofs.Napots.{same_test}
+use Rattle.rv_enclaves.proofs.Owners.{cfg_of-layout, entry_at-monitor, entry_at-slot, entry_at-window, entry_at-host, world_window, covers_monitor}
+use Rattle.rv_enclaves.proofs.Owners.{covers_slot, covers_window, covers_host, has_nothing, IsApart, apart}
+
+-- ---- verdicts in S and U
+
+no_match_refuses : (mode : Mode) → mode ≢ M → permits (no_match_verdict mode) ≡ false
+no_match_refuses U below = refl
+no_match_refuses S below = refl
+no_match_refuses M below = absurd (below refl)
+
+grants-below_M : (mode : Mode) (access : Access) (cfg : ℕ) → mode ≢ M → grants mode access cfg ≡ has_permission access cfg
+grants-below_M U access cfg below = refl
+grants-below_M S access cfg below = refl
+grants-below_M M access cfg below = absurd (below refl)
+
+-- the verdict of a matching entry permits what is covered and granted, and only that
+permits-match_verdict : (e : Entries) (mode : Mode) (access : Access) (i : ℕ) (covers_all : Bool)
+    → permits (match_verdict e mode access i covers_all) ≡ (covers_all && grants mode access (cfg_of e i))
+permits-match_verdict e mode access i false = refl
+permits-match_verdict e mode access i true = elim (cases_Bool (grants mode access (cfg_of e i))) [
+  | inl granted ↦ rw granted refl
+  | inr refused ↦ rw refused refl
+]
+
+-- ---- what each entry's cfg byte gives
+
+nothing_given : (access : Access) → has_permission access nothing_cfg ≡ false
+nothing_given Fetch = refl
+nothing_given Read = refl
+nothing_given Write = refl
+
+unused_gives : (access : Access) → has_permission access 0 ≡ false
+unused_gives Fetch = refl
+unused_gives Read = refl
+unused_gives Write = refl
+
+all_given : (access : Access) → has_permission access all_cfg ≡ true
+all_given Fetch = refl
+all_given Read = refl
+all_given Write = refl
+
+-- a slot's entry gives something only to its own enclave
+slot_gives : (w : World) (k : ℕ) (o : Option SlotInfo) (access : Access) → has_permission access (region_entry w k o).cfg ≡ true
+    → is_world_of k w ≡ true
+slot_gives w k None access given = absurd (both_ways _ (unused_gives access) given)
+slot_gives w k (Some s) access given = elim (cases_Bool (is_world_of k w)) [
+  | inl own ↦ own
+  | inr other ↦ let given' = rw other at given in absurd (both_ways _ (nothing_given access) given')
+]
+
+-- and all to it
+slot_gives_all : (w : World) (k : ℕ) (o : Option SlotInfo) (access : Access) (b : ℕ) → is_world_of k w ≡ true → has (region_of o) b ≡ true
+    → has_permission access (region_entry w k o).cfg ≡ true
+slot_gives_all w k None access b own held = absurd (both_ways _ (has_nothing b) held)
+slot_gives_all w k (Some s) access b own held = rw own (all_given access)
+
+read_or_write : (access : Access) → access ≢ Fetch → has_permission access read_write ≡ true
+read_or_write Fetch other = absurd (other refl)
+read_or_write Read other = refl
+read_or_write Write other = refl
+
+host_gives : (w : World) (access : Access) → is_host w ≡ true → has_permission access (host_entry w).cfg ≡ true
+host_gives Host access host = all_given access
+host_gives (Enclave k) access host = absurd (false≢true host)
+
+host_gives_to_host : (w : World) (access : Access) → has_permission access (host_entry w).cfg ≡ true → is_host w ≡ true
+host_gives_to_host Host access given = refl
+host_gives_to_host (Enclave k) access given = absurd (both_ways _ (unused_gives access) given)
+
+-- a window's entry never gives a fetch
+window_gives_no_fetch : (o : Option SlotInfo) → has_permission Fetch (window_entry_of o).cfg ≡ false
+window_gives_no_fetch None = refl
+window_gives_no_fetch (Some s) = elim (cases_Bool (s.window.size == 0)) [ inl none ↦ rw none refl | inr some ↦ rw some refl ]
+
+-- and the rest where the window has a byte
+window_gives : (o : Option SlotInfo) (access : Access) (b : ℕ) → access ≢ Fetch → has (window_of o) b ≡ true
+    → has_permission access (window_entry_of o).cfg ≡ true
+window_gives None access b other held = absurd (both_ways _ (has_nothing b) held)
+window_gives (Some s) access b other held =
+    let parts = and_parts _ _ held in
+    let low = leb-true s.window.base b parts.0 in
+    let high = ltb-true b (s.window.base + s.window.size) parts.1 in
+    let some = ne_eqb s.window.size 0 (λ none. omega arith) in
+    rw some (read_or_write access other)
+
+-- ---- what is in reach, by world
+
+world_is : (k : ℕ) (w : World) → is_world_of k w ≡ true → w ≡ Enclave k
+world_is k Host own = absurd (false≢true own)
+world_is k (Enclave j) own = ap Enclave (eqb-true j k own)
+
+region_reaches : (memory : List ℕ) (t : Slots) (w : World) (access : Access) (bytes : List ℕ) (k : ℕ) → is_world_of k w ≡ true
+    → list_all (has (region t k)) bytes ≡ true → is_accessible memory t w access bytes ≡ true
+unfolding is_accessible
+region_reaches memory t w access bytes k own all = rw (world_is k w own) (or_left _ _ all)
+
+window_reaches : (memory : List ℕ) (t : Slots) (w : World) (access : Access) (bytes : List ℕ)
+    → has_permission access (window_entry t w).cfg ≡ true → list_all (has (world_window t w)) bytes ≡ true
+    → is_accessible memory t w access bytes ≡ true
+unfolding is_accessible
+window_reaches memory t Host access bytes given all = absurd (both_ways _ (unused_gives access) given)
+window_reaches memory t (Enclave k) Fetch bytes given all = absurd (both_ways _ (window_gives_no_fetch (slot_at t k)) given)
+window_reaches memory t (Enclave k) Read bytes given all = or_right _ _ (or_left _ _ all)
+window_reaches memory t (Enclave k) Write bytes given all = or_right _ _ (or_left _ _ all)
+
+host_reaches : (memory : List ℕ) (t : Slots) (w : World) (access : Access) (bytes : List ℕ) → is_host w ≡ true
+    → list_all (host_has memory t) bytes ≡ true → is_accessible memory t w access bytes ≡ true
+unfolding is_accessible
+host_reaches memory t Host access bytes host all = or_left _ _ all
+host_reaches memory t (Enclave k) access bytes host all = absurd (false≢true host)
+
+-- the ways to be in reach
+reach_cases : (memory : List ℕ) (t : Slots) (w : World) (access : Access) (bytes : List ℕ) → is_accessible memory t w access bytes ≡ true →
+    ((is_host w ≡ true) × (list_all (host_has memory t) bytes ≡ true))
+    ⊎ ((k : ℕ) × (w ≡ Enclave k)
+    × ((list_all (has (region t k)) bytes ≡ true) ⊎ ((access ≢ Fetch) × (list_all (has (window t k)) bytes ≡ true))))
+unfolding is_accessible
+reach_cases memory t Host access bytes accessible = elim (or_cases _ _ accessible) [ inl all ↦ inl (refl, all) | inr none ↦ absurd (false≢true none) ]
+reach_cases memory t (Enclave k) Fetch bytes accessible =
+    elim (or_cases _ _ accessible) [ inl all ↦ inr (k, refl, inl all) | inr none ↦ absurd (false≢true none) ]
+reach_cases memory t (Enclave k) Read bytes accessible = elim (or_cases _ _ accessible) [
+  | inl all ↦ inr (k, refl, inl all)
+  | inr window ↦ elim (or_cases _ _ window) [ inl all ↦ inr (k, refl, inr (λ e. cc, all)) | inr none ↦ absurd (false≢true none) ]
+]
+reach_cases memory t (Enclave k) Write bytes accessible = elim (or_cases _ _ accessible) [
+  | inl all ↦ inr (k, refl, inl all)
+  | inr window ↦ elim (or_cases _ _ window) [ inl all ↦ inr (k, refl, inr (λ e. cc, all)) | inr none ↦ absurd (false≢true none) ]
+]
+
+inside_from : (memory : List ℕ) (b : ℕ) → ram_base ≤ b → b < ram_base + length memory → is_inside memory b 1 ≡ true
+inside_from memory b low high = and_from _ _ (le-leb ram_base b low) (le-leb (b + 1) (ram_base + length memory) (omega arith))
+
+-- the entries by what they are for
+pub place_cases : (i : ℕ) → i < 16 → (i ≡ 0) ⊎ (((k : ℕ) × (k < 13) × (i ≡ k + 1)) ⊎ ((i ≡ 14) ⊎ (i ≡ 15)))
+place_cases i in_range = elim (cases_eq i 0) [
+  | inl first ↦ inl first
+  | inr later ↦ elim (cases_lt i 14) [
+    | inl slot ↦ inr (inl (i - 1, omega arith, omega arith))
+    | inr last ↦ elim (cases_eq i 14) [ inl window ↦ inr (inr (inl window)) | inr host ↦ inr (inr (inr (omega arith))) ]
+  ]
+]
+
+no_window : (t : Slots) (w : World) (b : ℕ) → is_host w ≡ true → has (world_window t w) b ≡ false
+no_window t Host b host = has_nothing b
+no_window t (Enclave k) b host = absurd (false≢true host)
+
+-- a slot whose region has a byte is one of the thirteen
+slot_in_range : (memory : List ℕ) (t : Slots) (w : World) (k b : ℕ) → IsValid memory t → has (region t k) b ≡ true → k < 13
+slot_in_range memory t w k b valid held = elim (cases_lt k 13) [
+  | inl less ↦ less
+  | inr past ↦
+      let nothing : slot_at t k ≡ None = get_or_past t k None (omega (arith, valid.count)) in
+      absurd (both_ways _ (has_nothing b) (sym (ap (λ o. has (region_of o) b) nothing) ∙ held))
+]
+
+-- what is in reach lies in no region of another enclave
+pub accessible_apart : (memory : List ℕ) (t : Slots) (w : World) (access : Access) (a n k : ℕ) → IsValid memory t → is_world_of k w ≡ false
+    → is_accessible memory t w access (bytes_from a n) ≡ true → (b : ℕ) → a ≤ b → b < a + n → has (region t k) b ≡ false
+accessible_apart memory t w access a n k valid other accessible b low high =
+    let apart_bytes = apart memory t valid in
+    elim (reach_cases memory t w access (bytes_from a n) accessible) [
+      | inl host ↦
+          let parts =
+          and_parts (not (has monitor_block b)) (not (is_in_region t b))
+          (and_parts (is_inside memory b 1) _ (each_from_all (host_has memory t) a n host.1 b low high)).1 in
+          false_from_ne_true _ (λ held. both_ways _
+          (none_from_any (λ j. has (region t j) b) 0 13 (not-true _ parts.1) k (omega arith) (slot_in_range memory t w k b valid held))
+          held)
+      | inr enclave ↦
+          let j = enclave.0 in
+          let apart : j ≢ k = λ same. both_ways _ other (rw enclave.1 (eq-eqb j k same)) in
+          elim enclave.2 [
+            | inl inner ↦ apart_bytes.regions_apart j k b apart (each_from_all (has (region t j)) a n inner b low high)
+            | inr outer ↦
+                false_from_ne_true _ (λ held. both_ways _ (apart_bytes.windows_apart k j b held) (each_from_all (has (window t j)) a n outer.1 b low high))
+          ]
+    ]
+
+-- ---- what the entries permit is in reach
+
+module _ (memory : List ℕ) (t : Slots) (w : World) (mode : Mode) (access : Access) (a n : ℕ) (ram_size : length memory ≤ 0x1000000)
+    (valid : IsValid memory t) (below : mode ≢ M) (some : 0 < n) (inside : (ram_base ≤ a) × (a + n ≤ ram_base + length memory)) where
+  abbrev entries : Entries
+  entries = layout t w
+
+  apart_bytes : IsApart t
+  apart_bytes = apart memory t valid
+
+  abbrev bytes : List ℕ
+  bytes = bytes_from a n
+
+  -- what an entry covers of the access, by its owner
+  all_slot : (k : ℕ) → k < 13 → list_all (covers entries (k + 1)) bytes ≡ list_all (has (region t k)) bytes
+  all_slot k in_range = same_all _ _ a n (λ b low high. covers_slot memory t w ram_size valid b k in_range)
+
+  any_slot : (k : ℕ) → k < 13 → list_any (covers entries (k + 1)) bytes ≡ list_any (has (region t k)) bytes
+  any_slot k in_range = same_any _ _ a n (λ b low high. covers_slot memory t w ram_size valid b k in_range)
+
+  any_monitor : list_any (covers entries 0) bytes ≡ list_any (has monitor_block) bytes
+  any_monitor = same_any _ _ a n (λ b low high. covers_monitor memory t w ram_size valid b)
+
+  all_window : list_all (covers entries 14) bytes ≡ list_all (has (world_window t w)) bytes
+  all_window = same_all _ _ a n (λ b low high. covers_window memory t w ram_size valid b)
+
+  any_window : list_any (covers entries 14) bytes ≡ list_any (has (world_window t w)) bytes
+  any_window = same_any _ _ a n (λ b low high. covers_window memory t w ram_size valid b)
+
+  given_at : (i : ℕ) (cfg : ℕ) → cfg_of entries i ≡ cfg → grants mode access (cfg_of entries i) ≡ has_permission access cfg
+  given_at i cfg is = grants-below_M mode access _ below ∙ ap (has_permission access) is
+
+  cfg_of-slot : (k : ℕ) → k < 13 → cfg_of entries (k + 1) ≡ (region_entry w k (slot_at t k)).cfg
+  cfg_of-slot k in_range = cfg_of-layout t w (k + 1) (omega arith) ∙ ap (λ (x : Entry). x.cfg) (entry_at-slot t w k in_range)
+
+  cfg_of-monitor : cfg_of entries 0 ≡ nothing_cfg
+  cfg_of-monitor = cfg_of-layout t w 0 (lit< tt) ∙ ap (λ (x : Entry). x.cfg) (entry_at-monitor t w)
+
+  cfg_of-window : cfg_of entries 14 ≡ (window_entry t w).cfg
+  cfg_of-window = cfg_of-layout t w 14 (lit< tt) ∙ ap (λ (x : Entry). x.cfg) (entry_at-window t w)
+
+  cfg_of-host : cfg_of entries 15 ≡ (host_entry w).cfg
+  cfg_of-host = cfg_of-layout t w 15 (lit< tt) ∙ ap (λ (x : Entry). x.cfg) (entry_at-host t w)
+
+  -- what the host reaches is what no entry before the last covers
+  host_set : ((j : ℕ) → j < 15 → list_any (covers entries j) bytes ≡ false) → list_all (host_has memory t) bytes ≡ true
+  host_set none = all_each (host_has memory t) a n (λ b low high.
+      let no_monitor = none_from_any (has monitor_block) a n (sym any_monitor ∙ none 0 (lit< tt)) b low high in
+      let no_region =
+      any_none (λ k. has (region t k) b) 0 13
+      (λ k k_low k_high. none_from_any (has (region t k)) a n (sym (any_slot k k_high) ∙ none (k + 1) (omega arith)) b low high) in
+      let in_ram : is_inside memory b 1 ≡ true = inside_from memory b (omega (arith, inside.0)) (omega (arith, inside.1)) in
+      and_from _ _ in_ram (and_from _ _ (ap not no_monitor) (ap not no_region)))
+
+  accessible_by : (i : ℕ) → IsFirst (λ j. list_any (covers entries j) bytes) 0 16 i → list_all (covers entries i) bytes ≡ true
+      → grants mode access (cfg_of entries i) ≡ true → is_accessible memory t w access bytes ≡ true
+  accessible_by i is covered given = elim (place_cases i is.high) [
+    | inl first ↦
+        let given' = rw first at given in
+        absurd (both_ways _ (nothing_given access) (sym (given_at 0 _ cfg_of-monitor) ∙ given'))
+    | inr later ↦ elim later [
+      | inl slot ↦
+          let k = slot.0 in
+          let covered' = rw slot.2 at covered in
+          let given' = rw slot.2 at given in
+          region_reaches memory t w access bytes k
+          (slot_gives w k (slot_at t k) access (sym (given_at (k + 1) _ (cfg_of-slot k slot.1)) ∙ given'))
+          (sym (all_slot k slot.1) ∙ covered')
+      | inr last ↦ elim last [
+        | inl window ↦
+            let covered' = rw window at covered in
+            let given' = rw window at given in
+            window_reaches memory t w access bytes (sym (given_at 14 _ cfg_of-window) ∙ given') (sym all_window ∙ covered')
+        | inr host ↦
+            let given' = rw host at given in
+            host_reaches memory t w access bytes
+            (host_gives_to_host w access (sym (given_at 15 _ cfg_of-host) ∙ given'))
+            (host_set (λ j before. is.first j (omega arith) (omega arith)))
+      ]
+    ]
+  ]
+
+  there : permits (verdict entries mode access bytes) ≡ true → is_accessible memory t w access bytes ≡ true
+  there permitted = elim (verdict_cases entries mode access bytes) [
+    | inl found ↦
+        let i = found.0 in
+        let all = list_all (covers entries i) bytes in
+        let parts =
+        and_parts all (grants mode access (cfg_of entries i))
+        (sym (permits-match_verdict entries mode access i all) ∙ ap permits (sym found.1) ∙ permitted) in
+        accessible_by i found.2 parts.0 parts.1
+    | inr nothing ↦ absurd (both_ways _ (no_match_refuses mode below) (ap permits (sym nothing) ∙ permitted))
+  ]
+
+  -- an entry that covers all bytes, and none before it any, decides
+  done_by : (i : ℕ) → i < 16 → list_all (covers entries i) bytes ≡ true → grants mode access (cfg_of entries i) ≡ true
+      → ((j : ℕ) → j < i → list_any (covers entries j) bytes ≡ false) → permits (verdict entries mode access bytes) ≡ true
+  done_by i in_range covered given first =
+      let meets = any_at (covers entries i) a n a (omega arith) (omega arith) (each_from_all (covers entries i) a n covered a (omega arith) (omega arith)) in
+      ap permits (verdict_of_match entries mode access bytes i in_range meets first)
+      ∙ permits-match_verdict entries mode access i _
+      ∙ and_from _ _ covered given
+
+  done_by_host : is_host w ≡ true → list_all (host_has memory t) bytes ≡ true → permits (verdict entries mode access bytes) ≡ true
+  done_by_host host all =
+      let held : (b : ℕ) → a ≤ b → b < a + n → (has monitor_block b ≡ false) × (is_in_region t b ≡ false) = λ b low high.
+      let parts =
+      and_parts (not (has monitor_block b)) (not (is_in_region t b))
+      (and_parts (is_inside memory b 1) _ (each_from_all (host_has memory t) a n all b low high)).1 in
+      (not-true _ parts.0, not-true _ parts.1) in
+      done_by 15 (lit< tt)
+      (all_each (covers entries 15) a n (λ b low high. covers_host memory t w ram_size valid b (omega (arith, inside.1, ram_size)) ∙ host))
+      (given_at 15 _ cfg_of-host ∙ host_gives w access host)
+      (λ j before. elim (place_cases j (omega arith)) [
+        | inl first ↦ rw first (any_monitor ∙ any_none (has monitor_block) a n (λ b low high. (held b low high).0))
+        | inr later ↦ elim later [
+          | inl slot ↦ rw slot.2 (any_slot slot.0 slot.1 ∙ any_none (has (region t slot.0)) a n (λ b low high.
+              none_from_any (λ k. has (region t k) b) 0 13 (held b low high).1 slot.0 (omega arith) (omega (arith, slot.1))))
+          | inr last ↦ elim last [
+            | inl window ↦ rw window (any_window ∙ any_none (has (world_window t w)) a n (λ b low high. no_window t w b host))
+            | inr itself ↦ absurd (omega arith)
+          ]
+        ]
+      ])
+
+  done_by_region : (k : ℕ) → w ≡ Enclave k → list_all (has (region t k)) bytes ≡ true → permits (verdict entries mode access bytes) ≡ true
+  done_by_region k own all =
+      let held = each_from_all (has (region t k)) a n all in
+      let has_first = held a (omega arith) (omega arith) in
+      let in_range = slot_in_range memory t w k a valid has_first in
+      let is_own : is_world_of k w ≡ true = rw own (eq-eqb k k refl) in
+      done_by (k + 1) (omega arith)
+      (all_slot k in_range ∙ all)
+      (given_at (k + 1) _ (cfg_of-slot k in_range) ∙ slot_gives_all w k (slot_at t k) access a is_own has_first)
+      (λ j before. elim (place_cases j (omega arith)) [
+        | inl first ↦ rw first (any_monitor ∙ any_none (has monitor_block) a n (λ b low high. apart_bytes.regions_free k b (held b low high)))
+        | inr later ↦ elim later [
+          | inl slot ↦
+              let other : k ≢ slot.0 = omega (arith, slot.2) in
+              rw slot.2
+              (any_slot slot.0 slot.1
+              ∙ any_none (has (region t slot.0)) a n (λ b low high. apart_bytes.regions_apart k slot.0 b other (held b low high)))
+          | inr last ↦ absurd (elim last [ inl window ↦ omega arith | inr host ↦ omega arith ])
+        ]
+      ])
+
+  done_by_window : (k : ℕ) → w ≡ Enclave k → access ≢ Fetch → list_all (has (window t k)) bytes ≡ true
+      → permits (verdict entries mode access bytes) ≡ true
+  done_by_window k own other all =
+      let held = each_from_all (has (window t k)) a n all in
+      let has_first = held a (omega arith) (omega arith) in
+      done_by 14 (lit< tt)
+      (all_window ∙ rw own all)
+      (given_at 14 _ cfg_of-window ∙ rw own (window_gives (slot_at t k) access a other has_first))
+      (λ j before. elim (place_cases j (omega arith)) [
+        | inl first ↦ rw first (any_monitor ∙ any_none (has monitor_block) a n (λ b low high. apart_bytes.windows_free k b (held b low high)))
+        | inr later ↦ elim later [
+          | inl slot ↦ rw slot.2 (any_slot slot.0 slot.1 ∙ any_none (has (region t slot.0)) a n (λ b low high.
+              false_from_ne_true _ (λ region. both_ways _ (apart_bytes.windows_apart slot.0 k b region) (held b low high))))
+          | inr last ↦ absurd (elim last [ inl window ↦ omega arith | inr host ↦ omega arith ])
+        ]
+      ])
+
+  back : is_accessible memory t w access bytes ≡ true → permits (verdict entries mode access bytes) ≡ true
+  back accessible = elim (reach_cases memory t w access bytes accessible) [
+    | inl host ↦ done_by_host host.0 host.1
+    | inr enclave ↦ elim enclave.2 [
+      | inl region ↦ done_by_region enclave.0 enclave.1 region
+      | inr window ↦ done_by_window enclave.0 enclave.1 window.0 window.1
+    ]
+  ]
+
+  pub reach_from : permits (verdict entries mode access bytes) ≡ is_accessible memory t w access bytes
+  reach_from = same_test _ _ there back
+
+  -- so no permitted access has a byte there
+  pub permitted_apart : (k : ℕ) → is_world_of k w ≡ false → permits (verdict entries mode access bytes) ≡ true → (b : ℕ) → a ≤ b
+      → b < a + n → has (region t k) b ≡ false
+  permitted_apart k other permitted = accessible_apart memory t w access a n k valid other (there permitted)
+
+-- ---- the laws
+
+pub some_bytes : (width : Width) → 0 < bytes_in width
+some_bytes Byte = lit< tt
+some_bytes Half = lit< tt
+some_bytes Word = lit< tt
+
+pub small_ram : (memory : List ℕ) → is_ram_size (length memory) ≡ true → length memory ≤ 0x1000000
+small_ram memory is =
+    let parts = and_parts (length memory % 65536 == 0 && nat_le 65536 (length memory)) (nat_le (length memory) 16777216) is in
+    leb-true (length memory) 16777216 parts.1
+
+pub inside_is : (m : List ℕ) (address count : ℕ) → is_inside m address count ≡ true
+    → (ram_base ≤ address) × (address + count ≤ ram_base + length m)
+inside_is m address count inside =
+    let parts = and_parts (nat_le ram_base address) (nat_le (address + count) (ram_base + length m)) inside in
+    (leb-true _ _ parts.0, leb-true _ _ parts.1)
+
+pub reach_law : LayoutAccessLaw
+reach_law memory slots world mode access address width valid below inside =
+    reach_from memory slots world mode access address (bytes_in width) (small_ram memory valid.ram) valid below (some_bytes width)
+    (inside_is memory address (bytes_in width) inside)
+
+pub apart_law : ApartLaw
+apart_law memory slots world mode access address width k byte valid below inside other permitted low high =
+    let apart = permitted_apart memory slots world mode access address (bytes_in width) (small_ram memory valid.ram) valid below (some_bytes width)
+    (inside_is memory address (bytes_in width) inside) in
+    apart k other permitted byte low high

@@ -1,0 +1,128 @@
+-- Reads and writes of two memories that agree where nothing is hidden.
+use Rattle.std.proofs.Common.{◌≡◌, ℕ, ◌+◌, ◌-◌, ◌<◌, ◌≤◌, Bool, true, false, List, length, take, drop, get_or, Option, Some, None, replicate, refl, sym, ◌∙◌}
+use Rattle.std.proofs.Common.{inl, inr, arith}
+use Rattle.std.proofs.lemmas.List.{get_or-take, get_or-drop, length-replicate}
+use Rattle.std.proofs.lemmas.Grind.{same_number_lists, common_steps}
+use Rattle.std.proofs.lemmas.Bool.{cases_lt, cases_Bool, and_parts, and_from, leb-true, le-leb}
+use Rattle.rv_memory.specs.Memory.{read, write_bytes}
+use Rattle.rv_memory.proofs.MemoryLaws.{index-below, index-above, write-is}
+use Rattle.rv_enclaves.proofs.Prelude.{EqualOutside, is_inside, length-write, option_case, ram_base, write}
+
+-- the memory after a write, or as it was
+abbrev pub or_same : List ℕ → Option (List ℕ) → List ℕ
+or_same memory after = option_case after memory (λ bytes. bytes)
+
+-- no byte of an access is hidden
+abbrev pub IsSeen : (ℕ → Bool) → ℕ → ℕ → Type 0
+IsSeen hidden address count = (b : ℕ) → address ≤ b → b < address + count → hidden b ≡ false
+
+pub inside-is : (m : List ℕ) (address count : ℕ) → is_inside m address count ≡ true
+    → (ram_base ≤ address) × (address + count ≤ ram_base + length m)
+inside-is m address count inside =
+    let parts = and_parts _ _ inside in
+    (leb-true _ _ parts.0, leb-true _ _ parts.1)
+
+-- the bytes at an index are the same
+same_part : (hidden : ℕ → Bool) (m n : List ℕ) (index count : ℕ) → EqualOutside hidden m n → IsSeen hidden (ram_base + index) count
+    → index + count ≤ length m → take count (drop index m) ≡ take count (drop index n)
+same_part hidden m n index count equiv seen within =
+    same_number_lists (take count (drop index m)) (take count (drop index n))
+    (grind (arith, common_steps, equiv.size))
+    (λ k below.
+    let short : k < count = grind (arith, common_steps) in
+    get_or-take count (drop index m) k 0 short ∙ get_or-drop index m k 0
+    ∙ equiv.bytes (index + k) (seen (ram_base + (index + k)) (omega arith) (omega arith))
+    ∙ sym (get_or-drop index n k 0) ∙ sym (get_or-take count (drop index n) k 0 short))
+
+-- what is read where nothing is hidden is the same
+pub same_read : (hidden : ℕ → Bool) (m n : List ℕ) (address count : ℕ) → EqualOutside hidden m n → is_inside m address count ≡ true
+    → IsSeen hidden address count → read m address count ≡ read n address count
+unfolding read
+same_read hidden m n address count equiv inside seen =
+    let is = inside-is m address count inside in
+    let place : ram_base + (address - ram_base) ≡ address = omega (arith, is.0) in
+    let parts = same_part hidden m n (address - ram_base) count equiv (rw place seen) (omega (arith, is.0, is.1)) in
+    let sizes = equiv.size in
+    rw (← sizes, parts) refl
+
+index-within : (memory : List ℕ) (index : ℕ) (bytes : List ℕ) (k : ℕ) → index + length bytes ≤ length memory → index ≤ k
+    → k < index + length bytes
+    → get_or (write_bytes memory index bytes) k 0 ≡ get_or bytes (k - index) 0
+index-within memory index bytes k within low high = grind (arith, common_steps)
+
+-- the same bytes are put in both, hidden or not
+pub same_write : (hidden : ℕ → Bool) (m n : List ℕ) (address : ℕ) (bytes m' n' : List ℕ) → EqualOutside hidden m n
+    → write m address bytes ≡ Some m' → write n address bytes ≡ Some n' → EqualOutside hidden m' n'
+same_write hidden m n address bytes m' n' equiv here there =
+    let one = write-is m address bytes m' here in
+    let other = write-is n address bytes n' there in
+    let index = address - ram_base in
+    let within : index + length bytes ≤ length m = omega (arith, one.0, one.1) in
+    let within' : index + length bytes ≤ length n = omega (arith, other.0, other.1) in
+    record {
+      size = length-write m address bytes m' here ∙ equiv.size ∙ sym (length-write n address bytes n' there);
+      bytes = λ i seen. rw (one.2, other.2) (elim (cases_lt i index) [
+        | inl below ↦ index-below m index bytes i within below ∙ equiv.bytes i seen ∙ sym (index-below n index bytes i within' below)
+        | inr above ↦ elim (cases_lt i (index + length bytes)) [
+          | inl inner ↦ index-within m index bytes i within above inner ∙ sym (index-within n index bytes i within' above inner)
+          | inr past ↦ index-above m index bytes i within past ∙ equiv.bytes i seen ∙ sym (index-above n index bytes i within' past)
+        ]
+      ]);
+    }
+
+pub read-none : (m : List ℕ) (address count : ℕ) → is_inside m address count ≡ false → read m address count ≡ None
+unfolding read
+read-none m address count outside = rw outside refl
+
+pub write-none : (m : List ℕ) (address : ℕ) (bytes : List ℕ) → is_inside m address (length bytes) ≡ false → write m address bytes ≡ None
+unfolding write
+write-none m address bytes outside = rw outside refl
+
+pub write-some : (m : List ℕ) (address : ℕ) (bytes : List ℕ) → is_inside m address (length bytes) ≡ true
+    → write m address bytes ≡ Some (write_bytes m (address - ram_base) bytes)
+unfolding write
+write-some m address bytes inside = rw inside refl
+
+-- the same bytes are put in both, or in neither
+pub write-alike : (hidden : ℕ → Bool) (m n : List ℕ) (address : ℕ) (bytes : List ℕ) → EqualOutside hidden m n
+    → EqualOutside hidden (or_same m (write m address bytes)) (or_same n (write n address bytes))
+write-alike hidden m n address bytes equiv =
+    let sizes = equiv.size in
+    elim (cases_Bool (is_inside m address (length bytes))) [
+      | inl inside ↦
+          let one = write-some m address bytes inside in
+          let other = write-some n address bytes (rw (← sizes) inside) in
+          rw (one, other) (same_write hidden m n address bytes _ _ equiv one other)
+      | inr outside ↦
+          let one = write-none m address bytes outside in
+          let other = write-none n address bytes (rw (← sizes) outside) in
+          rw (one, other) equiv
+    ]
+
+-- what was hidden is made 0 in both
+pub zeros-alike : (hidden hidden' : ℕ → Bool) (m n : List ℕ) (base count : ℕ) → EqualOutside hidden m n
+    → (ram_base ≤ base) × (base + count ≤ ram_base + length m) → ((b : ℕ) → hidden b ≡ true → (base ≤ b) × (b < base + count))
+    → EqualOutside hidden' (or_same m (write m base (replicate count 0))) (or_same n (write n base (replicate count 0)))
+zeros-alike hidden hidden' m n base count equiv inside covers =
+    let bytes = replicate count 0 in
+    let long : length bytes ≡ count = length-replicate {A = ℕ} count 0 in
+    let within : is_inside m base (length bytes) ≡ true =
+    rw long (and_from _ _ (le-leb ram_base base inside.0) (le-leb (base + count) (ram_base + length m) inside.1)) in
+    let sizes = equiv.size in
+    let one = write-some m base bytes within in
+    let other = write-some n base bytes (rw (← sizes) within) in
+    let alike = same_write hidden m n base bytes _ _ equiv one other in
+    let index = base - ram_base in
+    let fits : index + length bytes ≤ length m = omega (arith, inside.0, inside.1, long) in
+    let fits' : index + length bytes ≤ length n = omega (arith, inside.0, inside.1, long, sizes) in
+    rw (one, other) (record {
+      size = alike.size;
+      bytes = λ i seen. elim (cases_Bool (hidden (ram_base + i))) [
+        | inl secret ↦
+            let at = covers (ram_base + i) secret in
+            let low : index ≤ i = omega (arith, at.0, inside.0) in
+            let high : i < index + length bytes = omega (arith, at.1, inside.0, long) in
+            index-within m index bytes i fits low high ∙ sym (index-within n index bytes i fits' low high)
+        | inr shown ↦ alike.bytes i shown
+      ];
+    })

@@ -1,0 +1,5 @@
+use Rattle.rv_enclaves.proofs.WorksAlike.{calls_alike}
+use Rattle.rv_enclaves.proofs.laws.calls_noninterference.Goals as goal
+
+pub returns : goal.returns
+returns c = calls_alike

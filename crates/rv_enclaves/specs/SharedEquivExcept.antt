@@ -1,0 +1,29 @@
+-- What the harts share, twice, the same but for what is private to one enclave: the bytes of its region and its context. (No rule of a
+-- standard: what the laws of confidentiality speak of.)
+use Rattle.std.specs.Prelude.{◌≡◌, ◌≢◌, ℕ, ◌+◌, Bool, false, List, length, slice_index}
+use Rattle.rv_memory.specs.Memory.{ram_base}
+use Rattle.rv_platform.specs.Blocks.{has}
+use Rattle.rv_enclaves.specs.Contexts.{Contexts, context_at}
+use Rattle.rv_enclaves.specs.Table.{Slots, region, is_live}
+use Rattle.rv_enclaves.specs.declared.shared.Shared.{Shared}
+
+-- the addresses that are private to slot e
+abbrev pub is_private : Slots → ℕ → ℕ → Bool
+is_private slots e = has (region slots e)
+
+-- two memories of one size have the same byte at each address that is not hidden
+pub record EqualOutside (hidden : ℕ → Bool) (m n : List ℕ) : Type 0 where
+  pub size : length m ≡ length n
+  pub bytes : (i : ℕ) → hidden (ram_base + i) ≡ false → slice_index m i ≡ slice_index n i
+
+-- the contexts are the same, but for that of slot e
+pub record SameContexts (e : ℕ) (one other : Contexts) : Type 0 where
+  pub size : length one ≡ length other
+  pub others : (k : ℕ) → k ≢ e → context_at one k ≡ context_at other k
+
+-- what the harts share is the same but for what is private to slot e; where its enclave is not live, it is the same
+pub record SharedEquivExcept (e : ℕ) (one other : Shared) : Type 0 where
+  pub table : one.table ≡ other.table
+  pub memory : EqualOutside (is_private one.table e) one.memory other.memory
+  pub contexts : SameContexts e one.contexts other.contexts
+  pub gone : is_live one.table e ≡ false → one ≡ other

@@ -1,0 +1,41 @@
+-- What is true in every state of what the harts share, by who runs on them: the table is valid, a context is kept of each live enclave
+-- that does not run, and a slot runs exactly where it is the world of one hart. (Keystone, EuroSys 2020, in this project's profile.)
+use Rattle.std.specs.Prelude.{◌≡◌, ℕ, Bool, true, false, not, List, [], ◌∷◌, length, Option, Some, None, IfSome, is_some}
+use Rattle.std.specs.List.{list_any}
+use Rattle.rv_enclaves.specs.Contexts.{context_at, can_go_on, no_contexts}
+use Rattle.rv_enclaves.specs.SlotNumbers.{slot_count}
+use Rattle.rv_enclaves.specs.Table.{Slots, slot_at, IsValid, runs, is_running, is_world_of, no_slots}
+use Rattle.rv_enclaves.specs.declared.shared.Shared.{Shared}
+use Rattle.rv_enclaves.specs.declared.slot_info.SlotInfo.{SlotInfo}
+use Rattle.rv_enclaves.specs.declared.world.World.{World}
+
+-- at reset nothing is live
+abbrev pub shared_at_start : List ℕ → Shared
+shared_at_start memory = record { memory = memory; table = no_slots; contexts = no_contexts }
+
+-- Fresh, Stopped and Exited records hold a context, a Running one none
+abbrev pub is_held : Option SlotInfo → Bool
+is_held None = false
+is_held (Some info) = not (is_running info.state)
+
+pub record SavedContextsInvariant (shared : Shared) : Type 0 where
+  pub count : length shared.contexts ≡ slot_count
+  pub kept : (k : ℕ) → is_some (context_at shared.contexts k) ≡ is_held (slot_at shared.table k)
+  pub held : (k : ℕ) → IfSome (context_at shared.contexts k) (λ context. can_go_on context ≡ true)
+
+-- a slot runs exactly where it is the world of some hart
+abbrev pub RunningMatchesWorlds : Slots → List World → Type 0
+RunningMatchesWorlds slots worlds = (k : ℕ) → runs slots k ≡ list_any (is_world_of k) worlds
+
+-- and of no second one
+abbrev pub AreApart : List World → Type 0
+AreApart [] = Unit {0}
+AreApart (world ∷ worlds) =
+    ((k : ℕ) → is_world_of k world ≡ true → list_any (is_world_of k) worlds ≡ false) × AreApart worlds
+
+-- what is true of what the harts share, by the list of their worlds
+pub record SharedInvariant (shared : Shared) (worlds : List World) : Type 0 where
+  pub valid : IsValid shared.memory shared.table
+  pub contexts : SavedContextsInvariant shared
+  pub running : RunningMatchesWorlds shared.table worlds
+  pub apart : AreApart worlds

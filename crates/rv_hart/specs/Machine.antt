@@ -1,0 +1,31 @@
+-- The state of a machine, and what a step leaves and shows. (RISC-V Unprivileged ISA 20191213, section 1.6.)
+use Rattle.std.specs.Prelude.{ℕ, List}
+use Rattle.rv_hart.specs.HartState.{Hart}
+use Rattle.rv_hart.specs.declared.trap.StepOutcome.{StepOutcome}
+
+-- a hart and its memory
+pub record Machine : Type 0 where
+  pub hart : Hart
+  pub memory : List ℕ
+
+-- the hart after a step, and what the step shows
+pub record Ended : Type 0 where
+  pub hart : Hart
+  pub outcome : StepOutcome
+
+-- the same with the memory after the step
+pub record Stepped : Type 0 where
+  pub state : Machine
+  pub outcome : StepOutcome
+
+abbrev pub machine_of : Hart → List ℕ → Machine
+machine_of hart memory = record { hart = hart; memory = memory }
+
+abbrev pub ended_in : Hart → StepOutcome → Ended
+ended_in hart outcome = record { hart = hart; outcome = outcome }
+
+abbrev pub over : List ℕ → Ended → Stepped
+over memory ended = record { state = record { hart = ended.hart; memory = memory }; outcome = ended.outcome }
+
+abbrev pub stepped : Hart → List ℕ → StepOutcome → Stepped
+stepped hart memory outcome = over memory (ended_in hart outcome)

@@ -1,0 +1,19 @@
+-- In every kept state the entries permit S and U exactly what is in reach.
+use Rattle.std.proofs.Common.{◌≡◌, ◌≢◌, true, false, refl, sym, ◌∙◌, subst}
+use Rattle.rv_monitor.specs.Prelude.{M, Mode, bytes_from, bytes_in, data_mode, is_accessible, is_machine, permits, verdict}
+use Rattle.rv_monitor.specs.AccessControl.{AccessControlLaw}
+use Rattle.rv_monitor.proofs.Prelude.{Entries, HartViewInvariant, HartView, reach_law}
+
+pub access_control_law : AccessControlLaw
+access_control_law state mode access address width kept below inside =
+    subst (λ (entries : Entries). permits (verdict entries mode access (bytes_from address (bytes_in width)))
+    ≡ is_accessible state.shared.memory state.shared.table state.hart_state.world access (bytes_from address (bytes_in width)))
+    (sym kept.hart.layout.entries)
+    (reach_law state.shared.memory state.shared.table state.hart_state.world mode access address width kept.valid below inside)
+
+pub below_M : (mode : Mode) → is_machine mode ≡ false → mode ≢ M
+below_M mode below same = let machine : is_machine mode ≡ true = rw same refl in let never : true ≡ false = sym machine ∙ below in cc
+
+-- where MPRV is 0, loads and stores go in the hart's own mode
+pub data_below : (state : HartView) → HartViewInvariant state → is_machine (data_mode state.hart_state.hart) ≡ false
+data_below state kept = let clear = kept.hart.layout.mprv in rw clear kept.hart.layout.mode

@@ -1,0 +1,191 @@
+-- The one walk over the monitor's work after a trap: what holds of each piece of work holds of all; of one shared part, or of two side by
+-- side, over one table and one size of memory, which have the same call, the same refusals and the same slot.
+use Rattle.std.proofs.Common.{◌≡◌, ℕ, Bool, true, false, List, [], ◌∷◌, length, Option, Some, None, refl, sym, ◌∙◌, subst, inl, inr, arith}
+use Rattle.std.specs.Prelude.{◌&&◌, ◌==◌, if◌then◌else◌}
+use Rattle.rv_state.specs.declared.cause.Cause.TheVariants as causes
+use Rattle.rv_monitor.specs.Prelude.{Call, Cause, Context, Contexts, Create, Destroy, Enclave, EnvironmentCallFromS, Exception, Exit, Host}
+use Rattle.rv_monitor.specs.Prelude.{Measure, NotSupported, Refusal, Resume, Run, HartState, Shared, Slots, Stop, Trap, World, call_requested}
+use Rattle.rv_monitor.specs.Prelude.{requested_call, call_key, call_number, calls, created, destroyed, exited_context, first_refusal, is_offered}
+use Rattle.rv_monitor.specs.Prelude.{saved_context, measured, measured_slot, new_slot, option_case, create_args_of, register, status_of}
+use Rattle.rv_monitor.specs.declared.enclave_exit.EnclaveExit.{EnclaveExit}
+use Rattle.rv_monitor.proofs.Prelude.{Handled, IsTaken, MayCreate, MayMeasure, a0, a1, and_parts, returned_to_caller, call_handled, call_refusals}
+use Rattle.rv_monitor.proofs.Prelude.{called, cases_Bool, cond-false, cond-true, entered_slot, find, forwarded, handled, handled_cause}
+use Rattle.rv_monitor.proofs.Prelude.{handled_exception, is_entering, left, line_after, may_create, may_measure, may_take}
+use Rattle.rv_monitor.proofs.Prelude.{nat_tests, past_call, performed, reason, refused, same_create_refusals, same_measure_refusals, saved}
+use Rattle.rv_monitor.proofs.Prelude.{enclave_state_after, stopped_context, timer_stopped, trapped_mode, trapped_pc, value, with_reprogrammed_hart}
+
+-- ---- the call that is asked for
+
+find-passes : {X : Type 0} (p : X → Bool) (xs : List X) (x : X) → find p xs ≡ Some x → p x ≡ true
+find-passes p [] x is = cc
+find-passes {X} p (y ∷ ys) x is = elim (cases_Bool (p y)) [
+  | inl holds ↦
+      let e : Some y ≡ Some x = sym (cond-true (p y) _ _ holds) ∙ is in
+      let same : y ≡ x = cc in
+      subst (λ (z : X). p z ≡ true) same holds
+  | inr fails ↦
+      let e : find p ys ≡ Some x = sym (cond-false (p y) _ _ fails) ∙ is in
+      find-passes p ys x e
+]
+
+found-call : (world : World) (a7 a6 : ℕ) (key : Bool) (call : Call)
+    → (if key then find (λ c. call_number c == a6 && is_offered world c) calls else None) ≡ Some call
+    → ((call_number call == a6) ≡ true) × (is_offered world call ≡ true)
+found-call world a7 a6 true call is =
+    and_parts (call_number call == a6) (is_offered world call) (find-passes (λ c. call_number c == a6 && is_offered world c) calls call is)
+found-call world a7 a6 false call is = cc
+
+-- it has the number in a6, and belongs to the world
+asked-is : (world : World) (regs : List ℕ) (call : Call) → requested_call world regs ≡ Some call
+    → ((call_number call == register regs 16) ≡ true) × (is_offered world call ≡ true)
+unfolding call_requested
+asked-is world regs call is = found-call world (register regs 17) (register regs 16) (register regs 17 == call_key) call is
+
+entered-by-host : (world : World) (call : Call) → is_entering (Some call) ≡ true → is_offered world call ≡ true → world ≡ Host
+entered-by-host Host call enters offered = refl
+entered-by-host (Enclave k) Run enters offered = cc
+entered-by-host (Enclave k) Resume enters offered = cc
+entered-by-host (Enclave k) _ enters offered = cc
+
+not_exit : (a6 : ℕ) → (call_number Stop == a6) ≡ true → (a6 == call_number Exit) ≡ false
+not_exit a6 is = grind (arith, nat_tests)
+
+exit : (a6 : ℕ) → (call_number Exit == a6) ≡ true → (a6 == call_number Exit) ≡ true
+exit a6 is = grind (arith, nat_tests)
+
+-- ---- the pieces
+
+abbrev pub over : Slots → List ℕ → Contexts → Shared
+over table memory contexts = record { memory = memory; table = table; contexts = contexts }
+
+-- the trap asks for this call
+pub record Requests (hart_state : HartState) (cause : Cause) (call : Call) : Type 0 where
+  pub is_call : cause ≡ causes.Exception EnvironmentCallFromS
+  pub asked : requested_call hart_state.world hart_state.hart.regs ≡ Some call
+
+-- what is kept of an enclave that the trap makes leave, whose seat this is
+abbrev pub saved_by : Cause → HartState → Context
+saved_by (causes.Interrupt interrupt) hart_state = saved hart_state.hart (trapped_pc hart_state) (trapped_mode hart_state)
+saved_by (causes.Exception exception) hart_state = if register hart_state.hart.regs 16 == call_number Exit then exited_context else stopped_context hart_state
+
+-- its seat, with the line lowered by the timer's stop
+abbrev pub lowered_by : Cause → HartState → HartState
+lowered_by cause hart_state =
+    record hart_state { hart = record hart_state.hart { csrs = record hart_state.hart.csrs { timer = line_after cause hart_state.hart.csrs.timer } } }
+
+-- how it leaves
+abbrev pub enclave_exit_of : Cause → HartState → EnclaveExit
+enclave_exit_of cause hart_state = record {
+  state = enclave_state_after cause hart_state.hart.regs;
+  kept = saved_by cause hart_state;
+  reason = reason cause hart_state.hart.regs;
+  value = value cause hart_state.hart.regs;
+}
+
+abbrev pub leaving : Cause → HartState → Shared → Handled
+leaving cause hart_state shared = left (lowered_by cause hart_state) shared (enclave_exit_of cause hart_state)
+
+abbrev pub entering : HartState → Shared → Handled
+entering hart_state shared = entered_slot hart_state shared (a0 hart_state) (saved_context shared.contexts (a0 hart_state)) (past_call hart_state)
+
+module _ (hart_state : HartState) (trap : Trap) (table : Slots) (m n : List ℕ) (cs ds : Contexts) (P : Handled → Handled → Type 0) where
+  abbrev here : Shared
+  here = over table m cs
+
+  abbrev there : Shared
+  there = over table n ds
+
+  -- one piece of work of both
+  abbrev Both : (Shared → Handled) → Type 0
+  Both work = P (work here) (work there)
+
+  pub record Pieces : Type 0 where
+    -- a refusal, or a call that changes nothing that is shared
+    pub answers : (status result : ℕ) → Both (λ shared. returned_to_caller hart_state shared status result)
+    pub creates : Requests hart_state trap.cause Create → MayCreate here (create_args_of hart_state.hart.regs)
+        → Both (λ shared. returned_to_caller hart_state (created shared (create_args_of hart_state.hart.regs)) 0 (new_slot shared.table))
+    pub destroys : Requests hart_state trap.cause Destroy → IsTaken table Destroy (a0 hart_state) → Both (λ shared. returned_to_caller hart_state (destroyed shared (a0 hart_state)) 0 0)
+    pub measures : Requests hart_state trap.cause Measure → MayMeasure here hart_state.hart.csrs.pmp (measured_slot hart_state.world (a0 hart_state)) (a1 hart_state)
+        → Both (λ shared. returned_to_caller hart_state (measured shared (measured_slot hart_state.world (a0 hart_state)) (a1 hart_state)) 0 0)
+    pub enters : (call : Call) → Requests hart_state trap.cause call → is_entering (Some call) ≡ true → hart_state.world ≡ Host → IsTaken table call (a0 hart_state)
+        → Both (entering hart_state)
+    pub leaves : Both (leaving trap.cause hart_state)
+    pub forwards : Both (λ shared. forwarded hart_state shared trap)
+
+  module _ (pieces : Pieces) (size : length m ≡ length n) where
+    by-leaving : (cause : Cause) → trap.cause ≡ cause → Both (leaving cause hart_state)
+    by-leaving cause is = subst (λ (c : Cause). Both (leaving c hart_state)) is pieces.leaves
+
+    by-asked : (call : Call) → Requests hart_state trap.cause call → first_refusal (call_refusals hart_state here call) ≡ None
+        → Both (λ shared. performed hart_state shared call)
+    unfolding performed
+    by-asked Create reads none = pieces.creates reads (may_create here (create_args_of hart_state.hart.regs) none)
+    by-asked Destroy reads none = pieces.destroys reads (may_take table Destroy (a0 hart_state) none)
+    by-asked Run reads none =
+        let asked = asked-is hart_state.world hart_state.hart.regs Run reads.asked in
+        pieces.enters Run reads refl (entered-by-host hart_state.world Run refl asked.1) (may_take table Run (a0 hart_state) none)
+    by-asked Resume reads none =
+        let asked = asked-is hart_state.world hart_state.hart.regs Resume reads.asked in
+        pieces.enters Resume reads refl (entered-by-host hart_state.world Resume refl asked.1) (may_take table Resume (a0 hart_state) none)
+    by-asked Measure reads none =
+        pieces.measures reads (may_measure here hart_state.hart.csrs.pmp (measured_slot hart_state.world (a0 hart_state)) (a1 hart_state) none)
+    by-asked Stop reads none =
+        let test = not_exit (register hart_state.hart.regs 16) (asked-is hart_state.world hart_state.hart.regs Stop reads.asked).0 in
+        rw test at (by-leaving (causes.Exception EnvironmentCallFromS) reads.is_call)
+    by-asked Exit reads none =
+        let test = exit (register hart_state.hart.regs 16) (asked-is hart_state.world hart_state.hart.regs Exit reads.asked).0 in
+        rw test at (by-leaving (causes.Exception EnvironmentCallFromS) reads.is_call)
+
+    same-rows : (call : Call) → call_refusals hart_state here call ≡ call_refusals hart_state there call
+    same-rows Create = same_create_refusals table m n cs ds (create_args_of hart_state.hart.regs) size
+    same-rows Measure = same_measure_refusals table m n cs ds hart_state.hart.csrs.pmp (measured_slot hart_state.world (a0 hart_state)) (a1 hart_state) size
+    same-rows _ = refl
+
+    by-rows : (o : Option Refusal) (one other : Handled) → (o ≡ None → P one other)
+        → P (option_case o one (refused hart_state here)) (option_case o other (refused hart_state there))
+    by-rows None one other done = done refl
+    by-rows (Some refusal) one other done = pieces.answers (status_of refusal) 0
+
+    by-called : (call : Call) → Requests hart_state trap.cause call → Both (λ shared. called hart_state shared call)
+    unfolding called
+    by-called call reads =
+        let rows = same-rows call in
+        rw (← rows) (by-rows (first_refusal (call_refusals hart_state here call)) _ _ (by-asked call reads))
+
+    by-call : (o : Option Call) → requested_call hart_state.world hart_state.hart.regs ≡ o → trap.cause ≡ causes.Exception EnvironmentCallFromS
+        → Both (λ shared. option_case o (refused hart_state shared NotSupported) (called hart_state shared))
+    by-call None is by_ecall = pieces.answers (status_of NotSupported) 0
+    by-call (Some call) is by_ecall = by-called call (record { is_call = by_ecall; asked = is })
+
+    by-exception : (exception : Exception) → trap.cause ≡ causes.Exception exception → Both (λ shared. handled_exception hart_state shared trap exception)
+    unfolding call_handled
+    by-exception EnvironmentCallFromS is = by-call (requested_call hart_state.world hart_state.hart.regs) refl is
+    by-exception _ is = pieces.forwards
+
+    by-cause : (cause : Cause) → trap.cause ≡ cause → Both (λ shared. handled_cause hart_state shared trap cause)
+    unfolding timer_stopped
+    by-cause (causes.Interrupt interrupt) is = by-leaving (causes.Interrupt interrupt) is
+    by-cause (causes.Exception exception) is = by-exception exception is
+
+    pub by_pieces : P (handled_cause hart_state here trap trap.cause) (handled_cause hart_state there trap trap.cause)
+    by_pieces = by-cause trap.cause refl
+
+-- ---- the principles: the entries and mie are set last
+
+-- two side by side
+abbrev pub HandlerCasesOfBoth : HartState → Trap → Slots → List ℕ → List ℕ → Contexts → Contexts → (Handled → Handled → Type 0) → Type 0
+HandlerCasesOfBoth hart_state trap table m n cs ds P = Pieces hart_state trap table m n cs ds (λ one other. P (with_reprogrammed_hart one) (with_reprogrammed_hart other))
+
+pub handler_cases_of_both : (hart_state : HartState) (trap : Trap) (table : Slots) (m n : List ℕ) (cs ds : Contexts) (P : Handled → Handled → Type 0)
+    → HandlerCasesOfBoth hart_state trap table m n cs ds P → length m ≡ length n → P (handled hart_state (over table m cs) trap) (handled hart_state (over table n ds) trap)
+unfolding handled
+handler_cases_of_both hart_state trap table m n cs ds P pieces size =
+    by_pieces hart_state trap table m n cs ds (λ one other. P (with_reprogrammed_hart one) (with_reprogrammed_hart other)) pieces size
+
+-- one
+abbrev pub OneHandlerCases : HartState → Trap → Shared → (Handled → Type 0) → Type 0
+OneHandlerCases hart_state trap shared P = HandlerCasesOfBoth hart_state trap shared.table shared.memory shared.memory shared.contexts shared.contexts (λ one _. P one)
+
+pub handler_cases : (hart_state : HartState) (trap : Trap) (shared : Shared) (P : Handled → Type 0) → OneHandlerCases hart_state trap shared P → P (handled hart_state shared trap)
+handler_cases hart_state trap shared P pieces =
+    handler_cases_of_both hart_state trap shared.table shared.memory shared.memory shared.contexts shared.contexts (λ one _. P one) pieces refl

@@ -1,0 +1,185 @@
+-- What the monitor's work after a trap asks of memory and of the kept contexts.
+use Rattle.std.proofs.Common.{◌≡◌, ℕ, ◌+◌, ◌==◌, Bool, true, false, List, length, replicate, Option, Some, None, refl, sym, ◌∙◌, ap, ap₂}
+use Rattle.std.proofs.Common.{subst, inl, inr, arith}
+use Rattle.std.specs.Prelude.{map, not, slice_index, slice_index_or, slice_set}
+use Rattle.rv_enclaves.proofs.EqualMemory.{or_same, write-alike}
+use Rattle.rv_enclaves.proofs.SavedLists.{same_after_set}
+use Rattle.rv_enclaves.specs.declared.create_args.CreateArgs.{CreateArgs}
+use Rattle.rv_monitor.specs.Prelude.{EqualOutside, Call, Cause, Context, Contexts, Create, Outcome, Running, HartState, Shared, Slots}
+use Rattle.rv_monitor.specs.Prelude.{StepOutcome, Trap, bytes_of_block, context_at, created, destroyed, exited_context, first_context}
+use Rattle.rv_monitor.specs.Prelude.{saved_context, measured, measured_slot, measurement_at, measurement_of, new_slot, option_case}
+use Rattle.rv_monitor.specs.Prelude.{create_args_of, ram_base, recorded, region, running_slot, step, with_context, with_slot, with_state, write}
+use Rattle.rv_monitor.specs.declared.next.Next.{Next}
+use Rattle.rv_monitor.specs.HandlerReads.{ReadsOnly}
+use Rattle.rv_monitor.proofs.Prelude.{HandlerReadsLaw, Handled, MonitoredMachine, HartView, HartViewStepped, SameRead, SameWhereSame}
+use Rattle.rv_monitor.proofs.Prelude.{SameHandling, a0, a1, returned_to_caller, requested_by, bare_machine, both_ways, cases_eq, entered_slot, eq-eqb, handled}
+use Rattle.rv_monitor.proofs.Prelude.{is_entering, left, monitored_step, ne_eqb, returned, returned_to, hart_state_at_start, reprogrammed}
+use Rattle.rv_monitor.proofs.Prelude.{hart_view, enclave_state_after, step_of, with_reprogrammed_hart}
+use Rattle.rv_monitor.proofs.HartCases.{is_trapping}
+use Rattle.rv_monitor.proofs.TrapSteps.{hart_state_after, trapped_step}
+use Rattle.rv_monitor.proofs.HandlerCases.{Requests, handler_cases_of_both, entering, saved_by, over}
+
+-- one write, at any index where the memories agreed
+same_byte : (m n : List ℕ) (address : ℕ) (bytes : List ℕ) (i : ℕ) → length m ≡ length n → slice_index m i ≡ slice_index n i
+    → slice_index (or_same m (write m address bytes)) i ≡ slice_index (or_same n (write n address bytes)) i
+same_byte m n address bytes i size same =
+    let other : ℕ → Bool = λ b. not (b == ram_base + i) in
+    let equiv : EqualOutside other m n = record {
+      size = size;
+      bytes = λ j shown. elim (cases_eq j i) [
+        | inl is ↦ rw is same
+        | inr apart ↦
+            let far : (ram_base + j == ram_base + i) ≡ false = ne_eqb (ram_base + j) (ram_base + i) (λ sums. apart (omega arith)) in
+            let hidden : not (ram_base + j == ram_base + i) ≡ true = rw far refl in
+            absurd (both_ways _ shown hidden)
+      ];
+    } in
+    let here : (ram_base + i == ram_base + i) ≡ true = eq-eqb (ram_base + i) (ram_base + i) refl in
+    (write-alike other m n address bytes equiv).bytes i (rw here refl)
+
+module _ (table : Slots) (m n : List ℕ) (cs ds : Contexts) (size : length m ≡ length n) (slots : length cs ≡ length ds) where
+  abbrev here : Shared
+  here = over table m cs
+
+  abbrev there : Shared
+  there = over table n ds
+
+  abbrev Same : Shared → Shared → Type 0
+  Same one other = SameWhereSame here there one other
+
+  untouched : Same here there
+  untouched = record { table = refl; bytes = λ i same. same; contexts = λ k same. same }
+
+  with_put : (after : Slots) (address : ℕ) (bytes : List ℕ)
+      → Same (over after (or_same m (write m address bytes)) cs) (over after (or_same n (write n address bytes)) ds)
+  with_put after address bytes = record { table = refl; bytes = λ i same. same_byte m n address bytes i size same; contexts = λ k same. same }
+
+  with_kept : (after : Slots) (j : ℕ) (c : Option Context) → Same (over after m (with_context cs j c)) (over after n (with_context ds j c))
+  with_kept after j c = record { table = refl; bytes = λ i same. same; contexts = λ k same. same_after_set cs ds j k c None slots same }
+
+  same_record : (new : CreateArgs) → bytes_of_block m new.region ≡ bytes_of_block n new.region → recorded m new ≡ recorded n new
+  unfolding measurement_of
+  same_record new bytes = rw bytes refl
+
+  created_same : (new : CreateArgs) → bytes_of_block m new.region ≡ bytes_of_block n new.region → Same (created here new) (created there new)
+  unfolding created
+  created_same new bytes =
+      let info = same_record new bytes in
+      let k = new_slot table in
+      rw (← info) (with_kept (with_slot table k (Some (recorded m new))) k (Some (first_context (recorded m new))))
+
+  destroyed_same : (k : ℕ) → Same (destroyed here k) (destroyed there k)
+  unfolding destroyed
+  destroyed_same k =
+      let block = region table k in
+      let put = with_put (with_slot table k None) block.base (replicate block.size 0) in
+      let kept = with_kept table k None in
+      record { table = refl; bytes = put.bytes; contexts = kept.contexts }
+
+  measured_same : (k address : ℕ) → Same (measured here k address) (measured there k address)
+  unfolding measured
+  measured_same k address = with_put table address (measurement_at table k)
+
+  module _ (hart_state : HartState) (trap : Trap) (asked : SameRead hart_state trap.cause here there) where
+    abbrev HandlerCases : Handled → Handled → Type 0
+    HandlerCases one other = SameHandling here there one other
+
+    asks_for : (call : Call) → Requests hart_state trap.cause call → requested_by trap.cause hart_state ≡ Some call
+    asks_for call reads = let is = reads.is_call in rw is reads.asked
+
+    caller_same : (one other : Shared) (status result : ℕ) → Same one other
+        → HandlerCases (with_reprogrammed_hart (returned_to_caller hart_state one status result)) (with_reprogrammed_hart (returned_to_caller hart_state other status result))
+    caller_same one other status result same =
+        record { hart_state = ap (λ (slots : Slots). reprogrammed slots (returned_to_caller hart_state one status result).hart_state) same.table; next = refl; shared = same }
+
+    enters_same : context_at cs (a0 hart_state) ≡ context_at ds (a0 hart_state) → HandlerCases (with_reprogrammed_hart (entering hart_state here)) (with_reprogrammed_hart (entering hart_state there))
+    unfolding entered_slot
+    enters_same own =
+        let contexts : saved_context cs (a0 hart_state) ≡ saved_context ds (a0 hart_state) =
+        ap (λ (o : Option Context). option_case o exited_context (λ context. context)) own in
+        rw (← contexts) (record { hart_state = refl; next = refl; shared = with_kept (with_state table (a0 hart_state) Running) (a0 hart_state) None })
+
+    entering_call : (call : Call) → is_entering (Some call) ≡ true → Requests hart_state trap.cause call → is_entering (requested_by trap.cause hart_state) ≡ true
+    entering_call call enters reads = let is = asks_for call reads in rw is enters
+
+    handled_same : HandlerCases (handled hart_state here trap) (handled hart_state there trap)
+    unfolding left
+    handled_same = handler_cases_of_both hart_state trap table m n cs ds HandlerCases (record {
+      answers = λ status result. caller_same here there status result untouched;
+      creates = λ reads may. caller_same _ _ 0 (new_slot table) (created_same (create_args_of hart_state.hart.regs) (asked.measured (asks_for Create reads)));
+      destroys = λ reads taken. caller_same _ _ 0 0 (destroyed_same (a0 hart_state));
+      measures = λ reads may. caller_same _ _ 0 0 (measured_same (measured_slot hart_state.world (a0 hart_state)) (a1 hart_state));
+      enters = λ call reads enters host taken. enters_same (asked.entered (entering_call call enters reads));
+      leaves =
+          let k = running_slot hart_state.world in
+          let after = with_state table k (enclave_state_after trap.cause hart_state.hart.regs) in
+          record { hart_state = refl; next = refl; shared = with_kept after k (Some (saved_by trap.cause hart_state)) };
+      forwards = record { hart_state = refl; next = refl; shared = untouched };
+    }) size
+
+pub handler_reads_law : HandlerReadsLaw
+handler_reads_law hart_state trap one other same =
+    let tables = same.table in
+    let same' : SameRead hart_state trap.cause one (over one.table other.memory other.contexts) =
+    record { table = refl; size = same.size; slots = same.slots; measured = same.measured; entered = same.entered } in
+    let there = λ (t : Slots). over t other.memory other.contexts in
+    subst (λ (t : Slots). SameHandling one (there t) (handled hart_state one trap) (handled hart_state (there t) trap)) tables
+    (handled_same one.table one.memory other.memory one.contexts other.contexts same.size same.slots hart_state trap same')
+
+-- ---- the step
+
+-- a trap changes nothing of what is asked
+asked_after : (cause : Cause) (hart_state : HartState) (trap : Trap) (one other : Shared) → SameRead hart_state cause one other
+    → SameRead (hart_state_after hart_state trap) cause one other
+asked_after cause hart_state trap one other same = record {
+  table = same.table;
+  size = same.size;
+  slots = same.slots;
+  measured = same.measured;
+  entered = same.entered;
+}
+
+record SameOne (one other : Shared) (one_after other_after : HartViewStepped) : Type 0 where
+  hart_state : one_after.state.hart_state ≡ other_after.state.hart_state
+  entered : one_after.outcome.entered ≡ other_after.outcome.entered
+  shared : SameWhereSame one other one_after.state.shared other_after.state.shared
+
+returned_same : (one other : Shared) (x y : StepOutcome) (a b : Handled) → SameHandling one other a b → SameOne one other (returned x a) (returned y b)
+returned_same one other x y a b same =
+    let back : HartState → Next → HartState = λ hart_state next. record hart_state { hart = returned_to hart_state.hart next.pc next.mode } in
+    record { hart_state = ap₂ back same.hart_state same.next; entered = ap (λ (next : Next). next.entered) same.next; shared = same.shared }
+
+asked_one : (hart_state : HartState) (one other : Shared) (trap : Trap)
+    → (let here : HartView = record { hart_state = hart_state; shared = one } in
+    let there : HartView = record { hart_state = hart_state; shared = other } in
+    (monitored_step here).outcome.step.trap ≡ Some trap → (monitored_step there).outcome.step.trap ≡ Some trap → SameRead hart_state trap.cause one other
+    → SameOne one other (monitored_step here) (monitored_step there))
+asked_one hart_state one other trap trapped trapped_too same =
+    let here : HartView = record { hart_state = hart_state; shared = one } in
+    let there : HartView = record { hart_state = hart_state; shared = other } in
+    let work = handler_reads_law (hart_state_after hart_state trap) trap one other (asked_after trap.cause hart_state trap one other same) in
+    rw (trapped_step here trap trapped, trapped_step there trap trapped_too)
+    (returned_same one other (step (bare_machine here)).outcome (step (bare_machine there)).outcome _ _ work)
+
+pub step_reads_law : (hart : ℕ) (machine : MonitoredMachine) → ReadsOnly hart machine (step_of hart machine)
+step_reads_law hart machine other trap hart_states trapped trapped_too same =
+    let here = is_trapping hart machine trap trapped in
+    let there = is_trapping hart other trap trapped_too in
+    let hart_state : List HartState → HartState = λ all. slice_index_or all hart (hart_state_at_start 0) in
+    let over : HartState → HartView = λ s. record { hart_state = s; shared = other.shared } in
+    let own = ap hart_state hart_states in
+    let Same : HartState → Type 0 = λ s. SameOne machine.shared other.shared (monitored_step (hart_view hart machine)) (monitored_step (over s)) in
+    let trapped_there = subst (λ (s : HartState). (monitored_step (over s)).outcome.step.trap ≡ Some trap) (sym own) there.trapped in
+    let one = subst Same own (asked_one (hart_state machine.hart_states) machine.shared other.shared trap here.trapped trapped_there same) in
+    let put : List HartState → Slots → HartState → List HartState = λ all slots s. slice_set (map (reprogrammed slots) all) hart s in
+    let table = one.shared.table in
+    let after = (monitored_step (hart_view hart other)).state in
+    record {
+      hart_states = ap (λ (m : MonitoredMachine). m.hart_states) here.state
+          ∙ ap (λ (all : List HartState). let first = (monitored_step (hart_view hart machine)).state in put all first.shared.table first.hart_state) hart_states
+          ∙ ap₂ (put other.hart_states) table one.hart_state ∙ sym (ap (λ (m : MonitoredMachine). m.hart_states) there.state);
+      entered = ap (λ (o : Outcome). o.entered) here.outcome ∙ one.entered ∙ sym (ap (λ (o : Outcome). o.entered) there.outcome);
+      shared = subst (λ (m : MonitoredMachine). SameWhereSame machine.shared other.shared m.shared (step_of hart other).state.shared) (sym here.state)
+          (subst (λ (m : MonitoredMachine). SameWhereSame machine.shared other.shared (monitored_step (hart_view hart machine)).state.shared m.shared) (sym there.state)
+          one.shared);
+    }

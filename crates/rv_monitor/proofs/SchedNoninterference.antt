@@ -1,0 +1,102 @@
+-- The harts, whose steps take turns in any order, by the laws of one step.
+use Rattle.std.proofs.Common.{◌≡◌, ℕ, ◌==◌, true, false, List, [], ◌∷◌, Option, Some, None, refl, sym, ◌∙◌, ap, ap₂, subst, inl, inr}
+use Rattle.rv_monitor.specs.Prelude.{Outcome, HartState, Trap, is_world_of}
+use Rattle.rv_monitor.proofs.Prelude.{EntryLaw, Handled, MonitoredMachine, MonitoredStepped, HartView, HartViewStepped, LowStepsLaw, RunsOnNone}
+use Rattle.rv_monitor.proofs.Prelude.{SchedLaw, cases_Bool, cases_eq, cases_lt, count_of, enters, eq-eqb, eqb-true, handled}
+use Rattle.rv_monitor.proofs.Prelude.{monitored_step, runs_on, hart_view, step_of}
+use Rattle.rv_monitor.proofs.InvariantLemmas.{invariant_law}
+use Rattle.rv_monitor.proofs.MonitoredAlike.{noninterference}
+use Rattle.rv_monitor.proofs.HartCases.{outside, step_beside, step_seen}
+use Rattle.rv_monitor.proofs.Switched.{Turns, handled_turns}
+use Rattle.rv_monitor.proofs.TrapSteps.{step_cases, hart_state_after}
+
+-- ---- steps in any order of two machines that agree
+
+pub sched_law : SchedLaw
+sched_law e [] one other here there equiv low_steps = record { outcomes = refl; state = equiv; low_steps = tt }
+sched_law e (hart ∷ harts) one other here there equiv low_steps =
+    let first = noninterference hart one here e other there equiv low_steps.0 in
+    let rest = sched_law e harts (step_of hart one).state (step_of hart other).state (invariant_law hart one here) (invariant_law hart other there)
+    first.state low_steps.1 in
+    let add : Outcome → List Outcome → List Outcome = λ x xs. x ∷ xs in
+    let hart_states = equiv.hart_states hart in
+    record {
+      outcomes = ap₂ add first.outcome rest.outcomes;
+      state = rest.state;
+      low_steps = (sym (ap (is_world_of e) hart_states.world) ∙ low_steps.0, rest.low_steps);
+    }
+
+-- ---- where the enclave runs behind a step
+
+entered_world : (e : ℕ) (hart_state : HartState) (trap : Trap) (h : Handled) → Turns hart_state trap h
+    → h.next.entered ≡ Some e → is_world_of e h.hart_state.world ≡ true
+entered_world e hart_state trap h (inl stays) is = let none : None ≡ Some e = sym stays.entered ∙ is in cc
+entered_world e hart_state trap h (inr (inl enter)) is =
+    let same : Some enter.slot ≡ Some e = sym enter.entered ∙ is in
+    let slot : enter.slot ≡ e = cc in
+    ap (is_world_of e) enter.world ∙ eq-eqb enter.slot e slot
+entered_world e hart_state trap h (inr (inr leaves)) is = let none : None ≡ Some e = sym leaves.entered ∙ is in cc
+
+pub is_entered : (e : ℕ) (state : HartView) → (monitored_step state).outcome.entered ≡ Some e
+    → is_world_of e (monitored_step state).state.hart_state.world ≡ true
+is_entered e state = step_cases state (λ after. after.outcome.entered ≡ Some e → is_world_of e after.state.hart_state.world ≡ true)
+    (λ none is. cc)
+    (λ trap traps is.
+    let hart_state = hart_state_after state.hart_state trap in
+    entered_world e hart_state trap (handled hart_state state.shared trap) (handled_turns hart_state state.shared trap) is)
+
+pub entered_by : (k : ℕ) (o : Option ℕ) → (o ≡ Some k → ⊥) → enters k o ≡ false
+entered_by k None never = refl
+entered_by k (Some j) never = elim (cases_Bool (j == k)) [
+  | inl same ↦ absurd (never (ap Some (eqb-true j k same)))
+  | inr other ↦ other
+]
+
+pub entered_some : (k : ℕ) (o : Option ℕ) → enters k o ≡ true → o ≡ Some k
+entered_some k None is = cc
+entered_some k (Some j) is = ap Some (eqb-true j k is)
+
+-- a hart on which it did not run, and whose step did not enter it
+other_world : (e : ℕ) (hart_state : HartState) (trap : Trap) (h : Handled) → Turns hart_state trap h
+    → is_world_of e hart_state.world ≡ false → enters e h.next.entered ≡ false → is_world_of e h.hart_state.world ≡ false
+other_world e hart_state trap h (inl stays) not_running none = ap (is_world_of e) stays.world ∙ not_running
+other_world e hart_state trap h (inr (inl enter)) not_running none = ap (is_world_of e) enter.world ∙ sym (ap (enters e) enter.entered) ∙ none
+other_world e hart_state trap h (inr (inr leaves)) not_running none = ap (is_world_of e) leaves.world
+
+pub own_apart : (e : ℕ) (state : HartView) → is_world_of e state.hart_state.world ≡ false → enters e (monitored_step state).outcome.entered ≡ false
+    → is_world_of e (monitored_step state).state.hart_state.world ≡ false
+own_apart e state not_running = step_cases state (λ after. enters e after.outcome.entered ≡ false → is_world_of e after.state.hart_state.world ≡ false)
+    (λ none passes. not_running)
+    (λ trap traps passes.
+    let hart_state = hart_state_after state.hart_state trap in
+    other_world e hart_state trap (handled hart_state state.shared trap) (handled_turns hart_state state.shared trap) not_running passes)
+
+-- the hart that steps, and each beside it
+own_still : (e hart : ℕ) (machine : MonitoredMachine) → runs_on e hart machine ≡ false → enters e (step_of hart machine).outcome.entered ≡ false
+    → runs_on e hart (step_of hart machine).state ≡ false
+own_still e hart machine not_running passes = elim (cases_lt hart (count_of machine)) [
+  | inr past ↦ ap (λ (after : MonitoredStepped). runs_on e hart after.state) (outside hart machine past) ∙ not_running
+  | inl has ↦
+      let seen = step_seen hart machine has in
+      ap (λ (after : HartViewStepped). is_world_of e after.state.hart_state.world) seen
+      ∙ own_apart e (hart_view hart machine) not_running (sym (ap (λ (after : HartViewStepped). enters e after.outcome.entered) seen) ∙ passes)
+]
+
+pub entry_law : EntryLaw
+entry_law e hart own machine not_running passes = elim (cases_eq own hart) [
+  | inl same ↦
+      subst (λ (h : ℕ). enters e (step_of h machine).outcome.entered ≡ false → runs_on e own (step_of h machine).state ≡ false) same
+      (own_still e own machine not_running) passes
+  | inr other ↦ step_beside (λ (hart_state : HartState). is_world_of e hart_state.world) (λ slots hart_state. refl) hart own machine other ∙ not_running
+]
+
+pub none_again : (e hart : ℕ) (harts : List ℕ) (machine : MonitoredMachine) → RunsOnNone e harts machine
+    → enters e (step_of hart machine).outcome.entered ≡ false → RunsOnNone e harts (step_of hart machine).state
+none_again e hart [] machine none passes = tt
+none_again e hart (own ∷ harts) machine none passes = (entry_law e hart own machine none.0 passes, none_again e hart harts machine none.1 passes)
+
+pub low_steps : LowStepsLaw
+low_steps e [] machine none passes = tt
+low_steps e (hart ∷ []) machine none passes = (none.0, tt)
+low_steps e (hart ∷ next ∷ harts) machine none passes =
+    (none.0, low_steps e (next ∷ harts) (step_of hart machine).state (none_again e hart (next ∷ harts) machine none.1 passes.0) passes.1)

@@ -1,0 +1,192 @@
+-- A step of one hart keeps what is true in every state, of it and of what it shares.
+use Rattle.std.proofs.Common.{◌≡◌, ℕ, false, List, ◌∷◌, Option, Some, None, IfSome, length, refl, sym, ap, ◌∙◌, subst, inl, inr, arith}
+use Rattle.std.specs.Prelude.{◌%◌, IfNone}
+use Rattle.std.proofs.lemmas.List.FromFn.{get_or-map-range_with_len}
+use Rattle.rv_state.specs.MachineParts.{machine_parts}
+use Rattle.rv_hart.specs.StepLaws.{TrapKeeps, StaysBelow}
+use Rattle.rv_enclaves.proofs.InvariantLemmas.{entry_is_plain}
+use Rattle.rv_memory.proofs.MemoryLaws.{length-write}
+use Rattle.rv_memory.specs.declared.touched.Touched.{Touched}
+use Rattle.rv_state.specs.declared.mstatus.Mstatus.{Mstatus}
+use Rattle.rv_monitor.specs.Prelude.{CsrState, Hart, SharedInvariant, HartState, Shared, Slots, Span, Machine, StepOutcome, Stepped, Trap, World}
+use Rattle.rv_monitor.specs.Prelude.{aligned_to_4, entry_at, is_machine, layout, mie_of, step}
+use Rattle.rv_monitor.specs.MonitoredMachine.{pmp_programmed}
+use Rattle.rv_monitor.proofs.Prelude.{EqualOn, Handled, HasPmpLayout, IsUnlocked, IsConfined, HartViewInvariant, HartInvariant, HostContextInvariant, HartView}
+use Rattle.rv_monitor.proofs.Prelude.{HartViewStepped, SameIn, Stores, bare_machine, cases_lt, cfg_of, confined, get_or_past, handled}
+use Rattle.rv_monitor.proofs.Prelude.{keeps_machine_parts, keeps_mprv_clear, monitored_step, returned, returned_to, reprogrammed, sound_by_size}
+use Rattle.rv_monitor.proofs.Prelude.{unhandled}
+use Rattle.rv_monitor.proofs.Ready.{IsTrapped, IsDone, IsLaidOut, handled_done, handled_laid_out}
+use Rattle.rv_monitor.proofs.TrapSteps.{step_cases, hart_after, hart_state_after}
+
+-- ---- no entry of a layout is locked
+
+pub layout_unlocked : (slots : Slots) (world : World) → IsUnlocked (layout slots world)
+unfolding layout
+layout_unlocked slots world i = elim (cases_lt i 16) [
+  | inl inside ↦
+      let is : cfg_of (layout slots world) i ≡ (entry_at slots world i).cfg =
+      get_or-map-range_with_len (λ j. (entry_at slots world j).cfg) 0 16 i i 0 inside (omega arith) in
+      rw is (entry_is_plain slots world i).unlocked
+  | inr past ↦
+      let is : cfg_of (layout slots world) i ≡ 0 = get_or_past {X = ℕ} (layout slots world).cfgs i 0 past in
+      rw is refl
+]
+
+pub hart_state_unlocked : (slots : Slots) (hart_state : HartState) → HartInvariant slots hart_state → IsUnlocked hart_state.hart.csrs.pmp
+hart_state_unlocked slots hart_state is = let layout = is.layout in subst IsUnlocked (sym layout.entries) (layout_unlocked slots hart_state.world)
+
+-- nor is one of a hart that is laid out, also behind a trap
+unlocked_if : (slots : Slots) (hart_state : HartState) (o : Option Trap) (hart : Hart) (memory left : List ℕ) (trap : Trap) → o ≡ Some trap → HartInvariant slots hart_state
+    → IfSome o (λ t. (hart ≡ hart_after hart_state.hart t) × (left ≡ memory)) → IsUnlocked hart.csrs.pmp
+unlocked_if slots hart_state None hart memory left trap is reprogrammed keeps = cc
+unlocked_if slots hart_state (Some t) hart memory left trap is reprogrammed keeps =
+    subst (λ (h : Hart). IsUnlocked h.csrs.pmp) (sym keeps.0) (hart_state_unlocked slots hart_state reprogrammed)
+
+pub unlocked_after : (hart_state : HartState) (shared : Shared) (after : Stepped) (trap : Trap) → after.outcome.trap ≡ Some trap → HartInvariant shared.table hart_state
+    → TrapKeeps (record { hart = hart_state.hart; memory = shared.memory }) after → IsUnlocked after.state.hart.csrs.pmp
+unlocked_after hart_state shared after trap is reprogrammed keeps =
+    unlocked_if shared.table hart_state after.outcome.trap after.state.hart shared.memory after.state.memory trap is reprogrammed keeps
+
+-- ---- the bare step
+
+stored_size : (bytes old new : List ℕ) (span : Option Span) → Stores bytes old new span → length old ≡ length new
+stored_size bytes old new None stores = sym (ap length stores)
+stored_size bytes old new (Some span) stores = sym (length-write old span.addr bytes new stores.1)
+
+same_in : (m : List ℕ) (span : Option Span) → SameIn m m span
+same_in m None = tt
+same_in m (Some span) = refl
+
+pub equiv_itself : (m : List ℕ) (touched : Touched) → EqualOn m m touched
+equiv_itself m touched = record { size = refl; fetched = same_in m touched.fetched; loaded = same_in m touched.loaded }
+
+pub step_size : (before : Machine) (after : Stepped) → IsConfined before after → length before.memory ≡ length after.state.memory
+step_size before after confined =
+    let equiv = equiv_itself before.memory after.outcome.touched in
+    stored_size confined.bytes before.memory after.state.memory after.outcome.touched.stored (confined.alike before.memory equiv).here
+
+multiple : (n : ℕ) → aligned_to_4 n % 4 ≡ 0
+multiple n = omega arith
+
+same_parts : (a b : CsrState) → machine_parts a ≡ machine_parts b
+    → (a.pmp ≡ b.pmp) × (a.mie ≡ b.mie) × (a.mstatus.mie ≡ b.mstatus.mie) × (a.mstatus.tvm ≡ b.mstatus.tvm) × (a.mstatus.tw ≡ b.mstatus.tw)
+    × (a.mstatus.tsr ≡ b.mstatus.tsr)
+unfolding machine_parts
+same_parts a b is = (
+  ap (λ (c : CsrState). c.pmp) is,
+  ap (λ (c : CsrState). c.mie) is,
+  ap (λ (c : CsrState). c.mstatus.mie) is,
+  ap (λ (c : CsrState). c.mstatus.tvm) is,
+  ap (λ (c : CsrState). c.mstatus.tw) is,
+  ap (λ (c : CsrState). c.mstatus.tsr) is,
+)
+
+stays_if : (o : Option Trap) (P : Type 0) → o ≡ None → IfNone o P → P
+stays_if None P is p = p
+stays_if (Some t) P is p = cc
+
+-- ---- a seat
+
+-- with another hart, of which the entries, mie, the mode and mstatus are so
+hart_seated : (slots : Slots) (hart_state : HartState) (hart : Hart) → HostContextInvariant hart_state → HasPmpLayout slots (record hart_state { hart = hart })
+    → HartInvariant slots (record hart_state { hart = hart })
+hart_seated slots hart_state hart host layout = record { host = record { kept = host.kept; held = host.held }; layout = layout }
+
+-- with one that keeps the mode and mstatus, and has the entries and mie of a table, which may be another
+pub reprogrammed_by : (before after : Slots) (hart_state : HartState) (hart : Hart) → HartInvariant before hart_state → hart.csrs.pmp ≡ layout after hart_state.world
+    → hart.csrs.mie ≡ mie_of hart_state.world → hart.mode ≡ hart_state.hart.mode → hart.csrs.mstatus ≡ hart_state.hart.csrs.mstatus
+    → HartInvariant after (record hart_state { hart = hart })
+reprogrammed_by before after hart_state hart is entries mie mode status =
+    let own = is.layout in
+    hart_seated after hart_state hart is.host (record {
+      entries = entries;
+      mie = mie;
+      mode = ap is_machine mode ∙ own.mode;
+      mstatus_mie = ap (λ (s : Mstatus). s.mie) status ∙ own.mstatus_mie;
+      mprv = ap (λ (s : Mstatus). s.mprv) status ∙ own.mprv;
+      tvm = ap (λ (s : Mstatus). s.tvm) status ∙ own.tvm;
+      tw = ap (λ (s : Mstatus). s.tw) status ∙ own.tw;
+      tsr = ap (λ (s : Mstatus). s.tsr) status ∙ own.tsr;
+    })
+
+-- laid out by another table
+pub laid_seated : (before after : Slots) (hart_state : HartState) → HartInvariant before hart_state → HartInvariant after (reprogrammed after hart_state)
+laid_seated before after hart_state is = reprogrammed_by before after hart_state (pmp_programmed after hart_state.world hart_state.hart) is refl refl refl refl
+
+-- ---- a step of one hart, by who runs on the others
+
+pub hart_view_of : (hart_state : HartState) (shared : Shared) (worlds : List World) → SharedInvariant shared worlds → HartInvariant shared.table hart_state
+    → HartViewInvariant (record { hart_state = hart_state; shared = shared })
+hart_view_of hart_state shared worlds sound is = record { valid = sound.valid; hart = is }
+
+abbrev pub KeptBeside : List World → HartViewStepped → Type 0
+KeptBeside beside after =
+    SharedInvariant after.state.shared (after.state.hart_state.world ∷ beside) × HartInvariant after.state.shared.table after.state.hart_state
+
+module _ (beside : List World) (hart_state : HartState) (shared : Shared) (sound : SharedInvariant shared (hart_state.world ∷ beside)) (is : HartInvariant shared.table hart_state) where
+  abbrev state : HartView
+  state = record { hart_state = hart_state; shared = shared }
+
+  trapped_hart_state : (trap : Trap) → IsTrapped beside (hart_state_after hart_state trap) shared
+  trapped_hart_state trap =
+      let host = is.host in
+      let layout = is.layout in
+      record {
+        ready = record {
+          sound = sound;
+          host = record { kept = host.kept; held = host.held };
+          quiet = record { mpie = layout.mstatus_mie; mprv = layout.mprv; tvm = layout.tvm; tw = layout.tw; tsr = layout.tsr };
+        };
+        layout = record { entries = layout.entries; mie = layout.mie };
+        mode = layout.mode;
+        pc = multiple hart_state.hart.pc;
+      }
+
+  -- without a trap
+  quiet_kept : (after : Stepped) → IsConfined (bare_machine state) after → StaysBelow hart_state.hart after.state.hart → after.state.hart.csrs.mstatus.mprv ≡ false
+      → KeptBeside beside (unhandled after.outcome (record hart_state { hart = after.state.hart }) (record shared { memory = after.state.memory }))
+  quiet_kept after confined below mprv =
+      let hart = after.state.hart in
+      let parts = same_parts hart.csrs hart_state.hart.csrs below.0 in
+      let layout = is.layout in (
+        sound_by_size shared (hart_state.world ∷ beside) after.state.memory sound (step_size (bare_machine state) after confined),
+        hart_seated shared.table hart_state hart is.host (record {
+          entries = parts.0 ∙ layout.entries;
+          mie = parts.1 ∙ layout.mie;
+          mode = below.1;
+          mstatus_mie = parts.2 ∙ layout.mstatus_mie;
+          mprv = mprv;
+          tvm = parts.3 ∙ layout.tvm;
+          tw = parts.4 ∙ layout.tw;
+          tsr = parts.5 ∙ layout.tsr;
+        }),
+      )
+
+  -- with one, and the monitor's work behind it
+  worked_kept : (outcome : StepOutcome) (h : Handled) → IsDone beside h → IsLaidOut h.shared.table h.hart_state → KeptBeside beside (returned outcome h)
+  worked_kept outcome h done laid =
+      let ready = done.ready in (
+        ready.sound,
+        hart_seated h.shared.table h.hart_state (returned_to h.hart_state.hart h.next.pc h.next.mode) ready.host (record {
+          entries = laid.entries;
+          mie = laid.mie;
+          mode = done.mode;
+          mstatus_mie = ready.quiet.mpie;
+          mprv = rw ready.quiet.mprv refl;
+          tvm = ready.quiet.tvm;
+          tw = ready.quiet.tw;
+          tsr = ready.quiet.tsr;
+        }),
+      )
+
+  pub step_invariant : KeptBeside beside (monitored_step state)
+  step_invariant =
+      let after = step (bare_machine state) in
+      let layout = is.layout in
+      step_cases state (KeptBeside beside)
+      (λ none.
+      let below = stays_if after.outcome.trap (StaysBelow hart_state.hart after.state.hart) none (keeps_machine_parts (bare_machine state) layout.mode layout.mprv) in
+      quiet_kept after (confined (bare_machine state)) below (keeps_mprv_clear (bare_machine state) (λ b. layout.mprv) below.1))
+      (λ trap traps.
+      let last = hart_state_after hart_state trap in
+      worked_kept after.outcome (handled last shared trap) (handled_done beside last shared trap (trapped_hart_state trap)) (handled_laid_out last shared trap))

@@ -1,0 +1,5 @@
+use Rattle.rv_monitor.proofs.HandledAlike.{handler_law}
+use Rattle.rv_monitor.proofs.laws.handler_noninterference.Goals as goal
+
+pub returns : goal.returns
+returns c = handler_law

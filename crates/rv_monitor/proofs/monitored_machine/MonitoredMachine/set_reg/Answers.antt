@@ -1,0 +1,22 @@
+use Rattle.rv_monitor.specs.Prelude.{with_register}
+use Rattle.rv_monitor.proofs.Prelude.{reg_set, hart_state_of}
+use Rattle.rv_monitor.proofs.Held.{put_at, written_holds}
+use Rattle.rv_monitor.proofs.monitored_machine.MonitoredMachine.set_reg.Goals as goal
+
+pub returns-clause-meaning : goal.returns-clause-meaning
+returns-clause-meaning c =
+    let inside = c.self.inside in
+    put_at inside.by_hart c.set_reg_in.new.by_hart inside.harts c.args.hart inside.shared (reg_set c.args.reg c.args.value)
+    c.args.self.now c.self.view_is c.requires c.set_reg_in.ensures
+
+pub invariant_of-self : goal.invariant_of-self
+invariant_of-self c =
+    let inside = c.self.inside in
+    let machine = c.args.self.now in
+    let hart = (hart_state_of c.args.hart machine).hart in
+    written_holds inside.by_hart c.set_reg_in.new.by_hart inside.harts c.args.hart inside.shared
+    (with_register hart.regs c.args.reg c.args.value) hart.csrs.timer machine c.self.view_is c.requires c.self.invariant
+    (returns-clause-meaning c)
+
+pub returns-clause-invariant : goal.returns-clause-invariant
+returns-clause-invariant c = (invariant_of-self c).0

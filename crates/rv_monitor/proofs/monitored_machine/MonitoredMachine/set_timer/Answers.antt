@@ -1,0 +1,19 @@
+use Rattle.rv_monitor.proofs.Prelude.{hart_state_of, timer_line_set}
+use Rattle.rv_monitor.proofs.Held.{put_at, written_holds}
+use Rattle.rv_monitor.proofs.monitored_machine.MonitoredMachine.set_timer.Goals as goal
+
+pub returns-clause-meaning : goal.returns-clause-meaning
+returns-clause-meaning c =
+    let inside = c.self.inside in
+    put_at inside.by_hart c.set_timer_in.new.by_hart inside.harts c.args.hart inside.shared (timer_line_set c.args.raised)
+    c.args.self.now c.self.view_is c.requires c.set_timer_in.ensures
+
+pub invariant_of-self : goal.invariant_of-self
+invariant_of-self c =
+    let inside = c.self.inside in
+    let machine = c.args.self.now in
+    written_holds inside.by_hart c.set_timer_in.new.by_hart inside.harts c.args.hart inside.shared
+    (hart_state_of c.args.hart machine).hart.regs c.args.raised machine c.self.view_is c.requires c.self.invariant (returns-clause-meaning c)
+
+pub returns-clause-invariant : goal.returns-clause-invariant
+returns-clause-invariant c = (invariant_of-self c).0

@@ -1,0 +1,14 @@
+-- What the entries of a hart permit in every state of the machine, and that it lies in no region but the world's own: the law of Reach with
+-- the entries as they stand. (A law of the monitor's definitions; Keystone, EuroSys 2020, in this project's profile.)
+use Rattle.std.specs.Prelude.{ℕ, ◌≡◌, ◌≢◌, true}
+use Rattle.rv_word.specs.declared.width.Width.{Width}
+use Rattle.rv_monitor.specs.Prelude.{Access, M, Mode, bytes_from, bytes_in, is_accessible, is_inside, permits, verdict}
+use Rattle.rv_monitor.specs.MonitoredMachine.{HartView, HartViewInvariant}
+
+-- in every such state the entries permit S and U exactly what is in reach
+abbrev pub AccessControlLaw : Type 0
+AccessControlLaw =
+    (state : HartView) (mode : Mode) (access : Access) (address : ℕ) (width : Width)
+    → HartViewInvariant state → mode ≢ M → is_inside state.shared.memory address (bytes_in width) ≡ true
+    → permits (verdict state.hart_state.hart.csrs.pmp mode access (bytes_from address (bytes_in width)))
+    ≡ is_accessible state.shared.memory state.shared.table state.hart_state.world access (bytes_from address (bytes_in width))

@@ -1,0 +1,66 @@
+-- What the monitor's work after a trap asks of memory and of the kept contexts: of create the bytes of the region, of run and resume the
+-- context of the slot; of measure no byte, since its addresses alone decide. (A law of the monitor's definitions, no rule of a
+-- standard.)
+use Rattle.std.specs.Prelude.{◌≡◌, ℕ, Bool, true, false, length, slice_index, Option, Some, None, if◌then◌else◌}
+use Rattle.rv_state.specs.declared.cause.Cause.TheVariants as causes
+use Rattle.rv_monitor.specs.Prelude.{Call, Cause, Create, EnvironmentCallFromS, Resume, Run, HartState, Shared, Trap, requested_call, bytes_of_block}
+use Rattle.rv_monitor.specs.Prelude.{context_at, create_args_of}
+use Rattle.rv_monitor.specs.CallRefusals.{a0}
+use Rattle.rv_monitor.specs.MonitoredMachine.{MonitoredMachine, hart_state_of}
+use Rattle.rv_monitor.specs.Step.{MonitoredStepped, handled, step_of}
+use Rattle.rv_monitor.specs.Switches.{Handled}
+
+-- the call that a trap asks for, if it is an ecall from S
+abbrev pub is_call : Cause → Bool
+is_call (causes.Exception EnvironmentCallFromS) = true
+is_call _ = false
+
+abbrev pub requested_by : Cause → HartState → Option Call
+requested_by cause hart_state =
+    if is_call cause then requested_call hart_state.world hart_state.hart.regs else None
+
+-- a call that enters an enclave
+abbrev pub is_entering : Option Call → Bool
+is_entering (Some Run) = true
+is_entering (Some Resume) = true
+is_entering _ = false
+
+-- two shared parts of one table and one size are the same in all else that the work asks
+pub record SameRead (hart_state : HartState) (cause : Cause) (one other : Shared) : Type 0 where
+  pub table : one.table ≡ other.table
+  pub size : length one.memory ≡ length other.memory
+  pub slots : length one.contexts ≡ length other.contexts
+  pub measured : requested_by cause hart_state ≡ Some Create
+      → bytes_of_block one.memory (create_args_of hart_state.hart.regs).region ≡ bytes_of_block other.memory (create_args_of hart_state.hart.regs).region
+  pub entered : is_entering (requested_by cause hart_state) ≡ true → context_at one.contexts (a0 hart_state) ≡ context_at other.contexts (a0 hart_state)
+
+-- the table is the same after it, and each byte and each context is where it was the same before
+pub record SameWhereSame (one other one_after other_after : Shared) : Type 0 where
+  pub table : one_after.table ≡ other_after.table
+  pub bytes : (i : ℕ) → slice_index one.memory i ≡ slice_index other.memory i → slice_index one_after.memory i ≡ slice_index other_after.memory i
+  pub contexts : (k : ℕ) → context_at one.contexts k ≡ context_at other.contexts k
+      → context_at one_after.contexts k ≡ context_at other_after.contexts k
+
+pub record SameHandling (one other : Shared) (one_left other_left : Handled) : Type 0 where
+  pub hart_state : one_left.hart_state ≡ other_left.hart_state
+  pub next : one_left.next ≡ other_left.next
+  pub shared : SameWhereSame one other one_left.shared other_left.shared
+
+abbrev pub HandlerReadsLaw : Type 0
+HandlerReadsLaw =
+    (hart_state : HartState) (trap : Trap) (one other : Shared) → SameRead hart_state trap.cause one other
+    → SameHandling one other (handled hart_state one trap) (handled hart_state other trap)
+
+-- ---- the step
+
+pub record SameStep (one other : MonitoredMachine) (one_after other_after : MonitoredStepped) : Type 0 where
+  pub hart_states : one_after.state.hart_states ≡ other_after.state.hart_states
+  pub entered : one_after.outcome.entered ≡ other_after.outcome.entered
+  pub shared : SameWhereSame one.shared other.shared one_after.state.shared other_after.state.shared
+
+-- every machine with the same seats whose hart traps alike, and that is the same in what the work asks, steps alike
+abbrev pub ReadsOnly : ℕ → MonitoredMachine → MonitoredStepped → Type 0
+ReadsOnly hart before after =
+    (other : MonitoredMachine) (trap : Trap) → before.hart_states ≡ other.hart_states → after.outcome.step.trap ≡ Some trap
+    → (step_of hart other).outcome.step.trap ≡ Some trap → SameRead (hart_state_of hart before) trap.cause before.shared other.shared
+    → SameStep before other after (step_of hart other)

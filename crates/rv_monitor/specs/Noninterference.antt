@@ -1,0 +1,58 @@
+-- A step of a hart depends on nothing that is private to an enclave that is not its world, wherever that enclave runs. (A law of the
+-- monitor's definitions, no rule of a standard.)
+use Rattle.std.specs.Prelude.{◌≡◌, ℕ, Bool, false, List}
+use Rattle.rv_monitor.specs.Prelude.{EqualOutside, SharedInvariant, HartState, Shared, SharedEquivExcept, Machine, Stepped, Trap, World, is_private}
+use Rattle.rv_monitor.specs.Prelude.{is_world_of, step}
+use Rattle.rv_monitor.specs.EquivExcept.{EquivExcept, HartStatesEquivExcept, runs_on}
+use Rattle.rv_monitor.specs.MonitoredMachine.{MonitoredMachine, HartView, Invariant, HartViewInvariant}
+use Rattle.rv_monitor.specs.Step.{MonitoredStepped, handled, returned_to, step_of}
+use Rattle.rv_monitor.specs.Switches.{Handled}
+
+-- ---- the monitor's work after a trap
+
+-- the seat as its hart goes on after the work
+abbrev pub continuing_from : Handled → HartState
+continuing_from h = record h.hart_state { hart = returned_to h.hart_state.hart h.next.pc h.next.mode }
+
+-- it enters the same slot, and leaves what agrees: a seat that slot e was entered on too, which need not be equal then
+pub record HandledAlike (e : ℕ) (one other : Handled) : Type 0 where
+  pub entered : one.next.entered ≡ other.next.entered
+  pub hart_state : HartStatesEquivExcept e (continuing_from one) (continuing_from other)
+  pub shared : SharedEquivExcept e one.shared other.shared
+
+abbrev pub HandlerLaw : Type 0
+HandlerLaw =
+    (e : ℕ) (worlds : List World) (hart_state : HartState) (one other : Shared) (trap : Trap) → SharedInvariant one worlds → SharedInvariant other worlds
+    → is_world_of e hart_state.world ≡ false → SharedEquivExcept e one other
+    → HandledAlike e (handled hart_state one trap) (handled hart_state other trap)
+
+-- ---- the bare step
+
+abbrev pub bare_machine : HartView → Machine
+bare_machine state = record { hart = state.hart_state.hart; memory = state.shared.memory }
+
+-- two bare steps end in the same hart, show the same, and leave memories that agree where nothing is hidden
+pub record StepAlike (hidden : ℕ → Bool) (one other : Stepped) : Type 0 where
+  pub hart : other.state.hart ≡ one.state.hart
+  pub outcome : other.outcome ≡ one.outcome
+  pub memory : EqualOutside hidden one.state.memory other.state.memory
+
+-- a bare step depends on no byte of a region that is not the world's
+abbrev pub BareLaw : Type 0
+BareLaw =
+    (e : ℕ) (state : HartView) (memory : List ℕ) → HartViewInvariant state → is_world_of e state.hart_state.world ≡ false
+    → EqualOutside (is_private state.shared.table e) state.shared.memory memory
+    → StepAlike (is_private state.shared.table e) (step (bare_machine state)) (step (record (bare_machine state) { memory = memory }))
+
+-- ---- the monitored step
+
+-- they show the same, and agree again
+pub record SteppedAlike (e : ℕ) (one other : MonitoredStepped) : Type 0 where
+  pub outcome : one.outcome ≡ other.outcome
+  pub state : EquivExcept e one.state other.state
+
+-- What a step of a hart shows and leaves tells nothing of an enclave that is not its world: every machine that agrees but for that enclave
+-- steps alike. It may be the step that enters it.
+abbrev pub StepNoninterference : ℕ → MonitoredMachine → MonitoredStepped → Type 0
+StepNoninterference hart before after =
+    (e : ℕ) (other : MonitoredMachine) → Invariant other → EquivExcept e before other → runs_on e hart before ≡ false → SteppedAlike e after (step_of hart other)
