@@ -10,7 +10,8 @@ use Rattle.rv_monitor.specs.Prelude.{StepOutcome, Trap, bytes_of_block, context_
 use Rattle.rv_monitor.specs.Prelude.{kept_context, measured, measured_slot, measurement_at, measurement_of, new_slot, option_case}
 use Rattle.rv_monitor.specs.Prelude.{create_args_of, ram_base, recorded, region, running_slot, step, with_context, with_slot, with_state, write}
 use Rattle.rv_monitor.specs.declared.next.Next.{Next}
-use Rattle.rv_monitor.proofs.Prelude.{AskedLaw, AskedStepLaw, Handled, Machine, MonitoredState, MonitoredStepped, SameAsked, SameWhereSame}
+use Rattle.rv_monitor.specs.Asked.{AsksOnly}
+use Rattle.rv_monitor.proofs.Prelude.{AskedLaw, Handled, Machine, MonitoredState, MonitoredStepped, SameAsked, SameWhereSame}
 use Rattle.rv_monitor.proofs.Prelude.{SameWork, a0, a1, answered, asked_by, bare_state, both_ways, cases_eq, entered_slot, eq-eqb, handled}
 use Rattle.rv_monitor.proofs.Prelude.{is_entering, left, monitored_step, ne_eqb, returned, returned_to, seat_at_start, seated}
 use Rattle.rv_monitor.proofs.Prelude.{seen_by, enclave_state_after, step_of, with_layout}
@@ -160,7 +161,7 @@ asked_one seat one other trap trapped trapped_too same =
     rw (trapped_step here trap trapped, trapped_step there trap trapped_too)
     (returned_same one other (step (bare_state here)).outcome (step (bare_state there)).outcome _ _ work)
 
-pub asked_step_law : AskedStepLaw
+pub asked_step_law : (hart : ℕ) (machine : Machine) → AsksOnly hart machine (step_of hart machine)
 asked_step_law hart machine other trap seats trapped trapped_too same =
     let here = is_trapping hart machine trap trapped in
     let there = is_trapping hart other trap trapped_too in

@@ -9,10 +9,10 @@ use Rattle.rv_monitor.specs.Prelude.{Byte, Call, Destroy, IsValidSlot, IsValid, 
 use Rattle.rv_monitor.specs.Prelude.{Write, asked_in, byte_at, bytes_from, bytes_in, created, data_mode, destroyed, first_refusal, has}
 use Rattle.rv_monitor.specs.Prelude.{is_inside, is_live, layout, may_store, may_store_all, measure_refusals, measured, measured_slot}
 use Rattle.rv_monitor.specs.Prelude.{option_case, permits, region, slot_at, step, verdict, with_bytes_at, with_slot, write, zeroed}
-use Rattle.rv_monitor.proofs.Prelude.{ByMonitor, ChangeLaw, Entries, IsChanged, IsConfined, IsMeasured, IsOwn, IsStoredInReach, IsTaken}
+use Rattle.rv_monitor.proofs.Prelude.{ByMonitor, Entries, IsChanged, IsConfined, IsMeasured, IsOwn, IsStoredInReach, IsTaken}
 use Rattle.rv_monitor.proofs.Prelude.{MayTouch, MonitoredState, SlotInfo, Stores, TouchesPermitted, a0, a1, and_from, and_parts, at_same}
 use Rattle.rv_monitor.proofs.Prelude.{bare_state, both_ways, cases_Bool, cases_lt, confined, entered_slot, handled, is_call, le-leb, left}
-use Rattle.rv_monitor.proofs.Prelude.{length-replicate, live_in_range, lt-ltb, reach_law, touches_permitted}
+use Rattle.rv_monitor.proofs.Prelude.{length-replicate, live_in_range, lt-ltb, reach_law, touches_permitted, ChangesInReach, monitored_step}
 use Rattle.rv_monitor.proofs.KeptReaches.{below_M, data_below, kept_reach}
 use Rattle.rv_monitor.proofs.StepKept.{agrees_itself}
 use Rattle.rv_monitor.proofs.TrapSteps.{by_step, seat_after}
@@ -167,7 +167,7 @@ module _ (state : MonitoredState) (kept : IsOwn state) (byte : ℕ) where
       let agree = agrees_itself state.shared.memory after.outcome.touched in
       stored_by after.outcome.touched.stored is.bytes after.state.memory may.stored (is.alike state.shared.memory agree).here
 
-pub changes : ChangeLaw
+pub changes : (state : MonitoredState) → IsOwn state → ChangesInReach state (monitored_step state)
 changes state kept byte = by_step state (λ after. byte_at after.state.shared.memory byte ≡ byte_at state.shared.memory byte ⊎ IsChanged state after byte)
     (λ none. elim (bare_changes state kept byte (step (bare_state state)) (confined (bare_state state)) (touches_permitted (bare_state state))) [
       | inl same ↦ inl same

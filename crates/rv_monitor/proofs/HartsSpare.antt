@@ -2,7 +2,8 @@
 use Rattle.std.proofs.Common.{◌≡◌, ◌⊎◌, ℕ, true, List, [], ◌∷◌, refl, sym, ◌∙◌, ap, subst, inl, inr}
 use Rattle.std.proofs.lemmas.Bool.{or_right}
 use Rattle.rv_monitor.specs.Prelude.{Seat, Shared, byte_at, has, is_live, is_world_of, region_of, slot_at}
-use Rattle.rv_monitor.proofs.Prelude.{GoOnLaw, GoesOn, IsChanged, IsKept, IsLeftAlone, IsSpared, IsUntouched, Machine, MachineStepped}
+use Rattle.rv_monitor.specs.Integrity.{LetsGoOn}
+use Rattle.rv_monitor.proofs.Prelude.{GoesOn, IsChanged, IsKept, IsLeftAlone, IsSpared, IsUntouched, Machine, MachineStepped}
 use Rattle.rv_monitor.proofs.Prelude.{MonitoredStepped, RunningLaw, SchedChangeLaw, SchedSparesLaw, both_ways, cases_lt, count_of}
 use Rattle.rv_monitor.proofs.Prelude.{monitored_step, runs_on, sched, seat_of, seated, seen_after, seen_by, step_of}
 use Rattle.rv_monitor.proofs.Beside.{live_by, runs_beside, runs_inside, running_is_live}
@@ -54,7 +55,7 @@ sched_spares k (hart ∷ harts) machine kept alone =
 
 -- ---- one that runs is neither entered nor ended by another hart
 
-pub go_on_law : GoOnLaw
+pub go_on_law : (hart : ℕ) (machine : Machine) → IsKept machine → LetsGoOn hart machine (step_of hart machine)
 go_on_law hart machine kept k own runs rests = by_hart hart machine (GoesOn k)
     (record { passes = refl; live = running_is_live k own machine kept runs })
     (λ here.

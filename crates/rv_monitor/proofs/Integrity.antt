@@ -7,9 +7,10 @@ use Rattle.rv_monitor.specs.Prelude.{Context, Destroy, Enclave, EnclaveState, Ho
 use Rattle.rv_monitor.specs.Prelude.{context_at, created, destroyed, first_context, has, is_live, is_world_of, measured, new_slot}
 use Rattle.rv_monitor.specs.Prelude.{World, option_case, create_args_of, recorded, region, register, running_slot, slot_at, with_context, with_slot}
 use Rattle.rv_monitor.specs.Prelude.{with_state}
-use Rattle.rv_monitor.proofs.Prelude.{Handled, IntegrityLaw, IsOwn, IsSpared, IsTaken, MayCreate, MonitoredState, SlotInfo, a0, at_other}
+use Rattle.rv_monitor.specs.Integrity.{SparesOthers}
+use Rattle.rv_monitor.proofs.Prelude.{Handled, IsOwn, IsSpared, IsTaken, MayCreate, MonitoredState, SlotInfo, a0, at_other}
 use Rattle.rv_monitor.proofs.Prelude.{at_same, both_ways, cases_eq, entered_slot, enters, eq-eqb, free_slot_from, handled, left}
-use Rattle.rv_monitor.proofs.Prelude.{live_in_range, monitored_step, ne_eqb, reached_apart, seen_by, enclave_state_after}
+use Rattle.rv_monitor.proofs.Prelude.{live_in_range, monitored_step, ne_eqb, reached_apart, seen_by, enclave_state_after, Machine, IsKept, step_of}
 use Rattle.rv_monitor.proofs.Beside.{seat_spared}
 use Rattle.rv_monitor.proofs.Changes.{changes}
 use Rattle.rv_monitor.proofs.Kept.{own_kept}
@@ -125,7 +126,7 @@ integrity_in state kept k rests live passes stays =
     let kept_slot = keeps passes stays in
     record { slot = kept_slot.slot; bytes = λ byte own. not_changed state k byte kept rests stays own; context = kept_slot.context }
 
-pub integrity : IntegrityLaw
+pub integrity : (hart : ℕ) (machine : Machine) → IsKept machine → SparesOthers hart machine (step_of hart machine)
 integrity hart machine kept k rests live passes stays = record {
   spared = by_hart hart machine
       (λ after. enters k after.outcome.entered ≡ false → is_live after.state.shared.table k ≡ true → IsSpared k machine.shared after.state.shared)

@@ -3,7 +3,7 @@ use Rattle.std.proofs.Common.{◌≡◌, ◌<◌, ◌≤◌, ℕ, Bool, List, []
 use Rattle.std.specs.Prelude.{map, slice_index_or}
 use Rattle.std.proofs.lemmas.Simd.{map-map}
 use Rattle.rv_monitor.specs.Prelude.{Host, IsSound, Seat, Slots, Trap, World}
-use Rattle.rv_monitor.proofs.Prelude.{AreStored, HostIsStored, IsKept, IsOwn, IsSeated, KeptLaw, Machine, SchedKeptLaw, cases_eq, cases_lt}
+use Rattle.rv_monitor.proofs.Prelude.{AreStored, HostIsStored, IsKept, IsOwn, IsSeated, Machine, SchedKeptLaw, cases_eq, cases_lt}
 use Rattle.rv_monitor.proofs.Prelude.{changed, count_of, get_or-map, length-map, length-set, map-set, monitored_step, seat_at_start}
 use Rattle.rv_monitor.proofs.Prelude.{seat_of, seated, seats_behind, seen_by, set-get_or, set_past, sound_by_size, step_of, stepped_by}
 use Rattle.rv_monitor.proofs.Prelude.{with_seat, worlds}
@@ -74,7 +74,7 @@ stepped_kept hart machine kept has =
           ];
     }
 
-pub kept_law : KeptLaw
+pub kept_law : (hart : ℕ) (machine : Machine) → IsKept machine → IsKept (step_of hart machine).state
 kept_law hart machine kept = by_hart hart machine (λ after. IsKept after.state) kept (stepped_kept hart machine kept)
 
 pub sched_kept : SchedKeptLaw

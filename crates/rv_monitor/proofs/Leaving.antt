@@ -3,8 +3,9 @@ use Rattle.std.proofs.Common.{◌≡◌, ℕ, ◌⊎◌, true, Option, Some, Non
 use Rattle.std.proofs.Math.Bool.{or-false}
 use Rattle.rv_state.specs.declared.cause.Cause.TheVariants as causes
 use Rattle.rv_monitor.specs.Prelude.{Cause, Context, Enclave, Host, Outcome, Seat, StepOutcome, Trap, can_go_on, is_set, step}
-use Rattle.rv_monitor.proofs.Prelude.{Handled, IsOwn, LeaveLaw, MonitoredState, MonitoredStepped, bare_state, handled, kept_after, left_hart}
-use Rattle.rv_monitor.proofs.Prelude.{left, left_shared, monitored_step, returned, seen_by, with_layout}
+use Rattle.rv_monitor.specs.Leaving.{LeavesOnly}
+use Rattle.rv_monitor.proofs.Prelude.{Handled, IsOwn, MonitoredState, MonitoredStepped, bare_state, handled, kept_after, left_hart}
+use Rattle.rv_monitor.proofs.Prelude.{left, left_shared, monitored_step, returned, seen_by, with_layout, IsKept, Machine, step_of}
 use Rattle.rv_monitor.proofs.Kept.{own_kept}
 use Rattle.rv_monitor.proofs.Places.{is_trapping, laid_by, step_seen}
 use Rattle.rv_monitor.proofs.Switched.{aligned_again}
@@ -77,7 +78,7 @@ module _ (before : MonitoredState) (k : ℕ) (host : Context) (runs : before.sea
       let there = subst (λ (after : MonitoredStepped). after.state.seat.world ≡ Host) step_is gone in
       subst Left (sym step_is) (left_or_not (step (bare_state before)).outcome _ all work_goes there)
 
-pub leave_law : LeaveLaw
+pub leave_law : (hart : ℕ) (machine : Machine) → IsKept machine → LeavesOnly hart machine (step_of hart machine)
 leave_law hart machine kept k host trap runs kept_host is gone =
     let trapping = is_trapping hart machine trap is in
     let there = sym (ap (λ (after : MonitoredStepped). after.state.seat.world) (step_seen hart machine trapping.has)) ∙ gone in

@@ -2,7 +2,8 @@
 use Rattle.std.proofs.Common.{◌≡◌, ◌<◌, ℕ, false, List, Option, Some, None, refl, sym, ◌∙◌, ap, ap₂, subst, inl, inr, arith}
 use Rattle.rv_monitor.specs.Prelude.{Hart, IsSound, Outcome, Seat, Shared, SharedButFor, Slots, State, StepOutcome, Stepped, Trap, World}
 use Rattle.rv_monitor.specs.Prelude.{is_live, is_world_of, option_case, step}
-use Rattle.rv_monitor.proofs.Prelude.{AgreeBut, ConfidentialityLaw, IsKept, IsOwn, Machine, MonitoredState, MonitoredStepped}
+use Rattle.rv_monitor.specs.Confidentiality.{ConcealsOthers}
+use Rattle.rv_monitor.proofs.Prelude.{AgreeBut, IsKept, IsOwn, Machine, MonitoredState, MonitoredStepped, step_of}
 use Rattle.rv_monitor.proofs.Prelude.{SeatsAgreeBut, both_ways, cases_Bool, cases_eq, cases_lt, confined, count_of, get_or-map}
 use Rattle.rv_monitor.proofs.Prelude.{get_or_default, handled, length-map, monitored_step, returned, runs_on, same_lists, seat_at_start}
 use Rattle.rv_monitor.proofs.Prelude.{seat_of, seated, seen_by, sound_by_size, stepped_by, unhandled, worlds}
@@ -122,7 +123,7 @@ stepped_agree e hart one other a b agree has step j =
       ]
     ]
 
-pub confidentiality : ConfidentialityLaw
+pub confidentiality : (hart : ℕ) (machine : Machine) → IsKept machine → ConcealsOthers hart machine (step_of hart machine)
 confidentiality hart one here e other there agree rests =
     let size = agree.harts in
     elim (cases_lt hart (count_of one)) [

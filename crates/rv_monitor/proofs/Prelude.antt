@@ -12,15 +12,15 @@ pub use Rattle.rv_hart.proofs.StepLaws.{keeps_machine_parts, keeps_mprv_clear, t
 pub use Rattle.rv_hart.specs.Confinement.{AgreeOn, IsConfined, SameIn, Stores}
 pub use Rattle.rv_hart.specs.Permitted.{MayTouch, MayTouchAll, TouchesPermitted}
 pub use Rattle.rv_monitor.specs.AgreeBut.{AgreeBut, SeatsAgreeBut, runs_on}
-pub use Rattle.rv_monitor.specs.Asked.{AskedLaw, AskedStepLaw, SameAsked, SameWhereSame, SameWork, asked_by, is_call, is_entering}
+pub use Rattle.rv_monitor.specs.Asked.{AskedLaw, SameAsked, SameWhereSame, SameWork, asked_by, is_call, is_entering}
 pub use Rattle.rv_monitor.specs.CallRefusals.{a0, a1, call_refusals}
-pub use Rattle.rv_monitor.specs.Changes.{ByMonitor, ChangeLaw, ChangesInReach, IsChanged, IsMeasured, IsStoredInReach}
-pub use Rattle.rv_monitor.specs.Confidentiality.{BareLaw, ConfidentialityLaw, HandledAlike, HandlerLaw, StepAlike, bare_state, going_on_from}
+pub use Rattle.rv_monitor.specs.Changes.{ByMonitor, ChangesInReach, IsChanged, IsMeasured, IsStoredInReach}
+pub use Rattle.rv_monitor.specs.Confidentiality.{BareLaw, HandledAlike, HandlerLaw, StepAlike, bare_state, going_on_from}
 pub use Rattle.rv_monitor.specs.Debugger.{changed, reg_set, seat_timer_set}
-pub use Rattle.rv_monitor.specs.HartLaws.{EntryLaw, IsLeftAlone, KeptLaw, NotOwnLaw, RunningLaw, RunsOnNone, SchedChangeLaw, SchedKeptLaw}
+pub use Rattle.rv_monitor.specs.HartLaws.{EntryLaw, IsLeftAlone, NotOwnLaw, RunningLaw, RunsOnNone, SchedChangeLaw, SchedKeptLaw}
 pub use Rattle.rv_monitor.specs.HartLaws.{SchedLaw, SchedSparesLaw, sched}
-pub use Rattle.rv_monitor.specs.Integrity.{GoOnLaw, GoesOn, IntegrityLaw, IsSpared, IsUntouched, enters}
-pub use Rattle.rv_monitor.specs.Leaving.{LeaveLaw, kept_after, left_hart, left_shared, line_after, enclave_state_after}
+pub use Rattle.rv_monitor.specs.Integrity.{GoesOn, IsSpared, IsUntouched, enters}
+pub use Rattle.rv_monitor.specs.Leaving.{kept_after, left_hart, left_shared, line_after, enclave_state_after}
 pub use Rattle.rv_monitor.specs.State.{AreStored, HasLayout, HostIsStored, IsKept, IsOwn, IsSeated, KeepsHost, Machine, MonitoredState}
 pub use Rattle.rv_monitor.specs.State.{count_of, held_by, seat_at_start, seat_of, seated, seats_at_start, seen_by, with_seat, worlds}
 unfoldable pub use Rattle.rv_monitor.specs.State.{at_start}
@@ -29,7 +29,7 @@ pub use Rattle.rv_monitor.specs.Step.{past_call, refused, returned, returned_to,
 pub use Rattle.rv_monitor.specs.Step.{trapped_mode, trapped_pc, unhandled, with_layout}
 unfoldable pub use Rattle.rv_monitor.specs.Step.{call_handled, called, forwarded_csrs, handled, monitored_step, performed, step_of}
 unfoldable pub use Rattle.rv_monitor.specs.Step.{timer_stopped}
-pub use Rattle.rv_monitor.specs.SwitchLaws.{StaysOrSwitches, SwitchLaw, reason, value}
+pub use Rattle.rv_monitor.specs.SwitchLaws.{StaysOrSwitches, reason, value}
 pub use Rattle.rv_monitor.specs.Switches.{Handled, kept_host, saved}
 unfoldable pub use Rattle.rv_monitor.specs.Switches.{entered_slot, left}
 pub use Rattle.rv_pmp.specs.Entries.{Entries, cfg_of}

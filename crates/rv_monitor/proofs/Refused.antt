@@ -4,9 +4,9 @@ use Rattle.std.proofs.Math.Bool.{or-false}
 use Rattle.rv_state.specs.declared.cause.Cause.TheVariants as causes
 use Rattle.rv_monitor.specs.Prelude.{Call, Cause, EnvironmentCallFromS, NotSupported, Outcome, Refusal, Seat, Shared, StepOutcome, Trap}
 use Rattle.rv_monitor.specs.Prelude.{aligned_to_4, asked_in, first_refusal, is_set, option_case, step, sum_of}
-use Rattle.rv_monitor.specs.Refused.{refusal_of, refused_hart, RefusalLaw}
+use Rattle.rv_monitor.specs.Refused.{refusal_of, refused_hart, RefusesOnly}
 use Rattle.rv_monitor.proofs.Prelude.{IsOwn, Machine, MonitoredState, MonitoredStepped, bare_state, call_handled, call_refusals, called, handled}
-use Rattle.rv_monitor.proofs.Prelude.{handled_cause, monitored_step, refused, returned, seen_by, with_layout}
+use Rattle.rv_monitor.proofs.Prelude.{handled_cause, monitored_step, refused, returned, seen_by, with_layout, IsKept, step_of}
 use Rattle.rv_monitor.proofs.Kept.{own_kept}
 use Rattle.rv_monitor.proofs.LastAct.{all_as_are}
 use Rattle.rv_monitor.proofs.Places.{is_trapping, laid_by}
@@ -61,7 +61,7 @@ module _ (state : MonitoredState) (kept : IsOwn state) (trap : Trap) (refusal : 
       → refusal_of state.seat state.shared ≡ Some refusal → Refused (monitored_step state)
   refused_one is by_ecall refused = subst Refused (sym (trapped_step state trap is)) (refused_at (step (bare_state state)).outcome by_ecall refused)
 
-pub refusal_law : RefusalLaw
+pub refusal_law : (hart : ℕ) (machine : Machine) → IsKept machine → RefusesOnly hart machine (step_of hart machine)
 refusal_law hart machine kept trap refusal is by_ecall refused =
     let trapping = is_trapping hart machine trap is in
     let state = seen_by hart machine in

@@ -4,7 +4,7 @@ use Rattle.std.specs.Prelude.{◌%◌, ◌&&◌, is_some, not}
 use Rattle.rv_state.specs.declared.s_context.SContext.{SContext}
 use Rattle.rv_monitor.specs.Prelude.{Context, CsrState, Enclave, Host, IsStored, KeepsOwn, Mode, S, Seat, Shared, StepOutcome, Trap, World}
 use Rattle.rv_monitor.specs.Prelude.{aligned_to_4, can_go_on, is_host, is_machine, s_context, step, with_answer, with_s_context}
-use Rattle.rv_monitor.proofs.Prelude.{Handled, HostIsStored, KeepsHost, MonitoredState, StaysOrSwitches, SwitchLaw, a0, and_parts, bare_state}
+use Rattle.rv_monitor.proofs.Prelude.{Handled, HostIsStored, KeepsHost, MonitoredState, StaysOrSwitches, a0, and_parts, bare_state}
 use Rattle.rv_monitor.proofs.Prelude.{both_ways, entered_slot, handled, kept_host, left, monitored_step, nat_tests, past_call, reason, returned}
 use Rattle.rv_monitor.proofs.Prelude.{saved, value}
 use Rattle.rv_monitor.proofs.TrapSteps.{by_step, seat_after}
@@ -138,7 +138,7 @@ module _ (state : MonitoredState) (kept : KeepsHost state.seat) (stored : HostIs
   returned_turns outcome h trapped_is (inr (inr leaves)) =
       returned_leaves outcome h trapped_is leaves state.seat.world state.seat.host_context refl refl kept.kept
 
-pub switch_law : SwitchLaw
+pub switch_law : (state : MonitoredState) → KeepsHost state.seat → HostIsStored state.seat → StaysOrSwitches state (monitored_step state)
 switch_law state kept stored = by_step state (StaysOrSwitches state)
     (λ none. inl (record { world = refl; host = refl; entered = refl }))
     (λ trap is. returned_turns state kept stored trap (step (bare_state state)).outcome _ is (handled_turns (seat_after state.seat trap) state.shared trap))

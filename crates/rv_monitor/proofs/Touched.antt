@@ -4,8 +4,8 @@ use Rattle.rv_hart.proofs.StepCases.{by_ways}
 use Rattle.rv_memory.specs.declared.touched.Touched.{Touched}
 use Rattle.rv_monitor.specs.Prelude.{Access, Fetch, Hart, Mode, Read, Span, State, Stepped, Trap, Word, Write, data_mode, is_machine}
 use Rattle.rv_monitor.specs.Prelude.{retired_or_trapped, span, step}
-use Rattle.rv_monitor.specs.Touches.{executes, IsReached, IsTouchedInReach, TouchLaw}
-use Rattle.rv_monitor.proofs.Prelude.{IsOwn, MayTouch, MonitoredState, bare_state, touches_permitted}
+use Rattle.rv_monitor.specs.Touches.{executes, IsReached, IsTouchedInReach, TouchesInReach}
+use Rattle.rv_monitor.proofs.Prelude.{IsOwn, MayTouch, MonitoredState, bare_state, touches_permitted, monitored_step}
 use Rattle.rv_monitor.proofs.KeptReaches.{below_M, data_below, kept_reach}
 use Rattle.rv_monitor.proofs.TrapSteps.{same_outcome}
 
@@ -54,5 +54,5 @@ module _ (state : MonitoredState) (kept : IsOwn state) where
         stored = reached (data_mode state.seat.hart) Write touched.stored below may.stored;
       }
 
-pub touch_law : TouchLaw
+pub touch_law : (state : MonitoredState) → IsOwn state → TouchesInReach state (monitored_step state)
 touch_law state kept = subst (IsTouchedInReach state) (sym (same_outcome state)) (touched_in_reach state kept)

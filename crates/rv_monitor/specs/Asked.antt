@@ -64,6 +64,3 @@ AsksOnly hart before after =
     (other : Machine) (trap : Trap) → before.seats ≡ other.seats → after.outcome.step.trap ≡ Some trap
     → (step_of hart other).outcome.step.trap ≡ Some trap → SameAsked (seat_of hart before) trap.cause before.shared other.shared
     → SameStep before other after (step_of hart other)
-
-abbrev pub AskedStepLaw : Type 0
-AskedStepLaw = (hart : ℕ) (machine : Machine) → AsksOnly hart machine (step_of hart machine)

@@ -5,8 +5,8 @@ use Rattle.std.specs.Prelude.{◌≡◌, ◌⊎◌, ℕ, ◌+◌, ◌<◌, ◌�
 use Rattle.rv_monitor.specs.Prelude.{Destroy, Measure, Shared, Slots, Span, Trap, World, Write, asked_in, byte_at, bytes_from, bytes_in}
 use Rattle.rv_monitor.specs.Prelude.{first_refusal, has, in_reach, is_live, layout, measure_refusals, measured_slot, region, register}
 use Rattle.rv_monitor.specs.Asked.{is_call}
-use Rattle.rv_monitor.specs.State.{MonitoredState, IsOwn}
-use Rattle.rv_monitor.specs.Step.{MonitoredStepped, monitored_step}
+use Rattle.rv_monitor.specs.State.{MonitoredState}
+use Rattle.rv_monitor.specs.Step.{MonitoredStepped}
 
 -- the instruction stored the byte, and the store was in its world's reach
 pub record IsStoredInReach (world : World) (shared : Shared) (stored : Option Span) (byte : ℕ) : Type 0 where
@@ -51,6 +51,3 @@ IsChanged before after byte =
 abbrev pub ChangesInReach : MonitoredState → MonitoredStepped → Type 0
 ChangesInReach before after =
     (byte : ℕ) → byte_at after.state.shared.memory byte ≡ byte_at before.shared.memory byte ⊎ IsChanged before after byte
-
-abbrev pub ChangeLaw : Type 0
-ChangeLaw = (state : MonitoredState) → IsOwn state → ChangesInReach state (monitored_step state)

@@ -56,6 +56,3 @@ pub record SteppedAlike (e : ℕ) (one other : MachineStepped) : Type 0 where
 abbrev pub ConcealsOthers : ℕ → Machine → MachineStepped → Type 0
 ConcealsOthers hart before after =
     (e : ℕ) (other : Machine) → IsKept other → AgreeBut e before other → runs_on e hart before ≡ false → SteppedAlike e after (step_of hart other)
-
-abbrev pub ConfidentialityLaw : Type 0
-ConfidentialityLaw = (hart : ℕ) (machine : Machine) → IsKept machine → ConcealsOthers hart machine (step_of hart machine)

@@ -19,11 +19,7 @@ abbrev pub sched : List ℕ → Machine → Scheduled
 sched [] machine = record { state = machine; outcomes = [] }
 sched (hart ∷ harts) machine = first_then (step_of hart machine).outcome (sched harts (step_of hart machine).state)
 
--- a step keeps what is true in every state
-abbrev pub KeptLaw : Type 0
-KeptLaw = (hart : ℕ) (machine : Machine) → IsKept machine → IsKept (step_of hart machine).state
-
--- so does every order of steps
+-- every order of steps keeps the invariant
 abbrev pub SchedKeptLaw : Type 0
 SchedKeptLaw = (harts : List ℕ) (machine : Machine) → IsKept machine → IsKept (sched harts machine).state
 

@@ -3,8 +3,8 @@
 use Rattle.std.specs.Prelude.{ℕ, ◌≡◌, ◌==◌, Bool, true, false, Option, Some, None}
 use Rattle.rv_monitor.specs.Prelude.{Shared, byte_at, context_at, has, is_live, region, slot_at}
 use Rattle.rv_monitor.specs.AgreeBut.{runs_on}
-use Rattle.rv_monitor.specs.State.{Machine, IsKept, seat_of, seated}
-use Rattle.rv_monitor.specs.Step.{MachineStepped, step_of}
+use Rattle.rv_monitor.specs.State.{Machine, seat_of, seated}
+use Rattle.rv_monitor.specs.Step.{MachineStepped}
 
 -- whether the slot that was entered, if there is one, is this
 abbrev pub enters : ℕ → Option ℕ → Bool
@@ -29,9 +29,6 @@ SparesOthers hart before after =
     → enters k after.outcome.entered ≡ false → is_live after.state.shared.table k ≡ true
     → IsUntouched k before after.state
 
-abbrev pub IntegrityLaw : Type 0
-IntegrityLaw = (hart : ℕ) (machine : Machine) → IsKept machine → SparesOthers hart machine (step_of hart machine)
-
 -- it is not entered, and it is live after the step
 pub record GoesOn (k : ℕ) (after : MachineStepped) : Type 0 where
   pub passes : enters k after.outcome.entered ≡ false
@@ -40,6 +37,3 @@ pub record GoesOn (k : ℕ) (after : MachineStepped) : Type 0 where
 -- every enclave that runs on a hart other than the one that steps
 abbrev pub LetsGoOn : ℕ → Machine → MachineStepped → Type 0
 LetsGoOn hart before after = (k own : ℕ) → runs_on k own before ≡ true → runs_on k hart before ≡ false → GoesOn k after
-
-abbrev pub GoOnLaw : Type 0
-GoOnLaw = (hart : ℕ) (machine : Machine) → IsKept machine → LetsGoOn hart machine (step_of hart machine)

@@ -8,8 +8,8 @@ use Rattle.rv_monitor.specs.Prelude.{Trap, aligned_to_4, call_number, exited_con
 use Rattle.rv_monitor.specs.Prelude.{with_s_context, with_state}
 use Rattle.rv_monitor.specs.Switches.{saved}
 use Rattle.rv_monitor.specs.Refused.{passed_csrs, past_ecall}
-use Rattle.rv_monitor.specs.State.{Machine, IsKept, seat_of, seated}
-use Rattle.rv_monitor.specs.Step.{MachineStepped, step_of}
+use Rattle.rv_monitor.specs.State.{Machine, seat_of, seated}
+use Rattle.rv_monitor.specs.Step.{MachineStepped}
 use Rattle.rv_monitor.specs.SwitchLaws.{reason, value}
 
 -- ---- what is kept of the enclave
@@ -77,6 +77,3 @@ LeavesOnly hart before after =
     (k : ℕ) (host : Context) (trap : Trap) → (seat_of hart before).world ≡ Enclave k → (seat_of hart before).host_context ≡ Some host
     → after.outcome.step.trap ≡ Some trap → (seat_of hart after.state).world ≡ Host
     → (after.state ≡ left_machine hart before k trap host) × (after.outcome.entered ≡ None)
-
-abbrev pub LeaveLaw : Type 0
-LeaveLaw = (hart : ℕ) (machine : Machine) → IsKept machine → LeavesOnly hart machine (step_of hart machine)

@@ -8,8 +8,8 @@ use Rattle.rv_state.specs.declared.cause.Cause.TheVariants as causes
 use Rattle.rv_monitor.specs.Prelude.{CsrState, EnvironmentCallFromS, Hart, NotSupported, Refusal, S, Seat, Shared, Trap, U, aligned_to_4}
 use Rattle.rv_monitor.specs.Prelude.{asked_in, first_refusal, is_set, option_case, status_of, sum_of, with_answer}
 use Rattle.rv_monitor.specs.CallRefusals.{call_refusals}
-use Rattle.rv_monitor.specs.State.{Machine, IsKept, seat_of, with_seat}
-use Rattle.rv_monitor.specs.Step.{MachineStepped, step_of}
+use Rattle.rv_monitor.specs.State.{Machine, seat_of, with_seat}
+use Rattle.rv_monitor.specs.Step.{MachineStepped}
 
 -- why an ecall from S is refused, if it is: where a7 and a6 ask for no call of the world, or by the table of the call
 unfoldable pub refusal_of : Seat → Shared → Option Refusal
@@ -53,6 +53,3 @@ RefusesOnly hart before after =
     (trap : Trap) (refusal : Refusal) → after.outcome.step.trap ≡ Some trap → trap.cause ≡ causes.Exception EnvironmentCallFromS
     → refusal_of (seat_of hart before) before.shared ≡ Some refusal
     → (after.state ≡ refused_machine hart before trap refusal) × (after.outcome.entered ≡ None)
-
-abbrev pub RefusalLaw : Type 0
-RefusalLaw = (hart : ℕ) (machine : Machine) → IsKept machine → RefusesOnly hart machine (step_of hart machine)

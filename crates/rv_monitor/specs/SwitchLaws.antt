@@ -5,8 +5,8 @@ use Rattle.rv_state.specs.declared.cause.Cause.TheVariants as causes
 use Rattle.rv_monitor.specs.Prelude.{Cause, Context, Enclave, Exit, Hart, Host, S, Trap, call_number, register, with_answer}
 use Rattle.rv_monitor.specs.Switches.{saved}
 use Rattle.rv_monitor.specs.Refused.{past_ecall}
-use Rattle.rv_monitor.specs.State.{MonitoredState, KeepsHost, HostIsStored}
-use Rattle.rv_monitor.specs.Step.{MonitoredStepped, monitored_step}
+use Rattle.rv_monitor.specs.State.{MonitoredState}
+use Rattle.rv_monitor.specs.Step.{MonitoredStepped}
 
 -- the world goes on: it is the same, and what is kept of the host is as it was
 pub record Stays (before : MonitoredState) (after : MonitoredStepped) : Type 0 where
@@ -51,6 +51,3 @@ pub record Leaves (before : MonitoredState) (after : MonitoredStepped) : Type 0 
 
 abbrev pub StaysOrSwitches : MonitoredState → MonitoredStepped → Type 0
 StaysOrSwitches before after = Stays before after ⊎ (Enters before after ⊎ Leaves before after)
-
-abbrev pub SwitchLaw : Type 0
-SwitchLaw = (state : MonitoredState) → KeepsHost state.seat → HostIsStored state.seat → StaysOrSwitches state (monitored_step state)

@@ -4,8 +4,8 @@ use Rattle.std.specs.Prelude.{◌≡◌, ◌⊎◌, Bool, true, false, Option, S
 use Rattle.rv_state.specs.declared.cause.Cause.TheVariants as causes
 use Rattle.rv_monitor.specs.Prelude.{Access, Cause, Exception, Fetch, InstructionAccessFault, Read, Span, StepOutcome, Trap, Word, Write}
 use Rattle.rv_monitor.specs.Prelude.{bytes_from, bytes_in, in_reach, span}
-use Rattle.rv_monitor.specs.State.{MonitoredState, IsOwn}
-use Rattle.rv_monitor.specs.Step.{MonitoredStepped, monitored_step}
+use Rattle.rv_monitor.specs.State.{MonitoredState}
+use Rattle.rv_monitor.specs.Step.{MonitoredStepped}
 
 -- whether a step came to an instruction: it took no interrupt, and its fetch was not refused
 abbrev pub is_after_fetch : Exception → Bool
@@ -35,6 +35,3 @@ pub record IsTouchedInReach (before : MonitoredState) (outcome : StepOutcome) : 
 
 abbrev pub TouchesInReach : MonitoredState → MonitoredStepped → Type 0
 TouchesInReach before after = IsTouchedInReach before after.outcome.step
-
-abbrev pub TouchLaw : Type 0
-TouchLaw = (state : MonitoredState) → IsOwn state → TouchesInReach state (monitored_step state)

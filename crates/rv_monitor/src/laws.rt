@@ -1,53 +1,17 @@
-//! Laws of the monitored machine over every state, for any crate above to cite. Each is proved of the definitions in `specs/`; those
-//! of a step are clauses of `Monitored::step` too.
+//! Laws of the monitored machine over every state, for any crate above to cite. Each is proved of the definitions in `specs/`. The laws of
+//! one step are clauses of `Monitored::step`; here are those of its parts and of steps in any order.
 
 ghost use Rattle.rv_monitor.specs.Access.{KeptReachLaw};
-ghost use Rattle.rv_monitor.specs.Asked.{AskedLaw, AskedStepLaw};
-ghost use Rattle.rv_monitor.specs.Changes.{ChangeLaw};
-ghost use Rattle.rv_monitor.specs.Confidentiality.{BareLaw, ConfidentialityLaw, HandlerLaw};
-ghost use Rattle.rv_monitor.specs.HartLaws.{EntryLaw, KeptLaw, NotOwnLaw, RunningLaw, SchedChangeLaw, SchedKeptLaw, SchedLaw, SchedSparesLaw};
-ghost use Rattle.rv_monitor.specs.Integrity.{GoOnLaw, IntegrityLaw};
-ghost use Rattle.rv_monitor.specs.Leaving.{LeaveLaw};
-ghost use Rattle.rv_monitor.specs.Refused.{RefusalLaw};
+ghost use Rattle.rv_monitor.specs.Asked.{AskedLaw};
+ghost use Rattle.rv_monitor.specs.Confidentiality.{BareLaw, HandlerLaw};
+ghost use Rattle.rv_monitor.specs.HartLaws.{EntryLaw, NotOwnLaw, RunningLaw, SchedChangeLaw, SchedKeptLaw, SchedLaw, SchedSparesLaw};
 ghost use Rattle.rv_monitor.specs.Returns.{ReturnLaw};
 ghost use Rattle.rv_monitor.specs.Scrambled.{ScrambleLaw};
-ghost use Rattle.rv_monitor.specs.SwitchLaws.{SwitchLaw};
-ghost use Rattle.rv_monitor.specs.Touches.{TouchLaw};
 
 /// Reach: in every state of the machine, S and U do an access to bytes in RAM exactly where it is in reach.
 #[tactic(auto, using(crate::proofs::KeptReaches::kept_reach))]
 pub const fn reach_kept()
     ensures { KeptReachLaw }
-{}
-
-/// What the instruction of a step touches lies in its world's reach: the word at pc, which it fetches, and what it loads or stores.
-#[tactic(auto, using(crate::proofs::Touched::touch_law))]
-pub const fn touches()
-    ensures { TouchLaw }
-{}
-
-/// What is true in every state is true after a step.
-pub const fn kept()
-    ensures { KeptLaw }
-{}
-
-/// Integrity: a step leaves the record, the region and the context of each live enclave that is not the world of its hart, and that it
-/// neither enters nor ends; and the hart on which that enclave runs, if it runs, but for the entries and mie.
-#[tactic(auto, using(crate::proofs::Integrity::integrity))]
-pub const fn integrity()
-    ensures { IntegrityLaw }
-{}
-
-/// An enclave that runs on one hart is neither entered nor ended by a step of another.
-pub const fn goes_on()
-    ensures { GoOnLaw }
-{}
-
-/// A step changes no byte of memory but those that its instruction stored, in its world's reach, the region of the enclave that a destroy
-/// ends, and the 32 bytes that a measure puts, each in the caller's reach.
-#[tactic(auto, using(crate::proofs::Changes::changes))]
-pub const fn changes()
-    ensures { ChangeLaw }
 {}
 
 /// The hart's own step depends on no byte of the region of an enclave that is not its world.
@@ -59,29 +23,6 @@ pub const fn bare_step_is_blind()
 /// Nor does the monitor's work after a trap depend on anything that is private to it, also where it enters it.
 pub const fn handler_is_blind()
     ensures { HandlerLaw }
-{}
-
-/// Confidentiality: nor does a step of the monitored machine, wherever the enclave runs, also the one that enters it.
-pub const fn confidentiality()
-    ensures { ConfidentialityLaw }
-{}
-
-/// A call that is refused changes nothing but a0, a1, pc, and what every trap and return change.
-pub const fn refusal()
-    ensures { RefusalLaw }
-{}
-
-/// A step lets the world go on, or the host enters an enclave and is kept as it was, or an enclave leaves and the host goes on as it
-/// was kept, but for a0 and a1.
-#[tactic(auto, using(crate::proofs::Switched::switch_law))]
-pub const fn switches()
-    ensures { SwitchLaw }
-{}
-
-/// The step with which an enclave leaves: its registers go into its context, and of all else only the state in its record, the timer's
-/// line after the timer, and what every trap and its return change are different.
-pub const fn leaves()
-    ensures { LeaveLaw }
 {}
 
 /// From the step with which the host of a hart enters an enclave to the one with which the enclave leaves, whatever steps of the harts lie
@@ -96,12 +37,6 @@ pub const fn host_comes_back()
 #[tactic(auto, using(crate::proofs::Asked::asked_law))]
 pub const fn handler_asks()
     ensures { AskedLaw }
-{}
-
-/// So does a step that traps.
-#[tactic(auto, using(crate::proofs::Asked::asked_step_law))]
-pub const fn trapping_step_asks()
-    ensures { AskedStepLaw }
 {}
 
 /// What is private to an enclave, scrambled twice, is as it was.

@@ -1,5 +1,0 @@
-use Rattle.rv_monitor.proofs.Kept.{kept_law}
-use Rattle.rv_monitor.proofs.laws.kept.Goals as goal
-
-pub returns : goal.returns
-returns c = kept_law
