@@ -6,7 +6,7 @@ use Rattle.rv_debug.proofs.reply.push_pmp.Goals as goal
 
 pub loop-number-preserved : goal.loop-number-preserved
 loop-number-preserved c = record {
-  items = rw (c.push_entry.ensures.items, c.loop-number.invariant.items, c.cfg.ensures.value, c.addr.ensures.value, c.new-index.ensures)
+  items = rw (c.push_entry.ensures.items, c.loop-number.invariant.items, c.cfg.ensures, c.addr.ensures, c.new-index.ensures)
       (flat_map-range_more _ c.args.out.now.items c.loop-number.number);
   len = omega (arith, c.push_entry.ensures.len, c.loop-number.invariant.len);
 }

@@ -6,7 +6,7 @@ use Rattle.rv_enclaves.proofs.layout.write_layout.Goals as goal
 pub returns : goal.returns
 returns c =
     let kept = c.loop-i.invariant in
-    rw c.set_entries.ensures.entries
+    rw c.set_entries.ensures
     (layout_from_each c.args.table.now c.args.world.now c.loop-i.cfgs c.loop-i.addrs kept.cfgs_long kept.addrs_long
     (λ j below. kept.cfgs j (omega (arith, below, c.loop-i-test.false)))
     (λ j below. kept.addrs j (omega (arith, below, c.loop-i-test.false))))
