@@ -1,5 +1,5 @@
 -- A hart to which a command does nothing keeps all but the entries and mie.
-use Rattle.std.proofs.Common.{◌≡◌, ◌≢◌, ◌<◌, ℕ, ◌==◌, true, false, List, [], ◌∷◌, Option, Some, None, sym, ◌∙◌, ap, subst, not}
+use Rattle.std.proofs.Common.{◌≡◌, ◌≢◌, ◌<◌, ℕ, ◌==◌, true, false, List, [], ◌∷◌, Option, Some, None, refl, sym, ◌∙◌, ap, subst, not}
 use Rattle.rv_monitor.proofs.LastAct.{as_is}
 use Rattle.rv_debug.specs.Prelude.{Bare, Command, IsKept, Machine, Monitored, Seat, Target, changed, count_of, reg_set, sched}
 use Rattle.rv_debug.specs.Prelude.{seat_at_start, seat_of, seated, step_of, seat_timer_set, write}
@@ -45,7 +45,7 @@ write_leaves hart machine change kept has other =
 
 leaves : (hart : ℕ) (target : Target) (d : Effect) → KeepsMonitor target → hart < harts_of target → LeavesHart hart target d
     → KeepsHart hart target (done target d)
-leaves hart (Bare machine) d kept has none = by_bare (KeepsHart hart (Bare machine)) (λ alone. tt) _ (bare_done machine d)
+leaves hart (Bare machine) d kept has none = by_bare (KeepsHart hart (Bare machine)) (λ alone. refl) _ (bare_done machine d)
 leaves hart (Monitored machine) Nothing kept has none = same_as_is hart machine.state kept has
 leaves hart (Monitored machine) (Steps harts chosen) kept has none =
     subst (KeepsHart hart (Monitored machine)) (sym (schedule_is_sched harts machine _ chosen))

@@ -1,14 +1,15 @@
 -- The laws of isolation, of what is done, of a command and of a list of commands.
 use Rattle.std.proofs.Common.{◌≡◌, ◌≢◌, ℕ, ◌+◌, ◌<◌, ◌≤◌, ◌⊎◌, true, false, List, [], ◌∷◌, Option, Some, None, refl}
-use Rattle.std.proofs.Common.{sym, ◌∙◌, subst, inl, inr, arith, ap}
+use Rattle.std.proofs.Common.{sym, ◌∙◌, subst, inl, inr, arith, ap, IfSome}
+use Rattle.std.specs.Prelude.{IsSomeAnd}
 use Rattle.rv_monitor.proofs.HartsSpare.{running_law, sched_changes, sched_spares, spared_twice}
 use Rattle.rv_monitor.proofs.KeptReaches.{kept_reach}
-use Rattle.rv_debug.specs.Prelude.{Access, Bare, Command, IsKept, Monitored, RunsOnNone, State, Target, byte_at, has, read, region}
-use Rattle.rv_debug.specs.Prelude.{runs_on, seen_by, write}
-use Rattle.rv_debug.proofs.Prelude.{BenchState, ChangesMemory, Chosen, Effect, IntegrityLaw, IsLiveIn, IsMonitored, IsSparedIn, KeepsMonitor}
+use Rattle.rv_debug.specs.Prelude.{Access, Bare, Command, IsKept, Monitored, RunsOnNone, Target, byte_at, has, read, region}
+use Rattle.rv_debug.specs.Prelude.{Machine, is_live, runs_on, seen_by, write}
+use Rattle.rv_debug.proofs.Prelude.{BenchState, ChangesMemory, Chosen, Effect, IntegrityLaw, IsSparedIn, KeepsMonitor}
 use Rattle.rv_debug.proofs.Prelude.{MayChange, OneByte, PokesNone, RestsThroughEffect, RunningLaw, SparesResting, Steps, TellsReach}
 use Rattle.rv_debug.proofs.Prelude.{after_commands, answer, byte_at-write, cases_eq, cases_lt, chosen_of, effect, done, harts_of}
-use Rattle.rv_debug.proofs.Prelude.{harts_stepped, memory_of, own_kept}
+use Rattle.rv_debug.proofs.Prelude.{harts_stepped, machine_in, memory_of, own_kept}
 use Rattle.rv_debug.proofs.EffectsKept.{keeps_monitor, poke_of}
 use Rattle.rv_debug.proofs.ScheduledSteps.{schedule_is_sched}
 
@@ -43,14 +44,9 @@ poke_spares k address byte machine (Some memory) is apart =
       context = refl;
     }
 
--- a machine alone has no enclave that rests
-none_rests : (k : ℕ) (machine : State) (d : Effect) → RestsThroughEffect k (Bare machine) d → ⊥
-none_rests k machine (OneByte address byte) rests = rests.0
-none_rests k machine (Steps harts chosen) rests = rests
-none_rests k machine _ rests = rests
-
-spares : (target : Target) (d : Effect) → KeepsMonitor target → (k : ℕ) → RestsThroughEffect k target d → IsSparedIn k target (done target d)
-spares (Bare machine) d kept k rests = absurd (none_rests k machine d rests)
+spares : (target : Target) (d : Effect) → KeepsMonitor target → (k : ℕ)
+    → IsSomeAnd (machine_in target) (λ machine. RestsThroughEffect k machine d) → IsSparedIn k target (done target d)
+spares (Bare machine) d kept k rests = absurd rests
 spares (Monitored machine) (Steps harts chosen) kept k rests =
     subst (IsSparedIn k (Monitored machine)) (sym (schedule_is_sched harts machine _ chosen))
     (sched_spares k harts machine.state kept rests).spared
@@ -64,20 +60,20 @@ spares_resting bench command kept = spares bench.target (effect bench command) k
 
 -- ---- an enclave that runs on a hart which no step is of
 
-rests_by : (k own : ℕ) (chosen : Chosen) (d : Effect) → IsKept chosen.state → runs_on k own chosen.state ≡ true
-    → RunsOnNone k (harts_stepped d) chosen.state → PokesNone k (Monitored chosen) d → RestsThroughEffect k (Monitored chosen) d
-rests_by k own chosen d kept runs none pokes = by d none pokes where
-  live : IsLiveIn k (Monitored chosen)
-  live = running_law k own [] chosen.state kept runs tt
-
-  by : (d : Effect) → RunsOnNone k (harts_stepped d) chosen.state → PokesNone k (Monitored chosen) d → RestsThroughEffect k (Monitored chosen) d
-  by (Steps harts last) none pokes = running_law k own harts chosen.state kept runs none
-  by (OneByte address byte) none pokes = (live, pokes)
-  by _ none pokes = live
+rests_by : (k own : ℕ) (machine : Machine) (d : Effect) → IsKept machine → runs_on k own machine ≡ true
+    → RunsOnNone k (harts_stepped d) machine → PokesNone k machine d → RestsThroughEffect k machine d
+rests_by k own machine (Steps harts last) kept runs none pokes = running_law k own harts machine kept runs none
+rests_by k own machine (OneByte address byte) kept runs none pokes = (running_law k own [] machine kept runs tt, pokes)
+rests_by k own machine _ kept runs none pokes = running_law k own [] machine kept runs tt
 
 pub running : RunningLaw
-running k own chosen breaks watches command kept runs none pokes =
-    rests_by k own chosen (effect (record { target = Monitored chosen; breaks = breaks; watches = watches }) command) kept runs none pokes
+running k own bench command = by (machine_in bench.target) where
+  by : (found : Option Machine) → IfSome found IsKept
+      → IfSome found (λ machine.
+      let does = effect bench command in
+      runs_on k own machine ≡ true → RunsOnNone k (harts_stepped does) machine → PokesNone k machine does → RestsThroughEffect k machine does)
+  by None kept = tt
+  by (Some machine) kept = rests_by k own machine (effect bench command) kept
 
 -- ---- the bytes that are changed
 
@@ -94,20 +90,24 @@ poke_changes address value byte machine (Some memory) is = elim (cases_eq byte a
   | inr other ↦ inl (byte_at-write machine.state.shared.memory address (value ∷ []) memory byte is (beside byte address other))
 ]
 
-changes : (target : Target) (d : Effect) → KeepsMonitor target → IsMonitored target → (byte : ℕ)
-    → ByteIsOr byte target (done target d) (MayChange target d byte)
-changes (Bare machine) d kept is byte = absurd is
-changes (Monitored machine) (Steps harts chosen) kept is byte = elim (sched_changes harts machine.state byte kept) [
+changes : (target : Target) (d : Effect) → KeepsMonitor target → (byte : ℕ)
+    → IfSome (machine_in target) (λ machine. ByteIsOr byte target (done target d) (MayChange machine d byte))
+changes (Bare machine) d kept byte = tt
+changes (Monitored machine) (Steps harts chosen) kept byte = elim (sched_changes harts machine.state byte kept) [
   | inl same ↦ inl (ap (λ (target : Target). byte_at (memory_of target) byte) (schedule_is_sched harts machine _ chosen) ∙ same)
   | inr change ↦ inr change
 ]
-changes (Monitored machine) (OneByte address value) kept is byte =
+changes (Monitored machine) (OneByte address value) kept byte =
     poke_changes address value byte machine (write machine.state.shared.memory address (value ∷ [])) refl
-changes (Monitored machine) _ kept is byte = inl refl
+changes (Monitored machine) _ kept byte = inl refl
 
 pub changes_memory : (bench : BenchState) (command : Command) → KeepsMonitor bench.target → ChangesMemory bench command (answer bench command).state
 unfolding answer
-changes_memory bench command kept = changes bench.target (effect bench command) kept
+changes_memory bench command kept byte = by bench.target (effect bench command) kept where
+  by : (target : Target) (d : Effect) → KeepsMonitor target → IfSome (machine_in target) (λ machine.
+      byte_at (memory_of (done target d)) byte ≡ byte_at machine.shared.memory byte ⊎ MayChange machine d byte)
+  by (Bare machine) d kept = tt
+  by (Monitored machine) d kept = changes (Monitored machine) d kept byte
 
 -- ---- a list of commands
 
@@ -118,7 +118,8 @@ spared_after k (Bare before) between after first last = absurd first
 spared_after k (Monitored before) (Bare between) after first last = absurd first
 spared_after k (Monitored before) (Monitored between) (Bare after) first last = absurd last
 
-spared_itself : (k : ℕ) (target : Target) → IsLiveIn k target → IsSparedIn k target target
+spared_itself : (k : ℕ) (target : Target) → IsSomeAnd (machine_in target) (λ machine. is_live machine.shared.table k ≡ true)
+    → IsSparedIn k target target
 spared_itself k (Monitored machine) rests = itself k machine
 spared_itself k (Bare machine) rests = rests
 

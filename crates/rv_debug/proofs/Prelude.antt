@@ -14,8 +14,8 @@ pub use Rattle.rv_debug.specs.Confidentiality.{PokeLaw, PokesInto, RestLaw, Stay
 pub use Rattle.rv_debug.specs.Effects.{Effect, Nothing, OneByte, Register, Steps, TimerLine, effect, done, entered_by, harts_stepped, run_effect}
 pub use Rattle.rv_debug.specs.Effects.{steps_of}
 pub use Rattle.rv_debug.specs.FastSteps.{AreFreeOf, FastSteps, IsFast, IsFreeOf, and_on, fast_stop, so_far_in}
-pub use Rattle.rv_debug.specs.Isolation.{ChangesMemory, IntegrityLaw, IsLiveIn, IsMonitored, IsSparedIn, KeepsHart, LeavesHart, MayChange}
-pub use Rattle.rv_debug.specs.Isolation.{PokesNone, RestsThroughEffect, RunningLaw, SparesHarts, SparesResting, TellsReach, after_commands}
+pub use Rattle.rv_debug.specs.Isolation.{ChangesMemory, IntegrityLaw, IsSparedIn, KeepsHart, LeavesHart, MayChange, PokesNone}
+pub use Rattle.rv_debug.specs.Isolation.{RestsThroughEffect, RunningLaw, SparesHarts, SparesResting, TellsReach, after_commands}
 unfoldable pub use Rattle.rv_debug.specs.ReplyText.{csr_text, denied_outside_text, dis_text, entry_text, full_text, hart_text, memory_text}
 unfoldable pub use Rattle.rv_debug.specs.ReplyText.{no_csr_text, no_hart_text, ok_text, outside_text, pc_text, pmp_text, ran_text}
 unfoldable pub use Rattle.rv_debug.specs.ReplyText.{register_text, registers_text, stop_text, trap_text, verdict_text}
@@ -24,7 +24,7 @@ unfoldable pub use Rattle.rv_debug.specs.Steps.{run}
 pub use Rattle.rv_debug.specs.Stops.{is_accessed, is_between, is_in, lower, lowest}
 unfoldable pub use Rattle.rv_debug.specs.Stops.{lowest_accessed}
 pub use Rattle.rv_debug.specs.Targets.{IsBare, KeepsMonitor, chosen_at, chosen_of, chosen_seat, chosen_stepped, harts_of, machine_stepped}
-pub use Rattle.rv_debug.specs.Targets.{memory_of, over_memory, pc_of, target_stepped, with_chosen, with_target, world_name}
+pub use Rattle.rv_debug.specs.Targets.{machine_in, memory_of, over_memory, pc_of, target_stepped, with_chosen, with_target, world_name}
 pub use Rattle.rv_debug.specs.ScheduledSteps.{AfterSchedule, schedule_start, with_own, with_scheduled_step}
 unfoldable pub use Rattle.rv_debug.specs.ScheduledSteps.{scheduled_steps}
 pub use Rattle.rv_enclaves.proofs.Alike.{itself, seen_block}

@@ -1,19 +1,19 @@
 -- Two benches that are given the same commands: what they agree in, which commands are blind to an enclave, and what both answer.
 -- (This project's own debugger over its own monitor.)
 use Rattle.std.specs.Prelude.{ℕ, ◌≡◌, suc, ◌==◌, Bool, true, false, not, ◌&&◌, ◌||◌, if◌then◌else◌, List, [], ◌∷◌, Result, Ok}
-use Rattle.std.specs.Prelude.{Err}
+use Rattle.std.specs.Prelude.{Err, IfSome}
 use Rattle.std.specs.Int.{bit_at}
 use Rattle.std.specs.List.{range_with_len}
 use Rattle.rv_monitor.specs.Scrambled.{scrambled as scrambled_of}
 use Rattle.rv_enclaves.specs.Scramble.{can_scramble as can_scramble_of}
 use Rattle.rv_debug.specs.Prelude.{AgreeBut, All, Bare, Blank, Block, BothWhy, Command, CommandFault, Csr, Entered, Monitored, NotBlind}
-use Rattle.rv_debug.specs.Prelude.{Reg, Regs, Run, RunsOnNone, Sched, Step, Target, bytes_named, meets, no_block, parse_of, region}
-use Rattle.rv_debug.specs.Prelude.{runs_on}
+use Rattle.rv_debug.specs.Prelude.{Reg, Regs, Run, RunsOnNone, Sched, Step, Target, bytes_named, meets, no_block, option_case, parse_of}
+use Rattle.rv_debug.specs.Prelude.{region, runs_on}
 use Rattle.rv_debug.specs.Answer.{Answered, answer}
 use Rattle.rv_debug.specs.BenchState.{BenchState}
 use Rattle.rv_debug.specs.Chosen.{Chosen}
 use Rattle.rv_debug.specs.ReplyText.{command_fault_text}
-use Rattle.rv_debug.specs.Targets.{chosen_at, chosen_of, harts_of}
+use Rattle.rv_debug.specs.Targets.{chosen_at, chosen_of, harts_of, machine_in}
 use Rattle.rv_debug.specs.declared.both.BothLine.{BothLine}
 use Rattle.rv_debug.specs.declared.both.BothLine.TheVariants.{Faulty, Given}
 
@@ -39,8 +39,7 @@ pub record BenchesAgreeBut (e : ℕ) (one other : BenchState) : Type 0 where
 
 -- the region of slot e, without bytes where its enclave is not live
 abbrev pub region_in : ℕ → Target → Block
-region_in e (Bare machine) = no_block
-region_in e (Monitored chosen) = region chosen.state.shared.table e
+region_in e target = option_case (machine_in target) no_block (λ machine. region machine.shared.table e)
 
 -- the command is not a mem, dis or poke with a byte in the region of slot e
 unfoldable pub is_blind : ℕ → BenchState → Command → Bool
@@ -58,13 +57,11 @@ harts_shown target _ = []
 
 -- the enclave of slot e runs on none of these harts
 abbrev pub RunsOnNoneIn : ℕ → List ℕ → Target → Type 0
-RunsOnNoneIn e harts (Bare machine) = Unit {0}
-RunsOnNoneIn e harts (Monitored chosen) = RunsOnNone e harts chosen.state
+RunsOnNoneIn e harts target = IfSome (machine_in target) (RunsOnNone e harts)
 
 -- it runs on none that there is
 abbrev pub RestsIn : ℕ → Target → Type 0
-RestsIn e (Bare machine) = Unit {0}
-RestsIn e (Monitored chosen) = (hart : ℕ) → runs_on e hart chosen.state ≡ false
+RestsIn e target = IfSome (machine_in target) (λ machine. (hart : ℕ) → runs_on e hart machine ≡ false)
 
 -- the command neither steps nor shows a hart on which it runs
 abbrev pub PassesBy : ℕ → BenchState → Command → Type 0
@@ -136,8 +133,7 @@ both_line_answer e first second line = both_told e first second (parse_of line)
 
 -- an enclave is live in the slot, and does not run
 abbrev pub can_scramble_in : ℕ → Target → Bool
-can_scramble_in e (Bare machine) = false
-can_scramble_in e (Monitored chosen) = can_scramble_of chosen.state.shared.table e
+can_scramble_in e target = option_case (machine_in target) false (λ machine. can_scramble_of machine.shared.table e)
 
 abbrev pub can_scramble : ℕ → BenchState → Bool
 can_scramble e bench = can_scramble_in e bench.target

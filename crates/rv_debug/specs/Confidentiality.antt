@@ -1,17 +1,12 @@
 -- What two benches that agree but for an enclave show and leave, given the same commands that pass by the hart on which it runs: nothing of
 -- that enclave, up to the command that enters it. (Laws of this project's own debugger over its own monitor.)
-use Rattle.std.specs.Prelude.{ℕ, ◌≡◌, suc, Bool, true, false, List, [], ◌∷◌, take}
-use Rattle.rv_debug.specs.Prelude.{All, Bare, BothWhy, Command, Entered, Monitored, NotBlind, Poke, Target, has, is_live}
+use Rattle.std.specs.Prelude.{ℕ, ◌≡◌, suc, true, false, List, [], ◌∷◌, take}
+use Rattle.rv_debug.specs.Prelude.{All, BothWhy, Command, Entered, NotBlind, Poke, has}
 use Rattle.rv_debug.specs.Answer.{Answered, answer}
 use Rattle.rv_debug.specs.BenchState.{BenchState}
 use Rattle.rv_debug.specs.Isolation.{after_commands}
-use Rattle.rv_debug.specs.Targets.{KeepsMonitor}
+use Rattle.rv_debug.specs.Targets.{KeepsMonitor, is_live_in}
 use Rattle.rv_debug.specs.BothBenches.{BenchesAgreeBut, BothAnswered, PassesBy, RestsIn, is_blind, is_entered, region_in}
-
--- the enclave of slot e is live
-abbrev pub is_live_in : ℕ → Target → Bool
-is_live_in e (Bare machine) = false
-is_live_in e (Monitored chosen) = is_live chosen.state.shared.table e
 
 -- they agree again; and once the enclave is gone they are equal
 pub record AgreeAgain (e : ℕ) (first second : BenchState) : Type 0 where

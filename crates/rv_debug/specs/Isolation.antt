@@ -1,20 +1,19 @@
 -- What the commands of a monitored bench show and keep of isolation: the law of reach as `access` tells it, and the law of integrity
 -- for a command and for a list of commands. (This project's own debugger over its own monitor.)
 use Rattle.std.specs.List.{list_all}
-use Rattle.std.specs.Prelude.{ℕ, ◌≡◌, ◌≢◌, ◌<◌, ◌⊎◌, ◌==◌, true, false, not, List, [], ◌∷◌}
+use Rattle.std.specs.Prelude.{ℕ, ◌≡◌, ◌≢◌, ◌<◌, ◌⊎◌, ◌==◌, true, false, not, List, [], ◌∷◌, None, IfSome, IsSomeAnd, MatchOption}
 use Rattle.rv_pmp.specs.Verdicts.{bytes_from, permits}
 use Rattle.rv_pmp.specs.declared.access.Access.{Access as AccessKind}
 use Rattle.rv_memory.specs.Accesses.{verdict_on}
 use Rattle.rv_enclaves.specs.Reach.{in_reach}
-use Rattle.rv_debug.specs.Prelude.{Access, Bare, Command, IsChangedInOrder, IsKept, IsLeftAlone, IsSpared, M, Mode, Monitored}
+use Rattle.rv_debug.specs.Prelude.{Access, Command, IsChangedInOrder, IsLeftAlone, IsSpared, M, Machine, Mode, Monitored}
 use Rattle.rv_debug.specs.Prelude.{MonitoredState, RunsOnNone, Target, Width, byte_at, bytes_in, has, is_inside, is_live, region, runs_on}
 use Rattle.rv_debug.specs.Prelude.{seat_of, seated, seen_by}
 use Rattle.rv_debug.specs.Answer.{access_reply, answer}
 use Rattle.rv_debug.specs.BenchState.{BenchState}
-use Rattle.rv_debug.specs.Chosen.{Chosen}
 use Rattle.rv_debug.specs.Effects.{Effect, Steps, Register, TimerLine, OneByte, effect, harts_stepped}
 use Rattle.rv_debug.specs.ReplyText.{verdict_text}
-use Rattle.rv_debug.specs.Targets.{KeepsMonitor, chosen_of, harts_of, memory_of}
+use Rattle.rv_debug.specs.Targets.{KeepsMonitor, chosen_of, harts_of, machine_in, memory_of}
 
 -- ---- reach
 
@@ -33,74 +32,49 @@ TellsReach _ _ = Unit {0}
 
 -- ---- integrity
 
--- the enclave of slot k is live; it may run
-abbrev pub IsLiveIn : ℕ → Target → Type 0
-IsLiveIn k (Bare machine) = ⊥
-IsLiveIn k (Monitored chosen) = is_live chosen.state.shared.table k ≡ true
-
--- steps of these harts leave it alone: before each it is live, and not the world of the hart that steps, which does not enter it
-abbrev pub IsLeftAloneIn : ℕ → List ℕ → Target → Type 0
-IsLeftAloneIn k harts (Bare machine) = ⊥
-IsLeftAloneIn k harts (Monitored chosen) = IsLeftAlone k harts chosen.state
-
--- a byte at an address is not in its region
-abbrev pub IsApart : ℕ → ℕ → Target → Type 0
-IsApart k address (Bare machine) = ⊥
-IsApart k address (Monitored chosen) = has (region chosen.state.shared.table k) address ≡ false
-
--- one step of these harts changed the byte, as a step of its hart may
-abbrev pub IsChangedInSchedule : List ℕ → ℕ → Target → Type 0
-IsChangedInSchedule harts byte (Bare machine) = ⊥
-IsChangedInSchedule harts byte (Monitored chosen) = IsChangedInOrder harts chosen.state byte
-
--- the target is a monitored machine
-abbrev pub IsMonitored : Target → Type 0
-IsMonitored (Bare machine) = ⊥
-IsMonitored (Monitored chosen) = Unit {0}
-
--- it is live, and rests through what is done: the steps leave it alone, and no byte of its region is poked. It may run on the hart that
--- does not step.
-abbrev pub RestsThroughEffect : ℕ → Target → Effect → Type 0
-RestsThroughEffect k target (Steps harts chosen) = IsLeftAloneIn k harts target
-RestsThroughEffect k target (OneByte address byte) = IsLiveIn k target × IsApart k address target
-RestsThroughEffect k target _ = IsLiveIn k target
+-- The enclave of slot k rests through an effect on a machine: it is live, the steps leave it alone, and no byte of its region is poked. It may
+-- run on a hart that does not step.
+abbrev pub RestsThroughEffect : ℕ → Machine → Effect → Type 0
+RestsThroughEffect k machine (Steps harts chosen) = IsLeftAlone k harts machine
+RestsThroughEffect k machine (OneByte address byte) =
+    (is_live machine.shared.table k ≡ true) × (has (region machine.shared.table k) address ≡ false)
+RestsThroughEffect k machine _ = is_live machine.shared.table k ≡ true
 
 abbrev pub RestsUnder : ℕ → BenchState → Command → Type 0
-RestsUnder k bench command = RestsThroughEffect k bench.target (effect bench command)
+RestsUnder k bench command = IsSomeAnd (machine_in bench.target) (λ machine. RestsThroughEffect k machine (effect bench command))
 
 -- its record, the bytes of its region and its kept context are as before
 abbrev pub IsSparedIn : ℕ → Target → Target → Type 0
-IsSparedIn k (Monitored before) (Monitored after) = IsSpared k before.state.shared after.state.shared
-IsSparedIn k _ _ = ⊥
+IsSparedIn k before after = IsSomeAnd (machine_in before) (λ one. IsSomeAnd (machine_in after) (λ other. IsSpared k one.shared other.shared))
 
 -- no byte of its region is poked
-abbrev pub PokesNone : ℕ → Target → Effect → Type 0
-PokesNone k target (OneByte address byte) = IsApart k address target
-PokesNone k target _ = Unit {0}
+abbrev pub PokesNone : ℕ → Machine → Effect → Type 0
+PokesNone k machine (OneByte address byte) = has (region machine.shared.table k) address ≡ false
+PokesNone k machine _ = Unit {0}
 
 -- one that runs on a hart rests under every command that does not step that hart, and pokes no byte of its region
 abbrev pub RunningLaw : Type 0
 RunningLaw =
-    (k own : ℕ) (chosen : Chosen) (breaks watches : List ℕ) (command : Command) → IsKept chosen.state → runs_on k own chosen.state ≡ true
-    → (let bench : BenchState = record { target = Monitored chosen; breaks = breaks; watches = watches } in
+    (k own : ℕ) (bench : BenchState) (command : Command) → KeepsMonitor bench.target
+    → IfSome (machine_in bench.target) (λ machine.
     let does = effect bench command in
-    RunsOnNone k (harts_stepped does) chosen.state → PokesNone k bench.target does → RestsUnder k bench command)
+    runs_on k own machine ≡ true → RunsOnNone k (harts_stepped does) machine → PokesNone k machine does → RestsThroughEffect k machine does)
 
 -- a command spares each enclave that rests through it
 abbrev pub SparesResting : BenchState → Command → BenchState → Type 0
 SparesResting before command after = (k : ℕ) → RestsUnder k before command → IsSparedIn k before.target after.target
 
--- a byte that may be changed by what is done: one that a step changes in reach, or that is poked
-abbrev pub MayChange : Target → Effect → ℕ → Type 0
-MayChange target (Steps harts chosen) byte = IsChangedInSchedule harts byte target
-MayChange target (OneByte address value) byte = byte ≡ address
-MayChange target _ byte = ⊥
+-- a byte that an effect may change: one that a step changes in reach, or that is poked
+abbrev pub MayChange : Machine → Effect → ℕ → Type 0
+MayChange machine (Steps harts chosen) byte = IsChangedInOrder harts machine byte
+MayChange machine (OneByte address value) byte = byte ≡ address
+MayChange machine _ byte = ⊥
 
 -- each byte of a monitored machine is as before, or is one of these
 abbrev pub ChangesMemory : BenchState → Command → BenchState → Type 0
 ChangesMemory before command after =
-    IsMonitored before.target → (byte : ℕ)
-    → byte_at (memory_of after.target) byte ≡ byte_at (memory_of before.target) byte ⊎ MayChange before.target (effect before command) byte
+    (byte : ℕ) → IfSome (machine_in before.target) (λ machine.
+    byte_at (memory_of after.target) byte ≡ byte_at machine.shared.memory byte ⊎ MayChange machine (effect before command) byte)
 
 -- ---- the other harts
 
@@ -113,9 +87,9 @@ LeavesHart hart target _ = Unit {0}
 
 -- it is as before, its world, registers, pc and mode, but for the entries and mie, which are those of the table and its world
 abbrev pub KeepsHart : ℕ → Target → Target → Type 0
-KeepsHart hart (Monitored before) (Monitored after) = seat_of hart after.state ≡ seated after.state.shared.table (seat_of hart before.state)
-KeepsHart hart (Bare before) (Bare after) = Unit {0}
-KeepsHart hart _ _ = ⊥
+KeepsHart hart before after =
+    MatchOption (machine_in before) (machine_in after ≡ None)
+    (λ one. IsSomeAnd (machine_in after) (λ other. seat_of hart other ≡ seated other.shared.table (seat_of hart one)))
 
 abbrev pub SparesHarts : BenchState → Command → BenchState → Type 0
 SparesHarts before command after =
@@ -125,7 +99,7 @@ SparesHarts before command after =
 
 -- it rests through commands, one after another
 abbrev pub RestsUnderAll : ℕ → BenchState → List Command → Type 0
-RestsUnderAll k bench [] = IsLiveIn k bench.target
+RestsUnderAll k bench [] = IsSomeAnd (machine_in bench.target) (λ machine. is_live machine.shared.table k ≡ true)
 RestsUnderAll k bench (command ∷ commands) =
     RestsUnder k bench command × RestsUnderAll k (answer bench command).state commands
 

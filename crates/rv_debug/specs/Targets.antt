@@ -1,15 +1,20 @@
 -- What commands work on, in the few words in which the answers speak of it. (This project's own debugger.)
-use Rattle.std.specs.Prelude.{ℕ, Bool, List, [], ◌∷◌, ◌++◌, codes, decimal, Option, None}
+use Rattle.std.specs.Prelude.{ℕ, Bool, false, List, [], ◌∷◌, ◌++◌, codes, decimal, Option, Some, None, IfSome}
 use Rattle.std.specs.Option.{option_map}
 use Rattle.rv_hart.specs.HartState.{Hart}
 use Rattle.rv_hart.specs.Step.{step}
 use Rattle.rv_enclaves.specs.declared.world.World.{World}
 use Rattle.rv_enclaves.specs.declared.world.World.TheVariants.{Host, Enclave}
-use Rattle.rv_debug.specs.Prelude.{Bare, IsKept, Machine, Monitored, Seat, State, Target, count_of, seat_of, step_of, with_memory}
-use Rattle.rv_debug.specs.Prelude.{with_reg, with_register, with_timer, write}
+use Rattle.rv_debug.specs.Prelude.{AreStored, Bare, IsKept, Machine, Monitored, Seat, State, Target, count_of, is_live, option_case}
+use Rattle.rv_debug.specs.Prelude.{seat_of, step_of, with_memory, with_reg, with_register, with_timer, write}
 use Rattle.rv_debug.specs.Chosen.{Chosen}
 use Rattle.rv_debug.specs.EnclaveText.{table_text}
 use Rattle.rv_debug.specs.Steps.{Stepped}
+
+-- the monitored machine of a target, if it is monitored
+abbrev pub machine_in : Target → Option Machine
+machine_in (Bare machine) = None
+machine_in (Monitored chosen) = Some chosen.state
 
 -- the seat of the chosen hart
 abbrev pub chosen_seat : Chosen → Seat
@@ -37,8 +42,11 @@ world_text (Monitored chosen) = world_name (chosen_seat chosen).world
 
 -- a line for each of its live enclaves; a machine alone has none
 abbrev pub enclaves_text : Target → List ℕ
-enclaves_text (Bare machine) = []
-enclaves_text (Monitored chosen) = table_text chosen.state.shared.table
+enclaves_text target = option_case (machine_in target) [] (λ machine. table_text machine.shared.table)
+
+-- whether the enclave of slot e is live
+abbrev pub is_live_in : ℕ → Target → Bool
+is_live_in e target = option_case (machine_in target) false (λ machine. is_live machine.shared.table e)
 
 -- the address of its next instruction
 abbrev pub pc_of : Target → ℕ
@@ -111,5 +119,8 @@ IsBare (Monitored chosen) = ⊥
 -- where the target is monitored: its table is valid, the entries and mie are those of the table and the world, the mode is S or U, and
 -- MIE, MPRV, TVM, TW and TSR are 0
 abbrev pub KeepsMonitor : Target → Type 0
-KeepsMonitor (Bare machine) = Unit {0}
-KeepsMonitor (Monitored chosen) = IsKept chosen.state
+KeepsMonitor target = IfSome (machine_in target) IsKept
+
+-- what is kept of the host of each hart is as a hart stores it
+abbrev pub IsStoredIn : Target → Type 0
+IsStoredIn target = IfSome (machine_in target) AreStored

@@ -7,7 +7,7 @@ ghost use Rattle.rv_debug.specs.Effects.{OneByte, done, entered_by, hart_effect,
 ghost use Rattle.rv_script.specs.Schedules.{harts_in};
 ghost use Rattle.rv_debug.specs.Addresses.{without_address};
 ghost use Rattle.rv_debug.specs.ReplyText.{ok_text};
-ghost use Rattle.rv_debug.specs.Targets.{hart_of, memory_of, register_set, timer_set, IsBare, KeepsMonitor};
+ghost use Rattle.rv_debug.specs.Targets.{hart_of, memory_of, register_set, timer_set, IsBare};
 
 use crate::addresses::Addresses;
 use crate::reply::{
@@ -37,7 +37,6 @@ pub(crate) fn answer_run(
     ensures entered { entered_by target.old (run_effect target.old breaks.now watches.now count) ≡ result }
     ensures reply { ran_reply (steps_of target.old breaks.now watches.now count) ≡ reply.new.items }
     ensures bare { IsBare target.old → result ≡ 0 }
-    ensures monitor { KeepsMonitor target.old → KeepsMonitor target.new }
 {
     let ran = target.run(count.get(), breaks, watches);
     push_ran(reply, target, ran);
@@ -58,7 +57,6 @@ pub(crate) fn answer_removal(addresses: &mut Addresses, address: u32, reply: &mu
 pub(crate) fn answer_setreg(target: &mut Target, reg: Reg, value: u32, reply: &mut Reply)
     requires { array_vec_len reply.old ≡ 0 }
     ensures target { target.new ≡ register_set target.old reg value }
-    ensures monitor { KeepsMonitor target.old → KeepsMonitor target.new }
     ensures reply { reply.new.items ≡ ok_text }
 {
     target.set_reg(reg, value);
@@ -69,7 +67,6 @@ pub(crate) fn answer_setreg(target: &mut Target, reg: Reg, value: u32, reply: &m
 pub(crate) fn answer_timer(target: &mut Target, raised: bool, reply: &mut Reply)
     requires { array_vec_len reply.old ≡ 0 }
     ensures target { target.new ≡ timer_set target.old raised }
-    ensures monitor { KeepsMonitor target.old → KeepsMonitor target.new }
     ensures reply { reply.new.items ≡ ok_text }
 {
     target.set_timer(raised);
@@ -81,7 +78,6 @@ pub(crate) fn answer_poke(target: &mut Target, address: u32, byte: u8, reply: &m
     requires { array_vec_len reply.old ≡ 0 }
     ensures target { done target.old (OneByte address byte) ≡ target.new }
     ensures reply { poke_reply target.old address byte ≡ reply.new.items }
-    ensures monitor { KeepsMonitor target.old → KeepsMonitor target.new }
 {
     if target.poke(address, byte) {
         push_ok(reply);
@@ -115,7 +111,6 @@ pub(crate) fn answer_hart(target: &mut Target, hart: u8, reply: &mut Reply)
     ensures target { done target.old (hart_effect target.old hart) ≡ target.new }
     ensures reply { hart_reply target.old hart ≡ reply.new.items }
     ensures entered { entered_by target.old (hart_effect target.old hart) ≡ 0 }
-    ensures monitor { KeepsMonitor target.old → KeepsMonitor target.new }
 {
     if hart < target.harts() {
         target.choose(hart);
@@ -145,7 +140,6 @@ pub(crate) fn answer_sched(target: &mut Target, schedule: &Schedule, reply: &mut
     ensures reply { sched_reply target.old (harts_in schedule.now) ≡ reply.new.items }
     ensures entered { entered_by target.old (sched_effect target.old (harts_in schedule.now)) ≡ result }
     ensures bare { IsBare target.old → result ≡ 0 }
-    ensures monitor { KeepsMonitor target.old → KeepsMonitor target.new }
 {
     if !schedule.names_only(target.harts()) {
         push_no_hart(reply);

@@ -29,11 +29,7 @@ impl Model for Bench {
 
     ghost Value = { BenchState };
 
-    ghost use Rattle.rv_debug.specs.Targets.{KeepsMonitor};
-
     ghost view = { λ bench. record { target = bench.target; breaks = bench.breaks; watches = bench.watches } };
-
-    ghost invariant = { λ bench. KeepsMonitor bench.target };
 }
 
 impl Bench {
@@ -42,8 +38,7 @@ impl Bench {
     ghost use Rattle.rv_debug.specs.Answer.{answer, line_answer, only_shows};
     ghost use Rattle.rv_debug.specs.BenchState.{bare, monitored};
     ghost use Rattle.rv_debug.specs.Isolation.{TellsReach, ChangesMemory, SparesResting, SparesHarts};
-    ghost use Rattle.rv_debug.specs.Returns.{IsStoredIn};
-    ghost use Rattle.rv_debug.specs.Targets.{IsBare, KeepsMonitor};
+    ghost use Rattle.rv_debug.specs.Targets.{IsBare, IsStoredIn, KeepsMonitor};
     ghost use Rattle.rv_debug.specs.BothBenches.{BenchesAgreeBut, RestsIn, can_scramble, is_blind, scrambled};
 
     /// A bench over a machine as it is, with no break and no watch.
@@ -57,13 +52,11 @@ impl Bench {
     pub fn monitored(machine: Monitored) -> Self
         ensures { result ≡ monitored machine }
     {
-        machine.invariant();
         Bench::over(Target::Monitored(ChosenHart { machine, hart: 0 }))
     }
 
     /// A bench over a target, with no break and no watch.
     fn over(target: Target) -> Self
-        requires { KeepsMonitor target }
         ensures { result ≡ record { target = target; breaks = []; watches = [] } }
     {
         Bench {
@@ -73,12 +66,15 @@ impl Bench {
         }
     }
 
-    /// What holds in every state. It does nothing.
+    /// The invariant of a bench, as facts to cite. It does nothing. Of a bare bench it says nothing; of a monitored one:
+    /// - `monitor`: the table of enclaves is valid, and of each hart the PMP entries and mie are those of the table and its world, the mode is
+    ///   S or U, and MIE, MPRV, TVM, TW and TSR are 0;
+    /// - `stored`: what is kept of the host of each hart is as a hart stores it, which `laws::host_comes_back` needs.
     pub fn invariant(&self)
-        ensures { KeepsMonitor self.now.target }
+        ensures monitor { KeepsMonitor self.now.target }
+        ensures stored { IsStoredIn self.now.target }
     {
-        // brings in what holds of every bench
-        let _ = &self.target;
+        self.target.invariant();
     }
 
     /// Whether a command is blind to the enclave of a slot: it is not a mem, dis or poke with a byte in its region.
@@ -96,30 +92,25 @@ impl Bench {
     ///
     /// Returns a number with bit k set where the enclave of slot k was entered: 0 where the bench is bare.
     ///
-    /// `answer` is all of it. Of what follows, `monitor` is what holds in every state of a monitored bench: the table of enclaves is
-    /// valid, and of each hart the PMP entries and mie are those of the table and its world, the mode is S or U, and MIE, MPRV, TVM, TW
-    /// and TSR are 0. `reach` is that `access`, in S and U, is told to be permitted exactly where it is in the reach of the world that
-    /// runs on the chosen hart. `changes` is that a byte of memory changes only where it is poked, or where a step changes it in its
-    /// world's reach, by a destroy or by a measure. `spares` is that the command changes neither record nor region nor context of a live
-    /// enclave that is not the world of a hart that steps, that it does not enter or end, and of whose region it pokes no byte: it may run
-    /// on the other hart. `beside` is that a hart of which the command makes no step, and sets no register and no timer line, keeps its
-    /// world, registers, pc and mode, and all but the entries and mie. `stored` is that what is kept of the host of each hart is as a hart
-    /// stores it, which the host that comes back rests on.
+    /// `answer` is all of it. The other clauses follow from it and the invariant:
+    /// - `reach`: in S and U, `access` is told to be permitted exactly where it is in the reach of the world that runs on the chosen hart;
+    /// - `changes`: a byte of memory changes only where it is poked, or where a step changes it in its world's reach, by a destroy or by a
+    ///   measure;
+    /// - `spares`: the command changes neither record nor region nor context of a live enclave that is not the world of a hart that steps,
+    ///   that it does not enter or end, and of whose region it pokes no byte; the enclave may run on the other hart;
+    /// - `beside`: a hart of which the command makes no step, and sets no register and no timer line, keeps its world, registers, pc and mode,
+    ///   and all but the entries and mie.
     pub fn command(&mut self, command: &Command, out: &mut Reply) -> u16
         ensures answer { answer self.old command.now ≡ record { state = self.new; reply = out.new.items; entered = result } }
         ensures bare { IsBare self.old.target → result ≡ 0 }
-        ensures monitor { KeepsMonitor self.new.target }
         ensures reach { TellsReach self.old.target command.now }
         ensures changes { ChangesMemory self.old command.now self.new }
         ensures spares { SparesResting self.old command.now self.new }
         ensures beside { SparesHarts self.old command.now self.new }
-        ensures stored { IsStoredIn self.new.target }
     {
         self.invariant();
         self.target.chosen();
-        let entered = self.answer(command, out);
-        self.target.stored();
-        entered
+        self.answer(command, out)
     }
 
     /// Does one command, and replies.
@@ -127,7 +118,6 @@ impl Bench {
     fn answer(&mut self, command: &Command, out: &mut Reply) -> u16
         ensures answer { answer self.old command.now ≡ record { state = self.new; reply = out.new.items; entered = result } }
         ensures bare { IsBare self.old.target → result ≡ 0 }
-        ensures monitor { KeepsMonitor self.new.target }
     {
         out.clear();
         match *command {
@@ -187,14 +177,13 @@ impl Bench {
     /// changes, only where the slot is free, its enclave runs, or the bench is bare.
     ///
     /// `asked`, `meaning` and `same` are all of it. Of what follows, `agrees` is that the two benches differ in nothing but what is private
-    /// to the slot's enclave, `rests` that this runs on no hart, and `monitor` what holds in every state.
+    /// to the slot's enclave, and `rests` that this runs on no hart.
     pub fn scramble(&mut self, slot: Slot) -> bool
         ensures asked { result ≡ can_scramble slot self.old }
         ensures meaning { result ≡ true → self.new ≡ scrambled slot self.old }
         ensures same { result ≡ false → self.new ≡ self.old }
         ensures agrees { result ≡ true → BenchesAgreeBut slot self.old self.new }
         ensures rests { result ≡ true → RestsIn slot self.old.target }
-        ensures monitor { KeepsMonitor self.new.target }
     {
         self.invariant();
         self.target.scramble(slot)
@@ -208,12 +197,10 @@ impl Bench {
         ensures answer { line_answer self.old line.now ≡ record { state = self.new; reply = out.new.items; entered = result } }
         ensures front { (other : List ℕ) → take 121 other ≡ take 121 line.now → line_answer self.old other ≡ line_answer self.old line.now }
         ensures bare { IsBare self.old.target → result ≡ 0 }
-        ensures monitor { KeepsMonitor self.new.target }
     {
         match parse(line) {
             Ok(command) => self.command(&command, out),
             Err(fault) => {
-                self.invariant();
                 out.clear();
                 push_fault(out, fault);
                 0

@@ -2,7 +2,7 @@
 
 ghost use Rattle.std.specs.Prelude.{◌≡◌, ◌<◌, ◌^◌, ℕ, List, take};
 ghost use Rattle.rv_debug.specs.Confidentiality.{AllPassBy, PassBy, StayAlike};
-ghost use Rattle.rv_debug.specs.Isolation.{IsSparedIn, RestsUnderAll, after_commands};
+ghost use Rattle.rv_debug.specs.Isolation.{after_commands};
 ghost use Rattle.rv_debug.specs.BothBenches.{BenchesAgreeBut, RestsIn, both_answer, both_line_answer, both_run, is_entered as is_entered_in};
 
 use crate::bench::Bench;
@@ -137,19 +137,17 @@ pub fn both_line(
 /// Gives one list of commands to two benches, up to one that is not blind, which is neither done nor counted, or to one that enters the
 /// slot, which is the last and counted. It takes no memory.
 ///
-/// `meaning` is all of it, and `first` and `second` say the same of each bench by itself. `alike` is confidentiality: where the benches
-/// agreed in all but the region, the context and the hart of the slot's enclave, and each command that was done neither steps nor shows a
-/// hart on which that runs, all replies are equal and the benches agree at the end, and are equal once the enclave is gone; where the last
-/// command entered the slot, this is so before it. Of an enclave that runs on no hart at first, all commands are so. `first_spares` and
-/// `second_spares` are integrity: an enclave that rests through the commands keeps its record, its bytes and its context.
+/// `meaning` is all of it. `first` and `second` say that each bench is where it would be by itself after these commands; with
+/// `laws::integrity` they give integrity of each. `alike` is confidentiality: where the benches agreed in all but the region, the context
+/// and the hart of the slot's enclave, and each command that was done neither steps nor shows a hart on which that runs, all replies are
+/// equal and the benches agree at the end, and are equal once the enclave is gone; where the last command entered the slot, this is so
+/// before it. Of an enclave that runs on no hart at first, all commands are so.
 pub fn run_both(a: &mut Bench, b: &mut Bench, slot: Slot, commands: &[Command]) -> Both
     ensures meaning { both_run slot a.old b.old commands.now ≡ record { first = a.new; second = b.new; ran = result.ran; why = result.why } }
     ensures first { a.new ≡ after_commands a.old (take result.ran commands.now) }
     ensures second { b.new ≡ after_commands b.old (take result.ran commands.now) }
     ensures alike { BenchesAgreeBut slot a.old b.old → AllPassBy slot a.old (take result.ran commands.now) → PassBy slot a.old b.old commands.now result.ran result.why }
     ensures at_rest { RestsIn slot a.old.target → AllPassBy slot a.old commands.now }
-    ensures first_spares { (k : ℕ) → RestsUnderAll k a.old (take result.ran commands.now) → IsSparedIn k a.old.target a.new.target }
-    ensures second_spares { (k : ℕ) → RestsUnderAll k b.old (take result.ran commands.now) → IsSparedIn k b.old.target b.new.target }
 {
     a.invariant();
     b.invariant();

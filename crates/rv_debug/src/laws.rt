@@ -3,7 +3,7 @@
 
 ghost use Rattle.rv_debug.specs.Confidentiality.{ConfidentialityLaw, PokeLaw, RestLaw};
 ghost use Rattle.rv_debug.specs.Isolation.{IntegrityLaw, RunningLaw};
-ghost use Rattle.rv_debug.specs.Returns.{ReturnLaw, ReturnWithinLaw};
+ghost use Rattle.rv_debug.specs.Returns.{ReturnLaw};
 
 /// Integrity: every list of commands leaves the record, the region and the context of each live enclave that no hart runs in a step of
 /// its own, that it neither enters nor ends, and of whose region it pokes no byte. The enclave may run on the hart that does not step.
@@ -35,15 +35,9 @@ pub const fn poking()
     ensures { PokeLaw }
 {}
 
-/// Leaving: from the command with which the host enters an enclave to the one with which the enclave leaves, whatever commands stand
-/// between them, the host of that hart goes on as it was before the step that entered, past its ecall, but for a0 and a1.
+/// Leaving: from the step with which the host enters an enclave to the one with which the enclave leaves, within one command or with any
+/// commands between them, the host of that hart goes on as it was before the first, past its ecall, but for a0 and a1.
 #[tactic(auto, using(crate::proofs::Returned::return_law))]
 pub const fn host_comes_back()
     ensures { ReturnLaw }
-{}
-
-/// So it is within one command that both enters and leaves it, whatever steps of either hart lie between.
-#[tactic(auto, using(crate::proofs::Returned::return_within))]
-pub const fn host_comes_back_within()
-    ensures { ReturnWithinLaw }
 {}

@@ -3,7 +3,7 @@
 ghost use Rattle.std.specs.Prelude.{◌≡◌, ◌+◌, ◌<◌, ◌≤◌, ◌^◌, bit_or, true, []};
 ghost use Rattle.rv_debug.specs.ScheduledSteps.{runs_told, with_scheduled_step, scheduled_steps, schedule_start};
 ghost use Rattle.rv_script.specs.Schedules.{harts_in, has_all};
-ghost use Rattle.rv_debug.specs.Targets.{harts_of, target_stepped, with_chosen, IsBare, KeepsMonitor};
+ghost use Rattle.rv_debug.specs.Targets.{harts_of, target_stepped, with_chosen, IsBare};
 
 use crate::addresses::Addresses;
 use crate::free_limits::nowhere;
@@ -69,7 +69,6 @@ fn scheduled_step(
     ensures first { first.new.steps ≤ first.old.steps + 1 }
     ensures second { second.new.steps ≤ second.old.steps + 1 }
     ensures bare { IsBare target.old → bit_or first.old.entered second.old.entered ≡ bit_or first.new.entered second.new.entered }
-    ensures monitor { KeepsMonitor target.old → KeepsMonitor target.new }
 {
     if hart == 0 {
         target.step_on(0, first, none, limits);
@@ -85,7 +84,6 @@ pub(crate) fn run_schedule(target: &mut Target, schedule: &Schedule) -> Schedule
     ensures scheduled_steps { scheduled_steps (harts_in schedule.now) (schedule_start target.old) ≡ record { state = target.new; did = result } }
     ensures harts { harts_of target.new ≡ harts_of target.old }
     ensures bare { IsBare target.old → result.entered ≡ 0 }
-    ensures monitor { KeepsMonitor target.old → KeepsMonitor target.new }
 {
     let none = Addresses::new();
     let mut limits = nowhere();

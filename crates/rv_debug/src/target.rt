@@ -4,12 +4,10 @@ ghost use Rattle.std.specs.Prelude.{◌≡◌, ◌<◌, ◌^◌, [], Some, None}
 ghost use Rattle.std.specs.Bool.{OnTrue, OnFalse};
 ghost use Rattle.rv_word.specs.Cases.{option_case};
 ghost use Rattle.rv_platform.specs.Blocks.{no_block};
-ghost use Rattle.rv_monitor.specs.State.{IsKept};
-ghost use Rattle.rv_debug.specs.Returns.{IsStoredIn};
 ghost use Rattle.rv_debug.specs.FastSteps.{so_far_in};
 ghost use Rattle.rv_debug.specs.Steps.{ended, no_steps, run, with_step};
 ghost use Rattle.rv_debug.specs.BothBenches.{TargetsAgreeBut, can_scramble_in, region_in, scrambled_in};
-ghost use Rattle.rv_debug.specs.Targets.{chosen_of, hart_of, harts_of, memory_of, pc_of, target_stepped, with_chosen, register_set, timer_set, poked, IsBare, KeepsMonitor};
+ghost use Rattle.rv_debug.specs.Targets.{chosen_of, hart_of, harts_of, memory_of, pc_of, target_stepped, with_chosen, register_set, timer_set, poked, IsBare, IsStoredIn, KeepsMonitor};
 
 use crate::addresses::Addresses;
 use crate::chosen::ChosenHart;
@@ -31,9 +29,10 @@ pub enum Target {
 }
 
 impl Target {
-    /// What is kept of the host of each hart is as a hart stores it. It does nothing.
-    pub(crate) fn stored(&self)
-        ensures { IsStoredIn self.now }
+    /// The invariant of a monitored machine, and that what is kept of the host of each hart is as a hart stores it. It does nothing.
+    pub(crate) fn invariant(&self)
+        ensures monitor { KeepsMonitor self.now }
+        ensures stored { IsStoredIn self.now }
     {
         if let Target::Monitored(chosen) = self {
             chosen.machine.invariant();
@@ -108,7 +107,6 @@ impl Target {
         requires { hart < harts_of self.old }
         ensures step_scheduled { self.new ≡ with_chosen hart self.old }
         ensures harts { harts_of self.new ≡ harts_of self.old }
-        ensures monitor { KeepsMonitor self.old → KeepsMonitor self.new }
     {
         match self {
             Target::Bare(_) => {}
@@ -140,8 +138,7 @@ impl Target {
 
     /// Puts a word into a register.
     pub(crate) fn set_reg(&mut self, reg: Reg, value: u32)
-        ensures meaning { self.new ≡ register_set self.old reg value }
-        ensures monitor { KeepsMonitor self.old → KeepsMonitor self.new }
+        ensures { self.new ≡ register_set self.old reg value }
     {
         match self {
             Target::Bare(machine) => machine.regs_mut().set(reg, value),
@@ -151,8 +148,7 @@ impl Target {
 
     /// Raises the timer line, or lowers it.
     pub(crate) fn set_timer(&mut self, raised: bool)
-        ensures meaning { self.new ≡ timer_set self.old raised }
-        ensures monitor { KeepsMonitor self.old → KeepsMonitor self.new }
+        ensures { self.new ≡ timer_set self.old raised }
     {
         match self {
             Target::Bare(machine) => machine.csrs_mut().set_timer(raised),
@@ -165,7 +161,6 @@ impl Target {
         ensures done { OnTrue result (poked self.old address byte ≡ Some self.new) }
         ensures outside { OnFalse result (poked self.old address byte ≡ None) }
         ensures kept { OnFalse result (self.new ≡ self.old) }
-        ensures monitor { KeepsMonitor self.old → KeepsMonitor self.new }
     {
         match self {
             Target::Bare(machine) => machine.ram_mut().poke(address, byte),
@@ -180,7 +175,6 @@ impl Target {
         ensures meaning { OnTrue result (self.new ≡ scrambled_in slot self.old) }
         ensures same { OnFalse result (self.new ≡ self.old) }
         ensures agrees { OnTrue result (TargetsAgreeBut slot self.old self.new) }
-        ensures monitor { KeepsMonitor self.old → KeepsMonitor self.new }
     {
         match self {
             Target::Bare(_) => false,
@@ -198,7 +192,6 @@ impl Target {
         ensures step { ended (with_step (so_far_in (with_chosen hart self.old) ran.old) (target_stepped (with_chosen hart self.old))) Stop.Done
             ≡ record { state = self.new; ran = ran.new } }
         ensures bare { IsBare self.old → ran.new.entered ≡ ran.old.entered }
-        ensures monitor { KeepsMonitor self.old → KeepsMonitor self.new }
     {
         match self {
             Target::Bare(machine) => step_bare(machine, ran, none, limits),
@@ -214,7 +207,6 @@ impl Target {
     pub(crate) fn run(&mut self, count: u32, breaks: &Addresses, watches: &Addresses) -> Ran
         ensures run { run target_stepped pc_of breaks.now watches.now count (no_steps self.old) ≡ record { state = self.new; ran = result } }
         ensures bare { IsBare self.old → result.entered ≡ 0 }
-        ensures monitor { KeepsMonitor self.old → KeepsMonitor self.new }
     {
         match self {
             Target::Bare(machine) => run_bare(machine, count, breaks, watches),
@@ -240,12 +232,10 @@ fn step_bare(machine: &mut Machine, ran: &mut Ran, none: &Addresses, limits: &mu
 fn step_monitored(chosen: &mut ChosenHart, ran: &mut Ran, none: &Addresses, limits: &mut Limits)
     requires few { ran.old.steps < 2 ^ 31 }
     requires none { none.now ≡ [] }
-    ensures step { ended (with_step (so_far_in (Target.Monitored chosen.old) ran.old) (target_stepped (Target.Monitored chosen.old))) Stop.Done
+    ensures { ended (with_step (so_far_in (Target.Monitored chosen.old) ran.old) (target_stepped (Target.Monitored chosen.old))) Stop.Done
         ≡ record { state = Target.Monitored chosen.new; ran = ran.new } }
-    ensures kept { IsKept chosen.new.state }
 {
     one_more(chosen, ran, none, limits);
-    chosen.machine.invariant();
 }
 
 /// The steps of a machine alone, which enter no enclave.
@@ -263,10 +253,7 @@ fn run_monitored(
     breaks: &Addresses,
     watches: &Addresses,
 ) -> Ran
-    ensures run { run target_stepped pc_of breaks.now watches.now count (no_steps (Target.Monitored chosen.old)) ≡ record { state = Target.Monitored chosen.new; ran = result } }
-    ensures kept { IsKept chosen.new.state }
+    ensures { run target_stepped pc_of breaks.now watches.now count (no_steps (Target.Monitored chosen.old)) ≡ record { state = Target.Monitored chosen.new; ran = result } }
 {
-    let ran = run_steps(chosen, count, breaks, watches);
-    chosen.machine.invariant();
-    ran
+    run_steps(chosen, count, breaks, watches)
 }

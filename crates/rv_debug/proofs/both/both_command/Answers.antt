@@ -6,4 +6,4 @@ use Rattle.rv_debug.proofs.both.both_command.Goals as goal
 pub returns-clause-alike : goal.returns-clause-alike
 returns-clause-alike c =
     subst (λ (after : BothAnswered). StayAlike c.args.slot c.args.a.now c.args.b.now c.args.command.now after) c.give_both.ensures
-    (both_alike c.args.slot c.args.a.now c.args.b.now c.args.command.now c.invariant.ensures c.invariant-2.ensures)
+    (both_alike c.args.slot c.args.a.now c.args.b.now c.args.command.now c.invariant.ensures.monitor c.invariant-2.ensures.monitor)

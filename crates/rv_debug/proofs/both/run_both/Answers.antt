@@ -1,8 +1,6 @@
-use Rattle.std.proofs.Common.{sym, subst}
-use Rattle.rv_debug.proofs.Prelude.{BenchState, IsSparedIn}
+use Rattle.std.proofs.Common.{subst}
 use Rattle.rv_debug.proofs.AtRest.{rest_all}
 use Rattle.rv_debug.proofs.BothAlike.{Folded, PassEnd, folded, run_alike}
-use Rattle.rv_debug.proofs.Isolation.{integrity}
 use Rattle.rv_debug.proofs.both.run_both.Goals as goal
 
 pub returns-clause-first : goal.returns-clause-first
@@ -18,17 +16,7 @@ returns-clause-second c =
 pub returns-clause-alike : goal.returns-clause-alike
 returns-clause-alike c agree =
     subst (PassEnd c.args.slot c.args.a.now c.args.b.now c.args.commands.now) c.run_commands.ensures
-    (run_alike c.args.slot c.args.a.now c.args.b.now c.args.commands.now c.invariant.ensures c.invariant-2.ensures agree)
+    (run_alike c.args.slot c.args.a.now c.args.b.now c.args.commands.now c.invariant.ensures.monitor c.invariant-2.ensures.monitor agree)
 
 pub returns-clause-at_rest : goal.returns-clause-at_rest
-returns-clause-at_rest c = rest_all c.args.slot c.args.a.now c.args.commands.now c.invariant.ensures
-
-pub returns-clause-first_spares : goal.returns-clause-first_spares
-returns-clause-first_spares c k rests =
-    subst (λ (end : BenchState). IsSparedIn k c.args.a.now.target end.target) (sym (returns-clause-first c))
-    (integrity k c.args.a.now _ c.invariant.ensures rests)
-
-pub returns-clause-second_spares : goal.returns-clause-second_spares
-returns-clause-second_spares c k rests =
-    subst (λ (end : BenchState). IsSparedIn k c.args.b.now.target end.target) (sym (returns-clause-second c))
-    (integrity k c.args.b.now _ c.invariant-2.ensures rests)
+returns-clause-at_rest c = rest_all c.args.slot c.args.a.now c.args.commands.now c.invariant.ensures.monitor

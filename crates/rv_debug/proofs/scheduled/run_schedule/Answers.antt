@@ -31,7 +31,6 @@ loop-digit-preserved c =
       second = omega (arith, c.scheduled_step.ensures.second, so_far.second);
       bare = λ bare. bare_after hart before after is (so_far.bare bare);
       none = λ bare. sym (c.scheduled_step.ensures.bare (so_far.bare bare)) ∙ so_far.none bare;
-      monitor = λ kept. c.scheduled_step.ensures.monitor (so_far.monitor kept);
     }
 
 pub returns-clause-scheduled_steps : goal.returns-clause-scheduled_steps

@@ -1,6 +1,6 @@
 use Rattle.std.proofs.Common.{◌≡◌, ◌≤◌, bit_or, true}
 use Rattle.rv_debug.specs.Prelude.{has_all}
-use Rattle.rv_debug.proofs.Prelude.{IsBare, KeepsMonitor, harts_of, schedule_start, scheduled_steps}
+use Rattle.rv_debug.proofs.Prelude.{IsBare, harts_of, schedule_start, scheduled_steps}
 use Rattle.rv_debug.proofs.ScheduleLoop.{rest}
 use Rattle.rv_debug.specs.ScheduledSteps.{runs_told}
 use Rattle.rv_debug.proofs.ScheduledSteps.{after_schedule}
@@ -16,5 +16,4 @@ invariant-loop-digit l = record {
   second : l.second.steps ≤ l.digit-index;
   bare : IsBare l.fn.target → IsBare l.target;
   none : IsBare l.fn.target → bit_or l.first.entered l.second.entered ≡ 0;
-  monitor : KeepsMonitor l.fn.target → KeepsMonitor l.target;
 }
