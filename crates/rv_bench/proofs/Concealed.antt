@@ -6,8 +6,8 @@ use Rattle.rv_text.proofs.LineLemmas.{lines_of-append}
 use Rattle.rv_debug.specs.Answer.{Answered, answer_or_fault, line_answer}
 use Rattle.rv_debug.specs.BenchState.{BenchState}
 use Rattle.rv_script.specs.Command.{parse_of}
-use Rattle.rv_debug.specs.Confidentiality.{PassesOver, PokesInto, is_live_in}
-use Rattle.rv_debug.specs.Targets.{KeepsMonitor}
+use Rattle.rv_debug.specs.Confidentiality.{PassesOver, PokesInto}
+use Rattle.rv_debug.specs.Targets.{KeepsMonitor, is_live_in}
 use Rattle.rv_debug.specs.BothBenches.{BenchesAgreeBut, PassesBy, RestsIn}
 use Rattle.rv_script.specs.declared.command.Command.{Command}
 use Rattle.rv_script.specs.declared.command.CommandFault.{CommandFault}
@@ -21,7 +21,7 @@ use Rattle.rv_streams.specs.declared.fault.BenchFault.{BenchFault}
 use Rattle.rv_streams.specs.Image.{image_in}
 use Rattle.rv_streams.specs.Separator.{after_separator, has_separator}
 use Rattle.rv_bench.specs.Confidentiality.{AnswerAlike, AreSecret, ConcealsSecret, ConcealsThrough, DifferInPokes, LinePassesBy, LinePassesOver}
-use Rattle.rv_bench.specs.Confidentiality.{EachPassesBy, PassBy, PassOver, PokeOrPass}
+use Rattle.rv_bench.specs.Confidentiality.{AvoidsHart, EachPassesBy, PassOver, PokeOrPass}
 use Rattle.rv_bench.specs.InMemory.{ConcealsInMemory}
 use Rattle.rv_bench.specs.Loaded.{started}
 use Rattle.rv_bench.specs.Output.{bench_in, output, replies_of}
@@ -58,7 +58,7 @@ module _ (e : ℕ) where
       subst (P first) ((agree_again e first second kept agree).gone is) (same kept)
 
   lines_alike : (first second : BenchState) (lines : List (List ℕ)) → KeepsMonitor first.target → KeepsMonitor second.target
-      → BenchesAgreeBut e first second → PassOver e first lines → PassBy e first lines → AnswerAlike e first second lines
+      → BenchesAgreeBut e first second → PassOver e first lines → AvoidsHart e first lines → AnswerAlike e first second lines
   lines_alike first second [] kept kept' agree over by = record { text = refl; state = agree_again e first second kept agree }
   lines_alike first second (line ∷ lines) kept kept' agree over by =
       while_live first second kept kept' agree (λ one other. AnswerAlike e one other (line ∷ lines)) (is_live_in e first.target) refl
@@ -91,7 +91,7 @@ module _ (e : ℕ) where
     go (Err fault) = tt
 
   lines_rest : (bench : BenchState) (lines : List (List ℕ)) → KeepsMonitor bench.target → RestsIn e bench.target → PassOver e bench lines
-      → PassBy e bench lines
+      → AvoidsHart e bench lines
   lines_rest bench [] kept rests over = tt
   lines_rest bench (line ∷ lines) kept rests over = λ live.
       let (by, next) = line_rests bench line kept rests (over live).0 in
@@ -168,7 +168,7 @@ module _ (e : ℕ) where
   -- ---- a script with a secret in it
 
   passes_by : (bench : BenchState) (secret another rest : List (List ℕ)) → KeepsMonitor bench.target → AreSecret e bench secret another rest
-      → EachPassesBy e bench secret × PassBy e (state_after bench_line bench secret) rest
+      → EachPassesBy e bench secret × AvoidsHart e (state_after bench_line bench secret) rest
   passes_by bench secret another rest kept are = elim are.by [
     | inl idle ↦
         let through = pokes_rest bench bench secret another kept (scramble_rests e bench.target kept idle) are.pokes in

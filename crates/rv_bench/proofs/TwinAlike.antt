@@ -166,24 +166,14 @@ module _ (slot : ℕ) where
 
   done_follows : (apart : Apart) (command : Command) (after : BothAnswered) (why : BothWhy) → after.why ≡ why
       → Becomes apart.first apart.second command after → Follows apart (done_by_both why command) (of_command command after why apart).state
-  done_follows apart command after All is both =
-      record {
-        first = both.first ∙ ap (λ (why : BothWhy). after_commands apart.first (done_by_both why command)) is;
-        second = both.second
-            ∙ ap (λ (why : BothWhy). after_commands apart.second (done_by_both why command)) is;
-      }
-  done_follows apart command after Entered is both =
-      record {
-        first = both.first ∙ ap (λ (why : BothWhy). after_commands apart.first (done_by_both why command)) is;
-        second = both.second
-            ∙ ap (λ (why : BothWhy). after_commands apart.second (done_by_both why command)) is;
-      }
-  done_follows apart command after NotBlind is both =
-      record {
-        first = both.first ∙ ap (λ (why : BothWhy). after_commands apart.first (done_by_both why command)) is;
-        second = both.second
-            ∙ ap (λ (why : BothWhy). after_commands apart.second (done_by_both why command)) is;
-      }
+  done_follows apart command after why is both = record {
+    first = (left why).0 ∙ both.first ∙ ap (λ (why : BothWhy). after_commands apart.first (done_by_both why command)) is;
+    second = (left why).1 ∙ both.second ∙ ap (λ (why : BothWhy). after_commands apart.second (done_by_both why command)) is;
+  } where
+    left : (why : BothWhy) → (let end = (of_command command after why apart).state in (end.first ≡ after.first) × (end.second ≡ after.second))
+    left All = (refl, refl)
+    left Entered = (refl, refl)
+    left NotBlind = (refl, refl)
 
   line_follows : (apart : Apart) (line : List ℕ) → Going apart → Follows apart (done_in_line slot apart line) (apart_line slot apart line).state
   unfolding apart_line

@@ -4,8 +4,8 @@ use Rattle.std.specs.Prelude.{◌≡◌, ◌⊎◌, ℕ, List, [], ◌∷◌, �
 use Rattle.rv_text.specs.Lines.{lines_of, through_last_feed}
 use Rattle.rv_debug.specs.BenchState.{BenchState}
 use Rattle.rv_script.specs.Command.{parse_of}
-use Rattle.rv_debug.specs.Confidentiality.{AgreeAgain, PassesOver, PokesInto, is_live_in}
-use Rattle.rv_debug.specs.Targets.{KeepsMonitor}
+use Rattle.rv_debug.specs.Confidentiality.{AgreeAgain, PassesOver, PokesInto}
+use Rattle.rv_debug.specs.Targets.{KeepsMonitor, is_live_in}
 use Rattle.rv_debug.specs.BothBenches.{BenchesAgreeBut, PassesBy, RestsIn, can_scramble}
 use Rattle.rv_command_line.specs.declared.setup.Setup.{Setup}
 use Rattle.rv_streams.specs.Separator.{after_separator, has_separator}
@@ -29,11 +29,11 @@ PassOver e bench [] = Unit {0}
 PassOver e bench (line ∷ lines) =
     is_live_in e bench.target ≡ true → LinePassesOver e bench line × PassOver e (bench_line bench line).state lines
 
--- and by its hart, as long as it is live
-abbrev pub PassBy : ℕ → BenchState → List (List ℕ) → Type 0
-PassBy e bench [] = Unit {0}
-PassBy e bench (line ∷ lines) =
-    is_live_in e bench.target ≡ true → LinePassesBy e bench line × PassBy e (bench_line bench line).state lines
+-- and each neither steps nor shows a hart on which it runs, as long as it is live
+abbrev pub AvoidsHart : ℕ → BenchState → List (List ℕ) → Type 0
+AvoidsHart e bench [] = Unit {0}
+AvoidsHart e bench (line ∷ lines) =
+    is_live_in e bench.target ≡ true → LinePassesBy e bench line × AvoidsHart e (bench_line bench line).state lines
 
 -- Two benches give the same replies to lines, byte for byte, and agree again after them.
 pub record AnswerAlike (e : ℕ) (first second : BenchState) (lines : List (List ℕ)) : Type 0 where
@@ -45,9 +45,9 @@ pub record AnswerAlike (e : ℕ) (first second : BenchState) (lines : List (List
 pub record ConcealsThrough (bench : BenchState) : Type 0 where
   pub alike : (e : ℕ) (before part : List (List ℕ)) (other : BenchState) → KeepsMonitor other.target
       → BenchesAgreeBut e (state_after bench_line bench before) other → PassOver e (state_after bench_line bench before) part
-      → PassBy e (state_after bench_line bench before) part → AnswerAlike e (state_after bench_line bench before) other part
+      → AvoidsHart e (state_after bench_line bench before) part → AnswerAlike e (state_after bench_line bench before) other part
   pub at_rest : (e : ℕ) (before part : List (List ℕ)) → RestsIn e (state_after bench_line bench before).target
-      → PassOver e (state_after bench_line bench before) part → PassBy e (state_after bench_line bench before) part
+      → PassOver e (state_after bench_line bench before) part → AvoidsHart e (state_after bench_line bench before) part
 
 -- ---- from bytes to bytes
 
@@ -74,7 +74,7 @@ EachPassesBy e bench (line ∷ lines) = LinePassesBy e bench line × EachPassesB
 pub record AreSecret (e : ℕ) (bench : BenchState) (secret another rest : List (List ℕ)) : Type 0 where
   pub pokes : DifferInPokes e bench bench secret another
   pub passes : PassOver e (state_after bench_line bench secret) rest
-  pub by : (can_scramble e bench ≡ true) ⊎ (EachPassesBy e bench secret × PassBy e (state_after bench_line bench secret) rest)
+  pub by : (can_scramble e bench ≡ true) ⊎ (EachPassesBy e bench secret × AvoidsHart e (state_after bench_line bench secret) rest)
 
 -- Two inputs are the same but for lines in the middle of the script, which poke a secret.
 pub record DifferInSecret (e : ℕ) (setup : Setup) (input other : List ℕ) : Type 0 where
