@@ -60,7 +60,7 @@ def refusals():
     for name in sorted(os.listdir(os.path.join(ROOT, folder))):
         for table, body in re.findall(r"^(\w+_refusals) [^:=\n]*=((?:.*\n)(?:    .*\n)*)", text_of(folder + name), re.M):
             rows[table], files[table] = re.findall(r", (\w+)\)", body), folder + name
-    tables = re.findall(r"^call_refusals seat shared (\w+) = (\w+|\[\])", text_of("crates/rv_monitor/specs/CallRefusals.antt"), re.M)
+    tables = re.findall(r"^call_refusals hart_state shared (\w+) = (\w+|\[\])", text_of("crates/rv_monitor/specs/CallRefusals.antt"), re.M)
     return {call.lower(): rows.get(table, []) for call, table in tables}, {files[table][len("crates/"):] for _, table in tables if table in files}
 
 
