@@ -21,7 +21,7 @@ use Rattle.rv_streams.specs.declared.fault.BenchFault.{BenchFault}
 use Rattle.rv_streams.specs.Image.{image_in}
 use Rattle.rv_streams.specs.Separator.{after_separator, has_separator}
 use Rattle.rv_bench.specs.Noninterference.{RepliesAlike, AreSecret, SecretNoninterference, ScriptNoninterference, DifferInPokes, LineAvoidsHart, LineAvoidsEnclave}
-use Rattle.rv_bench.specs.Noninterference.{AvoidsHart, EachLineAvoidsHart, LinesAvoidEnclave, PokeOrPass}
+use Rattle.rv_bench.specs.Noninterference.{LinesAvoidHart, EachLineAvoidsHart, LinesAvoidEnclave, PokeOrPass}
 use Rattle.rv_bench.specs.InMemory.{InMemoryNoninterference}
 use Rattle.rv_bench.specs.Loaded.{started}
 use Rattle.rv_bench.specs.Output.{bench_in, output, replies_of}
@@ -58,7 +58,7 @@ module _ (e : ℕ) where
       subst (P first) ((equiv_again e first second kept equiv).gone is) (same kept)
 
   lines_alike : (first second : BenchState) (lines : List (List ℕ)) → TargetInvariant first.target → TargetInvariant second.target
-      → BenchesEquivExcept e first second → LinesAvoidEnclave e first lines → AvoidsHart e first lines → RepliesAlike e first second lines
+      → BenchesEquivExcept e first second → LinesAvoidEnclave e first lines → LinesAvoidHart e first lines → RepliesAlike e first second lines
   lines_alike first second [] kept kept' equiv over by = record { text = refl; state = equiv_again e first second kept equiv }
   lines_alike first second (line ∷ lines) kept kept' equiv over by =
       while_live first second kept kept' equiv (λ one other. RepliesAlike e one other (line ∷ lines)) (is_live_in e first.target) refl
@@ -91,7 +91,7 @@ module _ (e : ℕ) where
     go (Err fault) = tt
 
   lines_rest : (bench : BenchState) (lines : List (List ℕ)) → TargetInvariant bench.target → RunsOnNoHart e bench.target → LinesAvoidEnclave e bench lines
-      → AvoidsHart e bench lines
+      → LinesAvoidHart e bench lines
   lines_rest bench [] kept not_running over = tt
   lines_rest bench (line ∷ lines) kept not_running over = λ live.
       let (by, next) = line_rests bench line kept not_running (over live).0 in
@@ -168,7 +168,7 @@ module _ (e : ℕ) where
   -- ---- a script with a secret in it
 
   passes_by : (bench : BenchState) (secret another rest : List (List ℕ)) → TargetInvariant bench.target → AreSecret e bench secret another rest
-      → EachLineAvoidsHart e bench secret × AvoidsHart e (state_after bench_line bench secret) rest
+      → EachLineAvoidsHart e bench secret × LinesAvoidHart e (state_after bench_line bench secret) rest
   passes_by bench secret another rest kept are = elim are.by [
     | inl idle ↦
         let through = pokes_rest bench bench secret another kept (scramble_rests e bench.target kept idle) are.pokes in

@@ -30,10 +30,10 @@ LinesAvoidEnclave e bench (line ∷ lines) =
     is_live_in e bench.target ≡ true → LineAvoidsEnclave e bench line × LinesAvoidEnclave e (bench_line bench line).state lines
 
 -- and each neither steps nor shows a hart on which it runs, as long as it is live
-abbrev pub AvoidsHart : ℕ → BenchState → List (List ℕ) → Type 0
-AvoidsHart e bench [] = Unit {0}
-AvoidsHart e bench (line ∷ lines) =
-    is_live_in e bench.target ≡ true → LineAvoidsHart e bench line × AvoidsHart e (bench_line bench line).state lines
+abbrev pub LinesAvoidHart : ℕ → BenchState → List (List ℕ) → Type 0
+LinesAvoidHart e bench [] = Unit {0}
+LinesAvoidHart e bench (line ∷ lines) =
+    is_live_in e bench.target ≡ true → LineAvoidsHart e bench line × LinesAvoidHart e (bench_line bench line).state lines
 
 -- Two benches give the same replies to lines, byte for byte, and agree again after them.
 pub record RepliesAlike (e : ℕ) (first second : BenchState) (lines : List (List ℕ)) : Type 0 where
@@ -45,9 +45,9 @@ pub record RepliesAlike (e : ℕ) (first second : BenchState) (lines : List (Lis
 pub record ScriptNoninterference (bench : BenchState) : Type 0 where
   pub alike : (e : ℕ) (before part : List (List ℕ)) (other : BenchState) → TargetInvariant other.target
       → BenchesEquivExcept e (state_after bench_line bench before) other → LinesAvoidEnclave e (state_after bench_line bench before) part
-      → AvoidsHart e (state_after bench_line bench before) part → RepliesAlike e (state_after bench_line bench before) other part
+      → LinesAvoidHart e (state_after bench_line bench before) part → RepliesAlike e (state_after bench_line bench before) other part
   pub not_running : (e : ℕ) (before part : List (List ℕ)) → RunsOnNoHart e (state_after bench_line bench before).target
-      → LinesAvoidEnclave e (state_after bench_line bench before) part → AvoidsHart e (state_after bench_line bench before) part
+      → LinesAvoidEnclave e (state_after bench_line bench before) part → LinesAvoidHart e (state_after bench_line bench before) part
 
 -- ---- from bytes to bytes
 
@@ -74,7 +74,7 @@ EachLineAvoidsHart e bench (line ∷ lines) = LineAvoidsHart e bench line × Eac
 pub record AreSecret (e : ℕ) (bench : BenchState) (secret another rest : List (List ℕ)) : Type 0 where
   pub pokes : DifferInPokes e bench bench secret another
   pub passes : LinesAvoidEnclave e (state_after bench_line bench secret) rest
-  pub by : (can_scramble e bench ≡ true) ⊎ (EachLineAvoidsHart e bench secret × AvoidsHart e (state_after bench_line bench secret) rest)
+  pub by : (can_scramble e bench ≡ true) ⊎ (EachLineAvoidsHart e bench secret × LinesAvoidHart e (state_after bench_line bench secret) rest)
 
 -- Two inputs are the same but for lines in the middle of the script, which poke a secret.
 pub record DifferInSecret (e : ℕ) (setup : Setup) (input other : List ℕ) : Type 0 where
