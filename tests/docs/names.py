@@ -12,9 +12,9 @@ ROOT = os.path.dirname(os.path.dirname(os.path.dirname(os.path.abspath(__file__)
 
 LAYER = "the same law or word of the machine, of its commands or of its scripts, each over the values of its own crate"
 REASONS = {
-    **dict.fromkeys(("AnswerAlike", "FastSteps", "IsFast", "ReturnLaw", "RunningLaw"), LAYER),
+    **dict.fromkeys(("FastSteps", "IsFast", "ReturnLaw", "RunningLaw"), LAYER),
     **dict.fromkeys(("can_scramble", "scrambled"), LAYER),
-    "LacksMemory": "memory that was refused: for a text of assembly, and for an image",
+    "RunsOutOfMemory": "an allocation that failed: for a text of assembly, and for an image",
     "Stepped": "what a step leaves and shows: of a hart with its memory, and of whatever a debugger steps",
     "at_reset": "the reset of a hart, and that of its control and status registers",
 }
