@@ -1,8 +1,9 @@
 -- What the lines of a source have still to give, and what they tell of its end. (This project's own streams.)
-use Rattle.std.specs.Prelude.{◌≡◌, ℕ, true, false, List, ◌++◌, ◌+◌, ◌⊎◌, length}
+use Rattle.std.specs.Prelude.{◌≡◌, ◌<◌, ℕ, true, false, List, [], ◌++◌, ◌+◌, ◌⊎◌, length, Option, Result, IfOk, IfSome, OnErr, OnOk, OnSome, is_err}
 use Rattle.rv_streams.specs.declared.device.Source.{Ghosts}
 use Rattle.rv_streams.specs.declared.lines.Lines.{Lines}
-use Rattle.rv_streams.specs.Device.{HasRisen}
+use Rattle.rv_streams.specs.Device.{HasRisen, counted_if}
+use Rattle.rv_streams.specs.LineText.{ReadsLineText, TakesLine}
 
 module _ {S : Type 0} {g : Ghosts S} where
   -- the front of an unfinished line
@@ -26,3 +27,14 @@ module _ {S : Type 0} {g : Ghosts S} where
     pub stays : old.is_at_end ≡ true → (new.is_at_end ≡ true) × (g.ends new.source ≡ g.ends old.source)
     pub going : new.is_at_end ≡ false → g.ends new.source ≡ g.ends old.source
     pub ended : new.is_at_end ≡ true → HasEnded old new
+
+  -- A call that reads the next line, of any text or of a script: it returns a line or none, or the source fails.
+  pub record ReadsLine {L E : Type 0} (old new : Lines S g) (result : Result (Option L) E) (items : L → List ℕ) : Type 0 where
+    pub line : g.tells → IfOk result (λ found. IfSome found (λ line. TakesLine (unread old) (unread new) new.is_at_end (items line)))
+    pub going : IfOk result (λ found. OnSome found (old.is_at_end ≡ false))
+    pub end : TellsEnd old new
+    pub failures : g.failures new.source ≡ counted_if (is_err result) (g.failures old.source)
+    pub err : OnErr result ((old.is_at_end ≡ false) × (new.is_at_end ≡ false))
+    pub kept : g.tells → OnErr result (ReadsLineText (unread old) (g.remaining new.source) (held new))
+    pub emptied : OnOk result (held new ≡ [])
+    pub falls : IfOk result (λ found. OnSome found (calls_left new < calls_left old))

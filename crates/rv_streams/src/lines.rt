@@ -24,11 +24,9 @@ pub struct Lines<S: Source> {
 }
 
 impl<S: Source> Lines<S> {
-    ghost use Rattle.std.specs.Prelude.{◌≡◌, ◌<◌, true, false, [], IsTrue, IfOk, OnOk, OnErr, IfSome, IfNone, OnSome, is_err};
-    ghost use Rattle.rv_streams.specs.Device.{counted_if};
-    ghost use Rattle.rv_streams.specs.LineText.{ReadsLineText, TakesLine};
+    ghost use Rattle.std.specs.Prelude.{◌≡◌, ◌<◌, true, false, [], IsTrue, IfOk, IfSome, IfNone};
     ghost use Rattle.rv_streams.specs.Script.{ends_script, FindsEnd};
-    ghost use Rattle.rv_streams.specs.Unread.{held, unread, calls_left, TellsEnd};
+    ghost use Rattle.rv_streams.specs.Unread.{held, unread, ReadsLine};
 
     /// The lines of this source.
     pub fn new(source: S) -> Lines<S>
@@ -80,17 +78,9 @@ impl<S: Source> Lines<S> {
     /// on from there.
     #[inline(always)]
     pub fn next_line(&mut self) -> Result<Option<Line>, DeviceFault>
-        ensures line { S.tells → IfOk result (λ found. IfSome found (λ line.
-            TakesLine (unread self.old) (unread self.new) self.new.is_at_end line.items)) }
-        ensures going { IfOk result (λ found. OnSome found (self.old.is_at_end ≡ false)) }
+        ensures read { ReadsLine self.old self.new result (λ line. line.items) }
         ensures none { IfOk result (λ found. IfNone found (self.new.is_at_end ≡ true)) }
         ensures nothing { S.tells → IfOk result (λ found. IfNone found ((unread self.old ≡ []) × (unread self.new ≡ []))) }
-        ensures end { TellsEnd self.old self.new }
-        ensures failures { S.failures self.new.source ≡ counted_if (is_err result) (S.failures self.old.source) }
-        ensures err { OnErr result ((self.old.is_at_end ≡ false) × (self.new.is_at_end ≡ false)) }
-        ensures kept { S.tells → OnErr result (ReadsLineText (unread self.old) (S.remaining self.new.source) (held self.new)) }
-        ensures emptied { OnOk result (held self.new ≡ []) }
-        ensures falls { IfOk result (λ found. OnSome found (calls_left self.new < calls_left self.old)) }
     {
         if self.is_at_end {
             return Ok(None);
@@ -118,17 +108,9 @@ impl<S: Source> Lines<S> {
     /// As `next_line`.
     #[inline(always)]
     pub fn next_line_before(&mut self, end: ScriptEnd) -> Result<Option<Line>, DeviceFault>
-        ensures line { S.tells → IfOk result (λ found. IfSome found (λ line.
-            TakesLine (unread self.old) (unread self.new) self.new.is_at_end line.items)) }
+        ensures read { ReadsLine self.old self.new result (λ line. line.items) }
         ensures inside { IfOk result (λ found. IfSome found (λ line. ends_script end line.items ≡ false)) }
-        ensures going { IfOk result (λ found. OnSome found (self.old.is_at_end ≡ false)) }
         ensures none { IfOk result (λ found. IfNone found (FindsEnd end self.old self.new)) }
-        ensures end { TellsEnd self.old self.new }
-        ensures failures { S.failures self.new.source ≡ counted_if (is_err result) (S.failures self.old.source) }
-        ensures err { OnErr result ((self.old.is_at_end ≡ false) × (self.new.is_at_end ≡ false)) }
-        ensures kept { S.tells → OnErr result (ReadsLineText (unread self.old) (S.remaining self.new.source) (held self.new)) }
-        ensures emptied { OnOk result (held self.new ≡ []) }
-        ensures falls { IfOk result (λ found. OnSome found (calls_left self.new < calls_left self.old)) }
     {
         let Some(line) = self.next_line()? else {
             return Ok(None);

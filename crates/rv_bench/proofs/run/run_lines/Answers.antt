@@ -19,12 +19,12 @@ turn g c =
     let found = ok_mapped _ c.next_line_before.result c.map_err.result _ c.map_err.ensures.cases c.in_ok-line.was ∙ ap Ok c.in-Some.is in record {
       so_far = c.loop-told.invariant.so_far;
       shown = c.in-Some.line.items;
-      going = IfOk-at_ok _ found c.next_line_before.ensures.going;
-      takes = λ tells. IfOk-at_ok _ found (c.next_line_before.ensures.line tells);
+      going = IfOk-at_ok _ found c.next_line_before.ensures.read.going;
+      takes = λ tells. IfOk-at_ok _ found (c.next_line_before.ensures.read.line tells);
       inside = IfOk-at_ok _ found c.next_line_before.ensures.inside;
       answers = AnswersLine-same c.loop-told.invariant.kept c.as_slice.ensures.value c.answer_line.ensures.answer;
-      ends = c.next_line_before.ensures.end;
-      source = no_failure _ _ _ _ _ c.next_line_before.ensures.failures found refl;
+      ends = c.next_line_before.ensures.read.end;
+      source = no_failure _ _ _ _ _ c.next_line_before.ensures.read.failures found refl;
       emptied = search rules;
     }
 
@@ -55,11 +55,11 @@ pub returns-in_err-line-clause-outcome : goal.returns-in_err-line-clause-outcome
 returns-in_err-line-clause-outcome g c =
     let is : c.from_residual.result ≡ Err Read = search rules in
     let failed = err_mapped _ c.next_line_before.result c.map_err.result _ c.map_err.ensures.cases c.in_err-line.was in
-    rw is (SoFar-read c.next_line_before.new.self c.loop-told.invariant.so_far (IfErr-at_err _ failed.1 c.next_line_before.ensures.err)
-    (search rules) (λ tells. IfErr-at_err _ failed.1 (c.next_line_before.ensures.kept tells)))
+    rw is (SoFar-read c.next_line_before.new.self c.loop-told.invariant.so_far (IfErr-at_err _ failed.1 c.next_line_before.ensures.read.err)
+    (search rules) (λ tells. IfErr-at_err _ failed.1 (c.next_line_before.ensures.read.kept tells)))
 
 pub returns-in_err-line-clause-end : goal.returns-in_err-line-clause-end
-returns-in_err-line-clause-end g c = TellsEnd-more _ _ _ c.loop-told.invariant.so_far.ends c.next_line_before.ensures.end
+returns-in_err-line-clause-end g c = TellsEnd-more _ _ _ c.loop-told.invariant.so_far.ends c.next_line_before.ensures.read.end
 
 pub returns-in_err-map_err-clause-outcome : goal.returns-in_err-map_err-clause-outcome
 returns-in_err-map_err-clause-outcome g c =
@@ -77,4 +77,4 @@ pub returns-clause-outcome : goal.returns-clause-outcome
 returns-clause-outcome g c =
     let found = ok_mapped _ c.next_line_before.result c.map_err.result _ c.map_err.ensures.cases c.in_ok-line.was ∙ ap Ok c.in_default.is in
     SoFar-ended c.loop-told.invariant.so_far (IfOk-at_ok _ found c.next_line_before.ensures.none)
-    (no_failure _ _ _ _ _ c.next_line_before.ensures.failures found refl) (search rules)
+    (no_failure _ _ _ _ _ c.next_line_before.ensures.read.failures found refl) (search rules)

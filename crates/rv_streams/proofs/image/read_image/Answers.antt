@@ -20,8 +20,8 @@ taken : (g : given.Over) (c : After-as_slice g) → is_separator c.as_slice.resu
     (unread c.next_line.new.self) c.next_line.new.self.is_at_end c.loop-image.image.items c.as_slice.result.now
 taken g c other tells =
     let found = ok_mapped _ c.next_line.result c.map_err.result _ c.map_err.ensures.cases c.in_ok-line.was ∙ ap Ok c.in-Some.is in record {
-      so_far = SpellsImage-going _ _ _ _ (c.loop-image.invariant.image tells) (IfOk-at_ok _ found c.next_line.ensures.going);
-      takes = subst (TakesLine _ _ _) (sym c.as_slice.ensures.value) (IfOk-at_ok _ found (c.next_line.ensures.line tells));
+      so_far = SpellsImage-going _ _ _ _ (c.loop-image.invariant.image tells) (IfOk-at_ok _ found c.next_line.ensures.read.going);
+      takes = subst (TakesLine _ _ _) (sym c.as_slice.ensures.value) (IfOk-at_ok _ found (c.next_line.ensures.read.line tells));
       other = other;
       few = omega arith;
     }
@@ -30,12 +30,12 @@ pub returns-in_err-line-clause-outcome : goal.returns-in_err-line-clause-outcome
 returns-in_err-line-clause-outcome g c =
     let is : c.from_residual.result ≡ Err Read = search rules in
     let failed = err_mapped _ c.next_line.result c.map_err.result _ c.map_err.ensures.cases c.in_err-line.was in
-    let going = IfErr-at_err _ failed.1 c.next_line.ensures.err in
+    let going = IfErr-at_err _ failed.1 c.next_line.ensures.read.err in
     rw is (record {
       source = search rules;
       going = going.1;
       reads = λ tells. SpellsImage-read _ _ _ _ _ (SpellsImage-going _ _ _ _ (c.loop-image.invariant.image tells) going.0) (omega arith)
-          (IfErr-at_err _ failed.1 (c.next_line.ensures.kept tells));
+          (IfErr-at_err _ failed.1 (c.next_line.ensures.read.kept tells));
     })
 
 pub returns-in_default-only_word-clause-outcome : goal.returns-in_default-only_word-clause-outcome
@@ -56,7 +56,7 @@ pub loop-image-preserved : goal.loop-image-preserved
 loop-image-preserved g c = record {
   short = search rules;
   failures = search rules;
-  end = TellsEnd-more _ _ _ c.loop-image.invariant.end c.next_line.ensures.end;
+  end = TellsEnd-more _ _ _ c.loop-image.invariant.end c.next_line.ensures.read.end;
   image = λ tells.
       SpellsImage-more (taken g (goal.at.loop-image-preserved g c).After-as_slice
       (other_word _ _ c.in-Some-only_word.ensures (sym c.is_dashes.ensures ∙ c.if-is_dashes.false)) tells)
@@ -77,8 +77,8 @@ returns-then-is_dashes-clause-outcome g c =
     image_read Global c.args.lines.now c.next_line.new.self (search rules) (search rules) c.loop-image.lines c.loop-image.image
     (inr (record {
       shown = c.in-Some.line.items;
-      going = IfOk-at_ok _ found c.next_line.ensures.going;
-      takes = λ tells. IfOk-at_ok _ found (c.next_line.ensures.line tells);
+      going = IfOk-at_ok _ found c.next_line.ensures.read.going;
+      takes = λ tells. IfOk-at_ok _ found (c.next_line.ensures.read.line tells);
       ends = ap is_separator (sym c.as_slice.ensures.value) ∙ (ap is_dashes (sym c.in-Some-only_word.ensures)
           ∙ (sym c.is_dashes.ensures ∙ c.if-is_dashes.true));
     }))

@@ -1,27 +1,51 @@
 use Rattle.rv_streams.proofs.Ends.{TellsEnd-ends}
-use Rattle.std.proofs.Common.{refl, ◌≡◌, ◌<◌, ◌∙◌, ap, arith, ℕ, Bool, false, ◌==◌, Ok}
+use Rattle.std.proofs.Common.{rules, refl, ◌≡◌, ◌<◌, ◌∙◌, ap, arith, ℕ, Bool, false, ◌==◌, Ok}
 use Rattle.rv_streams.proofs.LineTextLemmas.{TakesLine-feed, TakesLine-end}
 use Rattle.rv_streams.proofs.lines.Lines.next_line.Goals as goal
 
 is_some : (n : ℕ) (empty : Bool) → empty ≡ (n == 0) → empty ≡ false → 0 < n
 is_some n empty e h = grind arith
 
-pub returns-in-LineFeed-clause-line : goal.returns-in-LineFeed-clause-line
-returns-in-LineFeed-clause-line g c = λ tells. rw c.take_front.ensures.rest (
-    TakesLine-feed _ _ _ _ _ (rw c.in-LineFeed.is at (c.in_ok-read_text.ensures.bytes tells))
-    (c.take_front.ensures.taken ∙ (rw c.as_slice.ensures.value at c.shown_len-count.ensures))
-    )
+pub returns-in-LineFeed-clause-read : goal.returns-in-LineFeed-clause-read
+returns-in-LineFeed-clause-read g c = record {
+  line = λ tells. rw c.take_front.ensures.rest (
+      TakesLine-feed _ _ _ _ _ (rw c.in-LineFeed.is at (c.in_ok-read_text.ensures.bytes tells))
+      (c.take_front.ensures.taken ∙ (rw c.as_slice.ensures.value at c.shown_len-count.ensures))
+      );
+  going = search rules;
+  end = search rules;
+  failures = search rules;
+  err = search rules;
+  kept = search rules;
+  emptied = search rules;
+  falls = search rules;
+}
 
-pub returns-else-is_empty-clause-line : goal.returns-else-is_empty-clause-line
-returns-else-is_empty-clause-line g c = λ tells.
-    let end = c.in_ok-read_text.ensures.end tells (ap Ok c.in-End.is) in
-    rw (c.take_front-in-End.ensures.rest, end) (
-    TakesLine-end _ _ _ _ (rw c.in-End.is at (c.in_ok-read_text.ensures.bytes tells)) end
-    (is_some _ _ c.is_empty.ensures c.if-is_empty.false) c.take_front-in-End.ensures.taken
-    )
+pub returns-else-is_empty-clause-read : goal.returns-else-is_empty-clause-read
+returns-else-is_empty-clause-read g c = record {
+  line = λ tells.
+      let end = c.in_ok-read_text.ensures.end tells (ap Ok c.in-End.is) in
+      rw (c.take_front-in-End.ensures.rest, end) (
+      TakesLine-end _ _ _ _ (rw c.in-End.is at (c.in_ok-read_text.ensures.bytes tells)) end
+      (is_some _ _ c.is_empty.ensures c.if-is_empty.false) c.take_front-in-End.ensures.taken
+      );
+  going = search rules;
+  end = TellsEnd-ends _ _ c.if-self.false refl (rw c.in-End.is at c.in_ok-read_text.ensures.ends);
+  failures = search rules;
+  err = search rules;
+  kept = search rules;
+  emptied = search rules;
+  falls = search rules;
+}
 
-pub returns-then-is_empty-clause-end : goal.returns-then-is_empty-clause-end
-returns-then-is_empty-clause-end g c = TellsEnd-ends _ _ c.if-self.false refl (rw c.in-End.is at c.in_ok-read_text.ensures.ends)
-
-pub returns-else-is_empty-clause-end : goal.returns-else-is_empty-clause-end
-returns-else-is_empty-clause-end g c = TellsEnd-ends _ _ c.if-self.false refl (rw c.in-End.is at c.in_ok-read_text.ensures.ends)
+pub returns-then-is_empty-clause-read : goal.returns-then-is_empty-clause-read
+returns-then-is_empty-clause-read g c = record {
+  line = search rules;
+  going = search rules;
+  end = TellsEnd-ends _ _ c.if-self.false refl (rw c.in-End.is at c.in_ok-read_text.ensures.ends);
+  failures = search rules;
+  err = search rules;
+  kept = search rules;
+  emptied = search rules;
+  falls = search rules;
+}
