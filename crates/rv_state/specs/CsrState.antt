@@ -1,5 +1,5 @@
 -- The state of the control and status registers, and its value at reset (RISC-V Privileged Architecture 20211203, sections 3.1, 3.4 and 4.1).
--- Where the manual leaves a value open at reset, this project chooses 0.
+-- This project chooses 0 for each value that the manual leaves open at reset.
 use Rattle.std.specs.Prelude.{ℕ, Bool, false}
 use Rattle.rv_pmp.specs.Entries.{Entries, reset as no_entries}
 use Rattle.rv_state.specs.declared.mstatus.Mstatus.{Mstatus}

@@ -1,5 +1,5 @@
--- The machine's parts: the state that software below mode M cannot change, except by traps and the counting of steps, while MPRV is 0. RISC-V
--- Privileged Architecture 20211203, sections 2.1 (the mode that a number requires), 3.1.6 (mstatus) and 3.1.6.3 (MPRV, which sret clears).
+-- The machine's parts: the state that software below mode M cannot change while MPRV is 0, except by traps and the counting of steps. (RISC-V
+-- Privileged Architecture 20211203, sections 2.1 (the mode that a number requires), 3.1.6 (mstatus) and 3.1.6.3 (MPRV, which sret clears).)
 use Rattle.std.specs.Prelude.{false}
 use Rattle.rv_state.specs.CsrState.{CsrState}
 

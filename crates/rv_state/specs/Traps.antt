@@ -12,7 +12,7 @@ use Rattle.rv_state.specs.declared.cause.Cause.{Cause}
 use Rattle.rv_state.specs.declared.cause.Cause.TheVariants as causes
 
 -- the registers after a trap from a mode at pc. Every trap is taken in mode M. MPIE gets the value of MIE, MIE becomes 0, and MPP gets the mode
--- (section 3.1.6.1). mepc gets pc, mcause the cause, and mtval the value of the trap (3.1.14 to 3.1.16).
+-- (section 3.1.6.1). Then mepc gets pc, mcause the cause, and mtval the value of the trap (3.1.14 to 3.1.16).
 abbrev pub after_trap : CsrState → Mode → ℕ → Cause → ℕ → CsrState
 after_trap c mode pc cause tval = record c {
   mstatus = record c.mstatus { mpie = c.mstatus.mie; mie = false; mpp = mode };
