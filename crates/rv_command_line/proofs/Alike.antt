@@ -1,5 +1,5 @@
 -- The reading of a command line does not depend on where in memory the names of an option are. If the arguments are accepted, each given value
--- of an option of the subcommand is readable. Both are proved for a rule, and then for a pass over the arguments with such rules.
+-- of an option of the subcommand is readable. Both are proved for a rule, and then for the reading of all arguments with such rules.
 use Rattle.std.proofs.Common.{◌∷◌, ◌≡◌, ◌&&◌, ◌||◌, [], ap, Bool, cond, drop, false, length, List, map, None, not, ℕ, Option, option_map, refl}
 use Rattle.std.proofs.Common.{Some, suc, sym, true, zero}
 use Rattle.std.specs.List.{AllByRecursion}
@@ -109,7 +109,7 @@ found at Is P test same none some (x ∷ xs) all = go (test x) (λ n. same n x) 
     go true e rest = simp e (some x all.0)
     go false e rest = simp e rest
 
--- ---- the pass over the arguments of a subcommand
+-- ---- reading the arguments of a subcommand
 
 module _ (here : Names) (s : Shape) (fits : AllByRecursion (Fits here) s.rules) where
   abbrev shape : Names → Shape

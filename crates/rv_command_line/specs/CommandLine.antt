@@ -68,7 +68,7 @@ lent x = record { ref_ptr = (0, 0); now = x }
 abbrev pub rvbench : App
 rvbench = program (lent (map lent kind_names))
 
--- The errors of the arguments, the first of which is the program's name. The list is empty if the arguments are accepted. It has the request for
+-- The errors of the arguments. The first argument is the program's name. The list is empty if the arguments are accepted. It has the request for
 -- help if they make one.
 abbrev pub faults_of : List Text → Kinds
 faults_of = fault_of rvbench

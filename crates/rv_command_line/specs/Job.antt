@@ -61,7 +61,7 @@ named_job (Some (name, options)) =
     else (if bytes_eq name (codes "dis") then job.Dis
     else (if bytes_eq name (codes "twin") then twin_of options else run_of options))
 
--- the job of the arguments, the first of which is the program's name
+-- the job of the arguments; the first argument is the program's name
 abbrev pub job_of : List Text → Job
 job_of words = named_job (subcommand_of rvbench words)
 

@@ -123,14 +123,15 @@ fn fault(alloc: Global, error: &Error) -> WordsFault
     }
 }
 
-/// Reads the job from the arguments of a command line, the first of which is the program's name. A default is used only for an option that is
+/// Reads the job from the arguments of a command line. The first argument is the program's name. A default is used only for an option that is
 /// not given. A job with two benches has the monitor, and one of the thirteen slots.
 ///
 /// # Errors
 ///
-/// - `Help` with its text, if the arguments ask for help.
-/// - `Refused`, if the command line does not accept the arguments, or if they have two harts without the monitor.
-/// - `NoMemory`, if memory is exhausted, which may happen with any arguments.
+/// One of these, and only if its condition holds:
+/// - `Help` with its text: the arguments ask for help.
+/// - `Refused`: the command line does not accept the arguments, or they have two harts without the monitor.
+/// - `NoMemory`: memory is exhausted, which may happen with any arguments.
 pub fn read_words<'a>(alloc: Global, words: &'a [&'a str]) -> Result<Job, WordsFault>
     ensures taken { OnOk result (refusals_of (texts words.entry.now) ≡ []) }
     ensures job { IfOk result (λ job. job ≡ job_of (texts words.entry.now)) }

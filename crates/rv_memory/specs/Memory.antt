@@ -1,4 +1,4 @@
--- Memory as a list of bytes, the first of which has the address 80000000, with one function that reads it and one that changes it. RISC-V
+-- Memory as a list of bytes, with one function that reads it and one that changes it. The first byte has the address 80000000. RISC-V
 -- Unprivileged ISA 20191213, sections 1.4 (byte addresses) and 2.6 (little-endian numbers).
 use Rattle.std.specs.Prelude.{ℕ, ◌+◌, ◌-◌, ◌*◌, ◌%◌, ◌^◌, ◌==◌, Bool, ◌&&◌, nat_le, List, [], ◌∷◌, ◌++◌, length}
 use Rattle.std.specs.Prelude.{take, drop, slice_index, Option, Some, None, if◌then◌else◌}
