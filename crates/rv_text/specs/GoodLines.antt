@@ -11,6 +11,6 @@ is_blank byte = byte == space || byte == tab
 unfoldable pub is_text : ℕ → Bool
 is_text byte = byte == tab || nat_le space byte && nat_le byte tilde
 
--- at most 120 bytes, each of which is such a character
+-- at most 120 bytes, and each is such a character
 abbrev pub is_good_line : List ℕ → Bool
 is_good_line line = nat_le (length line) 120 && list_all is_text line
