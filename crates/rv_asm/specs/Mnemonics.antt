@@ -1,5 +1,5 @@
--- The mnemonics: the names of the instructions (RISC-V Unprivileged ISA 20191213, chapter 24, and Privileged Architecture 20211203, chapter
--- "RISC-V Privileged Instruction Set Listings"), and four more of the assembler (Unprivileged ISA, chapter 25).
+-- The mnemonics: the names of the instructions, and four more of the assembler. RISC-V Unprivileged ISA 20191213, chapters 24 and 25; Privileged
+-- Architecture 20211203, chapter "RISC-V Privileged Instruction Set Listings".
 use Rattle.std.specs.Prelude.{ℕ, List, [], ◌∷◌, ◌++◌, map, codes, Option}
 use Rattle.rv_encoding.specs.Codes.{branch_name, load_name, store_name, op_imm_name, shift_name, op_name, csr_name, csr_imm_name}
 use Rattle.rv_encoding.specs.Codes.{branch_kinds, load_kinds, store_kinds, op_imm_kinds, shift_kinds, rv32i_op_kinds, rv32m_op_kinds, csr_kinds}

@@ -1,5 +1,5 @@
--- The ranges of numbers in operands, and the fields that they encode (RISC-V Unprivileged ISA 20191213, sections 2.3 (immediates), 2.4 (shift
--- amounts) and 9.1 (numbers and immediates of CSR instructions)).
+-- The ranges of numbers in operands, and the fields that they encode. (RISC-V Unprivileged ISA 20191213, sections 2.3 (immediates), 2.4 (shift
+-- amounts) and 9.1 (numbers and immediates of CSR instructions).)
 use Rattle.std.specs.Prelude.{ℕ, ◌-◌, ◌*◌, ◌%◌, ◌^◌, Bool, ◌&&◌, ◌==◌, nat_le, Result, Ok, Err, if◌then◌else◌}
 use Rattle.rv_asm.specs.declared.number.Number.{Number}
 use Rattle.rv_asm.specs.declared.fault.AsmFaultKind.{AsmFaultKind}

@@ -10,8 +10,8 @@ use Rattle.rv_asm.specs.declared.fault.AsmFaultKind.TheVariants.{LabelTwice}
 abbrev pub label_twice : ℕ → AsmFault
 label_twice line = record { line = line; kind = LabelTwice }
 
--- The state of the first pass after exactly these lines: how many lines and words there are, the addresses of the labels, and the first line
--- that repeats a label. No line has an error of its own.
+-- The state of the first pass after exactly these lines: the counts of lines and words, the addresses of the labels, and the first line that
+-- repeats a label. (The words are at most 65536.)
 pub record HasRead (pass : FirstPass) (lines : List Reading) : Type 0 where
   pub count : pass.lines ≡ length lines
   pub words : pass.words ≡ words_in lines

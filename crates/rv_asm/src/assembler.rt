@@ -21,7 +21,7 @@ use std::alloc::Global;
 /// - `LabelTwice`, at the first line whose label an earlier line has.
 /// - `UnknownLabel` or `OutOfRange`, at the first line that uses a label which no line has, or which is too far away.
 ///
-/// `NoMemory` is returned at the line at which memory is exhausted. An error that has precedence at that line is returned instead.
+/// If memory is exhausted at a line, the error is `NoMemory` at that line, which then has no error with precedence.
 #[tactic(auto, using(crate::proofs::PassResults::own_fails, crate::proofs::PassResults::twice_decides))]
 pub fn assemble(alloc: Global, text: &[u8]) -> Result<Vec<u32>, AsmFault>
     ensures ok { IfOk result (λ words. assembled text.now ≡ Ok words.items) }

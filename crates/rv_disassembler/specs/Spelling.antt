@@ -1,6 +1,6 @@
--- The disassembly of each word, in the assembly language of the RISC-V Unprivileged ISA (20191213). The mnemonics are those of chapter 24. The
--- registers and the letters of fences are those of chapter 25. (No standard defines the layout of a line: the blanks, the commas and the form of
--- numbers are this project's own.)
+-- The disassembly of each word, in the assembly language of the RISC-V Unprivileged ISA (20191213, chapters 24 and 25). Chapter 24 defines the
+-- mnemonics, and chapter 25 the registers and the letters of fences. No standard defines the layout of a line: the blanks, the commas and the
+-- form of numbers are this project's own.
 use Rattle.std.specs.Prelude.{ℕ, ◌-◌, ◌/◌, ◌%◌, ◌^◌, ◌==◌, Bool, true, false, ◌&&◌, List, [], ◌∷◌, ◌++◌, codes, decimal, nat_lt, if◌then◌else◌}
 use Rattle.std.specs.Fmt.{digits}
 use Rattle.std.specs.List.{join_by}

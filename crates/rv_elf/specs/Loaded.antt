@@ -13,8 +13,8 @@ byte_in image address segment =
     let k = address - segment.address in
     if nat_lt k segment.file_size then slice_index image (segment.offset + k) else 0
 
--- the byte at an address after the segments are loaded: that of the segment with this address (no two share one), or the old byte if there is
--- none
+-- the byte at an address after the segments are loaded: that of the segment with this address, otherwise the old byte; no two segments share an
+-- address
 abbrev pub byte_after : List ℕ → List Segment → List ℕ → ℕ → ℕ
 byte_after image segments memory address =
     option_case (find (has_address address) segments) (slice_index memory (address - ram_base)) (byte_in image address)

@@ -9,8 +9,8 @@ use Rattle.rv_elf.specs.Faults.{file_fault, raw_fault}
 use Rattle.rv_elf.specs.Places.{first_address, has_place}
 use Rattle.rv_elf.specs.Segments.{segments_of, occupying, raw_segments, is_truncated, is_oversized, is_outside, has_overlap}
 
--- the segments that occupy memory, the address of the first instruction, the sizes in bytes of the image and of the RAM of this plan, and
--- whether there is a monitor
+-- A plan: the segments that occupy memory, the address of the first instruction, and whether there is a monitor. It is for an image and a RAM of
+-- these sizes in bytes.
 pub record LoadPlan : Type 0 where
   pub segments : List Segment
   pub entry : ℕ

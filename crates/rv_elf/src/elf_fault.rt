@@ -2,7 +2,7 @@
 ghost use Rattle.std.specs.Prelude.{◌≡◌};
 ghost use Rattle.rv_elf.specs.Faults.{elf_fault_number};
 
-/// Why an image cannot be loaded. The file is no ELF file that can be loaded (System V gABI, chapters 4 and 5), or a part of it is outside RAM
+/// Why an image cannot be loaded. The file is no ELF file that can be loaded (System V gABI, chapters 4 and 5). Or a part of it is outside RAM
 /// or in the range of a monitor. Only `SegmentOutside` and `BadEntry` occur for a raw image.
 #[derive(Clone, Copy, Debug, PartialEq, Eq)]
 pub enum ElfFault {
@@ -26,7 +26,8 @@ pub enum ElfFault {
     SegmentOutside = 9,
     /// Two segments share a byte.
     SegmentOverlap = 10,
-    /// The entry is not a multiple of 4, or one of its four bytes is outside RAM, or in the range of the monitor if there is one.
+    /// The entry is not a multiple of 4, or one of its four bytes is outside RAM. Or one of them is in the range of the monitor, if there is
+    /// one.
     BadEntry = 11,
 }
 

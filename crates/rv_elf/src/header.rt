@@ -54,7 +54,8 @@ pub(crate) fn entry_of(file: &[u8]) -> u32
     word_at(file, E_ENTRY)
 }
 
-/// Returns whether there are more than 64 program headers, or some that do not have 32 bytes each or that end after the end of the file.
+/// Returns whether there are more than 64 program headers. Also returns true if there are some, and they do not have 32 bytes each or end after
+/// the end of the file.
 fn has_bad_table(file: &[u8]) -> bool
     requires { FILE_HEADER_LEN ≤ length file.now }
     ensures { result ≡ has_bad_table_of file.now }

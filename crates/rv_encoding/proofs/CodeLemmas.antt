@@ -58,8 +58,7 @@ op_kind_found kind = grind arith
 pub op_functs-lt : (kind : OpKind) → ((op_functs kind).funct3 < 8) × ((op_functs kind).funct7 < 128)
 op_functs-lt kind = grind arith
 
--- the code of a shift is not that of another operation on an immediate, and a CSR instruction with an immediate has no code of one with a
--- register
+-- The code of a shift is not that of another operation on an immediate. A CSR instruction with an immediate has no code of one with a register.
 pub no_shift : (kind : OpImmKind) (funct7 : ℕ) → shift_kind (op_imm_funct3 kind) funct7 ≡ None
 no_shift kind funct7 = grind arith
 

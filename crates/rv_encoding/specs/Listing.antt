@@ -1,6 +1,6 @@
--- The 58 instructions by name, mask and match, in the order of RISC-V Unprivileged ISA 20191213, chapter 24 (RV32I, Zicsr, RV32M), and of
--- Privileged Architecture 20211203, chapter "RISC-V Privileged Instruction Set Listings". This table can be compared with the manuals; `decode`
--- ensures that it has exactly the rows of `Rows`.
+-- The 58 instructions by name, mask and match, in the order of the manuals. RISC-V Unprivileged ISA 20191213, chapter 24 (RV32I, Zicsr, RV32M),
+-- and Privileged Architecture 20211203, chapter "RISC-V Privileged Instruction Set Listings". This table can be compared with the manuals;
+-- `decode` ensures that it has exactly the rows of `Rows`.
 use Rattle.std.specs.Prelude.{◌≡◌, ℕ, List, [], ◌∷◌, codes, slice_get, Some}
 use Rattle.rv_encoding.specs.Codes.{branch_name, load_name, store_name, op_imm_name, shift_name, op_name, csr_name, csr_imm_name}
 use Rattle.rv_encoding.specs.Rows.{row_of_instr}

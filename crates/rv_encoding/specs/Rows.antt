@@ -1,6 +1,6 @@
--- The rows of the instruction listings, and the word that encodes an instruction (RISC-V Unprivileged ISA 20191213, sections 2.2 and 2.3 and
--- chapter 24, and Privileged Architecture 20211203, chapter "RISC-V Privileged Instruction Set Listings"). A row has the bits that its words
--- share, and the positions of their fields.
+-- The rows of the instruction listings, and the word that encodes an instruction. A row has the bits that its words share, and the positions of
+-- their fields. RISC-V Unprivileged ISA 20191213, sections 2.2 and 2.3 and chapter 24, and Privileged Architecture 20211203, chapter "RISC-V
+-- Privileged Instruction Set Listings".
 use Rattle.std.specs.Prelude.{◌≡◌, ℕ, ◌+◌, ◌*◌, ◌^◌, ◌<◌, List, [], ◌∷◌, sum_by}
 use Rattle.rv_encoding.specs.Places.{Places, rd_at, rs1_at, rs2_at, i_immediate_at, s_immediate_at, b_immediate_at, j_immediate_at}
 use Rattle.rv_encoding.specs.Places.{u_immediate_at, shamt_at, fm_at, pred_at, succ_at, csr_at, uimm_at, placed}

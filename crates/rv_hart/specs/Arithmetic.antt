@@ -1,5 +1,5 @@
--- The results of computations, as natural numbers modulo 2 ^ 32 (RISC-V Unprivileged ISA 20191213, sections 2.4 (integer computation), 2.5
--- (conditions), 2.6 (loads), 7.1 (multiplication) and 7.2 (division)).
+-- The results of computations, as natural numbers modulo 2 ^ 32. (RISC-V Unprivileged ISA 20191213, sections 2.4 (integer computation), 2.5
+-- (conditions), 2.6 (loads), 7.1 (multiplication) and 7.2 (division).)
 use Rattle.std.specs.Prelude.{ℕ, ◌+◌, ◌*◌, ◌%◌, ◌^◌, ◌==◌, Bool, not, nat_lt, int_lt, pos, ◌-ℤ◌, ◌*ℤ◌}
 use Rattle.rv_word.specs.BitFields.{bits, sign_extended}
 use Rattle.rv_word.specs.Division.{quotient, remainder, unsigned_quotient, unsigned_remainder}

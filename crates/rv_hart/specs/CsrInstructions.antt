@@ -19,8 +19,8 @@ is_read kinds.Write rd = not (rd == 0)
 is_read kinds.Set rd = true
 is_read kinds.Clear rd = true
 
--- whether the register is written: csrrs, csrrc and their immediate forms do not write it if the source, the number of rs1 or the immediate, is
--- 0
+-- Whether the register is written. The source is the number of rs1, or the immediate. csrrs, csrrc and their immediate forms do not write the
+-- register if the source is 0.
 abbrev pub is_written : CsrKind → ℕ → Bool
 is_written kinds.Write source = true
 is_written kinds.Set source = not (source == 0)

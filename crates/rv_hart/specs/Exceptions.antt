@@ -1,5 +1,5 @@
--- The exceptions of instructions, each with its value for mtval, and the trap of an interrupt, whose value is 0 (RISC-V Privileged Architecture
--- 20211203, sections 3.1.15 (mcause) and 3.1.16 (mtval)).
+-- The exceptions of instructions, each with its value for mtval, and the trap of an interrupt, whose value is 0. (RISC-V Privileged Architecture
+-- 20211203, sections 3.1.15 (mcause) and 3.1.16 (mtval).)
 use Rattle.std.specs.Prelude.{ℕ}
 use Rattle.rv_pmp.specs.declared.mode.Mode.{Mode}
 use Rattle.rv_pmp.specs.declared.mode.Mode.TheVariants.{U, S, M}

@@ -1,5 +1,5 @@
--- Permission of the accesses of a step: they are in RAM, and the PMP entries permit them in the mode of the access (RISC-V Privileged
--- Architecture 20211203, sections 3.1.6.3 (MPRV) and 3.7.1).
+-- Permission of the accesses of a step: they are in RAM, and the PMP entries permit them in the mode of the access. (RISC-V Privileged
+-- Architecture 20211203, sections 3.1.6.3 (MPRV) and 3.7.1.)
 use Rattle.std.specs.Prelude.{◌≡◌, true, Option, Some, None}
 use Rattle.rv_word.specs.Widths.{bytes_in}
 use Rattle.rv_pmp.specs.Verdicts.{permits}

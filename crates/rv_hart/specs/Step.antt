@@ -1,5 +1,5 @@
 -- One step of a machine. It depends on memory only through the fetched word and the loaded number, and changes it only by one store. RISC-V
--- Unprivileged ISA 20191213, sections 1.4 to 1.6; Privileged Architecture 20211203, sections 3.1.6.1 and 3.1.9 (interrupts), 3.1.6.3 (the mode
+-- Unprivileged ISA 20191213, sections 1.4 to 1.6. Privileged Architecture 20211203, sections 3.1.6.1 and 3.1.9 (interrupts), 3.1.6.3 (the mode
 -- of loads and stores), 3.1.10 and 3.1.12 (counters), 3.1.15 (causes), 3.7.1 (PMP).
 use Rattle.std.specs.Prelude.{ℕ, true, false, if◌then◌else◌, List, Option, Some, None, Result}
 use Rattle.rv_word.specs.declared.width.Width.{Width}

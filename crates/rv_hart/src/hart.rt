@@ -135,8 +135,8 @@ impl Hart {
     /// - `machine_parts`: from below mode M, with MPRV 0, only a trap leads to mode M. Any other step leaves the registers of mode M, the PMP
     ///   entries and the timer line unchanged.
     /// - `memory`: the memory keeps its size, and changes only in the bytes that the outcome reports as stored.
-    /// - `permitted`: the PMP entries permit every byte that the outcome reports as fetched, loaded or stored, in the mode that decides that
-    ///   access (Privileged Architecture, sections 3.1.6.3 and 3.7.1).
+    /// - `permitted`: the PMP entries permit every byte that the outcome reports as fetched, loaded or stored, in the mode of that
+    ///   access. (Privileged Architecture, sections 3.1.6.3 and 3.7.1.)
     /// - `confined`: the step depends only on the bytes of memory that the outcome reports as fetched and loaded.
     #[inline(always)]
     pub fn step(&mut self, ram: &mut Ram) -> StepOutcome

@@ -1,5 +1,5 @@
-//! One hart of RV32IM with Zicsr in modes M, S and U, and the machine of this hart and its memory (RISC-V Unprivileged ISA 20191213, chapters 1,
-//! 2, 7 and 9; Privileged Architecture 20211203, chapters 3 and 4).
+//! One hart of RV32IM with Zicsr in modes M, S and U, and the machine of this hart and its memory. (RISC-V Unprivileged ISA 20191213, chapters
+//! 1, 2, 7 and 9; Privileged Architecture 20211203, chapters 3 and 4.)
 //!
 //! `Step` in the specs defines one step, and `Instructions` the meaning of each row of the instruction table. Each property of every step is a
 //! clause of `Hart::step` and a lemma of `StepLaws` or `Confined` in the proofs. `step_cases` in `StepCases` is the case analysis for further

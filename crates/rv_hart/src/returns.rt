@@ -1,5 +1,5 @@
-//! Executes the returns from traps, and the instructions that a mode may be forbidden (Privileged Architecture, sections 3.1.6.5, 3.3.2, 3.3.3
-//! and 4.2.1).
+//! Executes the returns from traps, and the instructions that a mode may be forbidden. (Privileged Architecture, sections 3.1.6.5, 3.3.2, 3.3.3
+//! and 4.2.1.)
 
 ghost use Rattle.std.specs.Prelude.{◌≡◌};
 ghost use Rattle.rv_hart.specs.Instructions.{unless_refused as unless_refused_of};

@@ -17,12 +17,12 @@ is_ram_size size = size % 65536 == 0 && nat_le 65536 size && nat_le size 1677721
 abbrev pub is_inside : List ℕ → ℕ → ℕ → Bool
 is_inside memory address count = nat_le ram_base address && nat_le (address + count) (ram_base + length memory)
 
--- `count` bytes from an address on, if all of them are in the memory. Every reader of memory uses this function.
+-- `count` bytes from an address on, if all of them are in the memory. Accesses read memory through this function.
 unfoldable pub read : List ℕ → ℕ → ℕ → Option (List ℕ)
 read memory address count =
     if is_inside memory address count then Some (take count (drop (address - ram_base) memory)) else None
 
--- The memory with these bytes from an index on, and every other byte unchanged. Every change of memory uses this function.
+-- The memory with these bytes from an index on, and every other byte unchanged. `write` changes memory through this function.
 abbrev pub write_bytes : List ℕ → ℕ → List ℕ → List ℕ
 write_bytes memory index bytes = take index memory ++ (bytes ++ drop (index + length bytes) memory)
 

@@ -1,5 +1,5 @@
-//! The memory of the machine: bytes from address 80000000 on, the accesses of a hart, and the bytes that one step accesses (RISC-V Unprivileged
-//! ISA 20191213, sections 1.4 and 2.6).
+//! The memory of the machine: bytes from address 80000000 on, the accesses of a hart, and the bytes that one step accesses. (RISC-V Unprivileged
+//! ISA 20191213, sections 1.4 and 2.6.)
 //!
 //! The specs define memory by two functions on a list of bytes, `read` and `write` in `Memory`.
 //!

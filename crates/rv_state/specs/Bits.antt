@@ -1,5 +1,5 @@
 -- The bits that a register keeps of a written word, and aligned addresses. RISC-V Privileged Architecture 20211203, sections 2.3 (fields that
--- ignore writes and read 0), 3.1.7 and 4.1.2 (trap vectors), 3.1.14 and 4.1.7 (mepc, sepc).
+-- ignore writes), 3.1.7 and 4.1.2 (trap vectors), 3.1.14 and 4.1.7 (mepc, sepc).
 use Rattle.std.specs.Prelude.{ℕ, ◌*◌, ◌/◌, List, sum_by}
 use Rattle.rv_word.specs.BitFields.{is_set, flag}
 

@@ -1,6 +1,6 @@
 -- The table of control and status registers: the register of each number, what it reads, the effect of a write, and when an access is refused.
--- RISC-V Privileged Architecture 20211203, chapter 2: the listing has the order of tables 2.3, 2.5 and 2.6; sections 3.1 and 4.1: the content of
--- the registers. The profile of this machine selects the numbers, including registers that are always zero; any other number is missing.
+-- RISC-V Privileged Architecture 20211203, chapter 2 and sections 3.1 and 4.1. The listing has the order of tables 2.3, 2.5 and 2.6. The profile
+-- of this machine selects the numbers, including registers that are always zero. Any other number is missing.
 use Rattle.std.specs.Prelude.{ℕ, ◌+◌, ◌-◌, ◌*◌, ◌^◌, Bool, false, nat_lt, ◌==◌, if◌then◌else◌}
 use Rattle.std.specs.Prelude.{List, [], ◌∷◌, sum_by, codes, Option, Some, None, Result, Ok, Err}
 use Rattle.std.specs.Option.{option_map}

@@ -14,7 +14,7 @@ use Rattle.rv_state.specs.declared.csr_name.CsrName.TheVariants.{Sstatus, Stvec,
 use Rattle.rv_state.specs.declared.csr_name.CsrName.TheVariants.{Mstatus, Misa, Mie, Mtvec, Mscratch, Mepc, Mcause, Mtval, Mip}
 use Rattle.rv_state.specs.declared.csr_name.CsrName.TheVariants.{Pmpcfg, Pmpaddr, Mcycle, Minstret, Mcycleh, Minstreth, Mcountinhibit, Zero}
 
--- ---- the value that a register reads after a write: the word under the register's mask, which has a 1 for each bit that the register keeps
+-- ---- the value after a write: the word under the register's mask, which has a 1 for each bit that is stored
 
 -- the mask of mstatus; MPP (bits 12:11) cannot be 2, which is no mode
 abbrev pub mstatus_mask : ℕ → ℕ

@@ -1,5 +1,5 @@
--- Trap entry and the two returns: RISC-V Privileged Architecture 20211203, sections 3.1.6.1 (the stacks of xIE and xPP),
--- 3.1.6.3 (MPRV), 3.1.7 (mtvec), 3.1.14 to 3.1.16 (mepc, mcause, mtval) and 3.3.2 (mret, sret).
+-- Trap entry and the two returns. RISC-V Privileged Architecture 20211203, sections 3.1.6.1 (xIE and xPP), 3.1.6.3 (MPRV), 3.1.7 (mtvec), 3.1.14
+-- to 3.1.16 (mepc, mcause, mtval) and 3.3.2 (mret, sret).
 use Rattle.std.specs.Prelude.{ℕ, ◌+◌, ◌*◌, ◌%◌, ◌^◌, Bool, true, false, ◌&&◌, ◌==◌, if◌then◌else◌}
 use Rattle.rv_pmp.specs.declared.mode.Mode.{Mode}
 use Rattle.rv_pmp.specs.declared.mode.Mode.TheVariants.{U, S}

@@ -1,5 +1,5 @@
--- The bytes that a call of a device moves, and the counts of calls: failed calls, ends that a source returned, and calls that took no byte of a
--- non-empty part. (This project's own streams; not defined by a standard.)
+-- The bytes that a call of a device moves, and the counts of calls: failures, ends that a source returned, and non-empty parts that a sink did
+-- not take. (This project's own streams; not defined by a standard.)
 use Rattle.std.specs.Prelude.{ℕ, ◌+◌, ◌-◌, ◌^◌, ◌≤◌, ◌==◌, nat_lt, min, Bool, false, ◌&&◌, Result, Ok, Err, if◌then◌else◌}
 
 -- the number of bytes that a call gave or took; 0 if it failed
