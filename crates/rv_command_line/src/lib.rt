@@ -2,9 +2,11 @@
 //! - `rvbench` and `rvbench run` run the bench.
 //! - `rvbench run --ram 65536` runs it with a RAM of this size in bytes.
 //! - `rvbench run --kind elf` runs it with an ELF file as its image.
-//! - `rvbench run --monitor` runs the image as the host above the monitor, and `rvbench run --monitor --harts 2` does so with two harts.
-//! - `rvbench twin` runs two monitored benches that differ in one enclave, `rvbench twin --slot 3` in the enclave in slot 3. `rvbench twin
-//!   --harts 2` runs benches with two harts each.
+//! - `rvbench run --monitor` runs the image as the host above the monitor.
+//! - `rvbench run --monitor --harts 2` runs it with two harts under the monitor.
+//! - `rvbench twin` runs two monitored benches that differ in one enclave.
+//! - `rvbench twin --slot 3` runs two that differ in the enclave in slot 3.
+//! - `rvbench twin --harts 2` runs two with two harts each.
 //! - `rvbench asm` assembles, and `rvbench dis` disassembles.
 //!
 //! In the specs, `CommandLine` defines the command line, `Job` the job of its arguments, and `Refusals` the errors of arguments that give no

@@ -1,6 +1,6 @@
 -- The hart at reset, and the basic changes of its state. RISC-V Unprivileged ISA 20191213, sections 2.1 and 2.5; Privileged Architecture
--- 20211203, sections 3.1.6 to 3.1.16 (trap entry), 3.1.10 and 3.1.12 (counters) and 3.4 (reset). This project chooses to set all registers to 0
--- at reset.
+-- 20211203, sections 3.1.6 to 3.1.16 (trap entry), 3.1.10 and 3.1.12 (counters) and 3.4 (reset). The manual does not specify the integer
+-- registers at reset; this project sets them to 0.
 use Rattle.std.specs.Prelude.{ℕ, ◌%◌, ◌==◌, Bool, Option, replicate, Result, Ok, Err, if◌then◌else◌}
 use Rattle.rv_pmp.specs.declared.mode.Mode.{Mode}
 use Rattle.rv_pmp.specs.declared.mode.Mode.TheVariants.{M}
